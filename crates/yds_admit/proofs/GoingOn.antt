@@ -46,7 +46,7 @@ either_way at x = grind (arith, cases_eq, elsewhere, here)
 -- # Taking units from the gaps before a place
 
 pub none_taken : (gaps : List ℕ) (place units : ℕ) → Takes gaps place units gaps place units
-none_taken gaps place units = grind (arith)
+none_taken gaps place units = grind arith
 
 pub some_taken : (old new : List ℕ) (place units at left taken : ℕ) → Takes old place units new (suc at) left → at < length old →
     taken ≡ min left (get_or new at 0) → Takes old place units (set new at (get_or new at 0 - taken)) at (left - taken)

@@ -18,7 +18,7 @@ falling_more rows marks spots n below is =
 
 -- no job is cut yet
 pub none_made : AreCut [] []
-none_made = grind (arith)
+none_made = grind arith
 
 -- the pieces of one job more come after the others
 module _ (job : Job) (old new : List Job) (into : IsCutInto job old new) where

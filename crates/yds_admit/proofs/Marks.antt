@@ -72,4 +72,4 @@ numbers_more n =
 
 -- a refused job is not marked
 pub later_none : (rows : List Job) (marks : List Bool) (jobs : List Job) (i : ℕ) → IsMarked rows i marks jobs → IsMarked rows (i + 1) marks jobs
-later_none rows marks jobs i marked = grind (arith)
+later_none rows marks jobs i marked = grind arith

@@ -44,6 +44,7 @@ pub(crate) fn admit_batch(
 ///
 /// One walk by falling releases, as over the pieces, over all deadlines. No interval from a release is overfull where the jobs released
 /// then or later find their room after it.
+#[tactic(auto, using(crate::proofs::Links::own_are, crate::proofs::Fitting::begun))]
 #[inline(never)]
 fn fit(alloc: Global, board: &Board, marks: &[bool]) -> Result<bool, Memory>
     requires board { IsBoard board.now }
@@ -88,6 +89,7 @@ fn finds_room(
 }
 
 /// The marks, with the jobs from one number up to another marked too.
+#[tactic(auto, using(std::proofs::lemmas::List::drop_all))]
 fn marked(alloc: Global, marks: &[bool], first: usize, last: usize) -> Result<Vec<bool>, Memory>
     requires order { first ≤ last }
     requires within { last ≤ length marks.now }

@@ -127,6 +127,7 @@ fn admit_beside(board: &Board, state: &mut State, room: &mut Room, end: usize) -
 }
 
 /// The first overfull interval of the admitted jobs and the next one, if one begins at this time. None begins before.
+#[tactic(auto, using(std::proofs::lemmas::List::Sorted::length_permutation, crate::proofs::Least::room_alone))]
 fn first_overfull(board: &Board, state: &State, from: u32) -> Option<Overfull>
     requires state { IsState board.now state.now }
     requires more { state.now.next < length board.now.rows.now }

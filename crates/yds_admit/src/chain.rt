@@ -24,6 +24,7 @@ pub(crate) fn times(alloc: Global, by_deadline: &[JobRow]) -> Result<Vec<u32>, M
 }
 
 /// The work that the top speed does between each time and the next.
+#[tactic(auto, using(std::proofs::lemmas::List::length_push, crate::proofs::Times::gap_pushed))]
 pub(crate) fn gaps(alloc: Global, times: &[u32], top: u32) -> Result<Vec<u64>, Memory>
     requires some { 1 ≤ length times.now }
     requires rising { IsNonDecreasing times.now }
@@ -79,6 +80,7 @@ pub(crate) fn take(
 }
 
 /// The place that the links lead to from this one. They get shorter.
+#[tactic(auto, using(crate::proofs::Links::shorter, crate::proofs::Links::still_back, crate::proofs::Links::emptier))]
 pub(crate) fn last_open(links: &mut [usize], place: usize) -> usize
     requires known { place < length links.old }
     requires back { (p : ℕ) → p < length links.old → slice_index links.old p ≤ p }

@@ -76,6 +76,7 @@ fn last_idle(links: &mut [usize], place: usize) -> usize
 }
 
 /// Takes so many units from what is idle in one gap, or all of it where that is less. Answers how many.
+#[tactic(auto, using(crate::proofs::Links::less_left, crate::proofs::Links::linked))]
 fn take_part(idle: &mut [u64], links: &mut [usize], gap: usize, units: u64) -> u64
     requires within { gap < length idle.old }
     requires links { AreLinks idle.old links.old }

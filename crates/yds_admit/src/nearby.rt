@@ -36,6 +36,7 @@ pub(crate) fn units_before(pieces: &Pieces, count: usize, end: usize) -> u64
 }
 
 /// The units before the place `end` of the pieces from one up to another.
+#[tactic(auto, using(crate::proofs::Cutting::went_fits))]
 pub(crate) fn units_between(pieces: &Pieces, first: usize, last: usize, end: usize) -> u64
     requires as_long { length pieces.now.places.items ≡ length pieces.now.jobs.items }
     requires few { sum_by (λ job. job.work) pieces.now.jobs.items ≤ MAX_JOBS * MAX_WORK }

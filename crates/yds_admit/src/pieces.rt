@@ -91,6 +91,7 @@ pub(crate) fn cut_each(
 }
 
 /// The units that were taken from the gaps before each of the times: the gaps less what is left of them.
+#[tactic(auto, using(std::proofs::lemmas::Bool::cases_lt, std::proofs::lemmas::List::length_push, std::proofs::lemmas::List::get_or_push, std::proofs::lemmas::List::get_or_append_left, crate::proofs::Idleness::next_idle))]
 #[inline(never)]
 pub(crate) fn used_before(alloc: Global, gaps: &[u64], left: &[u64]) -> Result<Vec<u64>, Memory>
     requires as_long { length left.now ≡ length gaps.now }
@@ -110,6 +111,7 @@ pub(crate) fn used_before(alloc: Global, gaps: &[u64], left: &[u64]) -> Result<V
 }
 
 /// Cuts one job more, whose deadline has this place.
+#[tactic(auto, using(std::proofs::lemmas::Bool::cases_eq, crate::proofs::Cutting::none_yet, crate::proofs::Cutting::cut_last))]
 fn cut(
     gaps: &mut [u64],
     links: &mut [usize],
@@ -150,6 +152,7 @@ fn cut(
 
 /// The least release up to one more job's from which the pieces leave it too little room, if there is one: no interval from an earlier
 /// release is overfull with it. Its deadline has the place `end` among the times. From the place `near` on enough is idle for it.
+#[tactic(auto, using(std::proofs::lemmas::List::get_or_read, crate::proofs::Cutting::went_fits, crate::proofs::Cutting::next_went, crate::proofs::Bounds::one_more))]
 pub(crate) fn least_from_pieces(
     pieces: &Pieces,
     board: &Board,

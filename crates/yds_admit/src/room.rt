@@ -23,6 +23,7 @@ pub(crate) struct Room {
 
 impl Room {
     /// The pieces of the admitted jobs, and what they leave idle.
+    #[tactic(auto, using(crate::proofs::Left::left_less, crate::proofs::Left::left_few))]
     pub(crate) fn new(alloc: Global, board: &Board, state: &State) -> Result<Room, Memory>
         requires { IsState board.now state.now }
         ensures room { IfOk result (IsRoom board.now state.now.jobs.items) }

@@ -49,6 +49,7 @@ impl State {
     }
 
     /// The next job.
+    #[tactic(auto, using(std::proofs::lemmas::List::get_or_default))]
     #[inline]
     pub(crate) fn next_row<'b>(&self, board: &'b Board) -> &'b JobRow
         requires { self.now.next < length board.now.rows.now }
@@ -58,6 +59,7 @@ impl State {
     }
 
     /// The place of the next job's deadline among the times.
+    #[tactic(auto, using(std::proofs::lemmas::List::get_or_read))]
     #[inline]
     pub(crate) fn next_end(&self, board: &Board) -> usize
         requires board { IsBoard board.now }

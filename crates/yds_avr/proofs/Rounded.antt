@@ -1,5 +1,5 @@
 -- A quotient that is rounded up, by a product with a fraction that was rounded down.
-use Rattle.yds_model.proofs.Common.{◌≡◌, ℕ, ◌+◌, ◌-◌, ◌*◌, ◌/◌, ◌%◌, ◌<◌, ◌≤◌, ◌∙◌, sym, ap, arith, inl, inr, ◌==◌, not, cases_lt, cases_eq, eq-eqb, ne_eqb, mul-le-mul_right, mul-le-mul_left, le_of_mul-le-mul_right, le-div_iff_mul-le, div-lt_iff_lt-mul, div-mul-le_self, lt-div-mul-add, div-add-mod, add-mul-div_right, mul-add-mod_self_right, dvd-mul_left, mod-eq-zero_of_dvd, div_up, Piece}
+use Rattle.yds_model.proofs.Common.{◌≡◌, ℕ, ◌+◌, ◌-◌, ◌*◌, ◌/◌, ◌%◌, ◌<◌, ◌≤◌, ◌∙◌, sym, ap, arith, inl, inr, ◌==◌, not, cases_lt, cases_eq, eq-eqb, ne_eqb, mul-le-mul_right, mul-le-mul_left, le_of_mul-le-mul_right, le-div_iff_mul-le, div-lt_iff_lt-mul, div-mul-le_self, lt-div-mul-add, add-mul-div_right, mul-add-mod_self_right, dvd-mul_left, mod-eq-zero_of_dvd, div_up, Piece}
 use Rattle.yds_avr.specs.declared.rate.Rate.{Rate}
 use Rattle.yds_events.specs.Stretch.{length_of}
 use Rattle.yds_avr.specs.Rate.{window_length, rate_units, rate_term, rate_rounds, IsRate, IsLive}
@@ -53,7 +53,7 @@ whole_apart whole rest length window some =
 
 -- whole where the number that is rounded up is that times the divisor
 up_whole : (x y : ℕ) → 1 ≤ y → x % y ≡ 0 → div_up x y * y ≡ x
-up_whole x y some none = grind (arith, div-add-mod, most, mul-le-mul_right, up_enough, up_most)
+up_whole x y some none = grind arith
 
 rest_none : (x y : ℕ) → 1 ≤ y → (div_up x y * y == x) ≡ (x % y == 0)
 rest_none x y some = elim (cases_eq (x % y) 0) [

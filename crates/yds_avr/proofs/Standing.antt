@@ -1,5 +1,5 @@
 -- The jobs in three parts, as time goes on: those that are over and those that are to come have no part of the stretch.
-use Rattle.yds_model.proofs.Common.{◌≡◌, ℕ, ◌+◌, ◌-◌, ◌*◌, ◌%◌, ◌<◌, ◌≤◌, List, [], ◌∷◌, ◌++◌, length, get_or, take, drop, drop-cons, add-one, ◌∙◌, refl, sym, ap, subst, arith, inl, inr, cond, true, false, Bool, ◌&&◌, ◌||◌, ◌==◌, not, nat_lt, nat_le, All, sum_by, filter, insert, list_any, IsPermutation, IsNonDecreasingBy, IsPartitionedBy, IsPartitionPoint, mod-lt, mul-le-mul_left, div-add-mod', cases_lt, cases_Bool, le-leb, lt-leb, lt-ltb, le-ltb, leb-true, leb-false, take-append-drop, get_or-take, get_or-drop, get_or_append_left, length-append, length-take, length-drop, append_assoc, append-nil, length-map, sum_by-cons, sum_by-le, filter-append, All-from_get_or, All-cons, All-append, All-take, All-map, All-weaker, All-permutation, IsPermutation-trans, IsPermutation-append_left, IsPermutation-middle, IsNonDecreasingBy-insert, length_permutation, sum_by_pushed, sum_by-IsPermutation, list_any-IsPermutation, Job, IsJob, Piece, stretches, div_up, is_live, term_of, terms_of, rounds_term, average_rate_rounds, stretch_at, sum_by-filter, filter_none, filter_all}
+use Rattle.yds_model.proofs.Common.{◌≡◌, ℕ, ◌+◌, ◌-◌, ◌*◌, ◌%◌, ◌<◌, ◌≤◌, List, [], ◌∷◌, ◌++◌, length, get_or, take, drop, drop-cons, add-one, ◌∙◌, refl, sym, ap, subst, arith, inl, inr, cond, true, false, Bool, ◌&&◌, ◌||◌, ◌==◌, not, nat_lt, nat_le, All, sum_by, filter, insert, list_any, IsPermutation, IsNonDecreasingBy, IsPartitionedBy, IsPartitionPoint, div-add-mod', cases_Bool, le-leb, lt-leb, lt-ltb, leb-true, leb-false, take-append-drop, get_or-take, get_or-drop, get_or_append_left, length-append, length-take, length-drop, append_assoc, append-nil, length-map, sum_by-cons, sum_by-le, filter-append, All-from_get_or, All-cons, All-append, All-take, All-map, All-weaker, All-permutation, IsPermutation-trans, IsPermutation-append_left, IsPermutation-middle, IsNonDecreasingBy-insert, length_permutation, sum_by_pushed, sum_by-IsPermutation, list_any-IsPermutation, Job, IsJob, Piece, stretches, div_up, is_live, term_of, terms_of, rounds_term, average_rate_rounds, stretch_at, sum_by-filter, filter_none, filter_all}
 use Rattle.yds_model.specs.declared.limits.TheConstants.{MAX_GRID, MAX_JOBS, MAX_TIME}
 use Rattle.yds_events.specs.Stretch.{IsOutside}
 use Rattle.yds_events.proofs.Neighbours.{stretch_begins, stretch_next}
@@ -49,7 +49,7 @@ falls_by live are rising i j d order within = omega (arith, rising i j d order w
 
 pub stands_later : (order live : List Rate) (arrived whole capacity time later : ℕ) → IsRoster order live arrived whole capacity time → time ≤ later →
     IsRoster order live arrived whole capacity later
-stands_later order live arrived whole capacity time later so after = grind (arith)
+stands_later order live arrived whole capacity time later so after = grind arith
 
 module _ (order live : List Rate) (arrived whole capacity time : ℕ) (so : AreParts order live arrived whole capacity time) where
   -- what is said of all is said of the live ones
@@ -149,7 +149,7 @@ module _ (order live : List Rate) (arrived whole capacity time : ℕ) (so : AreP
 -- # What has a part of a stretch
 
 over_not_live : (stretch : Piece) (rate : Rate) → rate.deadline ≤ stretch.from → rate_live stretch rate ≡ false
-over_not_live stretch rate over = grind (arith, cases_lt, le-leb, le-ltb, lt-leb)
+over_not_live stretch rate over = grind arith
 
 coming_not_live : (stretch : Piece) (rate : Rate) → stretch.from < rate.release → rate_live stretch rate ≡ false
 coming_not_live stretch rate early = rw (lt-leb rate.release stretch.from early) refl
@@ -213,7 +213,7 @@ some_same grid stretch jobs =
     ∙ sym (any_filter (is_live stretch) (rounds_term grid stretch) jobs)
 
 is_rate : (grid : ℕ) → grid ≤ MAX_GRID → (job : Job) → IsJob job → IsRate (rate_of grid job)
-is_rate grid in_range job is = grind (arith, mod-lt, mul-le-mul_left, units_same)
+is_rate grid in_range job is = grind arith
 
 are_rates : (grid : ℕ) (jobs : List Job) → grid ≤ MAX_GRID → All IsJob jobs → All IsRate (rates_of grid jobs)
 are_rates grid jobs in_range are = All-map IsRate (rate_of grid) jobs (All-weaker IsJob (λ job. IsRate (rate_of grid job)) (is_rate grid in_range) jobs are)

@@ -8,7 +8,6 @@ use Rattle.yds_edf.specs.Demand.{capacity_at, capacity_between, IsWithinCapacity
 use Rattle.yds_edf.specs.Run.{IsPolicyRun}
 use Rattle.yds_edf.proofs.Capped.{set_run}
 use Rattle.yds_edf.proofs.Demand.{confined_is}
-use Rattle.yds_edf.proofs.Quotients.{up_enough}
 use Rattle.yds_edf.proofs.Sums.{sum_below_same, sum_below_at_most, sum_below_zero}
 use Rattle.yds_edf.proofs.Numbers.{sum_places, sum_below_swap, sum_below-mul}
 
@@ -74,7 +73,7 @@ module _ (jobs : List Job) (j : ℕ) (known : j < length jobs) (is : IsJob (job_
     live_term k = cond (is_live (stretch_at jobs k) job) (term_of grid (stretch_at jobs k) job) 0
 
     term_enough : (k : ℕ) → grid * job.work * live_length k ≤ (job.deadline - job.release) * live_term k
-    term_enough k = grind (arith, cases_Bool, up_enough)
+    term_enough k = grind arith
 
     pub terms_enough : units_wanted jobs grid j ≤ sum_below (length (stretches jobs)) live_term
     terms_enough =
@@ -97,7 +96,7 @@ terms_numbered jobs grid stretch =
 
 -- what is live at its start begins no earlier and is due later
 live_from : (stretch : Piece) (job : Job) → is_live stretch job ≡ true → (job.release ≤ stretch.from) × (stretch.from < job.deadline)
-live_from stretch job live = grind (arith, cases_lt, le-leb, le-ltb, lt-leb, true≢false)
+live_from stretch job live = grind arith
 
 module _ (jobs : List Job) (grid : ℕ) (are : All IsJob jobs) (from to : ℕ) where
   abbrev confined : ℕ → Bool

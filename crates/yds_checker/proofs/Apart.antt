@@ -12,7 +12,7 @@ pub record Walked (placed : List Placed) (levels end i : ℕ) : Type 0 where
   pub apart : (time : ℕ) → holding levels time (take i placed) ≤ 1
 
 pub walk_begins : (placed : List Placed) (levels : ℕ) → Walked placed levels 0 0
-walk_begins placed levels = grind (arith)
+walk_begins placed levels = grind arith
 
 -- a piece of a later level is passed by
 pub walked_by : (placed : List Placed) (levels end i : ℕ) → i < length placed → levels ≤ (placed_at placed i).level → Walked placed levels end i →

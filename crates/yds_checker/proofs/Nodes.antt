@@ -33,7 +33,7 @@ within_below nodes leaves left right bound raised some order few first last abov
 -- and back
 pub within_above : (nodes : List ℕ) (leaves left right bound : ℕ) → AreRaised nodes leaves → 1 ≤ left → left < right → right ≤ length nodes →
     AreWithin nodes left right bound → AreWithin nodes ((left + 1) / 2) (right / 2) bound
-within_above nodes leaves left right bound raised some order few all k from to = grind (arith)
+within_above nodes leaves left right bound raised some order few all k from to = grind arith
 
 -- one node more is the greater of the two below it
 pub raised_more : (nodes : List ℕ) (leaves k high : ℕ) → length nodes ≡ leaves + leaves → 1 ≤ k → k < leaves →

@@ -126,7 +126,7 @@ work_within long short den most work some is fits less =
 -- the spans that are found in parts
 pub spans_same : (removed : List Piece) (parts start end p s e : ℕ) (spans : List Piece) → p ≡ parts → s ≡ start → e ≡ end →
     spans ≡ pieces_after s e 0 0 (map (piece_in_parts p) removed) → spans ≡ pieces_after start end 0 0 (map (piece_in_parts parts) removed)
-spans_same removed parts start end p s e spans same_p same_s same_e is = grind (arith)
+spans_same removed parts start end p s e spans same_p same_s same_e is = grind arith
 
 pub spans_found : (removed : List Piece) (parts start end : ℕ) (spans : List Piece) → AreApartFrom 0 removed → 1 ≤ parts →
     spans ≡ pieces_after start end 0 0 (map (piece_in_parts parts) removed) → ArePieces (map (piece_in_parts parts) removed) start end spans

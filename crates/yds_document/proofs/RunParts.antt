@@ -7,7 +7,7 @@ den_of true a b c den = inl refl
 den_of false a b c den = inr refl
 
 pub parts_alike : (x y : Fraction) (p q den : ℕ) → x ≡ of_parts p den → y ≡ of_parts q den → AreAlike x y
-parts_alike x y p q den is other = grind (arith)
+parts_alike x y p q den is other = grind arith
 
 pub tick_within : (whole tick ticks : ℕ) → whole ≡ tick / ticks → tick ≤ MAX_TIME * ticks → whole ≤ MAX_TIME
 tick_within whole tick ticks is within = grind (arith, div-le_of_le-mul)

@@ -1,5 +1,5 @@
 -- What an engine keeps as jobs arrive: their units come to their places.
-use Rattle.yds_model.proofs.Common.{rules, ◌≡◌, ℕ, ◌+◌, ◌-◌, ◌*◌, ◌<◌, ◌≤◌, true, List, length, set, slice_index, slice_index_or, ◌∙◌, sym, arith, inl, inr, ap, cond, length-set, nat_lt, Option, Some, None, IsNonDecreasingBy, cases_lt, cases_eq, lt-ltb, le-ltb, lt-leb, le-leb, leb-true, true≢false, mul-le-mul, get_or_read, Job, no_job}
+use Rattle.yds_model.proofs.Common.{rules, ◌≡◌, ℕ, ◌+◌, ◌-◌, ◌*◌, ◌<◌, ◌≤◌, true, List, length, set, slice_index, slice_index_or, ◌∙◌, sym, arith, inl, inr, ap, cond, length-set, nat_lt, Option, Some, None, IsNonDecreasingBy, cases_lt, cases_eq, lt-ltb, le-ltb, leb-true, true≢false, mul-le-mul, get_or_read, Job, no_job}
 use Rattle.yds_edf.specs.declared.order.Due.{Due}
 use Rattle.yds_edf.specs.declared.pending.PendingJobs.{PendingJobs}
 use Rattle.yds_edf.specs.Order.{no_due, due_at}
@@ -92,4 +92,4 @@ module _ {tied : TiedQueue} {arrivals : List Due} {arrived : ℕ} {pending : Pen
 pub all_come : (time : ℕ) (arrivals : List Due) (arrived : ℕ) → IsNonDecreasingBy (λ due. due.release) arrivals → arrived ≤ length arrivals →
     ((k : ℕ) → k < arrived → (due_at arrivals k).release ≤ time) →
     (arrived < length arrivals → time < (due_at arrivals arrived).release) → HaveArrived (Some time) arrivals arrived
-all_come time arrivals arrived rising within before next = grind (arith, le-leb, lt-leb)
+all_come time arrivals arrived rising within before next = grind arith

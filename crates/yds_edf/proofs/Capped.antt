@@ -1,5 +1,5 @@
 -- Policies whose units don't depend on what is pending: a stretch serves them, or all that is pending.
-use Rattle.yds_model.proofs.Common.{◌≡◌, ℕ, ◌*◌, ◌<◌, ◌≤◌, min, List, length, get_or, map, ◌∙◌, sym, subst, ap, arith, inl, inr, cond, Bool, nat_le, All, cases_lt, cases_Bool, get_or-map, All-from_get_or, All-contains, Contains-get_or, mul-le-mul_left, min-eq_left, min-eq_right, Each, Job, IsJob, no_job, job_at, WrittenSlot, IsScale, AtEachScale, slots_at, Piece, stretches, pending_at, pending_units, IsRunAt, stretch_at, AreSlotsOf}
+use Rattle.yds_model.proofs.Common.{◌≡◌, ℕ, ◌*◌, ◌<◌, ◌≤◌, min, List, length, get_or, map, ◌∙◌, sym, subst, ap, arith, inl, inr, cond, Bool, nat_le, All, cases_Bool, get_or-map, All-from_get_or, All-contains, Contains-get_or, Each, Job, IsJob, no_job, job_at, WrittenSlot, IsScale, AtEachScale, slots_at, Piece, stretches, pending_at, pending_units, IsRunAt, stretch_at, AreSlotsOf}
 use Rattle.yds_events.specs.Stretch.{no_stretch, IsOutside}
 use Rattle.yds_events.proofs.Neighbours.{stretches_run, release_outside, deadline_outside}
 use Rattle.yds_timetable.specs.Shares.{JobShare, units_given, total_units, shares_in}
@@ -23,7 +23,7 @@ stretches_uncut jobs = All-from_get_or (λ stretch. All (λ job. IsOutside stret
 
 -- the lesser of two multiples
 min_times : (k a b : ℕ) → min (k * a) (k * b) ≡ k * min b a
-min_times k a b = grind (arith, cases_lt, min-eq_left, min-eq_right, mul-le-mul_left)
+min_times k a b = grind arith
 
 module _ (jobs : List Job) (grid : ℕ) (units : (ℕ → ℕ) → Piece → ℕ) (shares : List JobShare) (slots : List WrittenSlot) (some_grid : 1 ≤ grid)
     (served : IsServed jobs grid units shares) (laid : IsLaidOut jobs grid shares slots) where

@@ -24,7 +24,7 @@ not_first : (a b c d x : ℕ) → b < a → cond (nat_le a b && nat_le c d) x 0 
 not_first a b c d x less = rw (lt-leb a b less) refl
 
 not_second : (a b c d x : ℕ) → d < c → cond (nat_le a b && nat_le c d) x 0 ≡ 0
-not_second a b c d x less = grind (arith, cases_lt, le-leb, lt-leb, not_first)
+not_second a b c d x less = grind arith
 
 -- and where one does
 one : (c d x : ℕ) → c ≤ d → cond (nat_le c d) x 0 ≡ x
@@ -141,7 +141,7 @@ next_capacity stretches capacities i time within ends = omega (
 same_capacity : (stretches : List Piece) (capacities : List ℕ) (i time : ℕ) → i < length stretches →
     time < (nth_stretch stretches i).to →
     capacity_from stretches capacities i time ≡ capacity_from stretches capacities (suc i) time
-same_capacity stretches capacities i time within later = grind (arith, cases_order, le-leb, not_first, not_second, sum_below_same)
+same_capacity stretches capacities i time within later = grind arith
 
 -- before the first stretch no more is left than is wanted
 left_first : (jobs : List Job) (grain : ℕ) (shares : List JobShare) (time : ℕ) →
@@ -150,7 +150,7 @@ left_first jobs grain shares time = grind (arith, both, cases_lt, not_one, one, 
 
 capacity_first : (stretches : List Piece) (capacities : List ℕ) (time : ℕ) →
     capacity_between stretches capacities 0 time ≤ capacity_from stretches capacities 0 time
-capacity_first stretches capacities time = grind (arith, le-leb, sum_below_at_most)
+capacity_first stretches capacities time = grind arith
 
 -- a job of which no share is given gets no units
 pub none_given : (shares : List JobShare) (number : ℕ) → All (λ share. number ≢ share.job) shares → units_given shares number ≡ 0
@@ -164,7 +164,7 @@ module _ (jobs : List Job) (tie : ℕ → ℕ) (grain : ℕ) (stretches : List P
     IsServing jobs tie (pending_at_start jobs grain stretches shares i) (capacity_at capacities i) (shares_in shares i)))
   where
     pending_left : (i number : ℕ) → pending_at_start jobs grain stretches shares i number ≤ left_of jobs grain shares i number
-    pending_left i number = grind (arith, cases_Bool)
+    pending_left i number = grind arith
 
     -- all that is left of a job that has arrived is pending
     arrived_left : (i number : ℕ) → (job_at jobs number).release ≤ (nth_stretch stretches i).from →

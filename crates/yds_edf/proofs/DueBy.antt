@@ -1,5 +1,5 @@
 -- The pending units of the jobs that are due by a time, summed job by job.
-use Rattle.yds_model.proofs.Common.{◌≡◌, ℕ, suc, ◌+◌, ◌-◌, ◌*◌, ◌<◌, ◌≤◌, length, slice_index_or, arith, cond, add-one, nat_le, cases_Bool, le-leb, lt-leb, get_or_read, Job, job_at, mul-le-mul_right}
+use Rattle.yds_model.proofs.Common.{◌≡◌, ℕ, suc, ◌+◌, ◌-◌, ◌*◌, ◌<◌, ◌≤◌, length, slice_index_or, arith, cond, add-one, nat_le, le-leb, lt-leb, get_or_read, Job, job_at, mul-le-mul_right}
 use Rattle.yds_edf.specs.Pending.{sum_below, is_within, units_wanted}
 use Rattle.yds_edf.specs.Queue.{JobQueue, pending_in, all_pending}
 use Rattle.yds_edf.specs.Engine.{TiedQueue, IsTiedQueue}
@@ -13,7 +13,7 @@ abbrev pub due_of : JobQueue → ℕ → ℕ → ℕ
 due_of queue time number = cond (nat_le (job_at queue.jobs number).deadline time) (pending_in queue number) 0
 
 due_within : (queue : JobQueue) (time number : ℕ) → due_of queue time number ≤ units_wanted queue.jobs queue.grain number
-due_within queue time number = grind (arith, cases_Bool)
+due_within queue time number = grind arith
 
 -- with one job more the sum is within 64 bits
 pub due_fits : (tied : TiedQueue) (time number : ℕ) → IsTiedQueue tied → number < length tied.queue.jobs →

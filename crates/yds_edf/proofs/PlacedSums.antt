@@ -1,5 +1,5 @@
 -- Units at places, summed before a place and in blocks.
-use Rattle.yds_model.proofs.Common.{rules, ◌≡◌, ℕ, zero, suc, ◌+◌, ◌-◌, ◌*◌, ◌/◌, ◌%◌, ◌<◌, ◌≤◌, List, length, set, replicate, slice_index, slice_index_or, refl, ◌∙◌, ap, arith, inl, inr, add-one, min, All, cases_lt, cases_eq, get_or-replicate, length-replicate, get_or-set_same, get_or-set_other, length-set, All-set, get_or-eq_default, div-add-mod, mod-lt, div-div-eq-div-mul, get_or_default_zero}
+use Rattle.yds_model.proofs.Common.{rules, ◌≡◌, ℕ, zero, suc, ◌+◌, ◌-◌, ◌*◌, ◌/◌, ◌%◌, ◌<◌, ◌≤◌, List, length, set, replicate, slice_index, slice_index_or, refl, ◌∙◌, ap, arith, inl, inr, add-one, min, All, cases_lt, cases_eq, get_or-replicate, length-replicate, get_or-set_same, get_or-set_other, length-set, All-set, get_or-eq_default, div-add-mod, div-div-eq-div-mul, get_or_default_zero}
 use Rattle.yds_edf.proofs.Sums.{sum_below_same, sum_below_zero, sum_below_change, sum_below_front}
 use Rattle.yds_edf.specs.Blocks.{units_before, HaveFewUnits, AreBlocks, AreSummed}
 
@@ -67,7 +67,7 @@ module _ (units : List ℕ) (place more : ℕ) (known : place < length units) wh
 -- # Blocks
 
 block_of : (place : ℕ) → (place / 8 * 8 ≤ place) × (place < place / 8 * 8 + 8)
-block_of place = grind (arith, div-add-mod, mod-lt)
+block_of place = grind arith
 
 pub none_in_blocks : (count : ℕ) → AreBlocks (replicate count 0) (replicate (count / 8 + 1) 0)
 none_in_blocks count = grind (arith, block_of, length-replicate, none_at, none_before)
@@ -93,11 +93,11 @@ before_block units sums blocks (suc block) = elim (cases_lt block (length sums))
 
 module _ (units sums : List ℕ) (blocks : AreBlocks units sums) (place : ℕ) (known : place < length units) where
   pub block_known : place / 8 < length sums
-  block_known = grind (arith, block_of, cases_lt)
+  block_known = grind arith
 
   -- the units at a place are some of its block's
   pub block_has : slice_index units place ≤ slice_index sums (place / 8)
-  block_has = grind (arith, before_rises, block_known, block_of, one_place_more)
+  block_has = grind arith
 
   pub block_few : HaveFewUnits units → slice_index sums (place / 8) ≤ 4000000000000000000
   block_few few = omega (arith, blocks.each (place / 8) block_known, few (place / 8 * 8 + 8))
@@ -179,7 +179,7 @@ none_left units start place so_far within sum all = omega (arith, sum, all, befo
 -- a whole block
 pub whole_block : (units sums : List ℕ) → AreBlocks units sums → (start end : ℕ) → start % 8 ≡ 0 → end ≡ start + 8 → start < length units →
     units_before units start + slice_index sums (start / 8) ≡ units_before units end
-whole_block units sums blocks start end begins ends within = grind (arith, block_known, div-add-mod)
+whole_block units sums blocks start end begins ends within = grind arith
 
 -- a whole block of blocks
 pub whole_group : {units blocks groups : List ℕ} {total start : ℕ} → AreSummed units blocks groups total start → (from end : ℕ) → from % 64 ≡ 0 → end ≡ from + 64 →

@@ -109,4 +109,4 @@ module _ {jobs : List Job} {ties : List ℕ} {pending : PendingJobs} (ranked : A
 -- other units leave their places as they are
 pub ranked_with : {jobs : List Job} {ties : List ℕ} {pending : PendingJobs} → AreRanked jobs ties pending → (units : List ℕ) → length units ≡ length pending.units →
     AreRanked jobs ties (record pending { units = units })
-ranked_with ranked units long = grind (arith, in_turn)
+ranked_with ranked units long = grind arith

@@ -1,5 +1,5 @@
 -- What an engine's places say of its jobs: how much of each is pending, and which of them is due first.
-use Rattle.yds_model.proofs.Common.{◌≡◌, ℕ, ◌<◌, ◌≤◌, ◌⊎◌, List, length, slice_index, ◌∙◌, refl, sym, subst, arith, inl, inr, ap, cond, nat_lt, cases_lt, cases_order, cases_Bool, lt-ltb, le-ltb, job_at}
+use Rattle.yds_model.proofs.Common.{◌≡◌, ℕ, ◌<◌, ◌≤◌, ◌⊎◌, List, length, slice_index, ◌∙◌, refl, sym, subst, arith, inl, inr, ap, cond, nat_lt, cases_lt, cases_order, lt-ltb, le-ltb, job_at}
 use Rattle.yds_edf.specs.declared.order.Due.{Due}
 use Rattle.yds_edf.specs.declared.pending.PendingJobs.{PendingJobs}
 use Rattle.yds_edf.specs.Blocks.{units_before, IsFirstPlace}
@@ -45,7 +45,7 @@ module _ {tied : TiedQueue} {arrivals : List Due} {arrived : ℕ} {pending : Pen
 
   -- what is pending of a job of which some units are is what is left of it
   pub pending_is_left : (job : ℕ) → 1 ≤ pending_in tied.queue job → pending_in tied.queue job ≡ units_left tied.queue job
-  pending_is_left job some = grind (arith, cases_Bool)
+  pending_is_left job some = grind arith
 
   -- the job at the first place with units is due first among those with pending units
   pub first_is_due : (place : ℕ) → IsFirstPlace pending.units place → (other : ℕ) → other < length tied.queue.jobs → 1 ≤ pending_in tied.queue other →

@@ -69,12 +69,12 @@ begun jobs grid units = record {
 }
 
 pub none_tabled : (jobs : List Job) (grid : ℕ) → Tabled jobs grid 0 []
-none_tabled jobs grid = grind (arith, All-nil)
+none_tabled jobs grid = grind arith
 
 -- # What a policy is told
 
 pub seen_none : (keeps : JobQueue → Type 0) (queue : JobQueue) → keeps queue → Seen keeps queue []
-seen_none keeps queue kept = grind (arith, All-nil)
+seen_none keeps queue kept = grind arith
 
 pub seen_next : (keeps : JobQueue → Type 0) (started new : JobQueue) (number set : ℕ) (shares : List JobShare) → keeps started →
     Serves started new number set shares → Seen keeps new shares
@@ -118,12 +118,12 @@ pub told_of : {X : Type 0} (tells : List Job → ℕ → (ℕ → ℕ) → Piece
     now.jobs ≡ jobs → now.grain ≡ grid → stretch ≡ stretch_at jobs i → started ≡ record now { time = Some stretch.from } →
     x ≡ tells started.jobs started.grain (pending_in started) stretch →
     x ≡ tells jobs grid (pending_of_job jobs grid (Some (stretch_at jobs i).from) (slice_index now.served)) (stretch_at jobs i)
-told_of tells jobs grid i now started stretch x same_jobs same_grain is starts told = grind (arith, slice_index)
+told_of tells jobs grid i now started stretch x same_jobs same_grain is starts told = grind arith
 
 -- and it is served from there
 pub served_from : (jobs : List Job) (i set : ℕ) (now started new : JobQueue) (stretch : Piece) (part : List JobShare) → stretch ≡ stretch_at jobs i →
     started ≡ record now { time = Some stretch.from } → Serves started new i set part → Serves (record now { time = Some (stretch_at jobs i).from }) new i set part
-served_from jobs i set now started new stretch part is starts serves = grind (arith)
+served_from jobs i set now started new stretch part is starts serves = grind arith
 
 -- # One stretch more
 

@@ -33,7 +33,7 @@ pub record Progress (start now : TiedQueue) (stretch capacity room : ℕ) (share
   pub finishing : length shares + unfinished_of (length start.queue.jobs) now.queue ≤ unfinished start.queue + 1
 
 pub begin : (start : TiedQueue) (stretch capacity : ℕ) → IsTiedQueue start → Progress start start stretch capacity capacity []
-begin start stretch capacity kept = grind (arith, All-nil)
+begin start stretch capacity kept = grind arith
 
 -- the units pending of a job, once one was served so many more
 pending_here : (tied : TiedQueue) (job units : ℕ) → job < length tied.queue.served → 1 ≤ pending_in tied.queue job →
@@ -43,11 +43,11 @@ pending_here tied job units within some enough = grind (arith, cases_Bool, chang
 
 -- no more is pending than is wanted
 pub pending_wanted : (queue : JobQueue) (number : ℕ) → pending_in queue number ≤ units_wanted queue.jobs queue.grain number
-pending_wanted queue number = grind (arith, cases_Bool)
+pending_wanted queue number = grind arith
 
 -- all that is left of a job of which units are pending is pending
 some_pending : (queue : JobQueue) (number : ℕ) → 1 ≤ pending_in queue number → pending_in queue number ≡ units_left queue number
-some_pending queue number some = grind (arith, cases_Bool)
+some_pending queue number some = grind arith
 
 left_here : (tied : TiedQueue) (job units : ℕ) → job < length tied.queue.served → units ≤ units_left tied.queue job →
     units + units_left (with_served tied job units).queue job ≡ units_left tied.queue job
@@ -92,7 +92,7 @@ module _ (start now : TiedQueue) (stretch capacity room : ℕ) (shares : List Jo
 
   -- a job that was served before is finished, so it is another
   pub before_it : All (λ earlier. IsDueBefore start.queue.jobs (slice_index start.ties) earlier.job job) shares
-  before_it k d within = grind (arith)
+  before_it k d within = grind arith
 
   all_left : pending_in now.queue job ≡ units_left now.queue job
   all_left = some_pending now.queue job (omega (arith, some, lesser))
@@ -195,7 +195,7 @@ module _ {start now new : TiedQueue} {stretch capacity room : ℕ} {shares : Lis
 
   first_there : (other : ℕ) → other < length start.queue.jobs → 1 ≤ pending_in now.queue other →
       (job ≡ other) ⊎ IsDueBefore start.queue.jobs (slice_index start.ties) job other
-  first_there other within pending = grind (arith, slice_index)
+  first_there other within pending = grind arith
 
   pub next_fits : length shares < length start.queue.jobs
   next_fits = share_fits start now stretch capacity room shares progress room_left job units known_there serves.some serves.lesser first_there

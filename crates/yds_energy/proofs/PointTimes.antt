@@ -7,7 +7,7 @@ use Rattle.yds_energy.proofs.OneEnergy.{rising_tail, places_rise, one_point}
 
 -- the first of more than one point isn't the last
 top_later : (low high : Point) (points : List Point) → top_of (low ∷ high ∷ points) ≡ top_of (high ∷ points)
-top_later low high points = grind (arith)
+top_later low high points = grind arith
 
 -- from a point on, the hull ends where the points do
 goes_top : (low : Point) (points hull : List Point) → GoesOn low points hull → top_of (low ∷ points) ≡ top_of (low ∷ hull)

@@ -1,5 +1,5 @@
 -- The energy of the rounded slots of a plan is the least of all feasible schedules on the table's points.
-use Rattle.yds_model.proofs.Common.{◌≡◌, ℕ, zero, suc, ◌-◌, ◌*◌, ◌<◌, ◌≤◌, List, [], ◌∷◌, ◌++◌, map, ap, arith, refl, ℤ, pos, ◌≤ℤ◌, ints, All-append, mul-pos, mul-le-mul_right, le_of_mul-le-mul_left, le_of_mul-le-mul_right, Job, Fraction, numerator, WrittenSlot, WholeSlot, IsSolid, slots_at, IsFeasibleAt, Level, IsPlan, Point, AreRising, IsTable, hull_of, gaps_of, product, IsEnergyOnPoints, IsRounding, hull_exists, scale_exists, finer, feasible_finer}
+use Rattle.yds_model.proofs.Common.{◌≡◌, ℕ, zero, suc, ◌-◌, ◌*◌, ◌<◌, ◌≤◌, List, [], ◌∷◌, ◌++◌, map, ap, arith, refl, ℤ, pos, ◌≤ℤ◌, All-append, mul-pos, mul-le-mul_right, le_of_mul-le-mul_left, le_of_mul-le-mul_right, Job, Fraction, numerator, WrittenSlot, WholeSlot, IsSolid, slots_at, IsFeasibleAt, Level, IsPlan, Point, AreRising, IsTable, hull_of, gaps_of, product, IsEnergyOnPoints, IsRounding, hull_exists, scale_exists, finer, feasible_finer}
 use Rattle.yds_energy.specs.RoundingLaws.{RoundedIsCheapest}
 use Rattle.yds_laws.proofs.Bound.{scale_left, scale_right}
 use Rattle.yds_energy.proofs.Hinges.{product-cons}
@@ -19,7 +19,7 @@ gaps_positive (low ∷ high ∷ points) rising =
 
 -- what is at most another by the hull is so without its gaps
 without_gaps : (all mine others : ℕ) (energy : ℤ) → 1 ≤ all → energy ≡ pos (all * mine) → energy ≤ℤ pos (all * others) → mine ≤ others
-without_gaps all mine others energy some is most = grind (arith, ints, le_of_mul-le-mul_left)
+without_gaps all mine others energy some is most = grind arith
 
 -- from a common scale to the other schedule's
 from_common : (num den mine spent fine scale : ℕ) → 1 ≤ fine → mine * den ≡ num * (fine * scale) → mine ≤ fine * spent → num * scale ≤ spent * den

@@ -98,7 +98,7 @@ line_of_split all p r low high gap time rest busy given rises is_busy is_given =
 -- what is spent, and the time without a slot
 split_sum : (p r idle time rest fast slow busy written : ℕ) → fast ≡ time → busy ≡ time + rest → p * slow + idle * rest ≡ p * rest + idle * slow →
     written ≡ fast + slow → (r * fast + p * slow) + idle * busy ≡ (p * rest + r * time) + idle * written
-split_sum p r idle time rest fast slow busy written is_fast is_busy same both = grind (arith)
+split_sum p r idle time rest fast slow busy written is_fast is_busy same both = grind arith
 
 -- What a stretch that is split spends: the plan's slots fill the time at the two points, and the time that the slower one leaves idle
 -- costs the same at the idle power.

@@ -52,7 +52,7 @@ slot_open jobs stretch scale slot between window takes lies = grind (arith, mul-
 
 -- and a slot of such a job in the stretch lies in the job's window
 open_slot : (jobs : List Job) (stretch : Piece) (scale : ℕ) (slot : WholeSlot) → IsOpen jobs stretch slot.job → LiesIn scale slot stretch → IsInWindow jobs scale slot
-open_slot jobs stretch scale slot is lies = grind (arith, mul-le-mul_right)
+open_slot jobs stretch scale slot is lies = grind arith
 
 -- a written slot that lies in the stretch does so at a scale
 lies_at_scale : (scale : ℕ) (slot : WrittenSlot) (stretch : Piece) → 1 ≤ scale → IsDivided scale slot → LiesWritten slot stretch →

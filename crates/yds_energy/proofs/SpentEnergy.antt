@@ -107,7 +107,7 @@ pub record IsCost (points hull : List Point) (scale : ℕ) (stretch : Piece) (he
 
 -- in plain numbers: an empty one
 empty_is : (gaps multiple power time cost : ℕ) → cost ≡ power * (time * multiple) → gaps * cost + multiple * 0 ≡ multiple * 0 + multiple * (gaps * (power * (time - 0)))
-empty_is gaps multiple power time cost is = grind (arith)
+empty_is gaps multiple power time cost is = grind arith
 
 empty_cost : (points : List Point) (low : Point) (hull : List Point) (scale : ℕ) (stretch : Piece) → AreRising points → AreRising (low ∷ hull) → Contains points low →
     IsCost points (low ∷ hull) scale stretch []

@@ -1,6 +1,6 @@
 -- The slots of a schedule by the stretches that they lie in: each is in one, and those in a stretch stand between those before it and
 -- those after it.
-use Rattle.yds_model.proofs.Common.{◌≡◌, ℕ, ◌+◌, ◌*◌, ◌<◌, ◌≤◌, ◌⊎◌, Bool, true, false, List, [], ◌∷◌, ◌++◌, zero, suc, refl, sym, ap, ◌∙◌, arith, inl, inr, leb-true, sum_by, nat_le, ◌&&◌, if◌then◌else◌, All, Any, both_true, mul-le-mul_right, cases_Bool, and_parts, and_left, and_right, le-leb, lt-leb, All-nil, All-cons, All-tail, sum_by-cons, WholeSlot, Piece, PiecesFrom, RunFrom, LiesIn, slots_in, sum_by-add, sum_by_zero}
+use Rattle.yds_model.proofs.Common.{◌≡◌, ℕ, ◌+◌, ◌*◌, ◌<◌, ◌≤◌, ◌⊎◌, Bool, true, false, List, [], ◌∷◌, ◌++◌, zero, suc, refl, sym, ap, ◌∙◌, arith, inl, inr, sum_by, nat_le, ◌&&◌, if◌then◌else◌, All, Any, both_true, mul-le-mul_right, cases_Bool, and_left, and_right, le-leb, lt-leb, All-nil, All-cons, All-tail, sum_by-cons, WholeSlot, Piece, PiecesFrom, RunFrom, LiesIn, slots_in, sum_by-add, sum_by_zero}
 
 -- # Whether a slot lies in a stretch
 
@@ -10,7 +10,7 @@ lies scale stretch slot = nat_le (stretch.from * scale) slot.from && nat_le slot
 
 -- a slot that passes lies there
 pub lies_told : (scale : ℕ) (stretch : Piece) (slot : WholeSlot) → lies scale stretch slot ≡ true → LiesIn scale slot stretch
-lies_told scale stretch slot passes = grind (arith, and_parts, leb-true)
+lies_told scale stretch slot passes = grind arith
 
 -- and one that lies there passes
 pub lies_passes : (scale : ℕ) (stretch : Piece) (slot : WholeSlot) → LiesIn scale slot stretch → lies scale stretch slot ≡ true

@@ -1,5 +1,5 @@
 -- How sorted keys cut time: a time more behind others, and the places of the keys' times.
-use Rattle.yds_model.proofs.Common.{◌≡◌, ℕ, ◌+◌, ◌-◌, ◌<◌, ◌≤◌, List, [], ◌∷◌, ◌++◌, length, get_or, set, map, take, ◌∙◌, refl, sym, ap, inl, inr, arith, ◌==◌, Bool, true, false, cond, All, dedup, dedup_from, cases_Bool, cases_eq, and_parts, lt-ltb, ltb-true, eqb-true, get_or_append_left, get_or_default, get_or_push, get_or-set_same, get_or-set_other, length_push, map_more, place_cases}
+use Rattle.yds_model.proofs.Common.{◌≡◌, ℕ, ◌+◌, ◌-◌, ◌<◌, ◌≤◌, List, [], ◌∷◌, ◌++◌, length, get_or, set, map, take, ◌∙◌, refl, sym, ap, inl, inr, arith, ◌==◌, Bool, true, false, cond, All, dedup, dedup_from, cases_Bool, cases_eq, and_parts, ltb-true, eqb-true, get_or_append_left, get_or_default, get_or_push, get_or-set_same, get_or-set_other, length_push, map_more, place_cases}
 use Rattle.yds_events.specs.Keys.{key_of, time_of_key, number_of_key, AreKeys, IsAt, ArePlaces, ends_with, with_end}
 use Rattle.yds_events.proofs.Keys.{IsKey, key_is, as_many, key_at}
 
@@ -20,7 +20,7 @@ cond_after first false xs ys = refl
 
 -- a time before others
 same_end : (first next time : ℕ) (times : List ℕ) → ends_with (first ∷ next ∷ times) time ≡ ends_with (next ∷ times) time
-same_end first next time times = grind (arith, lt-ltb)
+same_end first next time times = grind arith
 
 last_cons : (first : ℕ) (times : List ℕ) (time : ℕ) → 1 ≤ length times → first ∷ with_end times time ≡ with_end (first ∷ times) time
 last_cons first [] time some = absurd (omega arith)

@@ -1,5 +1,5 @@
 -- The jobs in order of deadline: those whose deadlines sorted keys have.
-use Rattle.yds_model.proofs.Common.{◌≡◌, ℕ, ◌+◌, ◌*◌, ◌%◌, ◌<◌, ◌≤◌, ◌⊎◌, List, ◌∙◌, length, get_or, map, true, ap, arith, All, filter, cases_lt, eq-eqb, eqb-true, get_or-map, get_or_default, length-map, All-filter, filter_passes, AllPairs-from_increasing, IsStrictlyIncreasing-filter, Job, job_at, contains_filter}
+use Rattle.yds_model.proofs.Common.{◌≡◌, ℕ, ◌+◌, ◌*◌, ◌%◌, ◌<◌, ◌≤◌, ◌⊎◌, List, ◌∙◌, length, get_or, map, true, ap, arith, All, filter, eq-eqb, eqb-true, get_or-map, get_or_default, length-map, All-filter, filter_passes, AllPairs-from_increasing, IsStrictlyIncreasing-filter, Job, job_at, contains_filter}
 use Rattle.yds_events.specs.Keys.{ends_of, key_of, time_of_key, number_of_key, is_deadline, job_of_key, AreKeys}
 use Rattle.yds_events.specs.Order.{IsOrder}
 use Rattle.yds_events.proofs.Keys.{IsKey, all_keys, key_at, strictly}
@@ -25,7 +25,7 @@ due jobs key is odd =
 -- keys in order are jobs in order
 keys_precede : (deadline j deadline' j' : ℕ) → deadline * 4294967296 + (2 * j + 1) < deadline' * 4294967296 + (2 * j' + 1) → 2 * j + 1 < 4294967296 → 2 * j' + 1 < 4294967296 →
     (deadline < deadline') ⊎ ((deadline ≡ deadline') × (j ≤ j'))
-keys_precede deadline j deadline' j' before small small' = grind (arith, cases_lt)
+keys_precede deadline j deadline' j' before small small' = grind arith
 
 pub keys_order : (jobs : List Job) (keys order : List ℕ) → AreKeys (ends_of jobs) keys → order ≡ map job_of_key (filter is_deadline keys) → IsOrder jobs order
 keys_order jobs keys order are is =

@@ -1,5 +1,5 @@
 -- Times that rise, each later than the one before it: the event points do, and such a list is known by what stands in it.
-use Rattle.yds_model.proofs.Common.{◌≡◌, ℕ, zero, suc, ◌+◌, ◌<◌, ◌≤◌, ◌⊎◌, List, [], ◌∷◌, length, get_or, refl, sym, ◌∙◌, inl, inr, arith, ◌==◌, All, Contains, dedup, IsPermutation, IsSorted, nat_cmp, cases_order, lt-ltb, le-ltb, eq-eqb, ne_eqb, All-cons, All-head, All-tail, Contains-dedup_nat, Contains-from_dedup, AllPairs-from_increasing, Contains-permutation, IsPermutation-sym, IsStrictlyIncreasing-dedup, with_time, rising_times}
+use Rattle.yds_model.proofs.Common.{◌≡◌, ℕ, zero, suc, ◌+◌, ◌<◌, ◌≤◌, ◌⊎◌, List, [], ◌∷◌, length, get_or, refl, sym, ◌∙◌, inl, inr, arith, ◌==◌, All, Contains, dedup, IsPermutation, IsSorted, nat_cmp, All-cons, All-head, All-tail, Contains-dedup_nat, Contains-from_dedup, AllPairs-from_increasing, Contains-permutation, IsPermutation-sym, IsStrictlyIncreasing-dedup, with_time, rising_times}
 
 -- the times rise, from this one on
 abbrev pub Rises : ℕ → List ℕ → Type 0
@@ -16,7 +16,7 @@ with_time-cons : (time first : ℕ) (times : List ℕ) →
     ((time ≡ first) × (with_time time (first ∷ times) ≡ first ∷ times))
     ⊎ (((time < first) × (with_time time (first ∷ times) ≡ time ∷ first ∷ times))
     ⊎ ((first < time) × (with_time time (first ∷ times) ≡ first ∷ with_time time times)))
-with_time-cons time first times = grind (arith, cases_order, eq-eqb, le-ltb, lt-ltb, ne_eqb)
+with_time-cons time first times = grind arith
 
 -- # They rise
 

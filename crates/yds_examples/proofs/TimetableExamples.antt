@@ -21,7 +21,7 @@ numbers = Some 2 ∷ Some 1 ∷ Some 0 ∷ Some 1 ∷ Some 2 ∷ []
 
 -- They are the timetable of the plan,
 timetable : IsTimetabled jobs rows numbers slots levels
-timetable = grind (arith)
+timetable = grind arith
 
 -- but not where a stretch of b has the number of c's level: that is faster,
 not_faster : IsTimetabled jobs rows (Some 2 ∷ Some 1 ∷ Some 0 ∷ Some 0 ∷ Some 2 ∷ []) slots levels → ⊥

@@ -6,4 +6,4 @@ pub some_parts : (most : ℕ) {x : Fraction} → IsFraction most x → 1 ≤ x.d
 some_parts most kept = let below = kept.below_one in omega arith
 
 pub IsFraction-within : (most least : ℕ) (x : Fraction) → IsFraction most x → x.whole ≤ least → IsFraction least x
-IsFraction-within most least x kept within = grind (arith)
+IsFraction-within most least x kept within = grind arith

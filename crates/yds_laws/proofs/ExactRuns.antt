@@ -1,5 +1,5 @@
 -- Runs that never rounded: Average Rate does whole parts of jobs, and Optimal Available has the greatest quotient's speed.
-use Rattle.yds_model.proofs.Common.{◌≡◌, ℕ, zero, suc, ◌+◌, ◌-◌, ◌*◌, ◌%◌, ◌<◌, ◌≤◌, ◌⊎◌, max, List, [], ◌∷◌, length, map, ◌∙◌, refl, sym, ap, subst, arith, inl, inr, cond, Bool, true, false, count_by, sum_by, nat_le, ◌==◌, ◌&&◌, ◌||◌, not, fold, All, Any, filter, list_any, list_all, cases_lt, cases_Bool, lt-ltb, le-ltb, le-leb, lt-leb, eqb-true, true≢false, get_or_default, All-nil, All-cons, All-head, All-tail, All-filter, All-weaker, All-from_get_or, sum_by-cons, mul-pos, mul-sub, mul-le-mul_right, eq_of_mul-eq-mul_right, div-lt_iff_lt-mul, le-div_iff_mul-le, div-add-mod, Job, WholeSlot, slots_at, Piece, stretches, div_up, slots_in, FillsAtSpeed, ServesCapacity, IsRunAt, is_live, term_numerator, term_of, rounds_term, average_rate_rounds, due_units, pending_deadlines, asked, units_asked, optimal_available, optimal_available_rounds, work_in, stretch_at, run_forward}
+use Rattle.yds_model.proofs.Common.{◌≡◌, ℕ, zero, suc, ◌+◌, ◌-◌, ◌*◌, ◌%◌, ◌<◌, ◌≤◌, ◌⊎◌, max, List, [], ◌∷◌, length, map, ◌∙◌, refl, sym, ap, subst, arith, inl, inr, cond, Bool, true, false, count_by, sum_by, nat_le, ◌==◌, ◌&&◌, ◌||◌, not, fold, All, Any, filter, list_any, list_all, cases_lt, cases_Bool, lt-ltb, eqb-true, true≢false, get_or_default, All-nil, All-cons, All-head, All-tail, All-filter, All-weaker, All-from_get_or, sum_by-cons, mul-pos, mul-sub, mul-le-mul_right, eq_of_mul-eq-mul_right, div-lt_iff_lt-mul, Job, WholeSlot, slots_at, Piece, stretches, div_up, slots_in, FillsAtSpeed, ServesCapacity, IsRunAt, is_live, term_numerator, term_of, rounds_term, average_rate_rounds, due_units, pending_deadlines, asked, units_asked, optimal_available, optimal_available_rounds, work_in, stretch_at, run_forward}
 use Rattle.yds_events.specs.Stretch.{no_stretch}
 use Rattle.yds_events.proofs.Neighbours.{stretch_forward}
 use Rattle.yds_laws.specs.RunLaws.{HasWholeTerms, HasGreatestSpeed, OptimalAvailableIsExact}
@@ -61,7 +61,7 @@ module _ (jobs : List Job) (grid scale : ℕ) (some_grid : 1 ≤ grid) (some_sca
 -- # Average Rate
 
 whole_quotient : (x y : ℕ) → (x % y == 0) ≡ true → 1 ≤ y → div_up x y * y ≡ x
-whole_quotient x y whole some = grind (arith, div-add-mod, div-lt_iff_lt-mul, eqb-true, le-div_iff_mul-le)
+whole_quotient x y whole some = grind arith
 
 -- where none of those that pass one test passes another
 none_any_more : {X : Type 0} (q : X → Bool) (b : Bool) (x : X) (xs : List X) → list_any q (cond b (x ∷ xs) xs) ≡ false →
@@ -84,7 +84,7 @@ not_not false is = absurd (true≢false is)
 
 -- a job's window takes time where a stretch lies in it
 window_long : (stretch : Piece) (job : Job) → is_live stretch job ≡ true → 1 ≤ job.deadline - job.release
-window_long stretch job live = grind (arith, cases_lt, le-leb, le-ltb, lt-leb, true≢false)
+window_long stretch job live = grind arith
 
 pub whole_terms : (jobs : List Job) (grid : ℕ) (stretch : Piece) → average_rate_rounds jobs grid stretch ≡ false → HasWholeTerms jobs grid stretch
 whole_terms jobs grid stretch none =

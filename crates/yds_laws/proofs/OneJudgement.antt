@@ -76,7 +76,7 @@ module _ (jobs : List Job) (slots : List WrittenSlot) (levels : List Level) wher
   -- the judgement of a failure after the slots
   first_told : (stage place : ℕ) → SlotsHold jobs slots → Each stage Stage → IsFirstFailure (places stage) (Test stage) place →
       IsTold (told stage place Feasible)
-  first_told stage place holds stages failure = grind (arith)
+  first_told stage place holds stages failure = grind arith
 
   -- each judgement that is so
   judgement_told : (judgement : Judgement) → IsJudgement jobs slots levels judgement → IsTold judgement

@@ -3,7 +3,7 @@
 -- One way is the confinement bound. For the other, one unit of work runs after another at the top speed, earliest deadline first: at the
 -- scale of the top speed each takes one part of time. What is left of the jobs due by a time is always at most the room before it: a part
 -- of time either serves such a job, or none of them may run, and then all that is left of them comes later, where they have room.
-use Rattle.yds_model.proofs.Common.{◌≡◌, ℕ, zero, suc, ◌+◌, ◌-◌, ◌*◌, ◌/◌, ◌<◌, ◌≤◌, ◌⊎◌, List, [], ◌∷◌, ◌++◌, length, get_or, ◌∙◌, refl, sym, subst, arith, inl, inr, ap, cond, Bool, true, false, ◌&&◌, ◌==◌, nat_lt, nat_le, All, Any, Contains, filter, range_with_len, sum_by, cases_lt, cases_eq, cases_Bool, ltb-true, leb-true, lt-leb, le-leb, lt-ltb, eq-eqb, eqb-true, ne_eqb, and_parts, and_from, true≢false, sum_by-cons, sum_by_push, get_or-le-sum_by, All-nil, All-tail, All-push, All-filter, filter_passes, get_or-range_with_len, length-range_with_len, mul-sub, mul-le-mul_right, mul-le-mul_left, AreDifferent, count, Job, IsJob, no_job, job_at, WholeSlot, work_given, RunFrom, IsInWindow, numbers_of, IsWithinTop, CanServe, lies_within, confined_work, sum_by_same, sum_by_at_most, sum_by_zero, count-cons, sum_by-filter, found_or_none}
+use Rattle.yds_model.proofs.Common.{◌≡◌, ℕ, zero, suc, ◌+◌, ◌-◌, ◌*◌, ◌/◌, ◌<◌, ◌≤◌, ◌⊎◌, List, [], ◌∷◌, ◌++◌, length, get_or, ◌∙◌, refl, sym, subst, arith, inl, inr, ap, cond, Bool, true, false, ◌&&◌, ◌==◌, nat_lt, nat_le, All, Any, Contains, filter, range_with_len, sum_by, cases_lt, cases_eq, cases_Bool, ltb-true, leb-true, lt-leb, le-leb, eq-eqb, eqb-true, ne_eqb, and_parts, true≢false, sum_by-cons, sum_by_push, get_or-le-sum_by, All-nil, All-tail, All-push, All-filter, filter_passes, get_or-range_with_len, length-range_with_len, mul-sub, mul-le-mul_right, mul-le-mul_left, AreDifferent, count, Job, IsJob, no_job, job_at, WholeSlot, work_given, RunFrom, IsInWindow, numbers_of, IsWithinTop, CanServe, lies_within, confined_work, sum_by_same, sum_by_at_most, sum_by_zero, count-cons, sum_by-filter, found_or_none}
 use Rattle.yds_laws.specs.AdmissionLaws.{HasRoom, ServedWhereRoom}
 use Rattle.yds_laws.proofs.Bound.{served_at_speed}
 
@@ -96,12 +96,12 @@ pub begins_outside : (jobs : List Job) (from to number : ℕ) → (job_at jobs n
 begins_outside jobs from to number before = rw (lt-leb from (job_at jobs number).release before) refl
 
 pub ends_outside : (jobs : List Job) (from to number : ℕ) → to < (job_at jobs number).deadline → confined_term jobs from to number ≡ 0
-ends_outside jobs from to number after = grind (arith, begins_outside, cases_lt, le-leb, lt-leb)
+ends_outside jobs from to number after = grind arith
 
 -- # Room in any interval that ends at a deadline
 
 not_equal : (a b : ℕ) → a < suc b → (a == b) ≡ false → a < b
-not_equal a b less other = grind (arith, cases_eq, cases_lt, eq-eqb, true≢false)
+not_equal a b less other = grind arith
 
 shorter : (to from : ℕ) → to - suc from ≤ to - from
 shorter to from = omega arith
@@ -244,10 +244,10 @@ least_of (suc n) test key = elim (cases_Bool (test n)) [
 ]
 
 comes_after : (top q x release : ℕ) → top * q ≤ x → x < release * top → suc q ≤ release
-comes_after top q x release before after = grind (arith, cases_lt, mul-le-mul_left)
+comes_after top q x release before after = grind arith
 
 done : (given work begin x : ℕ) → begin ≤ x → (nat_le begin x && nat_lt given work) ≡ false → work ≤ given
-done given work begin x released none = grind (arith, and_from, cases_lt, le-leb, lt-ltb, nat_le, nat_lt, true≢false)
+done given work begin x released none = grind arith
 
 -- the whole unit of time that a part of time lies in
 cell : (top x : ℕ) → 1 ≤ top → (q : ℕ) × (top * q ≤ x) × (x < top * q + top)
@@ -364,7 +364,7 @@ module _ (top : ℕ) (jobs : List Job) (some : 1 ≤ top) (are : All IsJob jobs)
         )
 
     no_later : (time i : ℕ) → left_term jobs (with_one now.given job) time i ≤ left_term jobs now.given time i
-    no_later time i = grind (arith, cases_lt, left_is, left_none)
+    no_later time i = grind arith
 
     bound_next : (last : ℕ) → last < length jobs →
         left_due jobs (with_one now.given job) (job_at jobs last).deadline ≤ (job_at jobs last).deadline * top - suc x

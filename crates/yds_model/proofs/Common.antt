@@ -2,7 +2,7 @@
 pub use Rattle.std.proofs.Common.{◌%◌, ◌&&◌, ◌*ℤ◌, ◌*◌, ◌++◌, ◌+ℤ◌, ◌+◌, ◌-ℤ◌, ◌-◌, ◌/◌, ◌<◌, ◌==◌, ◌^◌, ◌||◌, ◌↔◌, ◌∙◌, ◌∷◌, ◌≡◌, ◌≢◌, ◌≤ℤ◌, ◌≤◌, ◌⊎◌, [], add-one, add-zero, All, Any, ap, append-nil, append_assoc, ap₂, arith, below_more, Bool, Bor, bytes_eq, codes, cond, Contains, count_by, Decides, decimal, drop, drop-cons, drop-drop, drop_at, eq-eqb, eqb-true, Err, false, filter, flat_map, fold, get_or, get_or-set_other, get_or-set_same, get_or-take, IfNone, if◌then◌else◌, inl, inr, insert, is_none, IsErr, le-div_iff_mul-le, le-leb, le-ltb, le_refl, leb-true, length, length-append, length-drop, length-set, length-take, length-take-le, List, lt-ltb, ltb, map, MatchOption, MatchResult, max, min, mul-le-mul_left, mul-le-mul_right, mul-pos, mul-zero, mul_assoc, mul_comm, mul_left_comm, mul_right_comm, nat_cmp, nat_le, nat_lt, ne_eqb, negsuc, None, not, Ok, one-mul, Option, option_and_then, option_copied, pos, position, refl, replicate, Result, reverse, rules, set, set-set, slice_index, slice_index_or, slice_set, Some, subst, suc, sum, sum_by, sym, take, take-append-drop, take-take, take_all, take_at, true, vec_capacity, vec_len, zero, zero-add, ℕ, ℤ, ⊎_elim}
 pub use Rattle.std.proofs.Math.Bool.{and-false, and_comm, false-and, or-true}
 pub use Rattle.std.proofs.Math.ListN.{get_or-eq_default}
-pub use Rattle.std.proofs.Math.Nat.{add-mul, add-mul-div_right, div-add-mod, div-div-eq-div-mul, div-le_of_le-mul, div-le_self, div-lt_iff_lt-mul, div-mul-le_self, div-mul_cancel, div-one, dvd-mul_left, dvd-mul_right, dvd-mul_right_of_dvd, dvd_of_mul-dvd-mul_left, eq-zero_of_zero-dvd, eq_of_mul-eq-mul_left, eq_of_mul-eq-mul_right, le_of_mul-le-mul_left, le_of_mul-le-mul_right, lt-div-mul-add, lt_of_mul-lt-mul_right, min-eq_left, min-eq_right, mod-eq_of_lt, mod-le, mod-lt, mul-add, mul-add-div_right, mul-add-mod_self_right, mul-div_cancel, mul-dvd-mul_left, mul-le-mul, mul-lt-mul_of_pos_left, mul-lt-mul_of_pos_right, mul-sub, mul-suc, one-dvd, pow-le-pow_right, pow-suc, zero-mul}
+pub use Rattle.std.proofs.Math.Nat.{add-mul, add-mul-div_right, div-add-mod, div-div-eq-div-mul, div-le_of_le-mul, div-le_self, div-lt_iff_lt-mul, div-mul-le_self, div-mul_cancel, div-one, dvd-mul_left, dvd-mul_right, dvd-mul_right_of_dvd, dvd_of_mul-dvd-mul_left, eq-zero_of_zero-dvd, eq_of_mul-eq-mul_left, eq_of_mul-eq-mul_right, le_of_mul-le-mul_left, le_of_mul-le-mul_right, lt-div-mul-add, lt_of_mul-lt-mul_right, mod-eq_of_lt, mod-le, mod-lt, mul-add, mul-add-div_right, mul-add-mod_self_right, mul-div_cancel, mul-dvd-mul_left, mul-le-mul, mul-lt-mul_of_pos_left, mul-lt-mul_of_pos_right, mul-sub, mul-suc, one-dvd, pow-le-pow_right, pow-suc, zero-mul}
 pub use Rattle.std.proofs.Math.Path.{fun_ext}
 pub use Rattle.std.proofs.Math.Seq.{drop-append-add, get_or-append_seam, map-set_same, take-add, take-append-add, take-append_seam, take-length}
 pub use Rattle.std.proofs.lemmas.Bool.{and_from, and_left, and_parts, and_right, both_ways, cases_Bool, cases_eq, cases_lt, cases_order, cond-false, cond-true, cond_both, eqb-false, false_from_ne_true, false≢true, leb-false, lt-leb, ltb-false, ltb-true, not-false, not-true, not_from_false, not_from_true, or_from, or_parts, true≢false}
@@ -43,10 +43,12 @@ pub use Rattle.std.specs.Bool.{then_some}
 pub use Rattle.std.specs.Char.{digit_value}
 pub use Rattle.std.specs.Cmp.{nat_cmp_is}
 pub use Rattle.std.specs.Cmp.Derive.{both_true}
-pub use Rattle.std.specs.Fmt.{digit_glyph, digits, digits_onto}
+pub use Rattle.std.specs.Fmt.{digit_glyph, digits_onto}
+unfoldable pub use Rattle.std.specs.Fmt.{digits}
 pub use Rattle.std.specs.Int.{◌∣◌, bit_at, from_bool, int_max, IsGcd, trailing_zeros, w64}
 pub use Rattle.std.specs.Io.KnownBytes.{Appends, Consumes}
-pub use Rattle.std.specs.List.{after_first, AllByRecursion, AllPairs, AllZip, before_first, dedup, dedup_from, enumerate_from, filter_map, IsDistinct, join_with_byte, list_all, list_any, position_or_len, prefix_len, range_with_len, slice_range, zip}
+pub use Rattle.std.specs.List.{after_first, AllByRecursion, AllPairs, AllZip, before_first, dedup, dedup_from, enumerate_from, filter_map, join_with_byte, list_all, list_any, position_or_len, prefix_len, range_with_len, slice_range, zip}
+unfoldable pub use Rattle.std.specs.List.{IsDistinct}
 pub use Rattle.std.specs.List.Sorted.{IsNonDecreasing, IsNonDecreasingBy, IsPartitionedBy, IsPartitionPoint, IsPermutation, IsSorted, IsSortedByKey, IsStableByKey, IsStrictlyIncreasing}
 pub use Rattle.std.specs.Option.{option_to_list, unwrap_or}
 pub use Rattle.std.specs.Ordering.{is_lt, MatchOrdering, ord_max, ordering_then}

@@ -1,7 +1,7 @@
 -- What a job adds to the work that is confined to an interval, and to the work that is released from a time on.
 use Rattle.std.proofs.Common.{◌≡◌, ℕ, ◌<◌, ◌≤◌, ◌⊎◌, ◌+◌, arith, List, [], ◌∷◌, ◌++◌, refl, inl, inr, cond, nat_le}
 use Rattle.std.specs.List.{All}
-use Rattle.std.proofs.lemmas.Bool.{cases_lt, lt-leb, le-leb}
+use Rattle.std.proofs.lemmas.Bool.{lt-leb, le-leb}
 use Rattle.std.proofs.lemmas.List.Sums.{sum_by_push}
 use Rattle.yds_model.specs.Job.{Job}
 use Rattle.yds_model.specs.Confined.{window_is_within, work_within, released_work}
@@ -19,7 +19,7 @@ pub part_early : (from to : ℕ) (job : Job) → job.release < from → part_wit
 part_early from to job early = rw (lt-leb from job.release early) refl
 
 pub part_late : (from to : ℕ) (job : Job) → to < job.deadline → part_within from to job ≡ 0
-part_late from to job late = grind (arith, cases_lt, le-leb, lt-leb, part_early)
+part_late from to job late = grind arith
 
 -- one job more
 pub within_push : (jobs : List Job) (job : Job) (from to : ℕ) → work_within (jobs ++ job ∷ []) from to ≡ work_within jobs from to + part_within from to job
@@ -38,7 +38,7 @@ not_released from job less = rw (lt-leb from job.release less) refl
 
 -- of a job that is due by the end it is the part confined to the interval
 pub part_due : (from to : ℕ) (job : Job) → job.deadline ≤ to → part_released from job ≡ part_within from to job
-part_due from to job due = grind (arith, cases_lt, is_released, not_released, part_early, part_inside)
+part_due from to job due = grind arith
 
 -- with no deadline after the end it is the work confined to the interval
 pub released_due : (jobs : List Job) (from to : ℕ) → All (λ job. job.deadline ≤ to) jobs → released_work jobs from ≡ work_within jobs from to

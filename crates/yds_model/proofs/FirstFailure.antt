@@ -1,6 +1,5 @@
 -- The first failure of tests is one: of stages that are tried in order, and of each stage's places.
 use Rattle.std.proofs.Common.{◌≡◌, ℕ, suc, ◌<◌, arith}
-use Rattle.std.proofs.lemmas.Bool.{cases_lt}
 use Rattle.yds_model.specs.Numbers.{Each}
 
 -- nothing lies below 0
@@ -9,11 +8,7 @@ each_none P i within = absurd (omega arith)
 
 -- one place more
 pub each_more : (P : ℕ → Type 0) (n : ℕ) → Each n P → P n → Each (suc n) P
-each_more P n each last i within = grind (arith, cases_lt)
-
--- two numbers below which all hold, and at which it fails, are equal
-pub first_is_one : (P : ℕ → Type 0) (i j : ℕ) → Each i P → (P i → ⊥) → Each j P → (P j → ⊥) → i ≡ j
-first_is_one P i j below_i fails_i below_j fails_j = grind (arith, cases_lt)
+each_more P n each last i within = grind arith
 
 -- the stages before this one hold, and this is its first place that fails
 pub record IsFirst (places : ℕ → ℕ) (Test : ℕ → ℕ → Type 0) (stage place : ℕ) : Type 0 where
@@ -24,8 +19,8 @@ pub record IsFirst (places : ℕ → ℕ) (Test : ℕ → ℕ → Type 0) (stage
 
 -- two first failures are of one stage
 pub one_stage : (places : ℕ → ℕ) (Test : ℕ → ℕ → Type 0) (s p t q : ℕ) → IsFirst places Test s p → IsFirst places Test t q → s ≡ t
-one_stage places Test s p t q one other = grind (arith, first_is_one)
+one_stage places Test s p t q one other = grind arith
 
 -- and at one place of it
 pub one_place : (places : ℕ → ℕ) (Test : ℕ → ℕ → Type 0) (s p t q : ℕ) → IsFirst places Test s p → IsFirst places Test t q → p ≡ q
-one_place places Test s p t q one other = grind (arith, first_is_one, one_stage)
+one_place places Test s p t q one other = grind arith

@@ -3,7 +3,7 @@ use Rattle.std.proofs.Common.{◌≡◌, ℕ, zero, suc, ◌+◌, ◌*◌, ◌/�
 use Rattle.std.specs.Prelude.{◌↔◌}
 use Rattle.std.specs.Int.{◌∣◌}
 use Rattle.std.proofs.Math.Nat.{div-mul_cancel, mul-pos, mul-lt-mul_of_pos_right, lt_of_mul-lt-mul_right, eq_of_mul-eq-mul_right, le_of_mul-le-mul_right, mul-le-mul_right}
-use Rattle.std.proofs.lemmas.Bool.{cases_lt, cases_Bool}
+use Rattle.std.proofs.lemmas.Bool.{cases_lt}
 use Rattle.yds_model.specs.Scale.{Fraction, at_scale, numerator, of_parts, AreAlike, IsAtMost}
 use Rattle.yds_model.specs.ScaleLaws.{OrderIsOfValues, EqualityIsOfValues, SumIsOfValues, MultipleIsOfValues, OrderIsTransitive, EqualityIsTransitive, OrderAgreesWithEquality}
 
@@ -27,11 +27,11 @@ value-den scale x divides = scaled x.whole x.num x.den (scale / x.den) scale (di
 
 -- numbers that are tied to two others by positive factors are ordered as those are
 pub tied_order : (a b k s u v : ℕ) → 1 ≤ s → 1 ≤ k → u * k ≡ a * s → v * k ≡ b * s → (a < b ↔ (u < v))
-tied_order a b k s u v some_s some_k e f = grind (arith, lt_of_mul-lt-mul_right, mul-lt-mul_of_pos_right)
+tied_order a b k s u v some_s some_k e f = grind arith
 
 -- and are equal as those are
 pub tied_equality : (a b k s u v : ℕ) → 1 ≤ s → 1 ≤ k → u * k ≡ a * s → v * k ≡ b * s → (a ≡ b ↔ (u ≡ v))
-tied_equality a b k s u v some_s some_k e f = grind (arith, eq_of_mul-eq-mul_right)
+tied_equality a b k s u v some_s some_k e f = grind arith
 
 -- equations times a factor
 times : (u d a s e : ℕ) → u * d ≡ a * s → u * (d * e) ≡ a * e * s
@@ -131,8 +131,8 @@ at_most_of_values x y scale positive dx dy = grind (arith, cases_lt, order_of_va
 
 -- the denominator of parts is 1 or the one that is given
 pub parts_den : (parts den : ℕ) → ((of_parts parts den).den ≡ 1) ⊎ ((of_parts parts den).den ≡ den)
-parts_den parts den = grind (arith, cases_Bool)
+parts_den parts den = grind arith
 
 -- so any two of one denominator are alike
 pub parts_alike : (one other den : ℕ) → AreAlike (of_parts one den) (of_parts other den)
-parts_alike one other den = grind (arith, parts_den)
+parts_alike one other den = grind arith

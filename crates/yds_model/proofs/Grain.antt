@@ -6,7 +6,7 @@ use Rattle.std.specs.Int.{◌∣◌}
 use Rattle.std.proofs.lemmas.List.{get_or_read}
 use Rattle.std.proofs.lemmas.List.Sums.{sum_by-cons}
 use Rattle.std.proofs.lemmas.List.Elements.{All-nil, All-cons, All-from_get_or, recursion_from_All}
-use Rattle.std.proofs.lemmas.Bool.{cases_lt, cases_eq, eq-eqb, ne_eqb, eqb-true}
+use Rattle.std.proofs.lemmas.Bool.{cases_lt, eq-eqb, eqb-true}
 use Rattle.std.proofs.lemmas.Nat.Gcd.{dvd_refl}
 use Rattle.std.proofs.Math.Nat.{le_refl, le-max_left, le-max_right, one-dvd, div-mul_cancel, mul-add}
 use Rattle.yds_model.specs.Scale.{at_scale, numerator}
@@ -114,7 +114,7 @@ part_scaled u n den grain parts scale e f = omega (arith, ap (λ k. k * parts) e
 -- of the slots of a job alone
 part_of_job : (a b u v grain scale : ℕ) → (b ≡ a → grain * u ≡ scale * v) →
     grain * (if a == b then u else 0) ≡ scale * (if b == a then v else 0)
-part_of_job a b u v grain scale same = grind (arith, cases_eq, eq-eqb, ne_eqb)
+part_of_job a b u v grain scale same = grind arith
 
 -- summed over the slots
 parts_scaled : (scale grain job : ℕ) (slots : List WrittenSlot) → AllByRecursion (IsDivided scale) slots →

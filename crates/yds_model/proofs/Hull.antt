@@ -31,7 +31,7 @@ flatter_below low high mid from to below =
 
 -- where it is above, the line from it on is flatter than the whole one, and the line up to it steeper
 pub flatter_above : (low high mid : Point) → low.speed ≤ mid.speed → mid.speed ≤ high.speed → IsAbove low high mid → IsFlatter mid high low high × IsFlatter low high low mid
-flatter_above low high mid from to above = grind (arith, times_gap)
+flatter_above low high mid from to above = grind arith
 
 -- `IsFlatter` by the gaps between the speeds, of which products can be cancelled
 abbrev ByGaps : Point → Point → Point → Point → Type 0

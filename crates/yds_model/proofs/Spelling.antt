@@ -1,5 +1,5 @@
 -- Spellings: what numbers written in base ten and names are made of.
-use Rattle.std.proofs.Common.{◌≡◌, ◌≢◌, ℕ, ◌^◌, ◌<◌, ◌≤◌, true, false, ◌==◌, nat_le, List, [], ◌∷◌, length, get_or, All, IsUtf8, IsAscii, decimal, Ok, refl, ap, ◌∙◌, arith, inl, inr, eqb-true, eq-eqb, ne_eqb, eq-zero-or-pos}
+use Rattle.std.proofs.Common.{◌≡◌, ◌≢◌, ℕ, ◌^◌, ◌<◌, ◌≤◌, true, false, ◌==◌, nat_le, List, [], ◌∷◌, length, get_or, All, IsUtf8, IsAscii, decimal, Ok, refl, ap, ◌∙◌, arith, inl, inr, eqb-true, eq-eqb, eq-zero-or-pos}
 use Rattle.std.specs.List.{list_all}
 use Rattle.std.specs.Str.Parse.{digits_value, AllDigits}
 use Rattle.std.proofs.lemmas.Bool.{and_parts, and_from, eqb-false, cases_Bool, leb-true, le-leb}
@@ -93,7 +93,7 @@ digit_range byte digit =
 
 -- so it is no byte below 48
 digit_other : (byte other : ℕ) → other < 48 → is_digit byte ≡ true → (byte == other) ≡ false
-digit_other byte other apart digit = grind (arith, digit_range, ne_eqb)
+digit_other byte other apart digit = grind arith
 
 -- the bytes of what is written in base ten
 pub decimal_digits : (n : ℕ) → n < 2 ^ 64 → All (λ byte. is_digit byte ≡ true) (decimal n)

@@ -1,6 +1,6 @@
 -- A run of Optimal Available: by each event point every job that is due by then is served in full, and what the code asks of a
 -- stretch is what the definition asks.
-use Rattle.yds_model.proofs.Common.{◌≡◌, ℕ, zero, suc, ◌-◌, ◌*◌, ◌<◌, ◌≤◌, max, List, length, get_or, map, ◌∙◌, refl, sym, subst, ap, arith, inl, inr, cond, true, false, add-one, mul_assoc, Bool, nat_le, nat_lt, ◌==◌, ◌&&◌, not, All, sum_by, filter, Result, Ok, Err, IfOk, OnOk, list_all, cases_lt, cases_eq, cases_Bool, le-leb, lt-leb, lt-ltb, le-ltb, eq-eqb, ne_eqb, and_left, and_right, and_from, All-filter, All-weaker, Contains-get_or, filter_agree, get_or-eq_default, mul-le-mul_left, le_of_mul-le-mul_right, mul-pos, eq_of_mul-eq-mul_left, Each, Job, IsJob, no_job, job_at, WrittenSlot, IsScale, slots_at, Piece, event_points, stretches, pending_at, numbers_of, pending_jobs, due_units, pending_deadlines, asked, units_asked, optimal_available, optimal_available_rounds, IsOptimalAvailableRun, stretch_at, sum_by-mul, sum_by_same, sum_by-filter, rounded_up_same}
+use Rattle.yds_model.proofs.Common.{◌≡◌, ℕ, zero, suc, ◌-◌, ◌*◌, ◌<◌, ◌≤◌, max, List, length, get_or, map, ◌∙◌, refl, sym, subst, ap, arith, inl, inr, cond, true, false, add-one, mul_assoc, Bool, nat_le, nat_lt, ◌==◌, ◌&&◌, not, All, sum_by, filter, Result, Ok, Err, IfOk, OnOk, list_all, cases_lt, cases_eq, cases_Bool, le-leb, lt-leb, lt-ltb, le-ltb, eq-eqb, ne_eqb, and_left, and_right, and_from, All-filter, All-weaker, Contains-get_or, filter_agree, get_or-eq_default, mul-le-mul_left, mul-pos, eq_of_mul-eq-mul_left, Each, Job, IsJob, no_job, job_at, WrittenSlot, IsScale, slots_at, Piece, event_points, stretches, pending_at, numbers_of, pending_jobs, due_units, pending_deadlines, asked, units_asked, optimal_available, optimal_available_rounds, IsOptimalAvailableRun, stretch_at, sum_by-mul, sum_by_same, sum_by-filter, rounded_up_same}
 use Rattle.yds_events.specs.Stretch.{no_stretch}
 use Rattle.yds_events.proofs.Times.{not_later, release_at, deadline_at}
 use Rattle.yds_events.proofs.Neighbours.{count_stretches, stretch_begins, stretch_ends, stretch_forward, release_outside, deadline_outside}
@@ -17,9 +17,9 @@ use Rattle.yds_edf.proofs.Filled.{stands_in}
 use Rattle.yds_edf.proofs.RunAt.{run_at}
 use Rattle.yds_edf.proofs.Standing.{all_shares, laid_solid}
 use Rattle.yds_edf.proofs.Capped.{pending_term}
-use Rattle.yds_edf.proofs.Quotients.{up_enough, up_most}
+use Rattle.yds_edf.proofs.Quotients.{up_most}
 use Rattle.yds_oa.specs.Asked.{is_waiting, waiting, due_by, deadlines, asked_by, most_asked, most_rounds}
-use Rattle.yds_oa.proofs.Waiting.{waits_is, waits_for, each_waits}
+use Rattle.yds_oa.proofs.Waiting.{waits_for, each_waits}
 use Rattle.yds_oa.proofs.Greatest.{asks_at_most, most_at_most}
 
 -- what a waiting job adds to the units that are due by a time
@@ -45,7 +45,7 @@ asks_due jobs pending stretch deadline long upto = grind (arith, mul-le-mul_left
 
 end_asks : (jobs : List Job) (pending : ℕ → ℕ) (stretch : Piece) → stretch.from < stretch.to →
     due_by jobs pending stretch stretch.to ≤ asked_by jobs pending stretch stretch.to
-end_asks jobs pending stretch long = grind (arith, le_of_mul-le-mul_right, up_enough)
+end_asks jobs pending stretch long = grind arith
 
 module _ (jobs : List Job) (grid : ℕ) (some_grid : 1 ≤ grid) (are : All IsJob jobs) (shares : List JobShare)
     (served : IsServed jobs grid (most_asked jobs) shares) where
@@ -56,7 +56,7 @@ module _ (jobs : List Job) (grid : ℕ) (some_grid : 1 ≤ grid) (are : All IsJo
   given k number = units_given (shares_before shares k) number
 
   held_left : (k number : ℕ) → held k number ≤ units_wanted jobs grid number - given k number
-  held_left k number = grind (arith, cases_Bool)
+  held_left k number = grind arith
 
   arrived_left : (k number : ℕ) → (job_at jobs number).release ≤ (stretch_at jobs k).from → held k number ≡ units_wanted jobs grid number - given k number
   arrived_left k number arrived = rw (le-leb (job_at jobs number).release (stretch_at jobs k).from arrived) refl
@@ -79,7 +79,7 @@ module _ (jobs : List Job) (grid : ℕ) (some_grid : 1 ≤ grid) (are : All IsJo
     end = (stretch_at jobs k).to
 
     waits_here : (number : ℕ) → number < length jobs → 1 ≤ held k number → is_waiting jobs (held k) (stretch_at jobs k) number ≡ true
-    waits_here number known some = grind (arith, cases_lt, held_left, waits_is)
+    waits_here number known some = grind arith
 
     none_left : (number : ℕ) → number < length jobs → (job_at jobs number).deadline ≡ end → held k number ≤ units_given (shares_in shares k) number
     none_left number known due = elim (cases_lt (units_given (shares_in shares k) number) (held k number)) [

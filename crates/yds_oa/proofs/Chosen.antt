@@ -1,5 +1,5 @@
 -- The greatest quotient by places is the greatest of all that deadlines ask.
-use Rattle.yds_model.proofs.Common.{◌≡◌, ℕ, zero, suc, ◌+◌, ◌-◌, ◌*◌, ◌<◌, ◌≤◌, List, length, slice_index, ◌∙◌, refl, sym, subst, ap, arith, inl, inr, add-one, IsNonDecreasingBy, cases_lt, cases_eq, le-leb, lt-leb, lt-ltb, le-ltb, mul-le-mul_left, le_of_mul-le-mul_left, Each, Job, Piece}
+use Rattle.yds_model.proofs.Common.{◌≡◌, ℕ, zero, suc, ◌+◌, ◌-◌, ◌*◌, ◌<◌, ◌≤◌, List, length, slice_index, ◌∙◌, refl, sym, subst, ap, arith, inl, inr, add-one, IsNonDecreasingBy, cases_lt, cases_eq, lt-leb, mul-le-mul_left, le_of_mul-le-mul_left, Each, Job, Piece}
 use Rattle.yds_edf.specs.Pending.{sum_below}
 use Rattle.yds_edf.proofs.Sums.{sum_below_zero}
 use Rattle.yds_edf.proofs.Numbers.{sum_places}
@@ -10,7 +10,7 @@ use Rattle.yds_oa.specs.Asked.{due_by}
 use Rattle.yds_edf.specs.Blocks.{units_before}
 use Rattle.yds_edf.specs.Order.{no_due, due_at, AreByDeadline}
 use Rattle.yds_oa.specs.Greatest.{IsOfDeadline, IsGreatest, AreDueAfter, IsQuotientAt, IsGreatestOf}
-use Rattle.yds_oa.proofs.Waiting.{weight_by, waits_is, nothing_of, due_in_order}
+use Rattle.yds_oa.proofs.Waiting.{weight_by, waits_is, due_in_order}
 use Rattle.yds_edf.proofs.PlacedSums.{one_place_more, before_rises}
 use Rattle.yds_edf.proofs.Places.{entry_at}
 
@@ -65,10 +65,10 @@ module _ (jobs : List Job) (pending : PendingJobs) (units : ℕ → ℕ) (stretc
 
   module _ (deadline cut : ℕ) (is : IsCut order deadline (length order) cut) where
     weight_over : (place : ℕ) → place < start → weight deadline place ≡ 0
-    weight_over place less = grind (arith, cases_lt, le-leb, le-ltb, lt-leb, nothing_of)
+    weight_over place less = grind arith
 
     weight_due : (place : ℕ) → start ≤ place → place < cut → weight deadline place ≡ slice_index pending.units place
-    weight_due place most less = grind (arith, le-leb, lt-ltb)
+    weight_due place most less = grind arith
 
     weight_later : (place : ℕ) → cut ≤ place → place < length order → weight deadline place ≡ 0
     weight_later place most less = rw (lt-leb (due_at order place).deadline deadline (is.after place most less)) refl

@@ -1,5 +1,5 @@
 -- The greatest number that a deadline asks is the greatest quotient's, and it is rounded where that is.
-use Rattle.yds_model.proofs.Common.{◌≡◌, ℕ, suc, ◌+◌, ◌-◌, ◌*◌, ◌/◌, ◌%◌, ◌<◌, ◌≤◌, max, List, [], ◌∷◌, length, get_or, map, ◌∙◌, refl, sym, ap, arith, inl, inr, true, false, Bool, nat_lt, ◌==◌, ◌&&◌, not, All, fold, list_all, cases_lt, cases_eq, lt-ltb, le-ltb, eq-eqb, ne_eqb, get_or-map, length-map, All-nil, All-cons, All-map, All-weaker, list_all-from_AllPass, list_all_at, mul-le-mul_right, mul-le-mul_left, le_of_mul-le-mul_right, lt_of_mul-lt-mul_right, mul-lt-mul_of_pos_right, div-add-mod, dvd-mul_left, mod-eq-zero_of_dvd, Job, job_at, Piece, div_up, stretches, stretch_at}
+use Rattle.yds_model.proofs.Common.{◌≡◌, ℕ, suc, ◌+◌, ◌-◌, ◌*◌, ◌/◌, ◌%◌, ◌<◌, ◌≤◌, max, List, [], ◌∷◌, length, get_or, map, ◌∙◌, refl, sym, ap, arith, inl, inr, true, false, Bool, nat_lt, ◌==◌, ◌&&◌, not, All, fold, list_all, cases_lt, cases_eq, lt-ltb, le-ltb, eq-eqb, ne_eqb, get_or-map, length-map, All-nil, All-cons, All-map, All-weaker, list_all-from_AllPass, list_all_at, mul-le-mul_right, mul-le-mul_left, le_of_mul-le-mul_right, lt_of_mul-lt-mul_right, mul-lt-mul_of_pos_right, Job, job_at, Piece, div_up, stretches, stretch_at}
 use Rattle.yds_events.proofs.Neighbours.{deadline_outside}
 use Rattle.yds_edf.proofs.Quotients.{up_enough, up_most}
 use Rattle.yds_oa.specs.Asked.{is_waiting, waiting, due_by, deadlines, asked_by, most_asked, most_rounds}
@@ -24,10 +24,10 @@ fold_below a most (x ∷ xs) first all = fold_below (max a x) most xs (omega (ar
 
 -- a whole quotient and one that isn't, rounded up
 up_whole : (x y : ℕ) → 1 ≤ y → x % y ≡ 0 → div_up x y * y ≡ x
-up_whole x y some none = grind (arith, div-add-mod, mul-le-mul_right, up_enough, up_most)
+up_whole x y some none = grind arith
 
 up_more : (x y : ℕ) → 1 ≤ y → (x % y ≡ 0 → ⊥) → x < div_up x y * y
-up_more x y some rest = grind (arith, cases_eq, dvd-mul_left, mod-eq-zero_of_dvd, up_enough)
+up_more x y some rest = grind arith
 
 -- a waiting job's deadline asks at most the greatest number
 pub asks_at_most : (jobs : List Job) (pending : ℕ → ℕ) (stretch : Piece) (job : ℕ) → job < length jobs → is_waiting jobs pending stretch job ≡ true →
@@ -73,7 +73,7 @@ module _ (jobs : List Job) (pending : ℕ → ℕ) (stretch : Piece) (units time
   -- the deadline of the greatest quotient asks as much
   asked_there : (job : ℕ) → time ≡ (job_at jobs job).deadline - stretch.from → units ≤ due_by jobs pending stretch (job_at jobs job).deadline →
       most ≤ asked_by jobs pending stretch (job_at jobs job).deadline
-  asked_there job until due = grind (arith, mul-le-mul_right, up_enough, up_most)
+  asked_there job until due = grind arith
 
   -- what holds of each waiting deadline
   each_deadline : (P : ℕ → Type 0) → ((job : ℕ) → is_waiting jobs pending stretch job ≡ true → P (job_at jobs job).deadline) →

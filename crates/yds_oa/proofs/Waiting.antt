@@ -1,5 +1,5 @@
 -- The waiting jobs, and the units that are due, in order of numbers and in order of deadlines.
-use Rattle.yds_model.proofs.Common.{◌≡◌, ℕ, ◌<◌, ◌≤◌, List, length, get_or, ◌∙◌, refl, sym, arith, cond, true, false, Bool, nat_le, nat_lt, ◌&&◌, All, Contains, sum_by, IsPermutation, cases_lt, lt-ltb, le-ltb, true≢false, get_or-map, length-map, length-range_with_len, get_or-range_with_len, sum_by-IsPermutation, All-filter, filter_passes, Job, job_at, Piece, numbers_of, sum_by_same, sum_by-map, sum_by-filter, contains_filter}
+use Rattle.yds_model.proofs.Common.{◌≡◌, ℕ, ◌<◌, ◌≤◌, List, length, get_or, ◌∙◌, refl, sym, arith, cond, true, false, Bool, nat_le, nat_lt, ◌&&◌, All, Contains, sum_by, IsPermutation, lt-ltb, get_or-map, length-map, length-range_with_len, get_or-range_with_len, sum_by-IsPermutation, All-filter, filter_passes, Job, job_at, Piece, numbers_of, sum_by_same, sum_by-map, sum_by-filter, contains_filter}
 use Rattle.yds_edf.specs.declared.order.Due.{Due}
 use Rattle.yds_edf.specs.Order.{due_job, due_jobs}
 use Rattle.yds_oa.specs.Asked.{is_waiting, waiting, due_by, deadlines}
@@ -12,7 +12,7 @@ waits_is jobs pending stretch job some later = rw (lt-ltb 0 (pending job) some, 
 
 pub waits_for : (jobs : List Job) (pending : ℕ → ℕ) (stretch : Piece) (job : ℕ) → is_waiting jobs pending stretch job ≡ true →
     (1 ≤ pending job) × (stretch.from < (job_at jobs job).deadline)
-waits_for jobs pending stretch job waits = grind (arith, cases_lt, le-ltb, lt-ltb, true≢false)
+waits_for jobs pending stretch job waits = grind arith
 
 -- a job is among the waiting ones exactly where it waits
 pub stands_waiting : (jobs : List Job) (pending : ℕ → ℕ) (stretch : Piece) (job : ℕ) → job < length jobs → is_waiting jobs pending stretch job ≡ true →
@@ -54,7 +54,7 @@ nothing_of true false = refl
 nothing_of false other = refl
 
 one : (n : ℕ) (later soon : Bool) → ◌≡◌ {A = ℕ} (cond (nat_lt 0 n && later) (cond soon n 0) 0) (cond soon (cond later n 0) 0)
-one n later soon = grind (arith, cases_lt, lt-ltb)
+one n later soon = grind arith
 
 -- the units that are due by a deadline, summed in that order
 pub due_in_order : (jobs : List Job) (pending : ℕ → ℕ) (stretch : Piece) (ties : List ℕ) (order : List Due) → IsPermutation (due_jobs jobs ties) order → (deadline : ℕ) →

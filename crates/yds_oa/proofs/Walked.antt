@@ -17,7 +17,7 @@ none_there units start place none less = omega (arith, none, sum_below_term star
 pub due_behind : (pending : PendingJobs) (from start : ℕ) → AreInOrder pending → start ≤ length pending.order.items →
     ((place : ℕ) → place < start → ((due_at pending.order.items place).deadline ≤ from) ⊎ (slice_index pending.units place ≡ 0)) →
     (start < length pending.order.items → from < (due_at pending.order.items start).deadline) → AreDueAfter pending from start
-due_behind pending from start are within before next = grind (arith)
+due_behind pending from start are within before next = grind arith
 
 -- one place more is looked at
 module _ (pending : PendingJobs) (from start place units : ℕ) (old new one : Quotient) (after : AreDueAfter pending from start) (past : start ≤ place)
@@ -39,7 +39,7 @@ module _ (pending : PendingJobs) (from start place units : ℕ) (old new one : Q
   still_some (inr other) = omega (arith, after.after place past known, time_is, ap (λ (q : Quotient). q.time) other)
 
   here_at_most : IsNotGreater pending from start new place
-  here_at_most = grind (arith)
+  here_at_most = grind arith
 
   pub one_further : IsGreatestWithin pending from start (place + 1) new
   one_further = record {
@@ -84,7 +84,7 @@ at_last pending walk are is more = elim (cases_lt walk.start walk.place) [
 -- a walk is over at the end of the places, or where it has counted all units
 walked_to_end : (pending : PendingJobs) (walk : Walk) → IsWalk pending walk → length pending.order.items ≤ walk.place →
     IsGreatestWithin pending walk.from walk.start (length pending.order.items) walk.greatest
-walked_to_end pending walk is past = grind (arith)
+walked_to_end pending walk is past = grind arith
 
 pub walked_through : (pending : PendingJobs) (walk : Walk) → AreInOrder pending → IsWalk pending walk →
     (length pending.order.items ≤ walk.place) ⊎ (units_before pending.units (length pending.units) ≤ walk.units) →

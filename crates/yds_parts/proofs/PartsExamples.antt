@@ -1,5 +1,5 @@
 -- Parts, tried on a job from 0 to 2 and one from 2 to 4 or later, each of work 2: what meets the laws' premises, and near misses.
-use Rattle.yds_model.proofs.Common.{◌≡◌, ℕ, ◌≤◌, [], ◌∷◌, refl, arith, All-cons, All-nil, Job, WholeSlot, RunFrom}
+use Rattle.yds_model.proofs.Common.{◌≡◌, ℕ, ◌≤◌, [], ◌∷◌, refl, arith, Job, WholeSlot, RunFrom}
 use Rattle.yds_parts.specs.Parts.{ArePartedAt, together_at, gap_between}
 
 abbrev pub job : ℕ → ℕ → ℕ → Job
@@ -10,7 +10,7 @@ slot job from to work = record { job = job; from = from; to = to; work = work }
 
 -- one job and another
 parted_jobs : (time : ℕ) (one other : Job) → one.deadline ≤ time → time ≤ other.release → ArePartedAt time (one ∷ []) (other ∷ [])
-parted_jobs time one other ends begins = grind (arith, All-cons, All-nil)
+parted_jobs time one other ends begins = grind arith
 
 -- Where the one window ends as the other begins, they are parted at that time,
 touching : ArePartedAt 2 (job 0 2 2 ∷ []) (job 2 4 2 ∷ [])

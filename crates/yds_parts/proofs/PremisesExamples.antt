@@ -1,7 +1,5 @@
 -- The premises of the laws are met: a job from 0 to 2 and one from 5 to 7, each of work 2, with a slot that fills the window.
 use Rattle.yds_model.proofs.Common.{rules, ◌≡◌, ℕ, zero, suc, ◌<◌, ◌≤◌, List, [], ◌∷◌, ◌++◌, refl, sym, subst, arith, inr, All, Any, All-cons, All-nil, one-dvd, Job, of_whole, WrittenSlot, WholeSlot, IsScale, Piece, IsTable, IsFeasibleAt, ComesFirst, stretches, LiesIn, IsUncut, ServesCapacity, IsRunAt, IsAverageRateRun, IsOptimalAvailableRun}
-use Rattle.yds_energy.proofs.Finer.{each_scale_of}
-use Rattle.yds_energy.proofs.RunScale.{average_rate_run_free, optimal_available_run_free, optimal_available_rounds_free}
 use Rattle.yds_parts.specs.Parts.{slots_in_turn, WindowsAreForward}
 use Rattle.yds_parts.specs.EnergyOfParts.{AreScheduled}
 use Rattle.yds_parts.proofs.RunsOfParts.{average_rate_of_parts, optimal_available_of_parts}
@@ -18,7 +16,7 @@ full from to work = slot 0 from to work ∷ []
 
 -- it is feasible
 alone_feasible : (from to work : ℕ) → from < to → IsFeasibleAt (alone from to work) 1 (full from to work)
-alone_feasible from to work takes = grind (arith, All-cons, All-nil, slot)
+alone_feasible from to work takes = grind arith
 
 -- and a run of each policy that serves so much
 alone_run : (from to work : ℕ) (capacity : Piece → ℕ) → from < to → 1 ≤ work → stretches (alone from to work) ≡ stretch from to ∷ [] →
@@ -61,7 +59,7 @@ has_window release deadline work window =
 
 -- both parts have jobs and a feasible schedule
 scheduled : AreScheduled 4 1 one other slots others
-scheduled = grind (arith, alone_feasible, apart, has_window)
+scheduled = grind arith
 
 -- and the points are a table
 table : IsTable points
@@ -71,10 +69,10 @@ table = record { some = omega arith; idle = refl; rising = (omega arith, (omega 
 
 -- each part has a run that rounds nowhere
 first_rate : IsAverageRateRun one 1 0 (written 0 2 2)
-first_rate = grind (arith, alone_run, average_rate_run_free, each_scale_of, one, slots, written_scale)
+first_rate = grind arith
 
 second_rate : IsAverageRateRun other 1 0 (written 5 7 2)
-second_rate = grind (arith, alone_run, average_rate_run_free, each_scale_of, other, others, written_scale)
+second_rate = grind arith
 
 -- so both together are its run of both jobs
 rate_of_both : IsAverageRateRun (one ++ other) 1 0 (slots_in_turn one (written 0 2 2) (written 5 7 2))
@@ -85,10 +83,10 @@ rate_of_both =
 
 -- so it is here
 first_available : IsOptimalAvailableRun one 1 0 (written 0 2 2)
-first_available = grind (arith, alone_run, each_scale_of, one, optimal_available_rounds_free, optimal_available_run_free, slots, written_scale)
+first_available = grind arith
 
 second_available : IsOptimalAvailableRun other 1 0 (written 5 7 2)
-second_available = grind (arith, alone_run, each_scale_of, optimal_available_rounds_free, optimal_available_run_free, other, others, written_scale)
+second_available = grind arith
 
 -- and of both together
 available_of_both : IsOptimalAvailableRun (one ++ other) 1 0 (slots_in_turn one (written 0 2 2) (written 5 7 2))

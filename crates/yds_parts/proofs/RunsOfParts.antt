@@ -123,7 +123,7 @@ module _ (time : ℕ) (first second : List Job) (parted : ArePartedAt time first
     -- a part of which nothing waits has nothing due
     nothing_due : (part : List Job) (its : List WholeSlot) (stretch : Piece) (deadline : ℕ) → pending_jobs part scale its stretch ≡ [] →
         due_units part grid scale its stretch deadline ≡ 0
-    nothing_due part its stretch deadline none = grind (arith)
+    nothing_due part its stretch deadline none = grind arith
 
     abbrev deadlines_of : List Job → List ℕ → List ℕ
     deadlines_of part numbers = map (λ number. (job_at part number).deadline) numbers

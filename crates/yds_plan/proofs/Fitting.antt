@@ -13,7 +13,7 @@ module _ (jobs : List Job) (found : Found) (is : IsFound jobs found) (timeline :
     (drafted : levels ≡ drafts timeline found (length found.group_of_job) (length timeline)) where
   -- the drafts with all jobs and stretches are the levels
   pub all_drafted : levels ≡ levels_of jobs found
-  all_drafted = grind (arith)
+  all_drafted = grind arith
 
   -- there are no more levels than groups, and no more groups than jobs
   pub levels_fit : All IsJob jobs → length jobs ≤ MAX_JOBS → length levels ≤ MAX_LEVELS

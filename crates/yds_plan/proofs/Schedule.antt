@@ -44,7 +44,7 @@ module _ (jobs : List Job) (found : Found) (is : IsFound jobs found) where
   earliest_of : (scale : ℕ) (one other : JobShare) (slot next : WholeSlot) → Stands jobs found scale one slot → Stands jobs found scale other next →
       group_of found.group_of_job other.job ≡ group_of found.group_of_job one.job → (job_at jobs other.job).release ≤ (stretch_at jobs one.stretch).from →
       one.stretch < other.stretch → ComesFirst jobs one.job other.job
-  earliest_of scale one other slot next here there same released order = grind (arith)
+  earliest_of scale one other slot next here there same released order = grind arith
 
   -- who runs in a stretch comes before those who run in a later one and are released
   first_of_two : (scale : ℕ) (one other : JobShare) (slot next : WholeSlot) → Stands jobs found scale one slot → Stands jobs found scale other next →

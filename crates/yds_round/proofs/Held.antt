@@ -56,7 +56,7 @@ pub record IsHeld (levels : List Level) (level : Level) (stretch : Piece) (share
 -- they are as much as the level does there
 pub units_held : (level : Level) (stretch : Piece) (shares : List JobShare) → Fills (pace_of_level level) stretch shares →
     total_units shares ≡ speed_num level * length_of stretch
-units_held level stretch shares fills = grind (arith)
+units_held level stretch shares fills = grind arith
 
 -- at a scale a slot takes time, and runs at the speed num/den
 record RunsAtSpeed (num den scale : ℕ) (slot : WrittenSlot) : Type 0 where

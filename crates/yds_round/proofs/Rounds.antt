@@ -44,7 +44,7 @@ dens_after level gap speed course stretch shares den grain = all_after (HasSplit
 -- the work of the level in the stretch, by its split
 all_of_level : (level : Level) (low high : Point) (split : Split) (stretch : Piece) → IsSplitOf level low high split →
     all_units split stretch ≡ speed_num level * length_of stretch
-all_of_level level low high split stretch is = grind (arith)
+all_of_level level low high split stretch is = grind arith
 
 -- what a stretch serves, as the code meets it
 pub full_of : (level : Level) (low high : Point) (split : Split) (stretch : Piece) (shares : List JobShare) → IsSplitOf level low high split →

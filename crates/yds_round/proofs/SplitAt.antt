@@ -17,7 +17,7 @@ use Rattle.yds_round.proofs.InTurn.{AreApart, DoesWork, share_jobs, turns_cut, t
 
 -- nothing is done at first
 nothing_before : (surplus step : ℕ) → (0 - surplus) * step ≡ 0
-nothing_before surplus step = grind (arith)
+nothing_before surplus step = grind arith
 
 module _ (split : Split) (stretch : Piece) (kept : IsSplit split) where
   -- # The two parts run at their points' speeds

@@ -33,7 +33,7 @@ surplus_is over low den above = omega (arith, above)
 
 -- it is less than the two points are apart
 surplus_below : (over low high den : ℕ) → low * den < over → over < high * den → low ≤ high → over - low * den < den * (high - low)
-surplus_below over low high den above below order = grind (arith)
+surplus_below over low high den above below order = grind arith
 
 -- the slower of two speeds on both sides of a level's
 pub speeds_rise : (low high work long : ℕ) → low * long < work → work < high * long → low < high

@@ -98,7 +98,7 @@ instance_is jobs windows few are windows_are = grind (arith, few_stretches, stre
 
 -- nothing is finished
 nothing_finished : (jobs : List Job) (windows : List Window) → IsFinished jobs windows (nothing_found jobs)
-nothing_finished jobs windows = grind (arith, All-nil)
+nothing_finished jobs windows = grind arith
 
 -- the first part: the jobs with work, and the stretches in which one of them may run
 abbrev pub begun_part : List Job → List Window → List ℕ → List ℕ → List ℕ → Part

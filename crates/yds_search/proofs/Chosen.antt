@@ -27,7 +27,7 @@ use Rattle.yds_search.proofs.Laid.{last_part}
 
 -- a part by what it has
 pub same_part : (part : Part) (jobs : List OwnJob) (stretches : List OwnStretch) → jobs ≡ part.jobs → stretches ≡ part.stretches → part ≡ record { jobs = jobs; stretches = stretches }
-same_part part jobs stretches same same' = grind (arith)
+same_part part jobs stretches same same' = grind arith
 
 -- the chosen part by what the stack answers of it
 abbrev pub chosen_as : (jobs : List Job) (size : Size) (search : Search) → IsChosen jobs size search → (own : Own) →
@@ -62,7 +62,7 @@ module _ (jobs : List Job) (size : Size) (search : Search) (x : IsChosen jobs si
 
   -- its numbers are known to what is found
   pub chosen_known : All (λ own. own.job < length search.found.group_of_job.items) x.part.jobs × All (λ own. own.stretch < length search.found.group_of_stretch.items) x.part.stretches
-  chosen_known = grind (arith, chosen_waits)
+  chosen_known = grind arith
 
   module _ (group : groups.Group) (work : group.work ≡ sum_by (λ own. own.work) x.part.jobs) (length_is : group.length ≡ sum_by (λ own. own.length) x.part.stretches) where
     pub chosen_some : (1 ≤ group.work) × (1 ≤ group.length)

@@ -9,7 +9,7 @@ use Rattle.yds_search.specs.Closure.{reach_from, reach_over, AreLateReaches, Are
 -- from one stretch to the next one on its left
 pub reach_step : (late shared : List ℕ) (m p : ℕ) → p < m →
     reach_over late shared m (m - p) ≡ reach_from (reach_over late shared m (m - (p + 1))) (get_or late p 0) (get_or shared p 0) p
-reach_step late shared m p within = grind (arith)
+reach_step late shared m p within = grind arith
 
 -- the stretches from p on are marked
 pub record AreMarkedFrom (late shared : List ℕ) (m p reach : ℕ) (marks : List ℕ) : Type 0 where
@@ -32,7 +32,7 @@ open_at late shared m p = min (reach_at late shared m (p + 1)) (get_or late p 0)
 
 step_cases : (after late shared k reach mark : ℕ) → reach ≡ reach_from after late shared k → mark ≡ (if nat_le reach k then 1 else 0) →
     ((min after late ≤ k) × (reach ≡ min (min after late) shared) × (1 ≤ mark)) ⊎ ((k < min after late) × (reach ≡ min after late) × (mark ≡ 0))
-step_cases after late shared k reach mark is marked = grind (arith, cases_lt, min, nat_tests)
+step_cases after late shared k reach mark is marked = grind arith
 
 -- what one step from the right does
 marks_step : {late shared : List ℕ} {m : ℕ} {marks : List ℕ} → AreMarksOf late shared m marks → (p : ℕ) → p < m →

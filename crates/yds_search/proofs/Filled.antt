@@ -145,11 +145,11 @@ module _ (jobs : List Job) (windows : List Window) (found : Found) (part : Part)
 
   -- each work and each length is small, and some
   job_work : (i : ℕ) (d : OwnJob) → i < length part.jobs → (1 ≤ (get_or part.jobs i d).work) × ((get_or part.jobs i d).work ≤ 1000000)
-  job_work i d inside = grind (arith)
+  job_work i d inside = grind arith
 
   -- so is each length
   stretch_length : (i : ℕ) (d : OwnStretch) → i < length part.stretches → (1 ≤ (get_or part.stretches i d).length) × ((get_or part.stretches i d).length ≤ 1000000000)
-  stretch_length i d inside = grind (arith)
+  stretch_length i d inside = grind arith
 
   -- a group with the work and the length of the part
   module _ (group : Group) (work_is : group.work ≡ sum_by (λ own. own.work) part.jobs) (length_is : group.length ≡ sum_by (λ own. own.length) part.stretches) where

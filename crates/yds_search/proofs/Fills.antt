@@ -45,7 +45,7 @@ taken_more windows m shares rooms share rest taken part room all ahead swept = r
 pub serve_begins : (windows : List Window) (job want : ℕ) (shares : List JobShare) (rooms : List ℕ) (place : ℕ) → AreTaken IsNotAfter windows (length rooms) shares rooms →
     All (λ share. share.job < job) shares → ((k : ℕ) → (window_at windows job).first ≤ k → k < place → get_or rooms k 0 ≡ 0) →
     IsServed windows job want shares rooms place want shares rooms
-serve_begins windows job want shares rooms place taken later full = grind (arith)
+serve_begins windows job want shares rooms place taken later full = grind arith
 
 -- the job goes on at another stretch, behind all its shares, where what lies between is full, or the job is done
 serve_moves : {windows : List Window} {job want : ℕ} {shares : List JobShare} {rooms : List ℕ} {next next' left : ℕ} {shares' : List JobShare} {rooms' : List ℕ} →
@@ -197,7 +197,7 @@ fill_ends {windows} {wants} {rooms} {i} {shares} {wants'} {rooms'} windows_end e
 
 -- each number at its own place, one may go on from each stretch itself
 pub next_begins : (rooms numbers : List ℕ) (last : ℕ) → length rooms ≡ last → IsNumbers last numbers → IsNext rooms numbers
-next_begins rooms numbers last count are = grind (arith)
+next_begins rooms numbers last count are = grind arith
 
 -- from a full stretch one may go on to where one may go on from the next one
 pub next_jumps : {rooms next : List ℕ} (place after : ℕ) → IsNext rooms next → place < length rooms → get_or rooms place 0 ≡ 0 → IsNextFrom rooms (place + 1) after (length next) →

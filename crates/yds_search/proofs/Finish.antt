@@ -1,5 +1,5 @@
 -- A part without late jobs becomes a finished group.
-use Rattle.yds_model.proofs.Common.{◌≡◌, ℕ, ◌+◌, ◌*◌, ◌<◌, ◌≤◌, ◌⊎◌, ◌==◌, List, [], ◌∷◌, ◌++◌, ◌∙◌, length, map, get_or, refl, sym, ap, subst, inl, inr, arith, if◌then◌else◌, All, AllPairs, sum_by, le_of_mul-le-mul_left, mul-le-mul_right, length_push, length-append, get_or_append_left, get_or_push, All-append, All-tail, sum_by-append, cases_lt, Job, job_at, stretches, part_other, sum_by_same, sum_by_at_most, sum_by-mul}
+use Rattle.yds_model.proofs.Common.{◌≡◌, ℕ, ◌+◌, ◌*◌, ◌<◌, ◌≤◌, ◌⊎◌, ◌==◌, List, [], ◌∷◌, ◌++◌, ◌∙◌, length, map, get_or, refl, sym, ap, subst, inl, inr, arith, if◌then◌else◌, All, AllPairs, sum_by, le_of_mul-le-mul_left, mul-le-mul_right, length_push, length-append, get_or_append_left, get_or_push, All-append, All-tail, sum_by-append, cases_lt, Job, job_at, stretches, sum_by_same, sum_by_at_most, sum_by-mul}
 use Rattle.yds_events.specs.declared.window.Window.{Window}
 use Rattle.yds_events.specs.Window.{length_at}
 use Rattle.yds_timetable.specs.Shares.{JobShare, no_share}
@@ -56,7 +56,7 @@ number_cases number xs group old new written free k = elim (one_or_none number x
 -- a finished group's members count as before
 same_chosen : {None One : Type 0} (old new group i value : ℕ) → (One × (old ≡ NO_GROUP) × (new ≡ group)) ⊎ (None × (new ≡ old)) → i < group → group < NO_GROUP →
     (if old == i then value else 0) ≡ (if new == i then value else 0)
-same_chosen old new group i value cases finished few = grind (arith, part_other)
+same_chosen old new group i value cases finished few = grind arith
 
 -- all that is known when a part is finished
 module _ (jobs : List Job) (windows : List Window) (found : Found) (part : Part) (parts : List Part) (are : IsInstance jobs windows) (search : IsSearch jobs windows found (part ∷ parts))

@@ -1,5 +1,5 @@
 -- Lists of members, each with a number: whether one has a number, what counts once, and what is written at all their numbers.
-use Rattle.yds_model.proofs.Common.{◌≡◌, ℕ, zero, suc, ◌+◌, ◌<◌, ◌≢◌, ◌⊎◌, ◌==◌, Bool, true, List, [], ◌∷◌, ◌++◌, ◌∙◌, length, map, get_or, set, refl, sym, ap, subst, inl, inr, arith, if◌then◌else◌, All, AllPairs, filter, sum_by, range_with_len, cases_lt, cases_eq, cond_both, get_or-map, length-map, get_or-set_same, get_or-set_other, length-set, All-append, All-tail, AllPairs-cons, sum_by-cons, sum_by_same}
+use Rattle.yds_model.proofs.Common.{◌≡◌, ℕ, zero, suc, ◌+◌, ◌<◌, ◌≢◌, ◌⊎◌, ◌==◌, Bool, true, List, [], ◌∷◌, ◌++◌, ◌∙◌, length, map, get_or, set, refl, sym, ap, subst, inl, inr, arith, if◌then◌else◌, All, AllPairs, filter, sum_by, range_with_len, cases_eq, cond_both, get_or-map, length-map, get_or-set_same, get_or-set_other, length-set, All-append, All-tail, AllPairs-cons, sum_by-cons, sum_by_same}
 use Rattle.yds_search.specs.Found.{group_of}
 use Rattle.yds_search.specs.Numbers.{AreWritten}
 use Rattle.yds_search.specs.Waiting.{HasOne}
@@ -83,7 +83,7 @@ apart_rest number x xs apart a b d before within = apart (suc a) (suc b) d (omeg
 
 -- so two with the same number are at one place
 pub same_place : {X : Type 0} (number : X → ℕ) (xs : List X) (a b : ℕ) (d : X) → AreApart number xs → a < length xs → b < length xs → number (get_or xs a d) ≡ number (get_or xs b d) → a ≡ b
-same_place number xs a b d apart within within' same = grind (arith, cases_lt)
+same_place number xs a b d apart within within' same = grind arith
 
 -- nothing counts where none has the number
 pub never : {X : Type 0} (number : X → ℕ) (xs : List X) (k value : ℕ) → (HasOne (λ x. number x ≡ k) xs → ⊥) → sum_by (λ x. if k == number x then value else 0) xs ≡ 0

@@ -135,7 +135,7 @@ module _ (jobs : List Job) (windows : List Window) (found : Found) (part : Part)
 
   -- a mark is 1 or 0
   mark_cases : (p : ℕ) → p < length part.stretches → (get_or marks p 0 ≡ 1) ⊎ (get_or marks p 0 ≡ 0)
-  mark_cases p upto = grind (arith, cases_lt)
+  mark_cases p upto = grind arith
 
   -- units within windows: none of who moves in a stretch without a mark
   moved_none : (units : ℕ → ℕ → ℕ) → ((j k : ℕ) → 1 ≤ units j k → IsIn windows j k) → (i p : ℕ) → i < length part.jobs → p < length part.stretches →

@@ -40,7 +40,7 @@ of_parts_value p g = of_parts_value_by p g (p % g == 0) refl
 
 -- it is whole, or has the denominator
 pub of_parts_over : (p g : ℕ) → IsOver g (of_parts p g)
-of_parts_over p g = grind (arith, cases_eq, eq-eqb, ne_eqb)
+of_parts_over p g = grind arith
 
 whole_at : (q p g scale any : ℕ) → p ≡ q * g → (q * scale + 0 * any) * g ≡ p * scale
 whole_at q p g scale any e = omega (arith, ap (λ n. n * scale) e)
@@ -60,7 +60,7 @@ whole_parts w g p some e =
     let plain : p ≡ w * g + 0 = omega arith in rw plain (div-mul-add w g 0 some, mod-mul-add w g 0 some)
 
 fraction_is : (z : Fraction) (whole num den : ℕ) → z.whole ≡ whole → z.num ≡ num → z.den ≡ den → z ≡ record { whole = whole; num = num; den = den }
-fraction_is z whole num den e f g = grind (arith)
+fraction_is z whole num den e f g = grind arith
 
 -- A fraction of that value that is written in these parts, or is whole, is that one.
 pub of_parts_is : (p g : ℕ) (z : Fraction) → 1 ≤ g → z.num < z.den → (z.num ≡ 0 → z.den ≡ 1) → (z.num ≡ 0) ⊎ (z.den ≡ g) →

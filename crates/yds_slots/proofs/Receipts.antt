@@ -42,7 +42,7 @@ nothing_is slots job none = record {
 
 pub reached_receipts : (jobs : ℕ) (slots : List WrittenSlot) (before receipts : List Receipt) → IsKept jobs slots before →
     ((job : ℕ) → receipt_at receipts job ≡ receipt_at before job) → length before ≤ length receipts → IsKept jobs slots receipts
-reached_receipts jobs slots before receipts kept same longer = grind (arith)
+reached_receipts jobs slots before receipts kept same longer = grind arith
 
 -- # One more slot
 
@@ -87,7 +87,7 @@ receipt_other slots slot job receipt other is = record {
 
 -- the works so far are whole, where their grain is 1
 whole_so_far : (slots : List WrittenSlot) (job : ℕ) → All (IsInGrain slots) slots → grain_of slots job ≡ 1 → All (IsWholeFor job) slots
-whole_so_far slots job grains plain k d within same = grind (arith)
+whole_so_far slots job grains plain k d within same = grind arith
 
 -- the parts so far, over the grain before and after the slot
 finer_by : (p q g more : ℕ) → 1 ≤ g → (g ≡ 1 → q ≡ p * max g more) → (more ≡ 1) ⊎ ((g ≡ 1) ⊎ (more ≡ g)) → (max g more ≡ g → q ≡ p) → q * g ≡ p * max g more

@@ -6,7 +6,7 @@ use Rattle.yds_tasks.specs.Kept.{IsTask, IsTaskSet, KeepsTasks, with_task}
 
 -- a job that is due by the horizon is within its limits
 pub due_fits : (horizon : ℕ) (task : Task) (k : ℕ) → IsTask task → horizon ≤ MAX_TIME → (nth_job task k).deadline ≤ horizon → IsJob (nth_job task k)
-due_fits horizon task k kept within due = grind (arith)
+due_fits horizon task k kept within due = grind arith
 
 -- one task more
 pub count_more : (set : TaskSet) (task : Task) → count_of_all (with_task set task) ≡ count_of_all set + count_of_jobs (horizon_of set) task

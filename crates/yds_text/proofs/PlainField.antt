@@ -118,4 +118,4 @@ plain_mixed most whole num den bytes text rest1 text1 rest2 text2 rest is one pl
 
 pub reads_text : (Says : List ℕ → Type 0) (column : ℕ) (bytes rest : List ℕ) → BeginsPlainly Says bytes rest →
     ReadsText Says (fields_from column bytes) (fields_from (column + (length bytes - length rest)) rest)
-reads_text Says column bytes rest begins = grind (arith)
+reads_text Says column bytes rest begins = grind arith

@@ -33,7 +33,7 @@ work_few jobs from to are =
 
 -- a job that may wait is a job in the time that is left too
 can_be : (jobs : List Job) (removed : List Piece) (number : ℕ) → CanWait jobs removed number → IsJob (contracted removed (job_at jobs number))
-can_be jobs removed number can = grind (arith)
+can_be jobs removed number can = grind arith
 
 pub are_jobs : (jobs : List Job) (removed : List Piece) (numbers : List ℕ) → All (CanWait jobs removed) numbers → All IsJob (contracted_jobs jobs removed numbers)
 are_jobs jobs removed numbers can =
@@ -145,7 +145,7 @@ module _ (jobs : List Job) (removed : List Piece) (waiting : List ℕ) (interval
 
   pub is_denser : (from to : ℕ) → from < to →
       work_within (contracted_jobs jobs removed waiting) from to * (interval.end - interval.start) ≤ interval.work * (to - from)
-  is_denser from to forward = grind (arith)
+  is_denser from to forward = grind arith
 
   pub is_densest : length waiting ≤ MAX_JOBS → IsDensest (contracted_jobs jobs removed (inside jobs removed interval waiting)) interval
   is_densest few = record {

@@ -51,7 +51,7 @@ speed_is work length speed some some_den same lowest =
 pub filled_as : (jobs own : List Job) (pieces left : List Piece) (speed other : Quotient) (count : ℕ) (served : List JobShare) → jobs ≡ own → pieces ≡ left → speed ≡ other →
     length own ≡ count → IsFilled jobs (range_with_len 0 (length jobs)) speed.den pieces (map (capacity_of speed) pieces) served →
     IsFilled own (range_with_len 0 count) other.den left (map (capacity_of other) left) served
-filled_as jobs own pieces left speed other count served same_jobs same_pieces same_speed counted filled = grind (arith)
+filled_as jobs own pieces left speed other count served same_jobs same_pieces same_speed counted filled = grind arith
 
 -- each share is of a job
 pub jobs_known : (jobs : List Job) (ties : List ℕ) (grain : ℕ) (pieces : List Piece) (capacities : List ℕ) (served : List JobShare) →

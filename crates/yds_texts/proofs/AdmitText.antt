@@ -29,7 +29,7 @@ either_fits true one other first second = first
 either_fits false one other first second = second
 
 word_fits : (word : List ℕ) → TopFits (request_of_word word)
-word_fits word = grind (arith)
+word_fits word = grind arith
 
 top_fits : (text : List ℕ) (read : Result ℕ NumberFault) → number_at 1 MAX_TOP text ≡ read → TopFits (request_of_top read)
 top_fits text (Ok top) is = (number_at_ok 1 MAX_TOP text top is).1

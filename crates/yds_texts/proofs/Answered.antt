@@ -1,5 +1,5 @@
 -- The answer to an input that isn't refused, and what `audit` answers to a text that is read as a document.
-use Rattle.yds_model.proofs.Common.{◌≡◌, ℕ, ◌*◌, ◌≤◌, Bool, true, false, List, [], ◌∷◌, length, Some, Result, Ok, Err, refl, arith, codes, le-ltb, All-weaker, all_pieces, all_members, Point, IsFeasible, AreSlots, Feasible, Document, Fault, reading, IsDocument, IsTextOf, Question, AskAudit, OfDocument, OnPoints, AnswersQuestion, AnswersReading, UnlessTooLong, is_too_long, AnswersRequest, verdict_is_exact}
+use Rattle.yds_model.proofs.Common.{◌≡◌, ℕ, ◌*◌, ◌≤◌, Bool, true, false, List, [], ◌∷◌, length, Some, Result, Ok, Err, refl, arith, codes, le-ltb, all_pieces, all_members, Point, IsFeasible, AreSlots, Feasible, Document, Fault, reading, IsDocument, IsTextOf, Question, AskAudit, OfDocument, OnPoints, AnswersQuestion, AnswersReading, UnlessTooLong, is_too_long, AnswersRequest, verdict_is_exact}
 use Rattle.yds_model.specs.declared.limits.TheConstants.{MAX_INPUT, MAX_JOBS}
 use Rattle.yds_model.specs.declared.reason.Reason.{Reason}
 use Rattle.yds_model.specs.declared.status.Status.{Status}
@@ -67,7 +67,7 @@ text_read document text said few_slots few_levels few_pieces few_members = grind
 
 -- the slots of a document within the limits are as the auditor wants them
 pub slots_agree : (document : Document) → IsDocument document → AreSlots (length document.jobs) document.slots
-slots_agree document fits = grind (arith, All-weaker)
+slots_agree document fits = grind arith
 
 -- the answer to a text that is short and read as a document
 pub answers_document : (question : Question) (text told : List ℕ) (document : Document) → length text ≤ MAX_INPUT → reading text ≡ Ok document →

@@ -16,7 +16,7 @@ visible_full byte visible =
 
 -- so a word is a field without a blank in it
 word_full : (text : List ℕ) → IsWord text → IsFull text
-word_full text word = grind (arith, All-weaker, visible_full)
+word_full text word = grind arith
 
 -- and so are words
 words_full : (texts : List (List ℕ)) → AllByRecursion IsWord texts → AllByRecursion IsFull texts

@@ -1,5 +1,5 @@
 -- What a step of reading says where it succeeds.
-use Rattle.yds_model.proofs.Common.{◌≡◌, ℕ, ◌<◌, ◌≤◌, Bool, true, false, ◌==◌, nat_le, nat_lt, List, [], ◌∷◌, ◌++◌, length, Option, Some, None, Result, Ok, Err, refl, sym, ap, subst, ◌∙◌, arith, inl, inr, is_none, eqb-true, digits_value, bytes_eq, filter_map, position-Some, and_parts, leb-true, ltb-true, cases_Bool, eqb-false, Fraction, of_whole, Line, Field, is_number, is_mixed, mixed_of, kept, number_at, fraction_at, is_name, Entry, name_said, job_named, first_of_them, Spot, ◌>>=◌, refuse, demand, field_at, count_fields, in_field, Kind, kind_of, fields_wanted, may_follow, has_room, reason_of, number_in, fraction_in, new_name, known_job, read_kind, read_fields, IsFraction}
+use Rattle.yds_model.proofs.Common.{◌≡◌, ℕ, ◌<◌, ◌≤◌, Bool, true, false, ◌==◌, nat_le, List, [], ◌∷◌, ◌++◌, length, Option, Some, None, Result, Ok, Err, refl, sym, ap, subst, ◌∙◌, arith, inl, inr, is_none, eqb-true, digits_value, bytes_eq, filter_map, position-Some, and_parts, leb-true, cases_Bool, Fraction, of_whole, Line, Field, is_number, is_mixed, mixed_of, kept, number_at, fraction_at, is_name, Entry, name_said, job_named, first_of_them, Spot, ◌>>=◌, refuse, demand, field_at, count_fields, in_field, Kind, kind_of, fields_wanted, may_follow, has_room, reason_of, number_in, fraction_in, new_name, known_job, read_kind, read_fields, IsFraction}
 use Rattle.yds_model.specs.declared.number_fault.NumberFault.{NumberFault}
 use Rattle.yds_model.specs.declared.number_fault.NumberFault.TheVariants as faults
 use Rattle.yds_model.specs.declared.reason.Reason.{Reason}
@@ -34,7 +34,7 @@ two_steps (Err spot) n after entry is = absurd (cc)
 pub four_steps : {R X A B C D : Type 0} (m : Result A (Spot R)) (n : Result B (Spot R)) (o : Result C (Spot R)) (p : Result D (Spot R)) (after : A → B → C → D → Result X (Spot R)) (entry : X) →
     (m >>= (λ a. n >>= (λ b. o >>= (λ c. p >>= (λ d. after a b c d))))) ≡ Ok entry →
     (a : A) × (b : B) × (c : C) × (d : D) × (m ≡ Ok a) × (n ≡ Ok b) × (o ≡ Ok c) × (p ≡ Ok d) × (after a b c d ≡ Ok entry)
-four_steps m n o p after entry is = grind (arith)
+four_steps m n o p after entry is = grind arith
 
 -- what was made is the entry
 pub entry_made : (made entry : Entry) → Gives Entry (Spot Reason) (Ok made) entry → made ≡ entry
@@ -61,7 +61,7 @@ whole_fits most whole within = record { whole_in_range = within; below_one = ome
 
 -- a fraction that is kept is within its limits
 kept_ok : (most : ℕ) (y x : Fraction) → kept most y ≡ Ok x → IsFraction most x
-kept_ok most y x is = grind (arith, and_parts, cases_Bool, eqb-false, leb-true, ltb-true, nat_le, nat_lt, whole_fits)
+kept_ok most y x is = grind arith
 
 -- so one that is read is
 fraction_at_ok : (most : ℕ) (text : List ℕ) (x : Fraction) → fraction_at most text ≡ Ok x → IsFraction most x

@@ -9,19 +9,19 @@ use Rattle.yds_laws.proofs.Judgements.{judgement_is_exact}
 use Rattle.yds_laws.proofs.OneJudgement.{judgement_is_unique}
 use Rattle.yds_energy.proofs.PlansEnergy.{least_is_cheapest_among_written}
 use Rattle.yds_texts.proofs.Within.{read_is_within_limits}
-use Rattle.yds_texts.proofs.Answered.{done_not_no, done_not_refused, no_not_refused, answered, on_points, slots_agree}
+use Rattle.yds_texts.proofs.Answered.{done_not_refused, no_not_refused, answered, on_points, slots_agree}
 
 -- # A yes or a no
 
 -- an answer that is a yes
 pub tells_yes : (IsWanted : Document → Type 0) (line input text : List ℕ) (status : Status) (document : Document) → reading input ≡ Ok document →
     IsWanted document → status ≡ Done → text ≡ line → TellsWhether IsWanted line input text status
-tells_yes IsWanted line input text status document read wanted ended said = grind (arith, done_not_no)
+tells_yes IsWanted line input text status document read wanted ended said = grind arith
 
 -- and one that is a no
 pub tells_no : (IsWanted : Document → Type 0) (line input text : List ℕ) (status : Status) (document : Document) → reading input ≡ Ok document →
     (IsWanted document → ⊥) → status ≡ No → (text ≡ line → ⊥) → TellsWhether IsWanted line input text status
-tells_no IsWanted line input text status document read unwanted ended other = grind (arith, done_not_no)
+tells_no IsWanted line input text status document read unwanted ended other = grind arith
 
 -- the first byte of a text
 abbrev first_byte : List ℕ → ℕ

@@ -1,5 +1,5 @@
 -- What is printed of a number, a fraction or a name is a word, and is read back.
-use Rattle.yds_model.proofs.Common.{◌≡◌, ℕ, ◌+◌, ◌<◌, ◌≤◌, ◌^◌, Bool, true, false, ◌==◌, nat_le, List, [], ◌∷◌, ◌++◌, length, take, drop, Ok, All, decimal, refl, sym, ap, ◌∙◌, arith, inl, inr, eqb-true, append_assoc, codes, list_all, list_any, position_or_len, before_first, after_first, or-true, take-append_seam, drop-append-add, and_parts, leb-true, le-leb, lt-ltb, cases_Bool, false≢true, decimal_nonempty, length-append, All-nil, All-cons, All-head, All-tail, All-weaker, All-append, Fraction, of_whole, is_digit, is_number, is_plus, is_slash, kept, fraction_at, is_visible, is_name, fraction_text, IsFraction, decimal_digits, decimal_none, digit_range, number_digits, is_number-decimal, digits_value-decimal}
+use Rattle.yds_model.proofs.Common.{◌≡◌, ℕ, ◌+◌, ◌<◌, ◌≤◌, ◌^◌, Bool, true, false, ◌==◌, nat_le, List, [], ◌∷◌, ◌++◌, length, take, drop, Ok, All, decimal, refl, sym, ap, ◌∙◌, arith, inl, inr, eqb-true, append_assoc, codes, list_all, list_any, position_or_len, before_first, after_first, or-true, take-append_seam, drop-append-add, and_parts, leb-true, cases_Bool, false≢true, decimal_nonempty, length-append, All-nil, All-cons, All-head, All-tail, All-weaker, All-append, Fraction, of_whole, is_digit, is_number, is_plus, is_slash, kept, fraction_at, is_visible, is_name, fraction_text, IsFraction, decimal_digits, decimal_none, digit_range, number_digits, is_number-decimal, digits_value-decimal}
 use Rattle.yds_texts.proofs.Brought.{IsWord}
 
 -- ---- words
@@ -79,7 +79,7 @@ plain_fraction most x fits none =
 
 -- so reading changes nothing of it
 kept_same : (most : ℕ) (x : Fraction) → IsFraction most x → kept most x ≡ Ok x
-kept_same most x fits = grind (arith, cases_Bool, eqb-true, le-leb, lt-ltb, plain_fraction)
+kept_same most x fits = grind arith
 
 -- so is what is printed of it, read back
 whole_read : (most : ℕ) (x : Fraction) → most < 2 ^ 64 → IsFraction most x → x.num ≡ 0 → fraction_at most (decimal x.whole) ≡ Ok x

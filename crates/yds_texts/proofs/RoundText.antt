@@ -6,7 +6,7 @@ use Rattle.yds_model.specs.declared.status.Status.{Status}
 use Rattle.yds_model.specs.declared.status.Status.TheVariants.{Done, No}
 use Rattle.yds_energy.specs.RoundingLaws.{IsFeasibleOnPoints}
 use Rattle.yds_texts.specs.RoundText.{with_energy, LeastEnergy, RoundedHoldsLeastEnergy, RoundedIsAudited, HoldsTooSlow, RefusedIsTooSlow}
-use Rattle.yds_texts.proofs.Answered.{done_not_no, done_not_refused, no_not_refused, answered, on_points, text_read, slots_agree, answers_document, audited}
+use Rattle.yds_texts.proofs.Answered.{done_not_no, no_not_refused, answered, on_points, text_read, slots_agree, answers_document, audited}
 use Rattle.yds_energy.proofs.RoundedOnPoints.{rounded_is_feasible}
 use Rattle.yds_energy.proofs.RoundedCheapest.{rounded_is_cheapest}
 use Rattle.yds_energy.proofs.TooSlow.{too_slow_is_exact}
@@ -19,7 +19,7 @@ points_answer Answered (point ∷ points) text status some answers = answers
 
 -- points of a document of which there are some are a table
 pub points_table : (points : List Point) → ArePoints points → 1 ≤ length points → IsTable points
-points_table points are some = grind (arith)
+points_table points are some = grind arith
 
 -- # What `round` writes
 
@@ -32,7 +32,7 @@ pub record IsRounded (input text : List ℕ) : Type 0 where
 
 -- so its text is that of a rounded plan
 pub round_read : (input text : List ℕ) → AnswersRequest (Some (OfDocument AskRound)) input text Done → IsRounded input text
-round_read input text answers = grind (arith, answered, done_not_refused, on_points)
+round_read input text answers = grind arith
 
 -- whose table has the document's points
 table_of : (input text : List ℕ) → (is : IsRounded input text) → IsTable is.document.points

@@ -1,5 +1,5 @@
 -- The names of tasks' jobs: the last dot parts a task's name and a job's number, so no two are the same.
-use Rattle.yds_model.proofs.Common.{◌≡◌, ◌≢◌, ℕ, suc, ◌+◌, ◌<◌, ◌≤◌, true, ◌&&◌, nat_le, List, [], ◌∷◌, ◌++◌, length, get_or, map, decimal, refl, sym, ap, subst, ◌∙◌, append_assoc, arith, codes, All, AllPairs, flat_map, list_all, range_with_len, digits_value, get_or-append_seam, and_parts, and_from, leb-true, le-leb, cases_lt, length-decimal-le, length-append, All-head, All-tail, list_all-append, get_or-map-range_with_len, length-map-range_with_len, is_digit, is_visible, is_name, Task, nth_name, count_of_jobs, numbers_of_jobs, is_task_name, AreDifferentNames, AllPairs-append, All-flat, decimal_digits, decimal_without, digit_range, digits_value-decimal}
+use Rattle.yds_model.proofs.Common.{◌≡◌, ◌≢◌, ℕ, suc, ◌+◌, ◌<◌, ◌≤◌, true, ◌&&◌, nat_le, List, [], ◌∷◌, ◌++◌, length, get_or, map, decimal, refl, sym, ap, subst, ◌∙◌, append_assoc, arith, codes, All, AllPairs, flat_map, list_all, range_with_len, digits_value, get_or-append_seam, and_parts, and_from, leb-true, le-leb, length-decimal-le, length-append, All-head, All-tail, list_all-append, get_or-map-range_with_len, length-map-range_with_len, is_digit, is_visible, is_name, Task, nth_name, count_of_jobs, numbers_of_jobs, is_task_name, AreDifferentNames, AllPairs-append, All-flat, decimal_digits, decimal_without, digit_range, digits_value-decimal}
 use Rattle.yds_model.specs.declared.limits.TheConstants.{MAX_JOBS, MAX_NAME, MAX_TASK_NAME}
 use Rattle.yds_texts.proofs.TaskLimits.{HaveOtherNames}
 
@@ -102,7 +102,7 @@ all_differ horizon (task ∷ tasks) different few =
 
 -- So no two places have the same name.
 pub different_places : (names : List (List ℕ)) → AllPairs (λ x y. x ≢ y) names → AreDifferentNames names
-different_places names differ i j i_within j_within same = grind (arith, cases_lt)
+different_places names differ i j i_within j_within same = grind arith
 
 pub names_differ : (horizon : ℕ) (tasks : List Task) → AllPairs HaveOtherNames tasks → All (λ task. count_of_jobs horizon task ≤ MAX_JOBS) tasks →
     AreDifferentNames (flat_map (names_of_task horizon) tasks)

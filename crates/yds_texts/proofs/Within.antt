@@ -1,5 +1,5 @@
 -- What is read keeps the limits: each line that is read brings a document within them to another.
-use Rattle.yds_model.proofs.Common.{◌≡◌, ℕ, ◌+◌, ◌-◌, ◌*◌, ◌/◌, ◌<◌, ◌≤◌, true, false, nat_le, nat_lt, ◌==◌, List, [], ◌∷◌, ◌++◌, length, Some, None, Ok, refl, sym, ap, subst, ◌∙◌, arith, if◌then◌else◌, All, list_all, filter_map, position, slice_index_or, bytes_eq, div-le_of_le-mul, leb-true, ltb-true, length_push, take_all, All-nil, All-cons, All-push, All-head, Job, IsJob, of_parts, WrittenSlot, Piece, Level, all_pieces, all_members, Point, hull_multiple, Document, Grid, no_document, Line, Field, lines_of, fields_of, Entry, JobEntry, PointEntry, SlotEntry, LevelEntry, PieceEntry, MemberEntry, TicksEntry, GridEntry, EnergyEntry, name_said, point_said, slot_said, piece_said, member_said, ticks_said, grid_said, energy_said, is_level, document_said, ◌>>=◌, demand, field_at, Kind, JobLine, PointLine, SlotLine, LevelLine, PieceLine, MemberLine, TicksLine, RunLine, GridLine, EnergyLine, may_follow, has_room, number_in, fraction_in, new_name, known_job, are_alike, fits_grain, follows_points, read_job, read_point, read_slot, read_level, read_piece, read_member, read_ticks, read_run_at, read_grid, read_energy, read_kind, read_fields, read_line, live_lines, read_after, IsFraction, IsDocument, AreLevelsOf, IsPoint, IsSlot, IsPiece, IsLevel, IsGrid, AreNamedJobs, says_other, none_said, more_said, with_job, says-job, with_point, says-point, with_slot, says-slot, with_levels, empty_level, says-level, with_entry, IsOfLevels, of_piece, of_member, says-last, with_grid, says-grid, with_energy, says-energy, said-ticks, levels_counted, parts_alike}
+use Rattle.yds_model.proofs.Common.{◌≡◌, ℕ, ◌+◌, ◌-◌, ◌*◌, ◌/◌, ◌<◌, ◌≤◌, true, false, nat_le, nat_lt, ◌==◌, List, [], ◌∷◌, ◌++◌, length, Some, None, Ok, refl, sym, ap, subst, ◌∙◌, arith, if◌then◌else◌, All, list_all, filter_map, position, slice_index_or, bytes_eq, div-le_of_le-mul, leb-true, ltb-true, length_push, All-nil, All-cons, All-push, All-head, Job, IsJob, of_parts, WrittenSlot, Piece, Level, all_pieces, all_members, Point, hull_multiple, Document, Grid, no_document, Line, Field, lines_of, fields_of, Entry, JobEntry, PointEntry, SlotEntry, LevelEntry, PieceEntry, MemberEntry, TicksEntry, GridEntry, EnergyEntry, name_said, point_said, slot_said, piece_said, member_said, ticks_said, grid_said, energy_said, is_level, document_said, ◌>>=◌, demand, field_at, Kind, JobLine, PointLine, SlotLine, LevelLine, PieceLine, MemberLine, TicksLine, RunLine, GridLine, EnergyLine, may_follow, has_room, number_in, fraction_in, new_name, known_job, are_alike, fits_grain, follows_points, read_job, read_point, read_slot, read_level, read_piece, read_member, read_ticks, read_run_at, read_grid, read_energy, read_kind, read_fields, read_line, live_lines, read_after, IsFraction, IsDocument, AreLevelsOf, IsPoint, IsSlot, IsPiece, IsLevel, IsGrid, AreNamedJobs, says_other, none_said, more_said, with_job, says-job, with_point, says-point, with_slot, says-slot, with_levels, empty_level, says-level, with_entry, IsOfLevels, of_piece, of_member, says-last, with_grid, says-grid, with_energy, says-energy, said-ticks, levels_counted, parts_alike}
 use Rattle.yds_model.specs.declared.limits.TheConstants.{MAX_JOBS, MAX_TIME, MAX_WORK, MAX_RUN_SPEED, MAX_POINTS, MAX_POINT_SPEED, MAX_POINT_POWER, MAX_GAPS, MAX_SLOTS, MAX_SLOT_WORK, MAX_LEVELS, MAX_LEVEL_WORK, MAX_LEVEL_LENGTH, MAX_PIECES, MAX_MEMBERS, MAX_TICKS, MAX_DENOMINATOR, MAX_GRID, MAX_ROUNDED, MAX_ENERGY}
 use Rattle.yds_model.specs.declared.reason.Reason.TheVariants as reasons
 use Rattle.yds_texts.specs.RoundTrip.{ReadIsWithinLimits, CanonicalTextIsRead}
@@ -316,11 +316,11 @@ no_gaps (point ∷ points) none = absurd (cc)
 
 -- a document of jobs alone, with their names, is within the limits
 pub only_jobs : (names : List (List ℕ)) (jobs : List Job) → AreNamedJobs names jobs → IsDocument (record no_document { names = names; jobs = jobs })
-only_jobs names jobs are = grind (arith, All-nil, take_all)
+only_jobs names jobs are = grind arith
 
 -- no lines say an empty document, which is within the limits
 no_lines : IsSaid []
-no_lines = grind (arith, All-nil, only_jobs)
+no_lines = grind arith
 
 -- the law: a document that is read is within the limits
 pub read_is_within_limits : ReadIsWithinLimits

@@ -1,5 +1,5 @@
 -- Share by share and stretch by stretch: the next slots are within their limits, and then they stand last.
-use Rattle.yds_model.proofs.Common.{◌≡◌, ℕ, ◌+◌, ◌*◌, ◌<◌, ◌≤◌, List, [], ◌∷◌, ◌++◌, ◌∙◌, length, get_or, take, drop, sym, refl, ap, ap₂, subst, arith, Some, None, add-one, Option, All, append_assoc, length-append, take_more, take-append-drop, length-take-le, flat_map-append, length-flat_map-take, sum_by-cons, sum_by_push, sum_by_more_le, All-nil, All-cons, All-append, mod-eq-zero_of_dvd, mul-le-mul_right, le_of_mul-le-mul_right, dvd-mul_left, mul-div_cancel, eq-eqb, Fraction, of_whole, of_parts, WrittenSlot, Piece, IsFraction, All-front, All-back, flat_map-take}
+use Rattle.yds_model.proofs.Common.{◌≡◌, ℕ, ◌+◌, ◌*◌, ◌<◌, ◌≤◌, List, [], ◌∷◌, ◌++◌, ◌∙◌, length, get_or, take, drop, sym, refl, ap, ap₂, subst, arith, Some, None, add-one, Option, All, append_assoc, length-append, take_more, take-append-drop, length-take-le, flat_map-append, length-flat_map-take, sum_by-cons, sum_by_push, sum_by_more_le, All-nil, All-cons, All-append, mul-le-mul_right, le_of_mul-le-mul_right, Fraction, of_whole, of_parts, WrittenSlot, Piece, IsFraction, All-front, All-back, flat_map-take}
 use Rattle.yds_model.specs.declared.limits.TheConstants.{MAX_SLOTS, MAX_TIME, MAX_SLOT_WORK, MAX_WHOLE}
 use Rattle.yds_model.specs.Plan.{IsOver}
 use Rattle.yds_events.specs.Stretch.{no_stretch}
@@ -17,11 +17,11 @@ use Rattle.yds_timetable.proofs.Grains.{fits_over}
 
 -- a whole number of wholes
 pub whole_parts : (n den : ℕ) → 1 ≤ den → of_parts (n * den) den ≡ of_whole n
-whole_parts n den some = grind (arith, dvd-mul_left, eq-eqb, mod-eq-zero_of_dvd, mul-div_cancel)
+whole_parts n den some = grind arith
 
 -- nothing is done yet
 pub time_begins : (pace : Pace) (start : ℕ) → 1 ≤ pace.units → time_after pace start 0 ≡ of_whole start
-time_begins pace start some = grind (arith, whole_parts)
+time_begins pace start some = grind arith
 
 -- the slots of shares, and of others after them
 slots_after : (pace : Pace) (start done : ℕ) (shares more : List JobShare) →

@@ -2,20 +2,8 @@ use Rattle.yds_model.proofs.Common.{◌≡◌, ℕ, ◌-◌, ◌*◌, ◌<◌, �
 use Rattle.yds_admit.specs.declared.board.Spot.{Spot}
 use Rattle.yds_admit.specs.Board.{if_marked}
 use Rattle.yds_admit.specs.Chain.{Takes}
-use Rattle.yds_admit.proofs.Links.{own_are}
-use Rattle.yds_admit.proofs.Fitting.{spot_at, begun, walks, has_room}
+use Rattle.yds_admit.proofs.Fitting.{spot_at, walks, has_room}
 use Rattle.yds_admit.proofs.batch.fit.Goals as goal
-
-pub loop-spot-init : goal.loop-spot-init
-loop-spot-init c =
-    let board = c.args.board.now in
-    let valid = c.requires.board in
-    record {
-      walking = rw (c.as_mut_slice-gaps.ensures.value, c.in_ok-gaps.ensures.items, c.deref.ensures.value)
-          (begun board valid c.args.marks.now (length board.times.items - 1) (omega (arith, valid.are_times.some)));
-      links = rw (c.as_mut_slice-gaps.ensures.value, c.as_mut_slice-links.ensures.value, c.in_ok-links.ensures, c.in_ok-gaps.ensures.items, c.deref.ensures.value)
-          (own_are board.gaps.items c.len.result (omega (arith, valid.are_gaps.as_long, c.len.ensures)));
-    }
 
 pub loop-spot-preserved : goal.loop-spot-preserved
 loop-spot-preserved c =

@@ -1,15 +1,7 @@
-use Rattle.yds_model.proofs.Common.{◌≡◌, ℕ, ◌+◌, List, [], ◌∷◌, ◌++◌, true, set, take, drop, ◌∙◌, refl, sym, subst, arith, ap, append_assoc, append-nil, drop_all, length-take-le, Job, job_at}
+use Rattle.yds_model.proofs.Common.{◌≡◌, ℕ, ◌+◌, List, [], ◌∷◌, ◌++◌, true, set, take, drop, ◌∙◌, refl, sym, subst, arith, ap, append_assoc, Job, job_at}
 use Rattle.yds_admit.specs.Board.{IsMarked}
 use Rattle.yds_admit.proofs.Marks.{one_more, run_more}
 use Rattle.yds_admit.proofs.batch.marked.Goals as goal
-
-pub loop-number-init : goal.loop-number-init
-loop-number-init c rows jobs marked =
-    let first : ℕ = c.args.first in
-    rw c.in_ok-more.ensures.items
-    (subst (λ (some : List Job). IsMarked rows first c.args.marks.now (jobs ++ some))
-    (sym (drop_all first (take first rows) (omega (arith, length-take-le first rows (omega (arith, c.requires.order, c.requires.within, marked.as_long))))))
-    (subst (IsMarked rows first c.args.marks.now) (sym (append-nil jobs)) marked))
 
 pub loop-number-preserved : goal.loop-number-preserved
 loop-number-preserved c rows jobs marked =

@@ -1,21 +1,12 @@
-use Rattle.yds_model.proofs.Common.{ℕ, ◌∷◌, ◌++◌, [], arith, IsPermutation-append_left, All-permutation, length_permutation, sum_by-IsPermutation, Job, IsJob, part_within}
+use Rattle.yds_model.proofs.Common.{ℕ, ◌∷◌, ◌++◌, [], arith, IsPermutation-append_left, All-permutation, sum_by-IsPermutation, Job, IsJob, part_within}
 use Rattle.yds_admit.specs.State.{next_job}
 use Rattle.yds_admit.proofs.Bounds.{fits_over}
-use Rattle.yds_admit.proofs.Least.{room_alone}
 use Rattle.yds_admit.proofs.Newly.{none_before, first_with, MatchOption-then}
 use Rattle.yds_admit.proofs.Next.{jobs_due, next_are}
 use Rattle.yds_admit.proofs.candidate.first_overfull.Goals as goal
 
-pub overfull_from-requires-clause-few : goal.overfull_from-requires-clause-few
-overfull_from-requires-clause-few c = rw c.deref.ensures.value
-    (let state = c.requires.state in omega (arith, state.on.few, state.within, state.decided.few, length_permutation _ _ state.ordered.deadlines))
-
 pub overfull_from-requires-clause-are : goal.overfull_from-requires-clause-are
 overfull_from-requires-clause-are c = rw c.deref.ensures.value (All-permutation IsJob _ _ c.requires.state.ordered.deadlines c.requires.state.decided.are)
-
-pub overfull_from-requires-clause-alone : goal.overfull_from-requires-clause-alone
-overfull_from-requires-clause-alone c = rw c.deref.ensures.value
-    (room_alone c.args.board.now.top _ _ c.requires.state.decided.are c.requires.state.ordered.deadlines c.requires.state.decided.room c.args.from)
 
 pub returns : goal.returns
 returns c =

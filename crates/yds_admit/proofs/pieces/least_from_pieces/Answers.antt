@@ -1,37 +1,8 @@
-use Rattle.yds_model.proofs.Common.{◌≡◌, ℕ, ◌+◌, ◌-◌, ◌*◌, ◌<◌, ◌≤◌, ◌⊎◌, List, length, get_or, ◌∙◌, sym, arith, ap, inl, inr, cond, Any, cases_lt, le-leb, lt-leb, get_or_read, mul-le-mul_left, mul-le-mul_right, Job, no_job, job_at}
-use Rattle.yds_model.specs.declared.limits.TheConstants.{MAX_JOBS, MAX_WORK}
-use Rattle.yds_admit.specs.declared.pieces.Pieces.{Pieces}
+use Rattle.yds_model.proofs.Common.{◌≡◌, ℕ, ◌+◌, ◌-◌, ◌*◌, ◌<◌, ◌≤◌, ◌⊎◌, List, length, get_or, ◌∙◌, sym, arith, ap, inl, inr, Any, cases_lt, get_or_read, Job, no_job, job_at}
 use Rattle.yds_admit.specs.Idle.{IsIdleFrom, idle_before}
-use Rattle.yds_admit.specs.Pieces.{went, IsCount, AreBoundsOf}
-use Rattle.yds_admit.proofs.Cutting.{went_fits, next_went}
-use Rattle.yds_admit.proofs.Bounds.{any_at, one_more, many_more, fits_all, fits_idle, fits_earlier, least_piece, too_much, none_sooner, all_too_much}
+use Rattle.yds_admit.specs.Pieces.{went, IsCount}
+use Rattle.yds_admit.proofs.Bounds.{any_at, many_more, fits_all, fits_idle, fits_earlier, least_piece, too_much, none_sooner, all_too_much}
 use Rattle.yds_admit.proofs.pieces.least_from_pieces.Goals as goal
-use Rattle.yds_admit.proofs.pieces.least_from_pieces.Goals.{then-index-end, else-index-end}
-
--- their units fit
-few_units : (top : ℕ) (times : List ℕ) (all : List Job) (pieces : Pieces) (idle : List ℕ) → AreBoundsOf top times all pieces idle → (n q : ℕ) → n ≤ length pieces.jobs.items →
-    went n pieces.jobs.items pieces.places.items q ≤ MAX_JOBS * MAX_WORK
-few_units top times all pieces idle of n q within =
-    went_fits n pieces.jobs.items pieces.places.items q within (omega (arith, of.bounds.few, mul-le-mul_right MAX_WORK of.few))
-
-pub overflow_add-wanted : goal.overflow_add-wanted
-overflow_add-wanted c =
-    let of = c.requires.pieces.2 in
-    omega (
-      arith,
-      c.from-3.ensures,
-      c.row.invariant.work_in_range,
-      c.units_before.ensures,
-      few_units _ _ _ c.args.pieces.now _ of c.released_from-count.result c.args.end (rw c.deref.ensures.value at c.released_from-count.ensures.within),
-    )
-
-pub loop-count-init : goal.loop-count-init
-loop-count-init c = record {
-  from = omega (arith, c.min-until.ensures);
-  within = omega arith;
-  wanted = omega (arith, c.units_before.ensures, c.from-3.ensures, ap (λ (job : Job). job.work) c.row.view_is);
-  leaves = λ k behind below. absurd (omega (arith, behind, below));
-}
 
 pub loop-count-preserved-then-wanted-from : goal.loop-count-preserved-then-wanted-from
 loop-count-preserved-then-wanted-from c =
@@ -60,117 +31,6 @@ loop-count-preserved-then-wanted-from c =
             rw (c.from.ensures, c.from-2.ensures, c.from-in-loop-count.ensures, c.from-in-loop-count-2.ensures) at c.if-wanted-from.true,
           ));
     }
-
-pub loop-count-preserved : goal.loop-count-preserved
-loop-count-preserved c =
-    let top : ℕ = c.args.board.now.top in
-    let pieces = c.args.pieces.now in
-    let jobs = pieces.jobs.items in
-    let places = pieces.places.items in
-    let end : ℕ = c.args.end in
-    let row : Job = c.args.row.now in
-    let n : ℕ = c.loop-count.count - 1 in
-    let held = c.loop-count.invariant in
-    let next : n + 1 ≡ c.loop-count.count = omega (arith, c.loop-count-test.true) in
-    let below : n < length jobs = omega (arith, held.within, next, (rw c.deref.ensures.value at c.released_from-count.ensures.within)) in
-    let is = c.piece.view_is ∙ get_or_read jobs n c.index-piece.result.now below c.index-piece.ensures no_job in
-    let release : c.piece.inside.release ≡ (job_at jobs n).release = ap (λ (job : Job). job.release) is in
-    let work : c.piece.inside.work ≡ (job_at jobs n).work = ap (λ (job : Job). job.work) is in
-    let place = get_or_read places n c.index-in-loop-count.result.now (omega (arith, below, c.requires.pieces.2.bounds.as_long)) c.index-in-loop-count.ensures 0 in
-    let count = ap (λ k. went k jobs places end) next in
-    record {
-      from = omega (arith, c.loop-count-test.true);
-      within = omega (arith, held.within);
-      wanted = elim c.if-index-end.branch [
-        | then-index-end w ↦ omega (
-          arith,
-          w.wanted-is,
-          w.from-wanted.ensures,
-          work,
-          held.wanted,
-          count,
-          next_went n jobs places end,
-          ap {B = ℕ} (λ b. cond b (job_at jobs n).work 0) (le-leb (get_or places n 0) end (omega (arith, place, w.if-index-end.true))),
-        )
-        | else-index-end w ↦ omega (
-          arith,
-          w.wanted-is,
-          held.wanted,
-          count,
-          next_went n jobs places end,
-          ap {B = ℕ} (λ b. cond b (job_at jobs n).work 0) (lt-leb (get_or places n 0) end (omega (arith, place, w.if-index-end.false))),
-        )
-      ];
-      leaves = one_more top jobs places row end n c.released_from-count.result (λ k behind short. held.leaves k (omega (arith, behind, next)) short)
-          (omega (
-            arith,
-            held.wanted,
-            count,
-            ap (λ k. top * k) release,
-            ap (λ (job : Job). top * job.deadline) c.row.view_is,
-            rw (c.from.ensures, c.from-2.ensures, c.from-in-loop-count-3.ensures, c.from-in-loop-count-4.ensures) at c.if-wanted-from-2.false,
-          ));
-    }
-
-pub overflow_add-wanted-in-loop-count : goal.overflow_add-wanted-in-loop-count
-overflow_add-wanted-in-loop-count c = omega (
-  arith,
-  c.loop-count.invariant.wanted,
-  few_units _ _ _ c.args.pieces.now _ c.requires.pieces.2 c.loop-count.count c.args.end (omega (arith, c.loop-count.invariant.within, (rw c.deref.ensures.value at c.released_from-count.ensures.within))),
-  ap (λ (job : Job). job.work) c.row.view_is,
-  c.row.invariant.work_in_range,
-  mul-le-mul_left c.from-in-loop-count.result (let few : c.from-in-loop-count-2.result ≤ 1000000000 = omega (arith, c.from-in-loop-count-2.ensures, c.latest.invariant.has_window, c.latest.invariant.time_in_range) in few),
-  c.from-in-loop-count.ensures,
-  c.requires.board.top_in_range,
-)
-
-pub overflow_add-wanted-in-loop-count-2 : goal.overflow_add-wanted-in-loop-count-2
-overflow_add-wanted-in-loop-count-2 c = omega (
-  arith,
-  c.loop-count.invariant.wanted,
-  few_units _ _ _ c.args.pieces.now _ c.requires.pieces.2 c.loop-count.count c.args.end (omega (arith, c.loop-count.invariant.within, (rw c.deref.ensures.value at c.released_from-count.ensures.within))),
-  ap (λ (job : Job). job.work) c.row.view_is,
-  c.row.invariant.work_in_range,
-  mul-le-mul_left c.from-in-loop-count-3.result (let few : c.from-in-loop-count-4.result ≤ 1000000000 = omega (arith, c.from-in-loop-count-4.ensures, c.piece.invariant.has_window, c.piece.invariant.time_in_range) in few),
-  c.from-in-loop-count-3.ensures,
-  c.requires.board.top_in_range,
-)
-
-pub overflow_sub-wanted : goal.overflow_sub-wanted
-overflow_sub-wanted c = omega (arith, c.loop-count.invariant.wanted, c.units_between-wanted.ensures)
-
-pub overflow_sub-wanted-then-index-end : goal.overflow_sub-wanted-then-index-end
-overflow_sub-wanted-then-index-end c =
-    let jobs = c.args.pieces.now.jobs.items in
-    let places = c.args.pieces.now.places.items in
-    let end : ℕ = c.args.end in
-    let n : ℕ = c.loop-count.count - 1 in
-    let next : n + 1 ≡ c.loop-count.count = omega (arith, c.loop-count-test.true) in
-    let below : n < length jobs = omega (arith, c.loop-count.invariant.within, next, (rw c.deref.ensures.value at c.released_from-count.ensures.within)) in
-    let work : c.piece.inside.work ≡ (job_at jobs n).work =
-    ap (λ (job : Job). job.work) (c.piece.view_is ∙ get_or_read jobs n c.index-piece.result.now below c.index-piece.ensures no_job) in
-    let place = get_or_read places n c.index-in-loop-count.result.now (omega (arith, below, c.requires.pieces.2.bounds.as_long)) c.index-in-loop-count.ensures 0 in
-    omega (
-      arith,
-      c.loop-count.invariant.wanted,
-      ap (λ k. went k jobs places end) next,
-      next_went n jobs places end,
-      ap {B = ℕ} (λ b. cond b (job_at jobs n).work 0) (le-leb (get_or places n 0) end (omega (arith, place, c.if-index-end.true))),
-      c.from-wanted.ensures,
-      work,
-    )
-
-pub overflow_add-wanted-2 : goal.overflow_add-wanted-2
-overflow_add-wanted-2 c = omega (
-  arith,
-  c.loop-count.invariant.wanted,
-  few_units _ _ _ c.args.pieces.now _ c.requires.pieces.2 c.loop-count.count c.args.end (omega (arith, c.loop-count.invariant.within, (rw c.deref.ensures.value at c.released_from-count.ensures.within))),
-  ap (λ (job : Job). job.work) c.row.view_is,
-  c.row.invariant.work_in_range,
-  mul-le-mul_left c.from-4.result (let few : c.from-5.result ≤ 1000000000 = omega (arith, c.from-5.ensures, c.row.invariant.has_window, c.row.invariant.time_in_range) in few),
-  c.from-4.ensures,
-  c.requires.board.top_in_range,
-)
 
 pub overflow_add-index : goal.overflow_add-index
 overflow_add-index c =

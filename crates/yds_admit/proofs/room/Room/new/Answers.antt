@@ -1,19 +1,5 @@
-use Rattle.yds_admit.proofs.Left.{left_less, left_few, left_has_idle, left_bounds, left_used, left_exact}
+use Rattle.yds_admit.proofs.Left.{left_has_idle, left_bounds, left_used, left_exact}
 use Rattle.yds_admit.proofs.room.Room.new.Goals as goal
-
-pub used_before-requires-clause-less : goal.used_before-requires-clause-less
-used_before-requires-clause-less c =
-    let pieces = c.in_ok-pieces.pieces in
-    rw (c.deref-2.ensures.value, c.deref-3.ensures.value)
-    (left_less c.args.board.now c.args.state.now c.requires pieces.jobs.items pieces.places.items c.in_ok-pieces.idle.items c.in_ok-pieces.ensures.cutting
-    (rw c.deref.ensures.value at c.in_ok-pieces.ensures.cut) c.in_ok-pieces.ensures.as_long)
-
-pub used_before-requires-clause-few : goal.used_before-requires-clause-few
-used_before-requires-clause-few c =
-    let pieces = c.in_ok-pieces.pieces in
-    rw (c.deref-2.ensures.value, c.deref-3.ensures.value)
-    (left_few c.args.board.now c.args.state.now c.requires pieces.jobs.items pieces.places.items c.in_ok-pieces.idle.items c.in_ok-pieces.ensures.cutting
-    (rw c.deref.ensures.value at c.in_ok-pieces.ensures.cut) c.in_ok-pieces.ensures.as_long)
 
 pub returns-clause-room : goal.returns-clause-room
 returns-clause-room c =
