@@ -40,7 +40,7 @@ pub(crate) fn decide_next(
     Ok(admitted)
 }
 
-/// The same, where what is known is enough for it: else nothing is answered, and nothing changed. It is enough where no job was admitted
+/// The same, where what is known is enough for it: else nothing is answered and nothing decided. It is enough where no job was admitted
 /// since the cut.
 fn settle_next(board: &Board, state: &mut State, room: &mut Room) -> Result<Option<bool>, Memory>
     requires state { IsState board.now state.old }

@@ -21,7 +21,8 @@ pub(crate) fn deadline_place(by_deadline: &[JobRow], row: &JobRow) -> usize
     ensures within { result ≤ length by_deadline.now }
     ensures rising { IsNonDecreasingBy (λ job. job.deadline) (insert by_deadline.now result row.now) }
 {
-    due_before(by_deadline, row.deadline)
+    // It comes after those of its own deadline, so that they needn't be moved.
+    due_before(by_deadline, row.deadline + 1)
 }
 
 /// How many of these jobs, which stand in rising order of their deadlines, are due before a time.
