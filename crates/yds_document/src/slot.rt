@@ -65,6 +65,7 @@ fn read_each<'a>(
 }
 
 /// What the fields say, where they are plain and say a slot that may stand there.
+#[tactic(auto, using(yds_model::proofs::Alike::alike_test))]
 fn plain_slot(instance: &Instance<'_>, schedule: &Schedule, mut fields: Fields<'_>) -> Option<Slot>
     requires { schedule.now.jobs ≡ length instance.now.jobs }
     ensures says { IfSome result (λ slot. SaysFour (slot_of instance.now.names schedule.now.slots) fields.entry.fields (SlotEntry slot)) }
