@@ -102,7 +102,7 @@ fn round_stretch(
 }
 
 /// The plan's shares and slots at the paces of their levels, stretch by stretch.
-#[tactic(auto, using(std::proofs::lemmas::List::get_or_read, crate::proofs::AllStretches::enough, crate::proofs::AllStretches::few_rows, crate::proofs::AllStretches::can_round))]
+#[tactic(auto, using(std::proofs::lemmas::List::get_or_read, yds_timetable::proofs::Lists::length_zipped, crate::proofs::AllStretches::enough, crate::proofs::AllStretches::next_slots, crate::proofs::AllStretches::later_slots, crate::proofs::AllStretches::few_rows, crate::proofs::AllStretches::pace_known, crate::proofs::AllStretches::can_round))]
 fn round_slots(
     alloc: Global,
     rows: &[JobRow],
