@@ -6,7 +6,6 @@ use yds_events::Stretch;
 use yds_fraction::{Amount, Moment};
 
 /// Optimal Available on the grid 6 serves 7 units from 1 to 2: 6 of the job 1, and 1 of the job 0. Before that it is idle here.
-#[tactic(auto, using(yds_slots::proofs::Parts::of_parts_over))]
 #[test]
 fn lays_a_stretch(rt: HostRuntime) -> Result<(), Fail> {
     let mut timetable = Timetable::new(rt.alloc());
