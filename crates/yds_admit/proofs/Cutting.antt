@@ -2,7 +2,7 @@
 use Rattle.yds_model.proofs.Common.{◌≡◌, ℕ, zero, suc, ◌+◌, ◌-◌, ◌*◌, ◌<◌, ◌≤◌, List, [], ◌∷◌, ◌++◌, length, get_or, take, ◌∙◌, refl, sym, subst, arith, inl, inr, ap, cond, nat_le, ◌&&◌, Bool, true, false, append_assoc, All, sum_by, cases_lt, cases_eq, le-leb, lt-leb, ne_eqb, get_or_append_left, get_or_push, length_push, take_all, take-append-le, append-nil, All-nil, All-push, sum_by_push, sum_by_more, sum_by-take-drop, Job, no_job, job_at, sum_by_same, sum_by_zero, part_within}
 use Rattle.yds_model.specs.declared.limits.TheConstants.{MAX_JOBS, MAX_WORK}
 use Rattle.yds_edf.specs.Pending.{sum_below}
-use Rattle.yds_edf.proofs.Sums.{sum_below_same}
+use Rattle.yds_edf.proofs.Sums.{sum_below_same, sum_below_front}
 use Rattle.yds_admit.specs.Chain.{IsChain, due_work, AreEmpty}
 use Rattle.yds_admit.specs.Board.{AreGaps}
 use Rattle.yds_admit.specs.Pieces.{went, IsGreatest, IsCutting, IsCutInto}
@@ -54,14 +54,8 @@ pub next_went : (n : ℕ) (jobs : List Job) (places : List ℕ) (q : ℕ) →
 next_went n jobs places q = next_term n (λ k. cond (nat_le (get_or places k 0) q) (job_at jobs k).work 0)
 
 -- more pieces have no fewer units
-fewer_went : (n more : ℕ) (jobs : List Job) (places : List ℕ) (q : ℕ) → went n jobs places q ≤ went (n + more) jobs places q
-fewer_went n zero jobs places q = let e : n + zero ≡ n = omega arith in omega (arith, ap (λ k. went k jobs places q) e)
-fewer_went n (suc more) jobs places q =
-    let e : n + suc more ≡ n + more + 1 = omega arith in
-    omega (arith, fewer_went n more jobs places q, next_went (n + more) jobs places q, ap (λ k. went k jobs places q) e)
-
 pub went_grows : (n m : ℕ) (jobs : List Job) (places : List ℕ) (q : ℕ) → n ≤ m → went n jobs places q ≤ went m jobs places q
-went_grows n m jobs places q order = let e : n + (m - n) ≡ m = omega (arith, order) in omega (arith, fewer_went n (m - n) jobs places q, ap (λ k. went k jobs places q) e)
+went_grows n m jobs places q = sum_below_front n m (λ k. cond (nat_le (get_or places k 0) q) (job_at jobs k).work 0)
 
 -- at most the work of the first n pieces
 pub went_most : (n : ℕ) (jobs : List Job) (places : List ℕ) (q : ℕ) → n ≤ length jobs → went n jobs places q ≤ sum_by (λ job. job.work) (take n jobs)

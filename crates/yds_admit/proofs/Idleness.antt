@@ -1,6 +1,6 @@
 -- What is idle between the times, jobs that take it, and what a cut leaves of it.
 use Rattle.yds_model.proofs.Common.{◌≡◌, ℕ, zero, suc, ◌+◌, ◌-◌, ◌*◌, ◌<◌, ◌≤◌, List, [], ◌∷◌, ◌++◌, length, get_or, take, drop, set, ◌∙◌, subst, arith, inl, inr, ap, cond, nat_le, get_or-set_same, get_or-set_other, All, sum_by, IsNonDecreasing, cases_lt, cases_eq, le-leb, lt-leb, get_or_default, drop_all, append-nil, take_all, sum_by_push, mul-sub, mul-le-mul_left, Job, IsJob, job_at, work_within, part_within, part_inside, part_early, part_late}
-use Rattle.yds_edf.proofs.Sums.{sum_below_same}
+use Rattle.yds_edf.proofs.Sums.{sum_below_same, sum_below_front}
 use Rattle.yds_laws.specs.AdmissionLaws.{HasRoom}
 use Rattle.yds_admit.specs.Chain.{IsFalling, due_work}
 use Rattle.yds_admit.specs.Board.{AreGaps}
@@ -22,17 +22,9 @@ lent len items new is as_long = grind (arith, append-nil, drop_all, take_all)
 pub next_idle : (idle : List ℕ) (q : ℕ) → idle_before idle (q + 1) ≡ idle_before idle q + get_or idle q 0
 next_idle idle q = let e : q + 1 ≡ suc q = omega arith in ap (λ k. idle_before idle k) e
 
-more_idle : (idle : List ℕ) (a more : ℕ) → idle_before idle a ≤ idle_before idle (a + more)
-more_idle idle a zero = let e : a + zero ≡ a = omega arith in omega (arith, ap (λ k. idle_before idle k) e)
-more_idle idle a (suc more) =
-    let e : a + suc more ≡ suc (a + more) = omega arith in
-    omega (arith, more_idle idle a more, ap (λ k. idle_before idle k) e)
-
 -- a later place has no less before it
 pub later_idle : (idle : List ℕ) (a b : ℕ) → a ≤ b → idle_before idle a ≤ idle_before idle b
-later_idle idle a b order =
-    let e : a + (b - a) ≡ b = omega (arith, order) in
-    omega (arith, more_idle idle a (b - a), ap (λ k. idle_before idle k) e)
+later_idle idle a b = sum_below_front a b (λ k. get_or idle k 0)
 
 -- one gap has another number
 pub set_early : (idle : List ℕ) (at v q : ℕ) → q ≤ at → idle_before (set idle at v) q ≡ idle_before idle q

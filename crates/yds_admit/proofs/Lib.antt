@@ -10,6 +10,7 @@ pub mod Ordered
 pub mod Links
 pub mod Fitting
 pub mod Marks
+pub mod Listed
 pub mod Cutting
 pub mod Made
 pub mod Least

@@ -1,5 +1,5 @@
 -- The pieces of jobs, job by job.
-use Rattle.yds_model.proofs.Common.{◌≡◌, ℕ, ◌+◌, ◌-◌, ◌<◌, ◌≤◌, List, [], ◌∷◌, ◌++◌, Bool, true, false, if◌then◌else◌, map, take, length, get_or, ◌∙◌, refl, sym, subst, arith, inl, inr, ap, Any, filter, sum_by, cases_lt, get_or_append_left, get_or-append_right, get_or_default, get_or_push, length-append, length_push, map-append, filter_more, sum_by-append, sum_by_push, Job, no_job, job_at, Any-append_left, work_within, part_within}
+use Rattle.yds_model.proofs.Common.{◌≡◌, ℕ, ◌+◌, ◌<◌, ◌≤◌, List, [], ◌∷◌, ◌++◌, Bool, true, false, if◌then◌else◌, map, take, length, get_or, ◌∙◌, refl, sym, subst, arith, inl, inr, ap, Any, filter, sum_by, cases_lt, get_or_append_left, get_or-append_right, get_or_default, get_or_push, length-append, length_push, append-nil, map-append, filter_more, sum_by-append, sum_by_push, Job, no_job, job_at, Any-append_left, work_within, part_within}
 use Rattle.yds_admit.specs.declared.board.Spot.{Spot}
 use Rattle.yds_admit.specs.Board.{falling_jobs}
 use Rattle.yds_admit.specs.Pieces.{IsCutInto, AreCut}
@@ -15,6 +15,15 @@ falling_more rows marks spots n below is =
     ap (map (λ (one : Spot). job_at rows one.number))
     (filter_more test spots n no_spot below ∙ ap (λ (b : Bool). filter test (take n spots) ++ (if b then spot ∷ [] else [])) is)
     ∙ map-append (λ (one : Spot). job_at rows one.number) (filter test (take n spots)) (spot ∷ [])
+
+-- a spot that isn't marked
+pub falling_same : (rows : List Job) (marks : List Bool) (spots : List Spot) (n : ℕ) → n < length spots → get_or marks (spot_at spots n).number false ≡ false →
+    falling_jobs rows marks (take (n + 1) spots) ≡ falling_jobs rows marks (take n spots)
+falling_same rows marks spots n below is =
+    let test : Spot → Bool = λ spot. get_or marks spot.number false in
+    ap (map (λ (one : Spot). job_at rows one.number))
+    (filter_more test spots n no_spot below ∙ ap (λ (b : Bool). filter test (take n spots) ++ (if b then spot_at spots n ∷ [] else [])) is
+    ∙ append-nil (filter test (take n spots)))
 
 -- no job is cut yet
 pub none_made : AreCut [] []

@@ -3,6 +3,7 @@ pub mod Serving
 pub mod Chain
 pub mod Board
 pub mod Orders
+pub mod Rows
 pub mod Pieces
 pub mod Idle
 pub mod State

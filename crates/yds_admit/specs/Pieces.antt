@@ -86,10 +86,10 @@ pub record AreMore (old new : List ℕ) (place units : ℕ) : Type 0 where
 
 -- pieces of few jobs, with their deadlines among the times, and what they leave idle
 pub record AreBoundsOf (top : ℕ) (times : List ℕ) (all : List Job) (pieces : Pieces) (idle : List ℕ) : Type 0 where
-  pub bounds : AreBounds top times all pieces.jobs.items pieces.places.items idle
+  pub bounds : AreBounds top times all pieces.jobs pieces.places.items idle
   pub few : length all ≤ MAX_JOBS
   pub has_idle : HasIdle top times all idle
-  pub used : AreUsed times pieces.jobs.items pieces.places.items pieces.used.items
+  pub used : AreUsed times pieces.jobs pieces.places.items pieces.used.items
 
 -- one job more stands among pieces, as one with this place
 pub record IsAdded (jobs : List Job) (places : List ℕ) (row : Job) (place : ℕ) (new_jobs : List Job) (new_places : List ℕ) : Type 0 where

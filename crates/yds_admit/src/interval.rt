@@ -47,7 +47,8 @@ pub(crate) fn overfull_from(
         (HasRoomFrom top (by_deadline.now ++ row.now ∷ []) from)
         (λ overfull. IsFirstFrom top (by_deadline.now ++ row.now ∷ []) from overfull.from overfull.to overfull.work) }
 {
-    let place = due_before(by_deadline, row.deadline);
+    // All that is due by the job's deadline is counted in one walk.
+    let place = due_before(by_deadline, row.deadline + 1);
     let mut work = u64::from(row.work) + released_before(by_deadline, place, from);
     let mut to = row.deadline;
     for number in place..by_deadline.len() {

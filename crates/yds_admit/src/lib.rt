@@ -19,6 +19,7 @@ mod nearby;
 mod pieces;
 mod refusal;
 mod room;
+mod rows;
 mod serving;
 mod standing;
 mod state;

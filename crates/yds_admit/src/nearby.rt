@@ -10,23 +10,24 @@ use yds_model::limits::MAX_JOBS;
 /// The release of the last of the pieces, or one more job's where that is earlier or there is none.
 pub(crate) fn earliest(pieces: &Pieces, row: &JobRow) -> u32
     ensures own { result ≤ row.now.release }
-    ensures last { (i : ℕ) → i + 1 ≡ length pieces.now.jobs.items → result ≤ (job_at pieces.now.jobs.items i).release }
-    ensures one { result ≡ row.now.release ⊎ (i : ℕ) × (i < length pieces.now.jobs.items) × (result ≡ (job_at pieces.now.jobs.items i).release) }
+    ensures last { (i : ℕ) → i + 1 ≡ length pieces.now.jobs → result ≤ (job_at pieces.now.jobs i).release }
+    ensures one { result ≡ row.now.release ⊎ (i : ℕ) × (i < length pieces.now.jobs) × (result ≡ (job_at pieces.now.jobs i).release) }
 {
-    match pieces.jobs.last() {
-        Some(job) => job.release.min(row.release),
-        None => row.release,
+    let count = pieces.jobs.len();
+    if count == 0 {
+        return row.release;
     }
+    pieces.jobs.release(count - 1).min(row.release)
 }
 
 /// The units before the place `end` of so many pieces: from theirs, or from those of the others where these are fewer.
 pub(crate) fn units_before(pieces: &Pieces, count: usize, end: usize) -> u64
-    requires as_long { length pieces.now.places.items ≡ length pieces.now.jobs.items }
-    requires few { sum_by (λ job. job.work) pieces.now.jobs.items ≤ MAX_JOBS * MAX_WORK }
-    requires within { count ≤ length pieces.now.jobs.items }
+    requires as_long { length pieces.now.places.items ≡ length pieces.now.jobs }
+    requires few { sum_by (λ job. job.work) pieces.now.jobs ≤ MAX_JOBS * MAX_WORK }
+    requires within { count ≤ length pieces.now.jobs }
     requires known { end < length pieces.now.used.items }
-    requires used { slice_index pieces.now.used.items end ≡ went (length pieces.now.jobs.items) pieces.now.jobs.items pieces.now.places.items end }
-    ensures { result ≡ went count pieces.now.jobs.items pieces.now.places.items end }
+    requires used { slice_index pieces.now.used.items end ≡ went (length pieces.now.jobs) pieces.now.jobs pieces.now.places.items end }
+    ensures { result ≡ went count pieces.now.jobs pieces.now.places.items end }
 {
     let all = pieces.jobs.len();
     if all - count < count {
@@ -36,19 +37,18 @@ pub(crate) fn units_before(pieces: &Pieces, count: usize, end: usize) -> u64
 }
 
 /// The units before the place `end` of the pieces from one up to another.
-#[tactic(auto, using(crate::proofs::Cutting::went_fits))]
 pub(crate) fn units_between(pieces: &Pieces, first: usize, last: usize, end: usize) -> u64
-    requires as_long { length pieces.now.places.items ≡ length pieces.now.jobs.items }
-    requires few { sum_by (λ job. job.work) pieces.now.jobs.items ≤ MAX_JOBS * MAX_WORK }
+    requires as_long { length pieces.now.places.items ≡ length pieces.now.jobs }
+    requires few { sum_by (λ job. job.work) pieces.now.jobs ≤ MAX_JOBS * MAX_WORK }
     requires order { first ≤ last }
-    requires within { last ≤ length pieces.now.jobs.items }
-    ensures { result + went first pieces.now.jobs.items pieces.now.places.items end ≡
-        went last pieces.now.jobs.items pieces.now.places.items end }
+    requires within { last ≤ length pieces.now.jobs }
+    ensures { result + went first pieces.now.jobs pieces.now.places.items end ≡
+        went last pieces.now.jobs pieces.now.places.items end }
 {
     let mut units = 0;
     for number in first..last {
         if pieces.places[number] <= end {
-            units += u64::from(pieces.jobs[number].work);
+            units += u64::from(pieces.jobs.work(number));
         }
     }
     units

@@ -9,7 +9,7 @@ ghost use Rattle.yds_admit.specs.Pieces.{IsCutting, IsCutInto, AreCut, IsAdded, 
 use crate::board::Board;
 use crate::chain::{last_open, own_links};
 use crate::nearby::{earliest, units_before, units_between};
-use crate::standing::released_from;
+use crate::rows::Rows;
 use std::alloc::Global;
 use yds_model::limits::MAX_JOBS;
 use yds_model::{JobRow, Memory};
@@ -22,7 +22,7 @@ const BLOCK: usize = 16;
 #[derive(Drop)]
 pub(crate) struct Pieces {
     /// A job's window with some of its work.
-    pub(crate) jobs: Vec<JobRow>,
+    pub(crate) jobs: Rows,
     /// The place after the gap. Units that found no room have the place 0.
     pub(crate) places: Vec<usize>,
     /// The units that take room before each of the times.
@@ -32,13 +32,13 @@ pub(crate) struct Pieces {
 impl Pieces {
     /// Puts one job more among them, as one piece with this place.
     pub(crate) fn add(&mut self, row: &JobRow, place: usize) -> Result<(), Memory>
-        requires falling { IsFalling self.old.jobs.items }
-        requires as_long { length self.old.places.items ≡ length self.old.jobs.items }
+        requires falling { IsFalling self.old.jobs }
+        requires as_long { length self.old.places.items ≡ length self.old.jobs }
         requires few { All (λ units. units ≤ MAX_JOBS * MAX_WORK) self.old.used.items }
-        ensures added { IfOk result (λ _. IsAdded self.old.jobs.items self.old.places.items row.now place self.new.jobs.items self.new.places.items) }
+        ensures added { IfOk result (λ _. IsAdded self.old.jobs self.old.places.items row.now place self.new.jobs self.new.places.items) }
         ensures used { IfOk result (λ _. AreMore self.old.used.items self.new.used.items place row.now.work) }
     {
-        let number = released_from(&self.jobs, row.release);
+        let number = self.jobs.released_from(row.release);
         self.jobs.insert(number, *row)?;
         self.places.insert(number, place)?;
         add_from(&mut self.used, place, u64::from(row.work));
@@ -67,8 +67,8 @@ pub(crate) fn cut_each(
 ) -> Result<(Pieces, Vec<u64>, Vec<usize>), Memory>
     requires board { IsBoard board.now }
     requires marks { length marks.now ≡ length board.now.rows.now }
-    ensures cutting { IfOk result (λ cut. IsCutting board.now.top board.now.times.items cut.0.jobs.items cut.0.places.items cut.1.items) }
-    ensures cut { IfOk result (λ cut. AreCut (falling_jobs board.now.rows.now marks.now board.now.spots.items) cut.0.jobs.items) }
+    ensures cutting { IfOk result (λ cut. IsCutting board.now.top board.now.times.items cut.0.jobs cut.0.places.items cut.1.items) }
+    ensures cut { IfOk result (λ cut. AreCut (falling_jobs board.now.rows.now marks.now board.now.spots.items) cut.0.jobs) }
     ensures as_long { IfOk result (λ cut. length cut.1.items ≡ length board.now.gaps.items) }
     ensures links { IfOk result (λ cut. AreLinks cut.1.items cut.2.items) }
 {
@@ -77,7 +77,7 @@ pub(crate) fn cut_each(
     let mut last = own_links(alloc, board.times.len())?;
     let links = last.as_mut_slice();
     let mut pieces = Pieces {
-        jobs: Vec::with_capacity(alloc, board.rows.len())?,
+        jobs: Rows::with_capacity(alloc, board.rows.len())?,
         places: Vec::with_capacity(alloc, board.rows.len())?,
         used: Vec::new(alloc),
     };
@@ -111,7 +111,6 @@ pub(crate) fn used_before(alloc: Global, gaps: &[u64], left: &[u64]) -> Result<V
 }
 
 /// Cuts one job more, whose deadline has this place.
-#[tactic(auto, using(std::proofs::lemmas::Bool::cases_eq, crate::proofs::Cutting::none_yet, crate::proofs::Cutting::cut_last))]
 fn cut(
     gaps: &mut [u64],
     links: &mut [usize],
@@ -123,9 +122,9 @@ fn cut(
     requires links { AreLinks gaps.old links.old }
     ensures links { IfOk result (λ _. AreLinks gaps.new links.new) }
     ensures cutting { IfOk result (λ _. (top : ℕ) (times : List ℕ) → length gaps.old + 1 ≡ length times → IsPlace times job.now.deadline end →
-        IsCutting top times pieces.old.jobs.items pieces.old.places.items gaps.old →
-        IsCutting top times pieces.new.jobs.items pieces.new.places.items gaps.new) }
-    ensures into { IfOk result (λ _. IsCutInto job.now pieces.old.jobs.items pieces.new.jobs.items) }
+        IsCutting top times pieces.old.jobs pieces.old.places.items gaps.old →
+        IsCutting top times pieces.new.jobs pieces.new.places.items gaps.new) }
+    ensures into { IfOk result (λ _. IsCutInto job.now pieces.old.jobs pieces.new.jobs) }
 {
     let mut left = job.work;
     let mut place = last_open(links, end);
@@ -168,31 +167,31 @@ pub(crate) fn least_from_pieces(
         MatchOption near (idle_before idle end < row.now.work) (IsIdleFrom idle end row.now.work) → MatchOption result
         ((from : ℕ) → from ≤ row.now.release → Fits board.now.top board.now.times.items all row.now end idle from)
         (λ from. IsLeastBound board.now.top board.now.times.items all row.now end idle from
-        × (AreExact board.now.top board.now.times.items all pieces.now.jobs.items pieces.now.places.items idle → HasTooMuch board.now.top all row.now from)) }
+        × (AreExact board.now.top board.now.times.items all pieces.now.jobs pieces.now.places.items idle → HasTooMuch board.now.top all row.now from)) }
 {
     let room = u64::from(board.top) * u64::from(row.deadline);
     let Some(behind) = near else {
         return Some(earliest(pieces, row));
     };
     // Any other piece is too early: enough is idle between its release and the job's deadline.
-    let mut count = released_from(&pieces.jobs, board.times[behind] + 1);
+    let mut count = pieces.jobs.released_from(board.times[behind] + 1);
     let mut wanted = u64::from(row.work) + units_before(pieces, count, end);
-    let until = released_from(&pieces.jobs, row.release).min(count);
+    let until = pieces.jobs.released_from(row.release).min(count);
     while count > until {
         let first = count - BLOCK.min(count - until);
-        let latest = &pieces.jobs[first];
-        if wanted + u64::from(board.top) * u64::from(latest.release) <= room {
+        let latest = pieces.jobs.release(first);
+        if wanted + u64::from(board.top) * u64::from(latest) <= room {
             // The others of the block are released no later, with no more units.
             wanted -= units_between(pieces, first, count, end);
             count = first;
             continue;
         }
-        let piece = &pieces.jobs[count - 1];
-        if wanted + u64::from(board.top) * u64::from(piece.release) > room {
-            return Some(piece.release);
+        let release = pieces.jobs.release(count - 1);
+        if wanted + u64::from(board.top) * u64::from(release) > room {
+            return Some(release);
         }
         if pieces.places[count - 1] <= end {
-            wanted -= u64::from(piece.work);
+            wanted -= u64::from(pieces.jobs.work(count - 1));
         }
         count -= 1;
     }

@@ -1,19 +1,8 @@
 ghost use Rattle.std.specs.Prelude.{ℕ, ◌<◌, ◌≤◌, insert, length, slice_index_or};
 ghost use Rattle.std.specs.List.Sorted.{IsNonDecreasingBy};
 ghost use Rattle.yds_model.specs.Job.{Job, job_at};
-ghost use Rattle.yds_admit.specs.Chain.{IsFalling};
 
 use yds_model::JobRow;
-
-/// How many of these jobs, which stand in falling order of their releases, are released at a time or later.
-pub(crate) fn released_from(by_release: &[JobRow], time: u32) -> usize
-    requires { IsFalling by_release.now }
-    ensures within { result ≤ length by_release.now }
-    ensures early { (k : ℕ) → k < result → time ≤ (job_at by_release.now k).release }
-    ensures late { (k : ℕ) → result ≤ k → k < length by_release.now → (job_at by_release.now k).release < time }
-{
-    by_release.partition_point(|job| time <= job.release)
-}
 
 /// The place of one more among these jobs, which stand in rising order of their deadlines.
 pub(crate) fn deadline_place(by_deadline: &[JobRow], row: &JobRow) -> usize

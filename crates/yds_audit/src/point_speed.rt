@@ -9,7 +9,6 @@ use yds_hull::Point;
 use yds_slots::Slot;
 
 /// Whether the slot runs at this speed, in work per time unit.
-#[tactic(auto, using(yds_fraction::proofs::Kept::some_parts, crate::proofs::Speeds::speed_of_product))]
 fn runs_at(slot: &Slot, speed: u32) -> bool
     requires within { speed ≤ MAX_POINT_SPEED }
     requires forward { IsLess slot.now.from slot.now.to }

@@ -16,7 +16,6 @@ use yds_model::JobRow;
 use yds_slots::Slot;
 
 /// Whether the slot begins before the one before it ends.
-#[tactic(auto, using(crate::proofs::Neighbours::overlap_told))]
 fn overlaps(slots: &[Slot], i: usize) -> bool
     requires { i < length slots.now }
     ensures { MatchBool result

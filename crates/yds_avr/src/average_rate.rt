@@ -67,7 +67,6 @@ impl Policy for AverageRate {
 
     ghost keeps = { λ policy queue number. IsRosterBefore queue.jobs policy.grid policy.roster number };
 
-    #[tactic(auto, using(crate::proofs::Standing::stands_later, crate::proofs::Standing::starts_later))]
     fn set(&mut self, _number: u32, queue: &Queue, stretch: Stretch, _served: &[Share]) -> Setting {
         let _rows = queue.rows();
         self.roster.go_to(stretch.from);
@@ -105,7 +104,6 @@ fn units_of(live: &[Rate], whole: u64, stretch: Stretch) -> u64
 }
 
 /// Whether some live job's part of a stretch isn't whole. It looks no further than the first.
-#[tactic(auto, using(crate::proofs::Together::whole_next, crate::proofs::Together::rounds_here))]
 fn is_rounded(live: &[Rate], stretch: Stretch) -> bool
     requires { All (IsLive stretch) live.now }
     ensures { result ≡ list_any (rate_rounds stretch) live.now }

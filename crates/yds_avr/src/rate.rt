@@ -40,7 +40,6 @@ pub(crate) fn rate_of(row: &JobRow, grid: u32) -> Rate
 
 /// What a job has, beyond the whole units of each time unit, in so many time units of its window: rounded up, by a product in
 /// place of a quotient.
-#[tactic(auto, using(crate::proofs::Rounded::rest_told, crate::proofs::Rounded::rest_few))]
 pub(crate) fn rest_of(rate: &Rate, length: u64) -> u64
     requires rate { IsRate rate.now }
     requires within { length ≤ window_length rate.now }
@@ -52,7 +51,6 @@ pub(crate) fn rest_of(rate: &Rate, length: u64) -> u64
 }
 
 /// Whether that wasn't whole before it was rounded up.
-#[tactic(auto, using(crate::proofs::Rounded::rest_rounds))]
 pub(crate) fn rounds(rate: &Rate, length: u64) -> bool
     requires rate { IsRate rate.now }
     requires within { length ≤ window_length rate.now }

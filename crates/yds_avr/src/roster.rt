@@ -55,7 +55,6 @@ impl Roster {
     }
 
     /// Those that are released by a time arrive.
-    #[tactic(auto, using(crate::proofs::Standing::other_order))]
     fn arrive(&mut self, time: u32)
         requires stands { IsRosterAt self.old time }
         requires rates { AreRates self.old.order.items }
@@ -74,7 +73,6 @@ impl Roster {
     }
 
     /// Those that are due by a time are over.
-    #[tactic(auto, using(crate::proofs::Standing::due_behind, crate::proofs::Standing::some_leave))]
     fn leave(&mut self, time: u32)
         requires stands { IsRosterAt self.old time }
         requires rates { AreRates self.old.order.items }
@@ -94,7 +92,6 @@ impl Roster {
 
 /// Puts rates in falling order of their deadlines, of which those before this place stand so: a single one behind them goes to its
 /// place, and more are sorted with all.
-#[tactic(auto, using(std::proofs::lemmas::List::take_all))]
 fn settle(live: &mut Vec<Rate>, before: usize)
     requires rates { All IsRate live.old.items }
     requires within { before ≤ vec_len live.old }

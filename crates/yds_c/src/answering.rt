@@ -16,7 +16,6 @@ pub(crate) struct Answer {
 }
 
 /// The answer of a run over the input. A write fails for want of memory alone.
-#[tactic(auto, using(crate::proofs::Worth::ended_whole, crate::proofs::Worth::whole_is_answer))]
 pub(crate) fn answer_in_memory(
     alloc: Global,
     keys: RandomState,

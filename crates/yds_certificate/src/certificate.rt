@@ -45,7 +45,6 @@ fn has_speed_of_last(levels: &[Level], level: &Level) -> bool
 }
 
 /// Shows that each level is within its limits, which is what a level keeps: reading it shows so.
-#[tactic(auto, using(std::proofs::lemmas::List::take_all))]
 fn read_levels(levels: &[Level])
     ensures { All IsLevel levels.now }
 {
@@ -100,7 +99,6 @@ impl Certificate {
     /// Puts the level last, or joins it to the last one where both have the same speed.
     ///
     /// Joined, their works and lengths are added, their pieces rise and don't touch, and their members rise.
-    #[tactic(auto, using(std::proofs::lemmas::List::get_or_read, crate::proofs::LastLevel::last_set))]
     pub fn push_merging(&mut self, level: Level) -> Result<(), Memory>
         requires room { length self.old < MAX_LEVELS }
         requires room_for_pieces { length (all_pieces self.old) + length level.pieces ≤ MAX_PIECES }
@@ -125,7 +123,6 @@ impl Certificate {
     }
 
     /// Puts the piece last in the last level.
-    #[tactic(auto, using(crate::proofs::LastLevel::last_set))]
     pub fn piece(&mut self, piece: Piece) -> Result<(), Memory>
         requires some { 1 ≤ length self.old }
         requires room { length (all_pieces self.old) < MAX_PIECES }
@@ -140,7 +137,6 @@ impl Certificate {
     }
 
     /// Puts the job last among the members of the last level.
-    #[tactic(auto, using(crate::proofs::LastLevel::last_set))]
     pub fn member(&mut self, job: u32) -> Result<(), Memory>
         requires some { 1 ≤ length self.old }
         requires room { length (all_members self.old) < MAX_MEMBERS }

@@ -52,7 +52,6 @@ impl Level {
     }
     /// The two levels together, served at once: works and lengths added, the pieces of both with touching ones
     /// joined, and the members of both.
-    #[tactic(auto, using(crate::proofs::Together::sorted_pieces, crate::proofs::Together::few_together))]
     pub(crate) fn with(&self, alloc: Global, other: &Level) -> Result<Level, Memory>
         requires orderly { IsOrderly self.now }
         requires other_orderly { IsOrderly other.now }

@@ -18,7 +18,6 @@ fn touches(pieces: &[Piece], piece: &Piece) -> bool
 }
 
 /// Puts a piece after others. It joins the last of them where they touch.
-#[tactic(auto, using(crate::proofs::Extended::pushed, crate::proofs::Extended::extended, crate::proofs::Extended::apart_from))]
 fn append(joined: &mut Vec<Piece>, piece: Piece) -> Result<(), Memory>
     requires forward { piece.from < piece.to }
     requires after { end_of joined.old.items ≤ piece.from }
@@ -37,7 +36,6 @@ fn append(joined: &mut Vec<Piece>, piece: Piece) -> Result<(), Memory>
 }
 
 /// The same time as these pieces, which lie one after another, with touching ones joined.
-#[tactic(auto, using(crate::proofs::Joined::piece_next, crate::proofs::Joined::joined_all))]
 pub(crate) fn join_touching(alloc: Global, pieces: &[Piece]) -> Result<Vec<Piece>, Memory>
     requires { PiecesFrom 0 pieces.now }
     ensures { IfOk result (λ joined. IsJoined pieces.now joined.items) }

@@ -32,7 +32,6 @@ fn leaves(alloc: Global, placed: &[Placed]) -> Result<Vec<u32>, Memory>
 }
 
 /// Makes each node before the leaves the greater of the two below it.
-#[tactic(auto, using(crate::proofs::Nodes::raised_more))]
 fn raise(nodes: &mut [u32], leaves: usize)
     requires { length nodes.old ≡ leaves + leaves }
     ensures raised { AreRaised nodes.new leaves }

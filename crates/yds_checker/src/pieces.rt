@@ -55,7 +55,6 @@ fn levels_ordered(levels: &[Level]) -> usize
 }
 
 /// The pieces of all levels in rising order, or the first level whose pieces don't stand.
-#[tactic(auto, using(crate::proofs::Standing::front_forward))]
 pub(crate) fn standing_of(alloc: Global, levels: &[Level]) -> Result<Standing, Memory>
     requires { length levels.now ≤ MAX_LEVELS }
     ensures { IfOk result (IsFound levels.now) }

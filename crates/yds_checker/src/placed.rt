@@ -20,7 +20,6 @@ pub(crate) struct Placed {
 }
 
 /// Puts the pieces of a level last.
-#[tactic(auto, using(crate::proofs::Placing::none_placed, crate::proofs::Placing::next_placed))]
 fn place(placed: &mut Vec<Placed>, pieces: &[Piece], level: u32) -> Result<(), Memory>
     requires { All IsForward pieces.now }
     ensures { OnOk result (PlacesMore placed.old.items placed.new.items pieces.now level) }
@@ -36,7 +35,6 @@ fn place(placed: &mut Vec<Placed>, pieces: &[Piece], level: u32) -> Result<(), M
 }
 
 /// The pieces of these levels, in no order.
-#[tactic(auto, using(std::proofs::lemmas::List::get_or_read))]
 fn gathered(alloc: Global, levels: &[Level]) -> Result<Vec<Placed>, Memory>
     requires few { length levels.now ≤ MAX_LEVELS }
     requires forward { All (λ level. All IsForward level.pieces) levels.now }
@@ -62,7 +60,6 @@ pub(crate) fn placed_pieces(alloc: Global, levels: &[Level]) -> Result<Vec<Place
 }
 
 /// Whether no two pieces of the first so many levels overlap.
-#[tactic(auto, using(crate::proofs::Apart::walk_begins, crate::proofs::Apart::overlapping))]
 fn are_apart(placed: &[Placed], levels: u32) -> bool
     requires rising { AreByStart placed.now }
     requires each { All (λ piece. piece.from < piece.to) placed.now }

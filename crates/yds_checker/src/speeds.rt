@@ -25,7 +25,6 @@ fn has_speed_of(level: &Level, slot: &Slot) -> bool
 }
 
 /// Whether the slot has the speed of the level of which its job is a member, if there is one.
-#[tactic(auto, using(std::proofs::lemmas::List::get_or_read, crate::proofs::Small::slot_work_small))]
 fn has_speed(rows: &[JobRow], levels: &[Level], homes: &[Home], slots: &[Slot], s: usize) -> bool
     requires within { s < length slots.now }
     requires agree { AreSlots (length rows.now) slots.now }

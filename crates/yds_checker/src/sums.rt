@@ -38,7 +38,6 @@ fn lengths_together(pieces: &[Piece]) -> u64
 }
 
 /// Whether the level's work is its members' together, and its length its pieces'.
-#[tactic(auto, using(crate::proofs::Parts::few_in_level))]
 fn sums_agree(rows: &[JobRow], levels: &[Level], i: usize) -> bool
     requires within { i < length levels.now }
     requires kept { IsCertificate levels.now }

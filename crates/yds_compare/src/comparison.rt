@@ -41,7 +41,6 @@ pub struct Comparison {
 /// What a plan of these levels spends, level by level.
 ///
 /// The stretches of a level run at its speed and are together as long as it, so no finer parts are needed than those of the hull.
-#[tactic(auto, using(yds_round::proofs::Faults::fast_first, yds_round::proofs::RoundedEnergies::all_slow, crate::proofs::Planned::levels_held))]
 fn plan_spent(
     alloc: Global,
     rows: &[JobRow],

@@ -57,7 +57,6 @@ fn between(low: Point, high: Point, load: Load, multiple: u64) -> Share
 
 impl Share {
     /// That of this load, which the table's last point is fast enough for.
-    #[tactic(auto, using(std::proofs::lemmas::List::get_or_read, crate::proofs::Points::found, crate::proofs::Points::idle_share))]
     pub(crate) fn of(load: Load, table: &Table) -> Share
         requires { IsHeldAt (top_of table.now) load }
         ensures { IsShareOf (hull_multiple table.now) (hull_of table.now) load result }

@@ -31,7 +31,6 @@ pub enum Side {
 }
 
 /// The side of a run on the grid, which has this timetable.
-#[tactic(auto, using(std::proofs::lemmas::List::get_or_read, crate::proofs::Runs::too_slow_for, crate::proofs::Runs::load_times))]
 pub(crate) fn side_of(
     alloc: Global,
     rows: &[JobRow],

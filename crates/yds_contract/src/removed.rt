@@ -52,7 +52,6 @@ fn add(pieces: &mut Vec<Piece>, from: u32, to: u32) -> Result<(), Memory>
 }
 
 /// The pieces of real time that aren't removed and whose places lie from `start` to `end`.
-#[tactic(auto, using(crate::proofs::Kept::removed_forward, crate::proofs::Kept::end_fits))]
 pub(crate) fn pieces_between(
     alloc: Global,
     removed: &[Removed],

@@ -11,7 +11,6 @@ use std::alloc::Global;
 use yds_model::Memory;
 
 /// How long the removed stretches are together, in time units.
-#[tactic(auto, using(crate::proofs::Appending::total_by_last))]
 fn total_removed(removed: &[Removed]) -> u32
     requires summed { AreSummed removed.now }
     requires forward { All IsForward (removed_stretches removed.now) }

@@ -36,7 +36,6 @@ fn add(spans: &mut Vec<Span>, from: u64, to: u64) -> Result<(), Memory>
 }
 
 /// The spans of real time that aren't removed and whose places lie from `start` to `end`, all in parts.
-#[tactic(auto, using(crate::proofs::Kept::removed_forward, crate::proofs::Kept::walked_pieces, crate::proofs::Scaled::parts_count, crate::proofs::Scaled::parts_fit))]
 fn spans_between(
     alloc: Global,
     removed: &[Removed],
@@ -105,7 +104,6 @@ fn events_between(events: &[u32], after: u32, upto: u32) -> &[u32]
 }
 
 /// The events strictly inside the span of parts, of which each time unit has so many.
-#[tactic(auto, using(crate::proofs::Cutting::units_forward))]
 fn events_inside(events: &[u32], span: Span, parts: u64) -> &[u32]
     requires some { 1 ≤ parts }
     requires forward { span.from < span.to }

@@ -41,7 +41,6 @@ fn best_from(best: Option<Interval>, start: u32, sums: &[Sum]) -> Option<Interva
 
 /// The critical interval of rows that have work: it begins at a release and ends at a deadline, no interval of time has a
 /// greater intensity, and among the greatest it has the least start and then the greatest end. None exactly for no rows.
-#[tactic(auto, using(crate::proofs::Searching::critical_found))]
 pub fn critical(alloc: Global, rows: &[JobRow]) -> Result<Option<Interval>, Memory>
     requires few { length rows.now ≤ MAX_JOBS }
     requires work { All (λ job. 1 ≤ job.work) rows.now }

@@ -35,7 +35,6 @@ impl Model for Break {
 /// The levels' speeds fall, as those of a plan do. Where they are a plan's, the curve tells above every speed the least
 /// work that any feasible schedule of its jobs does above it: between two neighbouring breaks it goes in
 /// a straight line, and above the last it is 0.
-#[tactic(auto, using(std::proofs::lemmas::List::Sums::sum_by_more, crate::proofs::Fronts::falls, crate::proofs::Fronts::break_here, crate::proofs::Fronts::one_gathered))]
 pub fn curve(alloc: Global, certificate: &Certificate) -> Result<Vec<Break>, Memory>
     requires falling { Each (length certificate.now) (IsSlower certificate.now) }
     ensures { IfOk result (λ breaks. breaks.items ≡ breaks_of certificate.now) }

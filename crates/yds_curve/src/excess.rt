@@ -10,7 +10,6 @@ use yds_fraction::{Amount, Speed, in_lowest_terms};
 ///
 /// Where the levels are those of a plan of some jobs, this is the least that any feasible schedule of them does
 /// above the speed. Takes no memory.
-#[tactic(auto, using(std::proofs::lemmas::List::take_all, std::proofs::lemmas::List::Sums::sum_by_more, crate::proofs::Fronts::work_in_range, crate::proofs::Fronts::few_above))]
 pub fn least_above(certificate: &Certificate, threshold: Speed) -> Amount
     ensures { result ≡ least_above threshold.num threshold.den certificate.now }
 {

@@ -53,7 +53,6 @@ pub(crate) fn fraction_in(field: Field<'_>, most: u64) -> Result<Amount, LineFau
 }
 
 /// The fraction that the next field spells, where it is plain.
-#[tactic(auto, using(crate::proofs::FractionField::fraction_within))]
 pub(crate) fn plain_fraction(fields: &mut Fields<'_>, most: u64) -> Option<Amount>
     requires { most ≤ MAX_WHOLE }
     ensures says { IfSome result (λ value. ReadsText (λ text. fraction_at most text ≡ Ok value) fields.old.fields fields.new.fields) }

@@ -67,7 +67,6 @@ fn read_each<'a>(
 }
 
 /// What the fields say, where they are plain and say a job if its name is new.
-#[tactic(auto, using(crate::proofs::PlainLine::says_job))]
 fn plain_job(mut fields: Fields<'_>) -> Option<(&str, JobRow)>
     ensures says { IfSome result (λ said. (names : List (List ℕ)) → number_of names said.0.now ≡ None
         → SaysFour (job_of names) fields.entry.fields (JobEntry said.0.now said.1)) }

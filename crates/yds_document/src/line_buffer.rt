@@ -117,7 +117,6 @@ impl LineBuffer {
     }
 
     /// So many spaces.
-    #[tactic(auto, using(std::proofs::lemmas::Grind::replicate_next))]
     fn push_spaces(&mut self, count: usize)
         requires { length self.old + count ≤ LINE_BYTES }
         ensures bytes { self.new ≡ self.old ++ replicate count 32 }

@@ -62,7 +62,6 @@ fn read_each<'a>(
 }
 
 /// What the field says, where it is plain and names a job.
-#[tactic(auto, using(crate::proofs::PlainLine::says_member))]
 fn plain_member(instance: &Instance<'_>, mut fields: Fields<'_>) -> Option<u32>
     ensures says { IfSome result (λ job. SaysOne (member_of instance.now.names) fields.entry.fields (MemberEntry job)) }
     ensures known { IfSome result (λ job. job < length instance.now.jobs) }
@@ -82,7 +81,6 @@ fn member_in(instance: &Instance<'_>, name: Field<'_>) -> Result<u32, LineFault>
 }
 
 /// Puts the job last among the members of the last level.
-#[tactic(auto, using(std::proofs::lemmas::List::length_push, crate::proofs::LevelGrown::members_more, crate::proofs::LevelGrown::pieces_stay, crate::proofs::LevelGrown::known_more))]
 fn add(draft: &mut Draft<'_>, job: u32) -> Result<(), Memory>
     requires kept { IsDraft draft.old }
     requires known { job < length draft.old.instance.jobs }

@@ -84,7 +84,6 @@ fn piece_in(from: Field<'_>, to: Field<'_>) -> Result<Piece, LineFault>
 }
 
 /// Puts the piece last in the last level.
-#[tactic(auto, using(std::proofs::lemmas::List::length_push, crate::proofs::LevelGrown::pieces_more, crate::proofs::LevelGrown::members_stay, crate::proofs::LevelGrown::known_stay))]
 fn add(draft: &mut Draft<'_>, piece: Piece) -> Result<(), Memory>
     requires kept { IsDraft draft.old }
     requires some { 1 ≤ length draft.old.certificate }

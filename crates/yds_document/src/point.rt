@@ -26,7 +26,6 @@ use yds_table::{Table, TableFault};
 use yds_text::{Field, Fields, two_fields};
 
 /// Reads the line whose first field is `kind`, and adds its point.
-#[tactic(auto, using(crate::proofs::Told::holds_more, crate::proofs::Told::point_same))]
 pub(crate) fn read<'a>(
     draft: &mut Draft<'a>,
     alloc: Global,
@@ -97,7 +96,6 @@ fn first_point(alloc: Global, point: Point, column: u32) -> Result<Table, LineFa
 }
 
 /// The point after the others.
-#[tactic(auto, using(crate::proofs::PointTable::point_ok, crate::proofs::PointTable::point_err))]
 fn next_point(table: &mut Table, point: Point, column: u32) -> Result<(), LineFault>
     requires { length table.old < MAX_POINTS }
     ensures gives { Gives (λ done. PointEntry point) result (point_after table.old point column) }
@@ -115,7 +113,6 @@ fn next_point(table: &mut Table, point: Point, column: u32) -> Result<(), LineFa
 }
 
 /// The points of a table, where there is one.
-#[tactic(auto, using(crate::proofs::Limits::no_points_fit))]
 pub(crate) fn points_in(table: &Option<Table>) -> &[Point]
     ensures value { result.now ≡ points_of table.now }
     ensures kept { ArePoints (points_of table.now) }
@@ -137,7 +134,6 @@ fn put(text: &mut Line, point: &Point)
 }
 
 /// Appends the lines of the points, in their order.
-#[tactic(auto, using(yds_port::proofs::Putting::item_put))]
 pub(crate) fn print<K: Sink>(points: &[Point], sink: &mut K) -> Result<(), WriteFault>
     ensures { Puts K.written K.flushed K.flushes K.faults result (flat_map point_line points.now) sink.old sink.new }
 {

@@ -65,7 +65,6 @@ fn read_each<'a>(
 }
 
 /// What the fields say, where they are plain and say a slot that may stand there.
-#[tactic(auto, using(yds_model::proofs::Alike::alike_test))]
 fn plain_slot(instance: &Instance<'_>, schedule: &Schedule, mut fields: Fields<'_>) -> Option<Slot>
     requires { schedule.now.jobs ≡ length instance.now.jobs }
     ensures says { IfSome result (λ slot. SaysFour (slot_of instance.now.names schedule.now.slots) fields.entry.fields (SlotEntry slot)) }
@@ -122,7 +121,6 @@ fn slot_in(
 }
 
 /// Whether the work is alike with each work that the schedule gives the job.
-#[tactic(auto, using(crate::proofs::SlotGrain::fits_grain))]
 pub(crate) fn fits_grain(schedule: &Schedule, job: u32, work: Amount) -> bool
     requires { job < schedule.now.jobs }
     ensures value { result ≡ fits_among schedule.now.slots job work }

@@ -54,7 +54,6 @@ impl PlacedUnits {
     }
 
     /// The units at each place.
-    #[tactic(auto, using(crate::proofs::PlacedSums::few_units))]
     pub fn units(&self) -> &[u64]
         ensures units { result.now ≡ self.now }
         ensures few { HaveFewUnits result.now }
@@ -77,7 +76,6 @@ impl PlacedUnits {
     }
 
     /// Puts so many units at the place, in place of those that were there.
-    #[tactic(auto, using(crate::proofs::PlacedSums::total_fits, crate::proofs::PlacedSums::block_fits, crate::proofs::PlacedSums::group_fits))]
     pub(crate) fn set(&mut self, place: usize, units: u64)
         requires known { place < length self.old }
         requires in_range { units ≤ MAX_WORK * MAX_GRAIN }
@@ -135,7 +133,6 @@ impl PlacedUnits {
     }
 
     /// The units from this place to the end: of a block or of a block of blocks without looking at its places.
-    #[tactic(auto, using(std::proofs::lemmas::Grind::get_or_default_zero, crate::proofs::PlacedSums::few_units, crate::proofs::PlacedSums::one_place_more, crate::proofs::PlacedSums::in_block, crate::proofs::PlacedSums::whole_block))]
     pub fn between(&self, start: usize, end: usize) -> u64
         requires forward { start ≤ end }
         requires within { end ≤ length self.now }

@@ -134,7 +134,6 @@ impl Engine {
     }
 
     /// The units that are pending of the jobs with deadline at most this time.
-    #[tactic(auto, using(crate::proofs::DueBy::pending_read, crate::proofs::DueBy::due_read, crate::proofs::DueBy::not_due_read, crate::proofs::DueBy::sum_more, crate::proofs::DueBy::sum_no_more))]
     pub(crate) fn due(&self, time: u32) -> u64
         ensures { result ≡ pending_due self.now.queue time }
     {
@@ -162,7 +161,6 @@ impl Engine {
     }
 
     /// The jobs with release at most this time have arrived. It takes no memory.
-    #[tactic(auto, using(crate::proofs::Arrivals::within_later))]
     pub(crate) fn arrive(&mut self, time: u32)
         requires { IsNoEarlier self.old.queue.time time }
         ensures { self.new ≡ record {
@@ -210,7 +208,6 @@ impl Engine {
 
     /// Serves the lesser of the capacity and the pending units, and leaves in the list the shares of this stretch alone, one for
     /// each job that is served. The list takes memory only where it has room for fewer shares than there are jobs.
-    #[tactic(auto, using(crate::proofs::Serving::begin, crate::proofs::Serving::works))]
     pub(crate) fn serve(
         &mut self,
         stretch: u32,

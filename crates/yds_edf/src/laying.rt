@@ -21,7 +21,6 @@ use yds_timetable::{Pace, Share, slots_at};
 ///
 /// An end that isn't whole has the denominator `capacity / gcd(capacity, length)`, and a work that isn't
 /// whole has `grain`.
-#[tactic(auto, using(yds_timetable::proofs::Lowest::lowest_is, crate::proofs::Laid::laid_runs, crate::proofs::Laid::laid_full))]
 pub fn lay(
     alloc: Global,
     stretch: Stretch,

@@ -77,7 +77,6 @@ pub fn run_policy<P: Policy>(
 }
 
 /// The same before the slots are laid, for who needs what each stretch serves and no slots.
-#[tactic(auto, using(yds_events::proofs::Neighbours::few_stretches, crate::proofs::Running::few_rounded, crate::proofs::Running::all_rows, crate::proofs::Running::one_at_most))]
 pub fn serve_policy<P: Policy>(
     alloc: Global,
     rows: &[JobRow],

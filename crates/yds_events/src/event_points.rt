@@ -26,7 +26,6 @@ pub(crate) fn rising_times(alloc: Global, rows: &[JobRow]) -> Result<Vec<u32>, M
 }
 
 /// The jobs' releases and deadlines, in time units, in the jobs' order.
-#[tactic(auto, using(std::proofs::lemmas::List::take_all))]
 pub(crate) fn ends(alloc: Global, rows: &[JobRow]) -> Result<Vec<u32>, Memory>
     ensures ends { IfOk result (λ ends. ends.items ≡ ends_of rows.now) }
     ensures jobs { OnOk result (All IsJob rows.now) }

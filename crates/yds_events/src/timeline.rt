@@ -27,7 +27,6 @@ pub struct Timeline {
 
 impl Timeline {
     /// The timeline of these jobs.
-    #[tactic(auto, using(crate::proofs::Times::events_in_range, crate::proofs::Times::length_ends))]
     pub fn new(alloc: Global, rows: &[JobRow]) -> Result<Timeline, Memory>
         requires { length rows.now ≤ MAX_JOBS }
         ensures { IfOk result (IsTimeline rows.now) }
@@ -71,7 +70,6 @@ fn number(key: u64) -> u32
 }
 
 /// The times of sorted keys without repeats, and at each number the place of its time among them.
-#[tactic(auto, using(std::proofs::lemmas::List::take_all, crate::proofs::Keys::rising_keys))]
 fn cut(alloc: Global, keys: &[u64]) -> Result<(Vec<u32>, Vec<u32>), Memory>
     requires { (times : List ℕ) × AreKeys times keys.now }
     ensures times { IfOk result (λ cut. (times : List ℕ) → AreKeys times keys.now → cut.0.items ≡ rising_times times) }

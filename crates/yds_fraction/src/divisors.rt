@@ -18,7 +18,6 @@ pub fn gcd(a: u64, b: u64) -> u64
 }
 
 /// What is left of the number when it is halved as often as it is even.
-#[tactic(auto, using(crate::proofs::Halves::is_odd_part))]
 fn odd_part(number: u64) -> u64
     requires { 1 ≤ number }
     ensures odd { result % 2 ≡ 1 }

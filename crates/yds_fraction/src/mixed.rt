@@ -129,7 +129,6 @@ impl<const D: u64> Mixed<D> {
     }
 
     /// The whole number and so many parts more, of which `den` make one.
-    #[tactic(auto, using(crate::proofs::Lowest::with_parts))]
     pub fn with_parts(whole: u64, parts: u128, den: u64) -> Self
         requires limit { IsLimit D }
         requires some { 1 ≤ den }

@@ -24,7 +24,6 @@ pub(crate) struct Walk {
 /// units where there are no such deadlines. It looks first at the place that is expected to have it, and passes over
 /// blocks of places where even all units that are due by the end of a block, at its first deadline, give no greater one, eight
 /// blocks at once where it can. Behind the last pending unit no deadline has a greater one.
-#[tactic(auto, using(crate::proofs::Walked::none_within))]
 pub(crate) fn greatest_quotient(jobs: &PendingJobs, from: u32, expected: usize) -> Quotient
     requires { AreInOrder jobs.now }
     ensures { IsGreatestOf jobs.now from result }
@@ -44,7 +43,6 @@ pub(crate) fn greatest_quotient(jobs: &PendingJobs, from: u32, expected: usize) 
 }
 
 /// The first place whose deadline is after this time, behind the places where nothing is pending.
-#[tactic(auto, using(crate::proofs::Walked::none_there))]
 fn first_due(jobs: &PendingJobs, from: u32) -> usize
     requires { AreInOrder jobs.now }
     ensures { AreDueAfter jobs.now from result }
@@ -138,7 +136,6 @@ fn passed_over(jobs: &PendingJobs, end: usize, walk: Walk) -> Option<Walk>
 }
 
 /// The greatest quotient once the walk has come to this end.
-#[tactic(auto, using(std::proofs::lemmas::List::get_or_default))]
 fn greatest_until(jobs: &PendingJobs, end: usize, walk: Walk) -> Quotient
     requires units { AreInOrder jobs.now }
     requires walk { IsWalk jobs.now walk }

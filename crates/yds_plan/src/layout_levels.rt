@@ -20,7 +20,6 @@ fn slows(before: &Group, next: &Group) -> bool
 }
 
 /// Whether the group at this place has the speed of the one before it.
-#[tactic(auto, using(crate::proofs::Drafts::joins_at))]
 fn joins(groups: &[Group], place: usize) -> bool
     requires { place < length groups.now }
     ensures { result ≡ joins_before (map group_view groups.now) place }

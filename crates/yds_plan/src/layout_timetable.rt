@@ -41,7 +41,6 @@ fn paces_of_groups(alloc: Global, groups: &[Group]) -> Result<Vec<Pace>, Memory>
 }
 
 /// The timetable of what was found: each stretch at the pace of its group, with its shares, or idle.
-#[tactic(auto, using(yds_events::proofs::Neighbours::few_stretches))]
 pub(crate) fn timetable_of(
     alloc: Global,
     rows: &[JobRow],

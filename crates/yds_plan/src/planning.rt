@@ -14,7 +14,6 @@ use yds_model::{JobRow, Memory};
 use yds_search::find;
 
 /// Shows that each row is a job within the limits, which is what a row keeps: reading it shows so.
-#[tactic(auto, using(std::proofs::lemmas::List::take_all))]
 pub fn read_rows(rows: &[JobRow])
     ensures { All IsJob rows.now }
 {

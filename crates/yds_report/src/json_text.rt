@@ -95,7 +95,6 @@ fn write_number<S: Serializer>(key: &str, number: u64, out: &mut S) -> Result<()
 }
 
 /// An array with an object for each level, in their order.
-#[tactic(auto, using(crate::proofs::Sent::sent_next))]
 fn write_levels<S: Serializer>(levels: &[Level], out: &mut S) -> Result<(), S::Error>
     ensures { OnOk result (SendsValue (array (items_of (map level_value levels.now))) (S.written out.old) (S.written out.new)) }
 {

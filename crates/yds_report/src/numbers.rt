@@ -46,7 +46,6 @@ pub(crate) fn first_release(rows: &[JobRow]) -> u32
 }
 
 /// The length of the horizon less the lengths of the levels, in time units. A plan's levels are no longer than the horizon.
-#[tactic(auto, using(yds_model::proofs::Horizon::releases_from))]
 pub(crate) fn idle_time(rows: &[JobRow], levels: &[Level]) -> u64
     requires few { length levels.now ≤ MAX_LEVELS }
     requires levels { All IsLevel levels.now }
@@ -57,7 +56,6 @@ pub(crate) fn idle_time(rows: &[JobRow], levels: &[Level]) -> u64
 }
 
 /// The speed of a level in lowest terms, in work per time unit.
-#[tactic(auto, using(yds_fraction::proofs::Lowest::speed_reduced))]
 pub(crate) fn speed_of(level: &Level) -> Amount
     requires { IsLevel level.now }
     ensures { result ≡ in_lowest_terms level.now.work level.now.length }

@@ -68,7 +68,6 @@ fn put(rounded: &mut Schedule, slot: Option<Slot>) -> Result<(), Memory>
 
 impl Cut {
     /// The cut of this stretch.
-    #[tactic(auto, using(crate::proofs::Turns::fast_switch_within, crate::proofs::Turns::slow_switch_within))]
     pub(crate) fn of(split: Split, stretch: Stretch) -> Cut
         requires { IsSplit split }
         ensures cut { IsCut result }
@@ -106,7 +105,6 @@ impl Cut {
     }
 
     /// When so many units are done.
-    #[tactic(auto, using(crate::proofs::Turns::fast_within, crate::proofs::Turns::slow_within, crate::proofs::Turns::surplus_done))]
     fn reach(&self, units: u64) -> Reached
         requires cut { IsCut self.now }
         requires within { units ≤ all_units self.now.split self.now.stretch }
@@ -185,7 +183,6 @@ impl Cut {
     }
 
     /// Puts last what is written for the shares of the stretch: first all at the faster point up to the switch, and then at the slower.
-    #[tactic(auto, using(crate::proofs::Serving::room_for, crate::proofs::Serving::few_served))]
     pub(crate) fn serve(&self, shares: &[Share], rounded: &mut Schedule) -> Result<(), Memory>
         requires cut { IsCut self.now }
         requires fits { CanServe self.now.split self.now.stretch rounded.old.jobs rounded.old.slots shares.now }

@@ -48,7 +48,6 @@ fn spent(paces: &[Pace]) -> u128
 }
 
 /// What the levels spend at these paces, and the time of the horizon outside them at the power of the table's first point.
-#[tactic(auto, using(std::proofs::lemmas::List::get_or_read, yds_model::proofs::Horizon::releases_from, yds_fraction::proofs::Kept::some_parts, crate::proofs::Paces::spent_fits, crate::proofs::Energies::total_small, crate::proofs::Energies::spent_small, crate::proofs::Energies::total_whole, crate::proofs::Energies::reduced_parts))]
 pub(crate) fn energy(rows: &[JobRow], table: &Table, levels: &[Level], paces: &[Pace]) -> Amount
     requires few { length levels.now ≤ MAX_LEVELS }
     requires limits { All IsLevel levels.now }

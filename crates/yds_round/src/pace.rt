@@ -34,7 +34,6 @@ fn on_line(level: &Level, low: Point, high: Point, multiple: u64) -> u128
 
 impl Pace {
     /// That of this level, which the table's last point is fast enough for.
-    #[tactic(auto, using(crate::proofs::Paces::one_point))]
     pub(crate) fn of(level: &Level, table: &Table) -> Pace
         requires { ¬ (IsTooFast table.now level.now) }
         ensures { IsPaceOf table.now level.now result }

@@ -21,7 +21,6 @@ pub(crate) struct Part {
 
 impl Part {
     /// The numbers of a part at this speed, in work per time unit.
-    #[tactic(auto, using(crate::proofs::Parts::some_divisor))]
     pub(crate) fn of(den: u64, gap: u64, speed: u64) -> Part
         requires some_den { 1 ≤ den }
         requires den_in_range { den ≤ MAX_LEVEL_LENGTH }

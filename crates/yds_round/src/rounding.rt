@@ -53,7 +53,6 @@ pub fn fault_of(table: &Table, levels: &[Level]) -> Option<RoundFault>
 }
 
 /// The pace of each level on the table.
-#[tactic(auto, using(std::proofs::lemmas::List::take_all))]
 fn paces_of(alloc: Global, table: &Table, levels: &[Level]) -> Result<Vec<Pace>, Memory>
     requires { All (λ level. ¬ (IsTooFast table.now level)) levels.now }
     ensures { IfOk result (λ paces. AllZip (IsPaceOf table.now) levels.now paces.items) }
@@ -66,7 +65,6 @@ fn paces_of(alloc: Global, table: &Table, levels: &[Level]) -> Result<Vec<Pace>,
 }
 
 /// Puts the slots last, as they are.
-#[tactic(auto, using(std::proofs::lemmas::List::take_all, crate::proofs::Kept::kept_known, crate::proofs::Kept::kept_room, crate::proofs::Kept::kept_more))]
 fn keep(planned: &[Slot], rounded: &mut Schedule) -> Result<(), Memory>
     requires { CanKeep rounded.old.jobs rounded.old.slots planned.now }
     ensures { OnOk result (rounded.new ≡ record { jobs = rounded.old.jobs; slots = rounded.old.slots ++ planned.now }) }
@@ -102,7 +100,6 @@ fn round_stretch(
 }
 
 /// The plan's shares and slots at the paces of their levels, stretch by stretch.
-#[tactic(auto, using(std::proofs::lemmas::List::get_or_read, yds_timetable::proofs::Lists::length_zipped, crate::proofs::AllStretches::enough, crate::proofs::AllStretches::next_slots, crate::proofs::AllStretches::later_slots, crate::proofs::AllStretches::few_rows, crate::proofs::AllStretches::pace_known, crate::proofs::AllStretches::can_round))]
 fn round_slots(
     alloc: Global,
     rows: &[JobRow],
@@ -148,7 +145,6 @@ fn round_slots(
 /// Where a level's speed is that of a point of the table's lower hull its slots are kept. Elsewhere each stretch between
 /// event points runs first at the faster of the hull's two points around the speed, and then at the slower, in the plan's
 /// order, so long as gives each job its work. Two points are enough: Ishihara and Yasuura (ISLPED 1998).
-#[tactic(auto, using(yds_energy::proofs::LevelTimes::levels_fit_the_horizon, crate::proofs::Faults::fast_first, crate::proofs::RoundedEnergies::all_slow))]
 pub fn round(
     alloc: Global,
     rows: &[JobRow],

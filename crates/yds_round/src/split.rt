@@ -28,7 +28,6 @@ pub(crate) struct Split {
 
 impl Split {
     /// The split of the level between these points.
-    #[tactic(auto, using(crate::proofs::Parts::some_divisor, crate::proofs::Splits::some_den, crate::proofs::Splits::above_in_terms))]
     pub(crate) fn of(level: &Level, low: Point, high: Point) -> Split
         requires above_low { low.speed * level.now.length < level.now.work }
         requires below_high { level.now.work < high.speed * level.now.length }

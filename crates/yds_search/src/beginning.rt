@@ -97,7 +97,6 @@ fn add_stretches(
 }
 
 /// All jobs with work wait in one group, with the stretches in which one of them may run.
-#[tactic(auto, using(yds_events::proofs::Neighbours::few_stretches, crate::proofs::Beginnings::begun_part, crate::proofs::Beginnings::instance_is, crate::proofs::Beginnings::known_all, crate::proofs::Beginnings::one_begun, crate::proofs::Beginnings::none_begun, crate::proofs::Laid::size_is))]
 pub(crate) fn first_group(
     alloc: Global,
     rows: &[JobRow],

@@ -152,7 +152,6 @@ impl Filling {
     }
 
     /// A job takes the earliest room in its window, and still wants so many units then.
-    #[tactic(auto, using(std::proofs::lemmas::List::take_at, crate::proofs::Fills::serve_begins))]
     fn serve(&mut self, jobs: &[OwnJob], job: usize, want: u64) -> Result<u64, Memory>
         requires few { length jobs.now ≤ MAX_JOBS }
         requires known { job < length jobs.now }
@@ -199,7 +198,6 @@ impl Filling {
     }
 
     /// Each of a group's jobs, in order, takes the earliest room in its window. Answers whether one of them is late.
-    #[tactic(auto, using(crate::proofs::Filled::no_own))]
     pub(crate) fn fill(&mut self, own: &Own, speed: Speed) -> Result<bool, Memory>
         requires few_jobs { length own.now.jobs.now ≤ MAX_JOBS }
         requires few { length own.now.stretches.now ≤ 2 * MAX_JOBS }

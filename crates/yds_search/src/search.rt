@@ -33,7 +33,6 @@ pub(crate) struct Search {
 }
 
 /// The speed of a group.
-#[tactic(auto, using(yds_model::proofs::Divisor::divisor_positive))]
 fn speed_of(group: &Group) -> Speed
     requires some_work { 1 ≤ group.now.work }
     requires some_length { 1 ≤ group.now.length }

@@ -35,7 +35,6 @@ pub(crate) struct Stack {
 
 /// Parts a group's jobs, which begin at this place. Those whose windows are closed upon, stretch for stretch, come to stand behind
 /// the others. Each gets its new places. Answers how many stay.
-#[tactic(auto, using(std::proofs::lemmas::List::drop_at, crate::proofs::Ranks::are_ranked))]
 fn part_jobs(
     jobs: &mut Vec<OwnJob>,
     start: usize,

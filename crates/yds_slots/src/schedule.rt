@@ -169,7 +169,6 @@ impl Schedule {
     /// The slots that begin at `from` or later and have ended by `to`: neighbours in the schedule.
     ///
     /// They are found by halves, as the slots run in order.
-    #[tactic(auto, using(crate::proofs::Order::between_is))]
     pub fn between(&self, from: u32, to: u32) -> &[Slot]
         requires { RunInOrder self.now.slots }
         ensures part { result.now ≡ filter (lies_between from to) self.now.slots }

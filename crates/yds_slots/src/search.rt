@@ -5,7 +5,6 @@ ghost use Rattle.yds_slots.specs.Between.{begins_before, ends_by};
 use crate::slot::Slot;
 
 /// The place of the first slot that doesn't begin before this time.
-#[tactic(auto, using(std::proofs::lemmas::Fn::always_returns_same))]
 pub(crate) fn first_from(slots: &[Slot], time: u32) -> usize
     requires { IsPartitionedBy (begins_before time) slots.now }
     ensures bound { result ≤ length slots.now }
@@ -15,7 +14,6 @@ pub(crate) fn first_from(slots: &[Slot], time: u32) -> usize
 }
 
 /// The place after the last slot that has ended by this time.
-#[tactic(auto, using(std::proofs::lemmas::Fn::always_returns_same))]
 pub(crate) fn end_of(slots: &[Slot], time: u32) -> usize
     requires { IsPartitionedBy (ends_by time) slots.now }
     ensures bound { result ≤ length slots.now }

@@ -36,7 +36,6 @@ impl Model for Slot {
 
 impl Slot {
     /// Whether it begins before this time, which is whole: exactly where its start's whole part does.
-    #[tactic(auto, using(crate::proofs::Order::whole_before))]
     pub(crate) fn begins_before(&self, time: u32) -> bool
         ensures { result ≡ begins_before time self.now }
     {

@@ -84,7 +84,6 @@ impl Table {
         self.points.as_slice()
     }
     /// Puts the point last.
-    #[tactic(auto, using(yds_model::proofs::HullOf::hull_is_computed, crate::proofs::Lowest::rising_pushed))]
     pub fn push(&mut self, point: Point) -> Result<(), TableFault>
         requires { length self.old < MAX_POINTS }
         ensures ok { OnOk result (self.new ≡ self.old ++ point ∷ []) }
@@ -140,7 +139,6 @@ impl Table {
     }
     /// The points of the hull around the speed: twice the point that has it, or else the neighbours in the hull
     /// below and above it. None exactly where the speed is above that of the last point.
-    #[tactic(auto, using(crate::proofs::Neighbours::not_above, crate::proofs::Neighbours::neighbours))]
     pub fn around(&self, speed: Speed) -> Option<(&Point, &Point)>
         ensures above { IsNone result ↔ IsAboveTop self.now speed }
         ensures around { IfSome result (λ points. AreAround (hull_of self.now) speed points.0.now points.1.now) }

@@ -118,7 +118,6 @@ impl<'a> Draft<'a> {
     }
 
     /// A name that no task has yet.
-    #[tactic(auto, using(crate::proofs::Told::name_taken, crate::proofs::Told::name_fresh, crate::proofs::Told::fails_at))]
     fn new_name(&self, field: Field<'a>) -> Result<&'a str, LineFault>
         requires kept { IsDraft self.now }
         ensures gives { Gives (λ name. name.now) result (task_name_of self.now.set (field_read field.entry)) }
@@ -135,7 +134,6 @@ impl<'a> Draft<'a> {
         }
     }
 
-    #[tactic(auto, using(yds_laws::proofs::TasksSaid::task_more))]
     fn add(&mut self, task: Task<'a>) -> Result<(), LineFault>
         requires kept { IsDraft self.old }
         requires horizon { IsTrue (is_some self.old.set.horizon) }

@@ -25,7 +25,6 @@ pub fn print_jobs<K: Sink>(tasks: &TaskSet<'_>, sink: &mut K) -> Result<(), Writ
 }
 
 /// Appends the lines of the tasks' jobs.
-#[tactic(auto, using(yds_port::proofs::Putting::item_put, yds_port::proofs::Putting::all_put))]
 fn print_tasks<K: Sink>(tasks: &[Task<'_>], horizon: u32, sink: &mut K) -> Result<(), WriteFault>
     requires { horizon ≤ MAX_TIME }
     ensures { Puts K.written K.flushed K.flushes K.faults result (flat_map (λ task. task_lines horizon (task_read task)) tasks.now) sink.old sink.new }

@@ -74,7 +74,6 @@ impl<'a> TaskSet<'a> {
     }
 
     /// How many jobs the tasks have together, at most `MAX_JOBS`. Takes no memory.
-    #[tactic(auto, using(yds_laws::proofs::TaskWork::jobs_counted))]
     pub fn jobs(&self) -> u32
         ensures count { result ≡ length (jobs_of_tasks self.now) }
         ensures few { result ≤ MAX_JOBS }
@@ -84,7 +83,6 @@ impl<'a> TaskSet<'a> {
 
     /// The job that comes `k` periods after the first of the task with this number, from 0, where it is due by
     /// the horizon. Takes no memory.
-    #[tactic(auto, using(crate::proofs::Counts::due_fits, crate::proofs::Counts::horizon_within))]
     pub fn row(&self, task: u32, k: u32) -> JobRow
         requires task { task < length self.now.tasks }
         requires due { (nth_job (task_at self.now.tasks task) k).deadline ≤ horizon_of self.now }

@@ -14,7 +14,6 @@ use yds_model::limits::{MAX_DENOMINATOR, MAX_WHOLE};
 /// `WHOLE+NUM/DEN` of three numbers. It is kept as it is written, but one without a numerator is the
 /// whole number. Another spelling is a `BadNumber`. `OutOfRange` are a whole part above `most`, a
 /// denominator of 0 or above `MAX_DENOMINATOR`, and a numerator that isn't below the denominator.
-#[tactic(auto, using(crate::proofs::Fractions::whole_rest, crate::proofs::Fractions::plus_fraction))]
 pub fn mixed(field: Field<'_>, most: u64) -> Result<Amount, NumberFault>
     requires { most ≤ MAX_WHOLE }
     ensures { result ≡ fraction_at most field.entry.text.now }
@@ -47,7 +46,6 @@ fn fraction_after(whole: Result<u64, NumberFault>, text: &[u8]) -> Result<Amount
 }
 
 /// The fraction of three numbers. A wrong spelling of any of them goes before a number outside its limits.
-#[tactic(auto, using(crate::proofs::Fractions::whole_bad, crate::proofs::Fractions::num_bad, crate::proofs::Fractions::den_bad))]
 fn fraction_of_parts(
     whole: Result<u64, NumberFault>,
     num: Result<u64, NumberFault>,

@@ -12,7 +12,6 @@ use std::str;
 use yds_model::limits::{MAX_DENOMINATOR, MAX_NAME};
 
 /// The name that the first field is, and what is after the field.
-#[tactic(auto, using(crate::proofs::PlainField::front_name))]
 pub(crate) fn first_name(bytes: &[u8]) -> Option<(&str, &[u8])>
     ensures says { IfSome result (λ read. BeginsPlainly (λ text. text ≡ read.0.now) bytes.now read.1.now) }
     ensures named { IfSome result (λ read. IsTrue (is_name read.0.now)) }

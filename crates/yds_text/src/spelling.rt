@@ -48,7 +48,6 @@ pub fn number_of(text: &[u8], least: u64, most: u64) -> Result<u64, NumberFault>
 
 /// The name that the field is: 1 to 64 bytes, each a visible ASCII character. `None` where it isn't
 /// one.
-#[tactic(auto, using(yds_model::proofs::Spelling::name_utf8, crate::proofs::Spelled::some_text))]
 pub fn name<'a>(field: Field<'a>) -> Option<&'a str>
     ensures none { IfNone result (IsFalse (is_name field.entry.text.now)) }
     ensures some { IfSome result (λ name. IsTrue (is_name field.entry.text.now)) }
@@ -104,7 +103,6 @@ fn leading_digits(text: &[u8]) -> (Option<u64>, usize)
 }
 
 /// The same of a text that is short enough for 64 bits.
-#[tactic(auto, using(std::proofs::lemmas::Grind::common_steps, std::proofs::lemmas::Grind::pow_more, std::proofs::lemmas::Int::Digits::digits_value_more, yds_model::proofs::Spelling::digit_range))]
 pub(crate) fn few_digits(text: &[u8]) -> (u64, usize)
     requires { length text.now ≤ SHORT }
     ensures value { result.0 ≡ digits_value 10 (take result.1 text.now) }
@@ -122,7 +120,6 @@ pub(crate) fn few_digits(text: &[u8]) -> (u64, usize)
 }
 
 /// The same of a text of any length.
-#[tactic(auto, using(std::proofs::lemmas::Grind::common_steps, std::proofs::lemmas::Int::Digits::digits_value_more))]
 fn many_digits(text: &[u8]) -> (Option<u64>, usize)
     ensures value { MatchOption result.0 (2 ^ 64 ≤ digits_value 10 (take result.1 text.now)) (λ value. value ≡ digits_value 10 (take result.1 text.now)) }
     ensures count { result.1 ≡ prefix_len is_digit text.now }

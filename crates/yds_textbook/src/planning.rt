@@ -19,7 +19,6 @@ use yds_plan::{Planned, lay_out, read_rows};
 /// The stages of the textbook's way, one for each critical interval: the jobs inside it are served at its intensity, earliest
 /// deadline first, and then its time is taken away from the other jobs' windows. `timeline` are the stretches between the jobs'
 /// event points.
-#[tactic(auto, using(crate::proofs::Chain::last_stage, crate::proofs::Densest::ends_in_time, crate::proofs::Densest::fewer))]
 pub fn stages(alloc: Global, rows: &[JobRow], timeline: &[Stretch]) -> Result<Vec<Stage>, Memory>
     requires few { length rows.now ≤ MAX_JOBS }
     requires timeline { timeline.now ≡ stretches rows.now }
@@ -47,7 +46,6 @@ pub fn stages(alloc: Global, rows: &[JobRow], timeline: &[Stretch]) -> Result<Ve
 
 /// The plan as Yao, Demers and Shenker tell it (FOCS 1995): critical interval after critical interval in the time that is left,
 /// each at its intensity. Intervals of the same intensity make one level.
-#[tactic(auto, using(crate::proofs::Theorem::stages_are_few))]
 pub fn textbook(alloc: Global, rows: &[JobRow]) -> Result<Planned, Memory>
     requires { length rows.now ≤ MAX_JOBS }
     ensures plan { IfOk result (λ planned. IsPlan rows.now planned.schedule.slots planned.certificate) }

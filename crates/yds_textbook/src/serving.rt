@@ -33,7 +33,6 @@ fn numbers_below(alloc: Global, count: u32) -> Result<Vec<u32>, AllocError>
 
 /// What each job gets in each of these stretches at this speed, earliest deadline first, and of jobs of the same deadline the
 /// first in the list. The speed is in lowest terms, and the stretches serve at it whatever jobs demand between two times.
-#[tactic(auto, using(crate::proofs::Keys::range_ties))]
 pub(crate) fn serve(
     alloc: Global,
     rows: &[JobRow],

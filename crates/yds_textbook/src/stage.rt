@@ -49,7 +49,6 @@ fn shares_by_number(
 }
 
 /// The stage of the critical interval of the waiting jobs in the time that is left. `members` are the numbers of those inside it.
-#[tactic(auto, using(yds_events::proofs::Neighbours::few_stretches, crate::proofs::Densest::is_densest, crate::proofs::Densest::as_many, crate::proofs::Densest::few_inside, crate::proofs::Left::run_left, crate::proofs::Making::stretches_are, crate::proofs::Making::numbers_known, crate::proofs::Making::numbers_left, crate::proofs::Making::few_left))]
 pub(crate) fn stage_of(
     alloc: Global,
     left: &Left<'_>,

@@ -12,7 +12,6 @@ use yds_model::{JobRow, Memory};
 use yds_search::Found;
 
 /// The place of the first stage with the job, or how many stages there are where none has it.
-#[tactic(auto, using(crate::proofs::Members::fails_more, crate::proofs::Members::none_passes))]
 fn stage_of_job(stages: &[Stage], job: u32) -> u32
     requires { length stages.now ≤ MAX_JOBS }
     ensures { result ≡ stage_of_job stages.now job }
@@ -26,7 +25,6 @@ fn stage_of_job(stages: &[Stage], job: u32) -> u32
 }
 
 /// The place of the first stage with the stretch, or how many stages there are where none has it.
-#[tactic(auto, using(crate::proofs::Members::fails_more, crate::proofs::Members::none_passes))]
 fn stage_of_stretch(stages: &[Stage], stretch: u32) -> u32
     requires { length stages.now ≤ MAX_JOBS }
     ensures { result ≡ stage_of_stretch stages.now stretch }
@@ -64,7 +62,6 @@ fn stages_of_stretches(alloc: Global, stages: &[Stage], stretches: u32) -> Resul
 }
 
 /// The stages together: the group of each job and of each stretch is the stage that has it.
-#[tactic(auto, using(std::proofs::lemmas::List::take_all, yds_events::proofs::Neighbours::few_stretches, crate::proofs::Making::found_parts))]
 pub(crate) fn found_of(
     alloc: Global,
     rows: &[JobRow],

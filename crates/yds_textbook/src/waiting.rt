@@ -29,7 +29,6 @@ pub(crate) struct Left<'a> {
 }
 
 /// The numbers of the jobs with work, in order of deadline.
-#[tactic(auto, using(std::proofs::lemmas::List::take_all, yds_intensity::proofs::Sweeps::number_known, crate::proofs::Starting::few_wait))]
 pub(crate) fn jobs_with_work(alloc: Global, rows: &[JobRow]) -> Result<Vec<u32>, Memory>
     requires { length rows.now ≤ MAX_JOBS }
     ensures all { IfOk result (λ waiting. (order : List ℕ) × IsDeadlineOrder rows.now order × (waiting.items ≡ filter (job_has_work rows.now) order)) }
@@ -74,7 +73,6 @@ pub(crate) fn contracted_rows(
 }
 
 /// The critical interval of the jobs with these numbers, in the time that is left. None exactly where there are none.
-#[tactic(auto, using(crate::proofs::Densest::have_work))]
 pub(crate) fn next_interval(
     alloc: Global,
     rows: &[JobRow],

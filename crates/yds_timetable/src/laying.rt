@@ -65,7 +65,6 @@ fn fill(schedule: &mut Schedule, pace: Pace, start: u32, shares: &[Share]) -> Re
 }
 
 /// The slots of shares that follow one another at the pace from `start` on, in time units.
-#[tactic(auto, using(crate::proofs::Filling::reached_none))]
 pub fn slots_at(
     alloc: Global,
     pace: Pace,

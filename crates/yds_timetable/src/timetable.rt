@@ -60,7 +60,6 @@ impl Timetable {
 
     /// The timetable of these stretches: each with the pace that stands at its place, idle where there is none, and with its shares in
     /// the order in which they stand in the list.
-    #[tactic(auto, using(crate::proofs::Made::rows_read))]
     pub fn of_shares(
         alloc: Global,
         timeline: &[Stretch],
@@ -86,7 +85,6 @@ impl Timetable {
 
     /// Puts the stretch last, with the shares that fill it at the pace, or idle where it has no pace and no shares. After want of
     /// memory the timetable is unchanged.
-    #[tactic(auto, using(crate::proofs::Keeping::rows_stay_beside, crate::proofs::Keeping::rows_more, crate::proofs::Keeping::on_err))]
     pub fn push(
         &mut self,
         stretch: Stretch,
@@ -154,7 +152,6 @@ impl Timetable {
     }
 
     /// The units that it serves. They are read off its pace, and not added up.
-    #[tactic(auto, using(crate::proofs::Lowest::units_read))]
     pub fn units(&self, number: usize) -> u64
         requires { number < length self.now }
         ensures { result ≡ total_units (row_at self.now number).shares }

@@ -49,8 +49,8 @@ returns-clause-room c =
     (λ less. c.requires.inside) is_job.has_window in
     let old_pieces = room.pieces in
     let new_pieces = c.add.new.self in
-    let added = subst (λ (one : Job). IsAdded old_pieces.jobs.items old_pieces.places.items one (begin + 1) new_pieces.jobs.items new_pieces.places.items) c.next_row-row.ensures c.in_ok-add.ensures.added in
-    let bounds = bounds_added old_pieces.jobs.items old_pieces.places.items row (begin + 1) new_pieces.jobs.items new_pieces.places.items added
+    let added = subst (λ (one : Job). IsAdded old_pieces.jobs old_pieces.places.items one (begin + 1) new_pieces.jobs new_pieces.places.items) c.next_row-row.ensures c.in_ok-add.ensures.added in
+    let bounds = bounds_added old_pieces.jobs old_pieces.places.items row (begin + 1) new_pieces.jobs new_pieces.places.items added
     top times jobs room.idle.items new c.requires.room.bounds end c.requires.end is_job.work_in_range taken.less (taken_gain room.idle.items new begin end row.work taken) in
     let more = subst (λ (one : Job). AreMore old_pieces.used.items new_pieces.used.items (begin + 1) one.work) c.next_row-row.ensures c.in_ok-add.ensures.used in
     let whole = lent room.idle.len room.idle.items new room.idle.ok.0 taken.as_long in
@@ -60,9 +60,9 @@ returns-clause-room c =
       has_idle = subst (HasIdle top times c.admit_next.new.self.jobs.items) (sym whole)
           (subst (λ (some : List Job). HasIdle top times some new) (sym c.in_ok-admit_next.ensures.jobs) idle);
       links = rw (whole, leads) c.take_between.ensures.links;
-      bounds = subst (AreBounds top times c.admit_next.new.self.jobs.items new_pieces.jobs.items new_pieces.places.items) (sym whole)
-          (subst (λ (some : List Job). AreBounds top times some new_pieces.jobs.items new_pieces.places.items new) (sym c.in_ok-admit_next.ensures.jobs) bounds);
-      used = used_added times old_pieces.jobs.items old_pieces.places.items old_pieces.used.items row (begin + 1) new_pieces.jobs.items new_pieces.places.items new_pieces.used.items
+      bounds = subst (AreBounds top times c.admit_next.new.self.jobs.items new_pieces.jobs new_pieces.places.items) (sym whole)
+          (subst (λ (some : List Job). AreBounds top times some new_pieces.jobs new_pieces.places.items new) (sym c.in_ok-admit_next.ensures.jobs) bounds);
+      used = used_added times old_pieces.jobs old_pieces.places.items old_pieces.used.items row (begin + 1) new_pieces.jobs new_pieces.places.items new_pieces.used.items
           c.requires.room.bounds.as_long added c.requires.room.used more;
       exact = λ fresh. absurd (false≢true fresh);
     }
@@ -70,5 +70,5 @@ returns-clause-room c =
 pub add-requires-clause-few : goal.add-requires-clause-few
 add-requires-clause-few c =
     let state = c.requires.state in
-    few_used c.args.board.now.times.items c.args.state.now.jobs.items c.args.room.now.pieces.jobs.items c.args.room.now.pieces.places.items c.args.room.now.pieces.used.items
+    few_used c.args.board.now.times.items c.args.state.now.jobs.items c.args.room.now.pieces.jobs c.args.room.now.pieces.places.items c.args.room.now.pieces.used.items
     (omega (arith, state.on.few, state.within, state.decided.few)) c.requires.room.bounds.few c.requires.room.used

@@ -9,7 +9,7 @@ loop-number-init c =
     (c.from.ensures ∙ ap (λ (job : Job). job.work) c.row.view_is) (ap (λ (job : Job). job.deadline) c.row.view_is) c.due_before-place.ensures.within
     c.released_before.ensures.sum c.released_before.ensures.few (omega (arith, c.from.ensures, c.row.invariant.work_in_range))
     (λ k less. omega (arith, c.due_before-place.ensures.before k no_job less))
-    (λ k behind within. c.due_before-place.ensures.after k no_job behind within) c.requires.alone
+    (λ k behind within. omega (arith, c.due_before-place.ensures.after k no_job behind within)) c.requires.alone
 
 pub returns-then-work-from : goal.returns-then-work-from
 returns-then-work-from c =

@@ -1,9 +1,21 @@
 use Rattle.yds_model.proofs.Common.{◌≡◌, ℕ, ◌+◌, ◌-◌, ◌<◌, ◌≤◌, ◌⊎◌, ◌∙◌, length, get_or, set, refl, subst, arith, inl, inr, ap, get_or-set_same, get_or-set_other, length-set, cases_lt, cases_eq, Job}
 use Rattle.yds_admit.specs.Chain.{AreLinks}
 use Rattle.yds_admit.proofs.Links.{less_left, linked}
-use Rattle.yds_admit.proofs.Cutting.{one_piece_more, cut_more}
+use Rattle.yds_admit.proofs.Cutting.{IsCutSoFar, none_yet, one_piece_more, cut_more, cut_last}
 use Rattle.yds_admit.proofs.pieces.cut.Goals as goal
 use Rattle.yds_admit.proofs.pieces.cut.Goals.{then-left-gt0, else-left-gt0, then-loop-left-test+else-place-gt0, else-loop-left-test, then-left-gt0-2-via-then-left-gt0-2, then-left-gt0-2-via-else-left-gt0-2+then-job-eq0}
+
+pub loop-left-init : goal.loop-left-init
+loop-left-init c =
+    let kept = c.last_open-place.ensures.kept c.args.gaps.now c.requires.links in
+    record {
+      cutting = λ top times long at cutting. cutting;
+      links = kept.0;
+      within = c.last_open-place.ensures.within;
+      empty = λ some. kept.1;
+      into = subst (λ (job : Job). IsCutSoFar job c.args.pieces.now.jobs c.args.pieces.now.jobs c.job.inside.work) c.job.view_is
+          (none_yet (record { release = c.job.inside.release; deadline = c.job.inside.deadline; work = c.job.inside.work }) c.args.pieces.now.jobs);
+    }
 
 pub loop-left-preserved : goal.loop-left-preserved
 loop-left-preserved c =
@@ -33,8 +45,8 @@ loop-left-preserved c =
     ] in
     let kept = c.last_open-place-in-loop-left.ensures.kept new (subst (λ (n : ℕ). AreLinks new (set c.loop-left.links n link)) next led) in
     record {
-      cutting = λ top times long at cutting. rw (c.in_ok-push.ensures.items, c.in_ok-push-2.ensures.items, c.new.ensures)
-          (one_piece_more top times c.loop-left.pieces.jobs.items c.loop-left.pieces.places.items before new (held.cutting top times long at cutting) piece c.args.end place
+      cutting = λ top times long at cutting. rw (c.in_ok-push.ensures, c.in_ok-push-2.ensures.items, c.new.ensures)
+          (one_piece_more top times c.loop-left.pieces.jobs c.loop-left.pieces.places.items before new (held.cutting top times long at cutting) piece c.args.end place
           (omega (arith, c.requires.within, as_many))
           (λ q early. omega (arith, at.before q early, deadline))
           (λ q late most. omega (arith, at.after q late (omega (arith, most, as_many, long)), deadline))
@@ -68,8 +80,8 @@ loop-left-preserved c =
           ]
         ]
       ];
-      into = rw (c.in_ok-push.ensures.items, c.new.ensures)
-          (cut_more c.args.job.now c.args.pieces.now.jobs.items c.loop-left.pieces.jobs.items c.loop-left.left units piece held.into
+      into = rw (c.in_ok-push.ensures, c.new.ensures)
+          (cut_more c.args.job.now c.args.pieces.now.jobs c.loop-left.pieces.jobs c.loop-left.left units piece held.into
           (omega (arith, c.min-units.ensures, c.from.ensures)) release deadline refl);
     }
 
@@ -90,9 +102,29 @@ returns-in_ok-push-4-clause-cutting c top times long at cutting =
       | then-loop-left-test+else-place-gt0 w ↦ absurd (omega (arith, same, w.if-place-gt0.false))
       | else-loop-left-test w ↦ omega (arith, w.loop-left-test.false)
     ] in
-    rw (c.in_ok-push-3.ensures.items, c.in_ok-push-4.ensures.items, c.new-then-left-gt0-2.ensures)
-    (one_piece_more top times c.loop-left.pieces.jobs.items c.loop-left.pieces.places.items gaps gaps (held.cutting top times long at cutting) piece c.args.end c.loop-left.place
+    rw (c.in_ok-push-3.ensures, c.in_ok-push-4.ensures.items, c.new-then-left-gt0-2.ensures)
+    (one_piece_more top times c.loop-left.pieces.jobs c.loop-left.pieces.places.items gaps gaps (held.cutting top times long at cutting) piece c.args.end c.loop-left.place
     (omega (arith, c.requires.within, as_many))
     (λ q early. omega (arith, at.before q early, deadline))
     (λ q late most. omega (arith, at.after q late (omega (arith, most, as_many, long)), deadline))
     held.within (held.empty idle) refl (λ q same. omega (arith, none q same)) (λ q other. refl))
+
+pub returns-in_ok-push-4-clause-into : goal.returns-in_ok-push-4-clause-into
+returns-in_ok-push-4-clause-into c =
+    let piece : Job = record { release = c.job.inside.release; deadline = c.job.inside.deadline; work = c.loop-left.left } in
+    rw (c.in_ok-push-3.ensures, c.new-then-left-gt0-2.ensures)
+    (cut_last c.args.job.now c.args.pieces.now.jobs c.loop-left.pieces.jobs c.loop-left.left piece c.loop-left.invariant.into
+    (ap (λ (job : Job). job.release) c.job.view_is) (ap (λ (job : Job). job.deadline) c.job.view_is) refl)
+
+pub last_open-place-requires-in-loop-left-clause-back : goal.last_open-place-requires-in-loop-left-clause-back
+last_open-place-requires-in-loop-left-clause-back c p within =
+    let held = c.loop-left.invariant in
+    let links = c.loop-left.links in
+    let place : ℕ = c.loop-left.place in
+    let link : ℕ = c.if-left-gt0.links in
+    let short : link ≤ place = elim c.if-left-gt0.branch [ then-left-gt0 w ↦ omega (arith, w.links-is) | else-left-gt0 w ↦ omega (arith, w.links-is) ] in
+    let there : place < length links = omega (arith, held.links.as_long, held.within, c.requires.within, c.loop-left.auto.gaps) in
+    elim (cases_eq p place) [
+      | inl same ↦ omega (arith, same, short, ap (λ n. get_or (set links place link) n 0) same, get_or-set_same links place link 0 there)
+      | inr other ↦ omega (arith, get_or-set_other links place p link 0 other, held.links.back p (omega (arith, within, length-set links place link)))
+    ]

@@ -1,4 +1,4 @@
-use Rattle.yds_model.proofs.Common.{◌≡◌, ℕ, ◌+◌, ◌-◌, ◌*◌, ◌<◌, ◌≤◌, ◌⊎◌, List, length, get_or, ◌∙◌, sym, arith, ap, inl, inr, Any, cases_lt, get_or_read, Job, no_job, job_at}
+use Rattle.yds_model.proofs.Common.{◌≡◌, ℕ, ◌+◌, ◌-◌, ◌*◌, ◌<◌, ◌≤◌, ◌⊎◌, List, length, get_or, sym, arith, ap, inl, inr, Any, cases_lt, get_or_read, Job, job_at}
 use Rattle.yds_admit.specs.Idle.{IsIdleFrom, idle_before}
 use Rattle.yds_admit.specs.Pieces.{went, IsCount}
 use Rattle.yds_admit.proofs.Bounds.{any_at, many_more, fits_all, fits_idle, fits_earlier, least_piece, too_much, none_sooner, all_too_much}
@@ -7,17 +7,16 @@ use Rattle.yds_admit.proofs.pieces.least_from_pieces.Goals as goal
 pub loop-count-preserved-then-wanted-from : goal.loop-count-preserved-then-wanted-from
 loop-count-preserved-then-wanted-from c =
     let top : ℕ = c.args.board.now.top in
-    let jobs = c.args.pieces.now.jobs.items in
+    let jobs = c.args.pieces.now.jobs in
     let places = c.args.pieces.now.places.items in
     let end : ℕ = c.args.end in
     let row : Job = c.args.row.now in
     let count : ℕ = c.loop-count.count in
     let n : ℕ = count - c.min.result in
     let held = c.loop-count.invariant in
-    let within : count ≤ length jobs = omega (arith, held.within, (rw c.deref.ensures.value at c.released_from-count.ensures.within)) in
+    let within : count ≤ length jobs = omega (arith, held.within, c.released_from-count.ensures.within) in
     let below : n < length jobs = omega (arith, within, c.min.ensures, c.loop-count-test.true) in
-    let release : c.latest.inside.release ≡ (job_at jobs n).release =
-    ap (λ (job : Job). job.release) (c.latest.view_is ∙ get_or_read jobs n c.index-latest.result.now below c.index-latest.ensures no_job) in
+    let release = c.release-latest.ensures in
     record {
       from = omega (arith, c.min.ensures, c.loop-count-test.true);
       within = omega (arith, held.within);
@@ -60,7 +59,7 @@ returns-in_default c all idle of near =
     let top : ℕ = c.args.board.now.top in
     let times = c.args.board.now.times.items in
     let rising = c.requires.board.are_times.rising in
-    let jobs = c.args.pieces.now.jobs.items in
+    let jobs = c.args.pieces.now.jobs in
     let places = c.args.pieces.now.places.items in
     let row : Job = c.args.row.now in
     let end : ℕ = c.args.end in
@@ -89,28 +88,27 @@ returns-then-wanted-from-2 c all idle of near =
     let top : ℕ = c.args.board.now.top in
     let times = c.args.board.now.times.items in
     let rising = c.requires.board.are_times.rising in
-    let jobs = c.args.pieces.now.jobs.items in
+    let jobs = c.args.pieces.now.jobs in
     let places = c.args.pieces.now.places.items in
     let row : Job = c.args.row.now in
     let end : ℕ = c.args.end in
     let behind : ℕ = c.in-Some.behind in
     let m : ℕ = c.released_from-count.result in
-    let few = rw c.deref.ensures.value at c.released_from-count.ensures.within in
+    let few = c.released_from-count.ensures.within in
     let close : behind ≤ end = rw c.in-Some.is at c.requires.near in
     let there : behind < length times = omega (arith, close, c.requires.end.within) in
     let early = after_near jobs times behind c.index.result.now m there (get_or_read times behind c.index.result.now there c.index.ensures 0) few
-    (rw c.deref.ensures.value at c.released_from-count.ensures.early) (rw c.deref.ensures.value at c.released_from-count.ensures.late) in
+    c.released_from-count.ensures.early c.released_from-count.ensures.late in
     let enough : IsIdleFrom idle end row.work behind = rw c.in-Some.is at near in
     let count : ℕ = c.loop-count.count in
     let n : ℕ = count - 1 in
     let held = c.loop-count.invariant in
     let below : n < length jobs = omega (arith, held.within, c.loop-count-test.true, few) in
-    let release : c.piece.inside.release ≡ (job_at jobs n).release =
-    ap (λ (job : Job). job.release) (c.piece.view_is ∙ get_or_read jobs n c.index-piece.result.now below c.index-piece.ensures no_job) in
-    let soon = (rw c.deref-2.ensures.value at c.released_from.ensures.late) n (omega (arith, held.from, held.within, c.min-until.ensures, c.loop-count-test.true)) below in
+    let release = c.release-release.ensures in
+    let soon = c.released_from.ensures.late n (omega (arith, held.from, held.within, c.min-until.ensures, c.loop-count-test.true)) below in
     let own = ap (λ (job : Job). job.release) c.row.view_is in
     let window : row.release < row.deadline = omega (arith, own, ap (λ (job : Job). job.deadline) c.row.view_is, c.row.invariant.has_window) in
-    let from : ℕ = c.piece.inside.release in
+    let from : ℕ = c.release-release.result in
     let within : count ≤ length jobs = omega (arith, held.within, few) in
     let released : (i : ℕ) → i < count → from ≤ (job_at jobs i).release = λ i less. omega (arith, release, of.bounds.falling i n (omega (arith, less)) below) in
     let until : from ≤ row.release = omega (arith, release, soon, own) in
@@ -130,17 +128,17 @@ returns-then-wanted-from-3 c all idle of near =
     let top : ℕ = c.args.board.now.top in
     let times = c.args.board.now.times.items in
     let rising = c.requires.board.are_times.rising in
-    let jobs = c.args.pieces.now.jobs.items in
+    let jobs = c.args.pieces.now.jobs in
     let places = c.args.pieces.now.places.items in
     let row : Job = c.args.row.now in
     let end : ℕ = c.args.end in
     let behind : ℕ = c.in-Some.behind in
     let m : ℕ = c.released_from-count.result in
-    let few = rw c.deref.ensures.value at c.released_from-count.ensures.within in
+    let few = c.released_from-count.ensures.within in
     let close : behind ≤ end = rw c.in-Some.is at c.requires.near in
     let there : behind < length times = omega (arith, close, c.requires.end.within) in
     let early = after_near jobs times behind c.index.result.now m there (get_or_read times behind c.index.result.now there c.index.ensures 0) few
-    (rw c.deref.ensures.value at c.released_from-count.ensures.early) (rw c.deref.ensures.value at c.released_from-count.ensures.late) in
+    c.released_from-count.ensures.early c.released_from-count.ensures.late in
     let enough : IsIdleFrom idle end row.work behind = rw c.in-Some.is at near in
     let count : ℕ = c.loop-count.count in
     let held = c.loop-count.invariant in
@@ -149,7 +147,7 @@ returns-then-wanted-from-3 c all idle of near =
     let within : count ≤ length jobs = omega (arith, held.within, few) in
     let from : ℕ = c.row.inside.release in
     let released : (i : ℕ) → i < count → from ≤ (job_at jobs i).release = λ i less.
-    (rw c.deref-2.ensures.value at c.released_from.ensures.early) i (omega (arith, less, c.min-until.ensures, c.loop-count-test.false)) in
+    c.released_from.ensures.early i (omega (arith, less, c.min-until.ensures, c.loop-count-test.false)) in
     let until : from ≤ row.release = omega (arith, own) in
     let much : top * row.deadline < row.work + went count jobs places end + top * from = omega (
       arith,
@@ -167,17 +165,17 @@ returns c all idle of near =
     let top : ℕ = c.args.board.now.top in
     let times = c.args.board.now.times.items in
     let rising = c.requires.board.are_times.rising in
-    let jobs = c.args.pieces.now.jobs.items in
+    let jobs = c.args.pieces.now.jobs in
     let places = c.args.pieces.now.places.items in
     let row : Job = c.args.row.now in
     let end : ℕ = c.args.end in
     let behind : ℕ = c.in-Some.behind in
     let m : ℕ = c.released_from-count.result in
-    let few = rw c.deref.ensures.value at c.released_from-count.ensures.within in
+    let few = c.released_from-count.ensures.within in
     let close : behind ≤ end = rw c.in-Some.is at c.requires.near in
     let there : behind < length times = omega (arith, close, c.requires.end.within) in
     let early = after_near jobs times behind c.index.result.now m there (get_or_read times behind c.index.result.now there c.index.ensures 0) few
-    (rw c.deref.ensures.value at c.released_from-count.ensures.early) (rw c.deref.ensures.value at c.released_from-count.ensures.late) in
+    c.released_from-count.ensures.early c.released_from-count.ensures.late in
     let enough : IsIdleFrom idle end row.work behind = rw c.in-Some.is at near in
     let count : ℕ = c.loop-count.count in
     let held = c.loop-count.invariant in
@@ -185,10 +183,10 @@ returns c all idle of near =
     let window : row.release < row.deadline = omega (arith, own, ap (λ (job : Job). job.deadline) c.row.view_is, c.row.invariant.has_window) in
     let within : count ≤ length jobs = omega (arith, held.within, few) in
     let released : (i : ℕ) → i < count → row.release ≤ (job_at jobs i).release = λ i less.
-    omega (arith, own, (rw c.deref-2.ensures.value at c.released_from.ensures.early) i (omega (arith, less, c.min-until.ensures, c.loop-count-test.false))) in
+    omega (arith, own, c.released_from.ensures.early i (omega (arith, less, c.min-until.ensures, c.loop-count-test.false))) in
     let late : get_or times behind 0 < row.release → (i : ℕ) → count ≤ i → i < length jobs → (job_at jobs i).release < row.release = λ outside i from below.
     elim (cases_lt i c.released_from.result) [
-      | inr later ↦ omega (arith, own, (rw c.deref-2.ensures.value at c.released_from.ensures.late) i later below)
+      | inr later ↦ omega (arith, own, c.released_from.ensures.late i later below)
       | inl sooner ↦ omega (arith, outside, early.late i (omega (arith, from, sooner, held.from, c.min-until.ensures)) below)
     ] in
     elim (cases_lt (get_or times behind 0) row.release) [

@@ -7,8 +7,8 @@ abbrev pub invariant-loop-count : goal.invariant-loop-count
 invariant-loop-count l = record {
   from : l.until ≤ l.count;
   within : l.count ≤ l.initial.count;
-  wanted : l.wanted ≡ l.row.work + went l.count l.pieces.jobs.items l.pieces.places.items l.end;
-  leaves : AllLeaveRoom l.board.top l.pieces.jobs.items l.pieces.places.items l.row l.end l.count l.initial.count;
+  wanted : l.wanted ≡ l.row.work + went l.count l.pieces.jobs l.pieces.places.items l.end;
+  leaves : AllLeaveRoom l.board.top l.pieces.jobs l.pieces.places.items l.row l.end l.count l.initial.count;
 }
 
 abbrev pub decreases-loop-count : goal.decreases-loop-count

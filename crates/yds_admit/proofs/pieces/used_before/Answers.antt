@@ -1,4 +1,4 @@
-use Rattle.yds_model.proofs.Common.{ℕ, ◌+◌, ◌-◌, ◌<◌, length, arith}
+use Rattle.yds_model.proofs.Common.{ℕ, ◌+◌, ◌<◌, length, arith}
 use Rattle.yds_admit.proofs.Idleness.{next_idle}
 use Rattle.yds_admit.proofs.pieces.used_before.Goals as goal
 

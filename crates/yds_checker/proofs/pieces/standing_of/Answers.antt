@@ -1,8 +1,12 @@
 use Rattle.yds_model.proofs.Common.{arith}
 use Rattle.yds_checker.specs.Placed.{ArePlaced}
 use Rattle.yds_checker.proofs.Placing.{placed_of_front}
-use Rattle.yds_checker.proofs.Standing.{apart_stand, first_wrong, all_in_run}
+use Rattle.yds_checker.proofs.Standing.{front_forward, apart_stand, first_wrong, all_in_run}
 use Rattle.yds_checker.proofs.pieces.standing_of.Goals as goal
+
+pub placed_pieces-requires-clause-forward : goal.placed_pieces-requires-clause-forward
+placed_pieces-requires-clause-forward c =
+    front_forward c.args.levels.now c.levels_ordered-ordered.result c.levels_ordered-ordered.ensures.bound c.levels_ordered-ordered.ensures.before
 
 pub returns-then-apart-levels : goal.returns-then-apart-levels
 returns-then-apart-levels c =

@@ -1,9 +1,30 @@
-use Rattle.yds_model.proofs.Common.{◌≡◌, ◌<◌, ℕ, length, true, refl, get_or_read, no_written_slot, written_slot_at, no_level, level_at}
+use Rattle.yds_model.proofs.Common.{◌≡◌, ◌<◌, ℕ, length, true, refl, arith, get_or_read, no_written_slot, written_slot_at, no_job, job_at, no_level, level_at}
 use Rattle.yds_slots.specs.contracts.slot.Slot.{the_view as view_of}
 use Rattle.yds_checker.specs.Speed.{HasSpeedOf}
 use Rattle.yds_checker.specs.Home.{home_at}
 use Rattle.yds_checker.proofs.OneHome.{fact_in, fact_elsewhere}
+use Rattle.yds_checker.proofs.Small.{slot_work_small}
 use Rattle.yds_checker.proofs.speeds.has_speed.Goals as goal
+
+pub prove-unreachable-requires : goal.prove-unreachable-requires
+prove-unreachable-requires c =
+    let rows = c.args.rows.now in
+    let slots = c.args.slots.now in
+    let here : c.index-slots-s.result ≡ written_slot_at slots c.args.s =
+    get_or_read slots c.args.s c.index-slots-s.result c.requires.within c.index-slots-s.is no_written_slot in
+    let known : c.slot.inside.job < length rows =
+    rw (← c.slot.view_is) at (rw (← here) at (c.requires.agree.known c.args.s no_written_slot c.requires.within)) in
+    let row : c.index-rows-slot.result ≡ job_at rows c.slot.inside.job =
+    get_or_read rows c.slot.inside.job c.index-rows-slot.result known c.index-rows-slot.is no_job in
+    let small = rw (← here, ← c.slot.view_is, ← row, ← c.row.view_is) at
+    (slot_work_small rows slots c.args.s c.requires.agree c.requires.slots c.requires.within) in
+    omega (arith, small)
+
+pub has_speed_of-requires-clause-forward : goal.has_speed_of-requires-clause-forward
+has_speed_of-requires-clause-forward c =
+    let here : c.index-slots-s.result ≡ written_slot_at c.args.slots.now c.args.s =
+    get_or_read c.args.slots.now c.args.s c.index-slots-s.result c.requires.within c.index-slots-s.is no_written_slot in
+    rw here (c.requires.slots.stand c.args.s c.requires.within).forward
 
 pub returns-in-In : goal.returns-in-In
 returns-in-In c =

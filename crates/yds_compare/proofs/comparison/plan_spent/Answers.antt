@@ -1,10 +1,12 @@
-use Rattle.yds_model.proofs.Common.{◌≡◌, ◌≤◌, ◌∙◌, List, length, ap, subst, arith, sum_by, slots_at, Point, AreRising, hull_of, stretches, scale_exists}
+use Rattle.yds_model.proofs.Common.{◌≡◌, ◌≤◌, ◌∙◌, List, length, ap, sym, subst, arith, sum_by, All, slots_at, Point, AreRising, hull_of, stretches, top_of, scale_exists}
 use Rattle.yds_events.specs.Stretch.{length_of}
+use Rattle.yds_round.proofs.Faults.{fast_first}
+use Rattle.yds_round.proofs.RoundedEnergies.{all_slow}
 use Rattle.yds_compare.specs.declared.load.Load.{Load}
-use Rattle.yds_compare.specs.Load.{level_loads}
+use Rattle.yds_compare.specs.Load.{level_loads, IsHeldAt}
 use Rattle.yds_compare.specs.Spent.{IsSpentOn}
 use Rattle.yds_compare.proofs.Agreeing.{spent_at}
-use Rattle.yds_compare.proofs.Planned.{plan_as_long, levels_fit, level_times}
+use Rattle.yds_compare.proofs.Planned.{plan_as_long, levels_fit, levels_held, level_times}
 use Rattle.yds_compare.proofs.comparison.plan_spent.Goals as goal
 
 pub loads_of_levels-requires-clause-fits : goal.loads_of_levels-requires-clause-fits
@@ -29,6 +31,15 @@ spend-requires-clause-time_in_range c =
       level_times c.args.levels.now c.args.time (omega (arith, fits, c.requires.time)),
       c.requires.time_in_range,
     )
+
+pub spend-requires-clause-fast_enough : goal.spend-requires-clause-fast_enough
+spend-requires-clause-fast_enough c =
+    let is : c.deref.result.now ≡ level_loads c.args.levels.now c.args.time =
+    c.deref.ensures.value ∙ c.in_ok-loads.ensures in
+    let slow = all_slow c.args.rows.now c.requires.plan.0 c.args.levels.now c.args.table.now c.requires.plan.1
+    (λ some fast. c.requires.fast_enough (fast_first c.args.levels.now c.args.table.now some fast)) in
+    subst (λ (loads : List Load). All (IsHeldAt (top_of c.args.table.now)) loads) (sym is)
+    (levels_held c.args.table.now c.args.levels.now c.args.time slow)
 
 pub returns : goal.returns
 returns c =

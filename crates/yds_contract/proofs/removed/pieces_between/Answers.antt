@@ -1,8 +1,19 @@
-use Rattle.yds_model.proofs.Common.{sym, arith}
+use Rattle.yds_model.proofs.Common.{List, ◌++◌, ap, sym, arith, refl, Piece}
 use Rattle.yds_model.specs.declared.limits.TheConstants.{MAX_TIME}
 use Rattle.yds_contract.specs.Removed.{removed_at, stretch_of, removed_stretches}
-use Rattle.yds_contract.proofs.Kept.{count, stretch_at, end_fits, next_fits, walked_more, walked_all}
+use Rattle.yds_contract.specs.Clipped.{pieces_after}
+use Rattle.yds_contract.proofs.Kept.{count, stretch_at, removed_forward, end_fits, next_fits, walked_more, walked_all}
 use Rattle.yds_contract.proofs.removed.pieces_between.Goals as goal
+
+pub loop-stretch-init : goal.loop-stretch-init
+loop-stretch-init c = record {
+  are = ap (λ (ps : List Piece). ps ++ pieces_after c.args.start c.args.end 0 0 (removed_stretches c.args.removed.now)) c.new-pieces.ensures.items;
+  sums = refl;
+  fits = omega (arith, end_fits c.args.removed.now c.args.end c.requires.removed (omega (arith, c.requires.forward)) c.requires.within);
+}
+
+pub overflow_sub-before : goal.overflow_sub-before
+overflow_sub-before c = omega (arith, removed_forward c.args.removed.now c.loop-stretch.stretch-index c.requires.removed c.loop-stretch-test.true)
 
 pub overflow_add-before : goal.overflow_add-before
 overflow_add-before c =

@@ -1,7 +1,12 @@
-use Rattle.yds_model.proofs.Common.{ℕ, ◌-◌, ◌*◌, ◌/◌, List, ◌∙◌, map, ap, arith, filter, Piece}
+use Rattle.yds_model.proofs.Common.{ℕ, ◌-◌, ◌*◌, ◌/◌, ◌≤◌, List, ◌∙◌, map, ap, sym, subst, arith, filter, Piece}
 use Rattle.yds_contract.specs.Cut.{comes_between, cut_between}
-use Rattle.yds_contract.proofs.Cutting.{same_cuts, not_inside}
+use Rattle.yds_contract.proofs.Cutting.{same_cuts, not_inside, units_forward}
 use Rattle.yds_contract.proofs.spreading.events_inside.Goals as goal
+
+pub events_between-requires-clause-forward : goal.events_between-requires-clause-forward
+events_between-requires-clause-forward c =
+    subst (λ (span : Piece). span.from / c.args.parts ≤ (span.to - 1) / c.args.parts) (sym c.span.view_is)
+    (units_forward c.args.parts c.args.span.from c.args.span.to c.requires.some c.requires.forward)
 
 pub returns : goal.returns
 returns c =

@@ -1,8 +1,8 @@
-use Rattle.yds_model.proofs.Common.{◌≡◌, ℕ, List, ap, sym, subst, ◌∙◌, get_or_read, Job, IsJob, job_at, no_job}
+use Rattle.yds_model.proofs.Common.{◌≡◌, ℕ, List, ap, sym, subst, arith, ◌∙◌, get_or_read, Job, IsJob, job_at, no_job}
 use Rattle.yds_intensity.specs.declared.sweeping.Sum.{Sum}
 use Rattle.yds_intensity.specs.Sums.{AreSums}
 use Rattle.yds_critical.specs.Choice.{AreLater, IsFoundAmongAll}
-use Rattle.yds_critical.proofs.Searching.{sums_later, best_more}
+use Rattle.yds_critical.proofs.Searching.{IsBestAmong, sums_later, best_more, critical_found}
 use Rattle.yds_critical.proofs.search.critical.Goals as goal
 
 pub best_from-best-requires-clause-later : goal.best_from-best-requires-clause-later
@@ -20,3 +20,8 @@ loop-row-preserved c =
     (subst (λ (start : ℕ). IsFoundAmongAll c.loop-row.best start c.in_ok-sums.sums.items c.best_from-best.result) release
     (subst (λ (sums : List Sum). IsFoundAmongAll c.loop-row.best c.row.inside.release sums c.best_from-best.result) c.deref-in-loop-row.ensures.value c.best_from-best.ensures))
     c.loop-row.invariant
+
+pub returns : goal.returns
+returns c =
+    critical_found c.args.rows.now c.loop-row.best c.requires.work
+    (subst (λ (n : ℕ). IsBestAmong n c.args.rows.now c.loop-row.best) (omega (arith, c.loop-row.auto.row-index-end, c.loop-row-test.false)) c.loop-row.invariant)

@@ -1,7 +1,7 @@
-use Rattle.yds_model.proofs.Common.{subst, err_from_is_err_and, PointLine}
+use Rattle.yds_model.proofs.Common.{sym, subst, ◌∙◌, err_from_is_err_and, PointLine}
 use Rattle.yds_text.specs.Read.{field_read}
 use Rattle.yds_document.specs.Fields.{Fails}
-use Rattle.yds_document.proofs.Told.{passed, fields_failed, point_same, point_failed}
+use Rattle.yds_document.proofs.Told.{passed, fields_failed, holds_more, point_same, point_failed}
 use Rattle.yds_document.proofs.point.read.Goals as goal
 
 pub returns-in_err-point-clause-reads : goal.returns-in_err-point-clause-reads
@@ -16,3 +16,10 @@ returns-in_err-add-clause-reads c = λ earlier holds.
     passed _ _ _ _ _ (err_from_is_err_and _ c.from_residual-in_err-add.ensures.1)
     (fields_failed PointLine earlier _ _ _ f.ensures
     (subst (Fails c.in_err-add.field-0.0) (point_same c.args.draft.now earlier (field_read c.args.kind) (field_read f.speed) (field_read f.power) _ holds c.in_ok-point.ensures) c.in_err-add.ensures.gives))
+
+pub returns-clause-reads : goal.returns-clause-reads
+returns-clause-reads c = λ earlier holds.
+    let f = c.in_ok-speed in
+    holds_more PointLine earlier _ _ _ c.args.draft.now _ f.ensures
+    (sym (point_same c.args.draft.now earlier (field_read c.args.kind) (field_read f.speed) (field_read f.power) _ holds c.in_ok-point.ensures) ∙ c.in_ok-add.ensures.gives)
+    holds c.in_ok-add.ensures.takes

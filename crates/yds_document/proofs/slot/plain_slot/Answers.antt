@@ -1,6 +1,14 @@
-use Rattle.yds_model.proofs.Common.{sym, ◌∙◌, alike_test}
+use Rattle.yds_model.proofs.Common.{sym, ◌∙◌, subst, IsFraction, alike_test}
 use Rattle.yds_document.proofs.PlainLine.{says_slot}
 use Rattle.yds_document.proofs.slot.plain_slot.Goals as goal
+
+pub invariant_of-result : goal.invariant_of-result
+invariant_of-result c = record {
+  from = subst (λ most. IsFraction most c.in_ok-from.from) c.from-latest.ensures c.in_ok-from.ensures.within;
+  to = subst (λ most. IsFraction most c.in_ok-to.to) c.from-latest.ensures c.in_ok-to.ensures.within;
+  work = c.in_ok-work.ensures.within;
+  ends_alike = c.alike.ensures.0 c.if-not-alike.false;
+}
 
 pub returns-clause-says : goal.returns-clause-says
 returns-clause-says c =

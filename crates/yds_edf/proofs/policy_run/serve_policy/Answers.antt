@@ -1,7 +1,8 @@
 use Rattle.yds_model.proofs.Common.{◌≡◌, ℕ, ◌+◌, ◌<◌, ◌≤◌, List, length, ◌∙◌, sym, subst, ap, arith, refl, Bool, Job, Piece, stretches}
 use Rattle.yds_events.proofs.Neighbours.{few_stretches, stretch_read}
+use Rattle.yds_timetable.specs.Timetable.{shares_of}
 use Rattle.yds_edf.specs.Queue.{JobQueue, new_queue, IsNoEarlier, pending_in}
-use Rattle.yds_edf.proofs.Running.{seen_none, seen_told, seen_next, begun, none_tabled, tabled_many, stepped, all_run, can_lay, one_or_none}
+use Rattle.yds_edf.proofs.Running.{seen_none, seen_told, seen_next, begun, none_tabled, tabled_many, stepped, few_rounded, all_rows, all_run, can_lay, one_or_none, one_at_most}
 use Rattle.yds_edf.proofs.policy_run.serve_policy.Goals as goal
 
 pub loop-number-init : goal.loop-number-init
@@ -15,6 +16,15 @@ loop-number-init g c = record {
   timeline = c.deref-stretch-items.ensures.value ∙ c.in_ok-stretches.ensures;
 }
 
+pub overflow_cast-number : goal.overflow_cast-number
+overflow_cast-number g c = omega (
+  arith,
+  c.loop-number-test.true,
+  ap (λ (pieces : List Piece). length pieces) c.loop-number.invariant.timeline,
+  few_stretches c.args.rows.now,
+  c.requires.few,
+)
+
 pub set-setting-requires-clause-told : goal.set-setting-requires-clause-told
 set-setting-requires-clause-told g c =
     let here : c.loop-number.number < length (stretches c.args.rows.now) =
@@ -23,6 +33,21 @@ set-setting-requires-clause-told g c =
     rw (c.deref.ensures.value)
     (seen_told (λ (before : JobQueue). g.P.Policy.keeps c.loop-number.policy before c.loop-number.number) c.loop-number.queue c.arrive.new.self _ _ c.loop-number.invariant.seen
     (subst (λ (piece : Piece). IsNoEarlier c.loop-number.queue.time piece.from) (sym is) (c.loop-number.invariant.running.time here)) c.arrive.ensures)
+
+pub overflow_add-rounded : goal.overflow_add-rounded
+overflow_add-rounded g c =
+    let here : c.loop-number.number < length (stretches c.args.rows.now) =
+    omega (arith, c.loop-number-test.true, ap (λ (pieces : List Piece). length pieces) c.loop-number.invariant.timeline) in
+    omega (
+      arith,
+      here,
+      few_stretches c.args.rows.now,
+      c.requires.few,
+      c.loop-number.invariant.counted,
+      few_rounded c.args.rows.now c.args.grid (g.P.Policy.rounds c.args.policy.now c.args.rows.now c.args.grid) (shares_of c.loop-number.timetable) c.loop-number.number,
+      c.from-rounded.ensures,
+      one_at_most c.set-setting.result.rounds,
+    )
 
 pub serve_stretch-requires-clause-few : goal.serve_stretch-requires-clause-few
 serve_stretch-requires-clause-few g c =
@@ -63,6 +88,25 @@ returns-clause-run g c =
     let all : c.loop-number.number ≡ length (stretches c.args.rows.now) =
     omega (arith, c.loop-number-test.false, ap (λ (pieces : List Piece). length pieces) c.loop-number.invariant.timeline) in
     all_run (rw all at c.loop-number.invariant.running) (rw all at c.loop-number.invariant.tabled) (rw all at c.loop-number.invariant.counted)
+
+pub returns-clause-stretches : goal.returns-clause-stretches
+returns-clause-stretches g c =
+    let all : c.loop-number.number ≡ length (stretches c.args.rows.now) =
+    omega (arith, c.loop-number-test.false, ap (λ (pieces : List Piece). length pieces) c.loop-number.invariant.timeline) in
+    all_rows (rw all at c.loop-number.invariant.tabled)
+
+pub returns-clause-count_in_range : goal.returns-clause-count_in_range
+returns-clause-count_in_range g c =
+    let all : c.loop-number.number ≡ length (stretches c.args.rows.now) =
+    omega (arith, c.loop-number-test.false, ap (λ (pieces : List Piece). length pieces) c.loop-number.invariant.timeline) in
+    omega (
+      arith,
+      all,
+      few_stretches c.args.rows.now,
+      c.requires.few,
+      c.loop-number.invariant.counted,
+      few_rounded c.args.rows.now c.args.grid (g.P.Policy.rounds c.args.policy.now c.args.rows.now c.args.grid) (shares_of c.loop-number.timetable) c.loop-number.number,
+    )
 
 pub returns-clause-room : goal.returns-clause-room
 returns-clause-room g c =

@@ -1,6 +1,6 @@
-use Rattle.yds_model.proofs.Common.{◌≡◌, ◌-◌, ◌∙◌, List, ℕ, length, get_or, ap, arith, length-set}
+use Rattle.yds_model.proofs.Common.{◌≡◌, ◌-◌, ◌==◌, ◌∙◌, List, ℕ, length, get_or, map, ap, arith, dedup, length-set, take_all}
 use Rattle.yds_events.specs.Keys.{time_of_key, with_end}
-use Rattle.yds_events.proofs.Keys.{as_many, all_keys}
+use Rattle.yds_events.proofs.Keys.{as_many, all_keys, rising_keys}
 use Rattle.yds_events.proofs.Cut.{added, times_more, placed_more, all_placed}
 use Rattle.yds_events.proofs.timeline.cut.Goals as goal
 
@@ -37,6 +37,10 @@ loop-key-preserved c =
           (all_keys c.requires.0 c.args.keys.now c.requires.1) (as_many c.requires.0 c.args.keys.now c.requires.1) c.loop-key.invariant.count c.loop-key-test.true
           c.loop-key.invariant.placed);
     }
+
+pub returns-clause-times : goal.returns-clause-times
+returns-clause-times c times are = c.loop-key.invariant.times
+    ∙ ap (λ (xs : List ℕ). dedup (λ x y. x == y) (map time_of_key xs)) (take_all c.loop-key.key-index c.args.keys.now c.loop-key-test.false) ∙ rising_keys times c.args.keys.now are
 
 pub returns-clause-places : goal.returns-clause-places
 returns-clause-places c times are = all_placed times c.args.keys.now c.loop-key.times.items c.loop-key.places.items are c.loop-key.invariant.count

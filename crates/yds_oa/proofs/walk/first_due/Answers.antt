@@ -1,8 +1,14 @@
-use Rattle.yds_model.proofs.Common.{arith, ap, get_or_read}
+use Rattle.yds_model.proofs.Common.{arith, inr, ap, get_or_read}
 use Rattle.yds_edf.specs.declared.order.Due.{Due}
 use Rattle.yds_edf.specs.Order.{no_due}
-use Rattle.yds_oa.proofs.Walked.{due_behind}
+use Rattle.yds_oa.proofs.Walked.{none_there, due_behind}
 use Rattle.yds_oa.proofs.walk.first_due.Goals as goal
+
+pub loop-start-init : goal.loop-start-init
+loop-start-init c = record {
+  within = omega (arith, c.min-start.ensures, c.len.ensures);
+  before = λ place less. inr (none_there c.args.jobs.now.units c.start.result place c.start.ensures (omega (arith, less, c.min-start.ensures)));
+}
 
 pub returns-then-index-from : goal.returns-then-index-from
 returns-then-index-from c =

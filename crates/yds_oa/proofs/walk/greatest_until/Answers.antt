@@ -20,6 +20,15 @@ overflow_add-units c =
       ap (λ (units : List ℕ). slice_index units place) same,
     )
 
+pub overflow_sub-index : goal.overflow_sub-index
+overflow_sub-index c =
+    let order = c.args.jobs.now.order.items in
+    let place = c.loop-place.place in
+    let known : place < length order = omega (arith, c.loop-place-test.true, c.requires.within) in
+    let past : c.args.walk.start ≤ place = omega (arith, c.requires.walk.past, c.loop-place.auto.place) in
+    let at : c.index.result.now ≡ due_at order place = c.index.ensures ∙ get_or_default order place c.index.result.now no_due known in
+    omega (arith, c.requires.walk.after.after place past known, ap (λ (due : Due). due.deadline) at)
+
 pub loop-place-preserved : goal.loop-place-preserved
 loop-place-preserved c =
     let order = c.args.jobs.now.order.items in

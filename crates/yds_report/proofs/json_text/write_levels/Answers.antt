@@ -1,6 +1,11 @@
 use Rattle.yds_model.proofs.Common.{on_ok_weaker}
-use Rattle.yds_report.proofs.Sent.{sent_all}
+use Rattle.yds_report.proofs.Sent.{sent_next, sent_all}
 use Rattle.yds_report.proofs.json_text.write_levels.Goals as goal
+
+pub loop-level-preserved : goal.loop-level-preserved
+loop-level-preserved g c =
+    λ last rest. c.loop-level.invariant last
+    (sent_next c.args.levels.now c.loop-level.level-index c.level-item.result _ _ last c.loop-level-test.true c.level-item.is c.in_ok-write_level.ensures rest)
 
 pub returns : goal.returns
 returns g c =

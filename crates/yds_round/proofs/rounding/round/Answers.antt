@@ -1,14 +1,27 @@
-use Rattle.yds_model.proofs.Common.{◌≡◌, ◌*◌, List, ap, subst, AllZip, numerator, Level, hull_multiple}
+use Rattle.yds_model.proofs.Common.{◌≡◌, ◌*◌, List, sym, ap, subst, All, AllZip, numerator, Level, hull_multiple, IsTooFast}
 use Rattle.yds_model.specs.declared.limits.TheConstants.{MAX_ENERGY}
 use Rattle.yds_fraction.proofs.Kept.{some_parts}
+use Rattle.yds_energy.proofs.LevelTimes.{levels_fit_the_horizon}
 use Rattle.yds_slots.specs.Schedule.{WrittenSchedule}
 use Rattle.yds_round.specs.Pace.{IsPaceOf}
 use Rattle.yds_round.specs.Energy.{energy_parts}
 use Rattle.yds_round.specs.Fault.{HasFastLevel}
 use Rattle.yds_round.proofs.Faults.{fast_first}
-use Rattle.yds_round.proofs.RoundedEnergies.{slots_solid}
+use Rattle.yds_round.proofs.RoundedEnergies.{all_slow, slots_solid}
 use Rattle.yds_round.proofs.RoundedPlans.{is_rounding}
 use Rattle.yds_round.proofs.rounding.round.Goals as goal
+
+pub paces_of-requires : goal.paces_of-requires
+paces_of-requires c =
+    let slow : (HasFastLevel c.args.plan.now.certificate c.args.table.now → ⊥) =
+    subst (λ (levels : List Level). HasFastLevel levels c.args.table.now → ⊥) c.levels-levels.ensures.value c.in_default.ensures in
+    subst (λ (levels : List Level). All (λ level. IsTooFast c.args.table.now level → ⊥) levels) (sym c.levels-levels.ensures.value)
+    (all_slow c.args.rows.now c.args.plan.now.schedule.slots c.args.plan.now.certificate c.args.table.now c.requires.plan
+    (λ some fast. slow (fast_first c.args.plan.now.certificate c.args.table.now some fast)))
+
+pub energy-energy-requires-clause-within : goal.energy-energy-requires-clause-within
+energy-energy-requires-clause-within c =
+    rw (c.levels-levels.ensures.value) (levels_fit_the_horizon c.args.rows.now c.args.plan.now.schedule.slots c.args.plan.now.certificate c.requires.plan)
 
 pub returns-clause-rounding : goal.returns-clause-rounding
 returns-clause-rounding c =

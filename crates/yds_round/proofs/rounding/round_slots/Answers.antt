@@ -7,7 +7,7 @@ use Rattle.yds_plan.specs.Timetabled.{RunsAtLevel}
 use Rattle.yds_round.specs.Pace.{pace_at}
 use Rattle.yds_round.specs.Rounded.{written_row, written_to, level_number_at}
 use Rattle.yds_round.specs.Written.{written_at}
-use Rattle.yds_round.proofs.AllStretches.{next_slots, later_slots, pace_known}
+use Rattle.yds_round.proofs.AllStretches.{enough, next_slots, later_slots, few_rows, pace_known, can_round}
 use Rattle.yds_round.proofs.rounding.round_slots.Goals as goal
 use Rattle.yds_round.proofs.rounding.round_slots.Goals.{in-Some+in_ok-round_stretch, in_default}
 
@@ -23,6 +23,33 @@ read_slots : (rows : List Row) (are : All IsRow rows) (k : ℕ) → k < length r
 read_slots rows are k within shares rest planned shares_are rest_is part =
     part ∙ ap₂ (λ (n : ℕ) (slots : List WrittenSlot). take n slots) (ap (λ (xs : List JobShare). length xs) shares_are) rest_is ∙ next_slots rows are k within
 
+pub overflow_add-rest : goal.overflow_add-rest
+overflow_add-rest c = omega (
+  arith,
+  c.requires.few,
+  c.requires.plan.few_slots,
+  few_rows c.args.rows.now c.args.table.now c.args.plan.now.schedule.slots c.args.plan.now.certificate c.args.paces.now c.args.plan.now.timetable
+      c.args.plan.now.level_of_stretch.items c.requires.plan c.requires.paces c.requires.timetable c.len.ensures.kept,
+  c.len.ensures.value,
+  ap (λ (slots : List WrittenSlot). length slots) c.slots-rest.ensures.value,
+)
+
+pub split_at-requires : goal.split_at-requires
+split_at-requires c = omega (
+  arith,
+  ap (λ (slots : List WrittenSlot). length slots) c.loop-number.invariant.rest,
+  enough c.args.plan.now.timetable c.len.ensures.kept c.loop-number.number (omega (arith, c.loop-number-test.true, c.len-number-end.ensures.value)),
+  ap (λ (shares : List JobShare). length shares) c.shares.ensures,
+)
+
+pub index-requires : goal.index-requires
+index-requires c = omega (
+  arith,
+  reached c.args.plan.now.certificate c.args.plan.now.timetable c.args.plan.now.level_of_stretch.items c.loop-number.number _ c.requires.timetable.levels_are c.loop-number-test.true
+      c.len-number-end.ensures.value,
+  c.args.plan.now.level_of_stretch.ok.0,
+)
+
 pub bounds-paces-level : goal.bounds-paces-level
 bounds-paces-level c =
     let numbers = c.args.plan.now.level_of_stretch.items in
@@ -31,6 +58,18 @@ bounds-paces-level c =
     sym (get_or_read numbers c.loop-number.number c.index.result.now inside.1 c.index.ensures None) ∙ c.in-Some.is in
     pace_known c.args.rows.now c.args.table.now c.args.plan.now.schedule.slots c.args.plan.now.certificate c.args.paces.now c.args.plan.now.timetable
     numbers c.requires.plan c.requires.paces c.requires.timetable c.len.ensures.kept c.loop-number.number c.in-Some.level inside.0 number
+
+pub round_stretch-requires-clause-can : goal.round_stretch-requires-clause-can
+round_stretch-requires-clause-can c =
+    let rows = c.args.plan.now.timetable in
+    let numbers = c.args.plan.now.level_of_stretch.items in
+    let inside = reached c.args.plan.now.certificate rows numbers c.loop-number.number _ c.requires.timetable.levels_are c.loop-number-test.true c.len-number-end.ensures.value in
+    let number : level_number_at numbers c.loop-number.number ≡ Some c.in-Some.level =
+    sym (get_or_read numbers c.loop-number.number c.index.result.now inside.1 c.index.ensures None) ∙ c.in-Some.is in
+    let planned = read_slots rows c.len.ensures.kept c.loop-number.number inside.0 _ _ _ c.shares.ensures c.loop-number.invariant.rest c.split_at.ensures.front in
+    rw (planned, c.loop-number.invariant.written)
+    (can_round c.args.rows.now c.args.table.now c.args.plan.now.schedule.slots c.args.plan.now.certificate c.args.paces.now rows
+    numbers c.requires.plan c.requires.paces c.requires.timetable c.len.ensures.kept c.loop-number.number c.in-Some.level inside.0 number c.requires.few)
 
 pub loop-number-preserved : goal.loop-number-preserved
 loop-number-preserved c =

@@ -2,8 +2,16 @@ use Rattle.yds_model.proofs.Common.{◌≡◌, ◌∙◌, Err, true, sym, ap, ar
 use Rattle.yds_model.specs.declared.limits.TheConstants.{MAX_DENOMINATOR}
 use Rattle.yds_text.specs.Parts.{is_bad}
 use Rattle.yds_text.proofs.Digits.{Told, is_told}
-use Rattle.yds_text.proofs.Fractions.{good_spelling, too_large, parts_out, parts_told}
+use Rattle.yds_text.proofs.Fractions.{good_spelling, too_large, parts_out, parts_told, whole_bad, num_bad, den_bad}
 use Rattle.yds_text.proofs.fraction.fraction_of_parts.Goals as goal
+use Rattle.yds_text.proofs.fraction.fraction_of_parts.Goals.{then-is_bad-via-then-is_bad, then-is_bad-via-else-is_bad+then-is_bad-2, then-is_bad-via-else-is_bad+else-is_bad-2+then-is_bad-3}
+
+pub returns-then-is_bad : goal.returns-then-is_bad
+returns-then-is_bad c = λ most front above below whole num den. elim c.then-is_bad.branch [
+  | then-is_bad-via-then-is_bad w ↦ sym (whole_bad most front above below (ap is_bad (sym whole) ∙ sym c.is_bad.ensures ∙ w.if-is_bad.true))
+  | then-is_bad-via-else-is_bad+then-is_bad-2 w ↦ sym (num_bad most front above below (ap is_bad (sym num) ∙ sym w.is_bad-else-is_bad.ensures ∙ w.if-is_bad-2.true))
+  | then-is_bad-via-else-is_bad+else-is_bad-2+then-is_bad-3 w ↦ sym (den_bad most front above below (ap is_bad (sym den) ∙ sym w.is_bad-else-is_bad-2.ensures ∙ w.if-is_bad-3.true))
+]
 
 pub returns-in_err-whole : goal.returns-in_err-whole
 returns-in_err-whole c = λ most front above below whole num den.

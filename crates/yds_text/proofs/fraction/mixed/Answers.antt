@@ -1,5 +1,6 @@
-use Rattle.yds_model.proofs.Common.{◌≡◌, ◌∙◌, Err, take, get_or, sym, subst, arith, ne_eqb, take_all, err_from_is_err_and, number_at}
-use Rattle.yds_text.proofs.Fractions.{other_fraction, whole_fault}
+use Rattle.yds_model.proofs.Common.{◌≡◌, ◌+◌, ◌∙◌, Err, take, get_or, sym, ap, subst, arith, ne_eqb, take_all, err_from_is_err_and, number_at}
+use Rattle.yds_text.specs.Parts.{fraction_after}
+use Rattle.yds_text.proofs.Fractions.{whole_rest, plus_fraction, other_fraction, whole_fault}
 use Rattle.yds_text.proofs.fraction.mixed.Goals as goal
 
 pub returns-in_err-whole : goal.returns-in_err-whole
@@ -15,3 +16,9 @@ pub returns-then-text-len-ne43 : goal.returns-then-text-len-ne43
 returns-then-text-len-ne43 c =
     sym (other_fraction c.args.most c.args.field.text.now c.leading_number-whole.result.1 (omega arith) c.leading_number-whole.ensures.count
     (ne_eqb (get_or c.args.field.text.now c.leading_number-whole.result.1 0) 43 c.if-text-len-ne43.true))
+
+pub returns : goal.returns
+returns c =
+    c.fraction_after.ensures c.args.most (take c.leading_number-whole.result.1 c.args.field.text.now) c.leading_number-whole.ensures.value
+    ∙ ap (fraction_after c.args.most (take c.leading_number-whole.result.1 c.args.field.text.now)) (whole_rest c.args.field.text.now (c.leading_number-whole.result.1 + 1))
+    ∙ sym (plus_fraction c.args.most c.args.field.text.now c.leading_number-whole.result.1 (omega arith) c.leading_number-whole.ensures.count c.if-text-len-ne43.false)

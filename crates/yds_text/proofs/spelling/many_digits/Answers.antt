@@ -10,3 +10,12 @@ returns-in-None-clause-value c =
     let more : digits_value 10 (take (c.loop-index.index + 1) c.args.text.now) ≡ digits_value 10 (take c.loop-index.index c.args.text.now) * 10 + digit_value (get_or c.args.text.now c.loop-index.index 0) =
     digits_value_more 10 c.args.text.now c.loop-index.index (omega arith) in
     omega (arith, c.in-None.ensures, front_above c.args.text.now (c.loop-index.index + 1) c.digit_len.result (omega (arith, c.digit_len.ensures.value)) c.digit_len.ensures.within)
+
+pub loop-index-preserved : goal.loop-index-preserved
+loop-index-preserved c =
+    let digit : is_digit (get_or c.args.text.now c.loop-index.index 0) ≡ true = first_of (search rules, grind (arith, common_steps)) in
+    let counted : prefix_len is_digit (drop c.loop-index.index c.args.text.now) ≡ 1 + prefix_len is_digit (drop (c.loop-index.index + 1) c.args.text.now) =
+    prefix_len-drop_yes is_digit c.args.text.now c.loop-index.index 0 (omega arith) digit in
+    let more : digits_value 10 (take (c.loop-index.index + 1) c.args.text.now) ≡ digits_value 10 (take c.loop-index.index c.args.text.now) * 10 + digit_value (get_or c.args.text.now c.loop-index.index 0) =
+    digits_value_more 10 c.args.text.now c.loop-index.index (omega arith) in
+    record { count = omega arith; value = omega (arith, c.in-Some.ensures) }

@@ -1,10 +1,12 @@
-use Rattle.yds_model.proofs.Common.{◌≡◌, ℕ, List, ◌∙◌, sym, subst, ap}
+use Rattle.yds_model.proofs.Common.{◌≡◌, ◌≤◌, ℕ, List, [], length, ◌∙◌, sym, subst, ap, arith, All}
+use Rattle.yds_model.specs.declared.limits.TheConstants.{MAX_JOBS}
 use Rattle.yds_critical.specs.Critical.{IsCritical}
 use Rattle.yds_contract.specs.Contracted.{Removes}
 use Rattle.yds_textbook.specs.declared.stage.Stage.{Stage}
-use Rattle.yds_textbook.specs.Waiting.{contracted_jobs, outside}
-use Rattle.yds_textbook.specs.Stages.{IsStage}
-use Rattle.yds_textbook.proofs.Chain.{LeadTo, no_stage, one_more}
+use Rattle.yds_textbook.specs.Waiting.{contracted_jobs, CanWait, outside}
+use Rattle.yds_textbook.specs.Stages.{IsStage, AreStages}
+use Rattle.yds_textbook.proofs.Chain.{LeadTo, no_stage, one_more, last_stage}
+use Rattle.yds_textbook.proofs.Densest.{ends_in_time, fewer}
 use Rattle.yds_textbook.proofs.Stands.{IsBetween, between_at_first, between_next}
 use Rattle.yds_textbook.proofs.planning.stages.Goals as goal
 
@@ -16,6 +18,43 @@ loop-stages-init c =
           c.in_ok-waiting.ensures.can_wait;
       lead = no_stage c.args.rows.now c.in_ok-waiting.waiting.items c.new-stages.result.items c.new-taken.result c.new-taken.ensures c.new-stages.ensures.items;
     }
+
+pub stage_of-requires-clause-left : goal.stage_of-requires-clause-left
+stage_of-requires-clause-left c =
+    let between = c.loop-stages.invariant.between in
+    record {
+      few_jobs = c.requires.few;
+      few = subst (λ (numbers : List ℕ). length numbers ≤ MAX_JOBS) (sym c.deref-in-Some-2.ensures.value) between.few;
+      all_stretches = c.requires.timeline;
+      apart = between.apart;
+      whole = between.whole;
+      can_wait = subst (All (CanWait c.args.rows.now c.loop-stages.taken)) (sym c.deref-in-Some-2.ensures.value) between.can_wait;
+    }
+
+pub stage_of-requires-clause-critical : goal.stage_of-requires-clause-critical
+stage_of-requires-clause-critical c =
+    let critical : IsCritical (contracted_jobs c.args.rows.now c.loop-stages.taken c.loop-stages.waiting.items) c.in-Some.interval =
+    rw (c.in-Some.is, c.deref.ensures.value) at c.in_ok-interval.ensures in
+    subst (λ (waiting : List ℕ). IsCritical (contracted_jobs c.args.rows.now c.loop-stages.taken waiting) c.in-Some.interval) (sym c.deref-in-Some-2.ensures.value) critical
+
+pub remove-requires-clause-within : goal.remove-requires-clause-within
+remove-requires-clause-within c =
+    let critical : IsCritical (contracted_jobs c.args.rows.now c.loop-stages.taken c.loop-stages.waiting.items) c.in-Some.interval =
+    rw (c.in-Some.is, c.deref.ensures.value) at c.in_ok-interval.ensures in
+    let between = c.loop-stages.invariant.between in
+    ends_in_time c.args.rows.now c.loop-stages.taken c.loop-stages.waiting.items c.in-Some.interval between.can_wait critical between.apart
+
+pub loop-stages-smaller : goal.loop-stages-smaller
+loop-stages-smaller c =
+    let critical : IsCritical (contracted_jobs c.args.rows.now c.loop-stages.taken c.loop-stages.waiting.items) c.in-Some.interval =
+    rw (c.in-Some.is, c.deref.ensures.value) at c.in_ok-interval.ensures in
+    let others : c.in_ok-members.others.items ≡ outside c.args.rows.now c.loop-stages.taken c.in-Some.interval c.loop-stages.waiting.items =
+    c.in_ok-members.ensures.others ∙ ap (λ (numbers : List ℕ). outside c.args.rows.now c.loop-stages.taken c.in-Some.interval numbers) c.deref-in-Some.ensures.value in
+    omega (
+      arith,
+      ap (λ (numbers : List ℕ). length numbers) others,
+      fewer c.args.rows.now c.loop-stages.taken c.loop-stages.waiting.items c.in-Some.interval c.loop-stages.invariant.between.can_wait critical,
+    )
 
 pub loop-stages-preserved : goal.loop-stages-preserved
 loop-stages-preserved c =
@@ -38,3 +77,13 @@ loop-stages-preserved c =
           (one_more rows c.in_ok-waiting.waiting.items c.loop-stages.stages.items removed c.remove.new.self waiting c.in_ok-members.others.items interval stage
           kept.lead critical is removes others);
     }
+
+pub returns : goal.returns
+returns c =
+    let all = c.in_ok-waiting.ensures.all in (
+      all.0,
+      all.1,
+      subst (λ (first : List ℕ). AreStages c.args.rows.now [] first c.loop-stages.stages.items) all.2
+          (last_stage c.args.rows.now c.in_ok-waiting.waiting.items c.loop-stages.stages.items c.loop-stages.taken c.loop-stages.waiting.items c.in_ok-interval.field-0
+          (rw c.deref.ensures.value at c.in_ok-interval.ensures) (λ interval is. c.in_default.not-Some interval is) c.loop-stages.invariant.lead),
+    )

@@ -1,8 +1,19 @@
+use Rattle.yds_model.proofs.Common.{List, length, ap, arith}
 use Rattle.yds_search.specs.Found.{IsFound}
 use Rattle.yds_search.specs.Views.{found_view}
 use Rattle.yds_plan.proofs.FoundPlan.{laid_plan}
-use Rattle.yds_textbook.proofs.Theorem.{found_of_stages}
+use Rattle.yds_textbook.specs.declared.stage.Stage.{Stage}
+use Rattle.yds_textbook.proofs.Theorem.{found_of_stages, stages_are_few}
 use Rattle.yds_textbook.proofs.planning.textbook.Goals as goal
+
+pub found_of-requires-clause-few_stages : goal.found_of-requires-clause-few_stages
+found_of-requires-clause-few_stages c =
+    let are = c.in_ok-stages.ensures in
+    omega (
+      arith,
+      ap (λ (stages : List Stage). length stages) c.deref-3.ensures.value,
+      stages_are_few c.args.rows.now are.0 c.in_ok-stages.stages.items c.read_rows.ensures c.requires are.1 are.2,
+    )
 
 pub lay_out-requires-clause-found : goal.lay_out-requires-clause-found
 lay_out-requires-clause-found c =

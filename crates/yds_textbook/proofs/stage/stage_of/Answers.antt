@@ -1,21 +1,43 @@
-use Rattle.yds_model.proofs.Common.{◌≡◌, ℕ, ◌<◌, ◌≤◌, List, ◌∙◌, length, map, sym, subst, ap, arith, All, length-map, All-filter, All-weaker, filter_passes, Job, Piece, stretches}
+use Rattle.yds_model.proofs.Common.{rules, ◌≡◌, ℕ, ◌<◌, ◌≤◌, List, ◌∙◌, length, map, sym, subst, ap, arith, All, length-map, All-filter, All-weaker, filter_passes, Job, Piece, PiecesFrom, stretches}
 use Rattle.yds_events.specs.Stretch.{nth_stretch}
+use Rattle.yds_events.proofs.Neighbours.{few_stretches}
 use Rattle.yds_timetable.specs.Shares.{JobShare}
 use Rattle.yds_edf.specs.Demand.{AreUncut, IsWithinCapacity}
 use Rattle.yds_textbook.specs.Waiting.{contracted_jobs, CanWait, lies_in, inside, contracted_stretch, contracted_stretches, stretches_inside}
-use Rattle.yds_textbook.specs.Stages.{speed_of, share_of_members}
+use Rattle.yds_textbook.specs.Stages.{IsDensest, speed_of, share_of_members}
 use Rattle.yds_textbook.specs.Served.{capacity_of}
-use Rattle.yds_textbook.proofs.Densest.{is_densest, as_many}
-use Rattle.yds_textbook.proofs.Left.{each_inside, uncut_left, demand_left}
-use Rattle.yds_textbook.proofs.Making.{stretches_are, left_are, speed_is, filled_as, jobs_known}
+use Rattle.yds_textbook.proofs.Densest.{is_densest, as_many, few_inside}
+use Rattle.yds_textbook.proofs.Left.{each_inside, run_left, uncut_left, demand_left}
+use Rattle.yds_textbook.proofs.Making.{stretches_are, left_are, numbers_known, numbers_left, few_left, speed_is, filled_as, jobs_known}
 use Rattle.yds_textbook.proofs.Speeds.{fast_enough}
 use Rattle.yds_textbook.proofs.stage.stage_of.Goals as goal
 use Rattle.yds_textbook.proofs.stage.stage_of.Goals.{After-deref-4}
+
+pub new-requires : goal.new-requires
+new-requires c =
+    let densest : IsDensest (contracted_jobs c.args.left.now.rows.now c.args.left.now.taken.now (inside c.args.left.now.rows.now c.args.left.now.taken.now c.args.interval.now c.args.left.now.waiting.now)) c.args.interval.now =
+    is_densest c.args.left.now.rows.now c.args.left.now.taken.now c.args.left.now.waiting.now c.args.interval.now c.requires.left.can_wait c.requires.critical c.requires.left.few in
+    search rules
 
 pub contracted_rows-requires : goal.contracted_rows-requires
 contracted_rows-requires c =
     subst (All (CanWait c.args.left.now.rows.now c.args.left.now.taken.now)) (sym (c.deref.ensures.value ∙ c.requires.members))
     (All-filter (lies_in c.args.left.now.rows.now c.args.left.now.taken.now c.args.interval.now) (CanWait c.args.left.now.rows.now c.args.left.now.taken.now) c.args.left.now.waiting.now c.requires.left.can_wait)
+
+pub stretches_inside-requires : goal.stretches_inside-requires
+stretches_inside-requires c = omega (arith, few_stretches c.args.left.now.rows.now, ap (λ (pieces : List Piece). length pieces) c.requires.left.all_stretches, c.requires.left.few_jobs)
+
+pub contracted_stretches-requires-clause-known : goal.contracted_stretches-requires-clause-known
+contracted_stretches-requires-clause-known c =
+    numbers_known c.args.left.now.rows.now c.args.left.now.timeline.now c.args.left.now.taken.now c.args.interval.now c.deref-2.result.now c.requires.left.all_stretches
+    (c.deref-2.ensures.value ∙ stretches_are c.args.left.now.rows.now c.args.left.now.timeline.now c.args.left.now.taken.now c.args.interval.now c.in_ok-stretches.stretches.items c.requires.left.all_stretches
+    c.in_ok-stretches.ensures)
+
+pub contracted_stretches-requires-clause-left : goal.contracted_stretches-requires-clause-left
+contracted_stretches-requires-clause-left c =
+    numbers_left c.args.left.now.rows.now c.args.left.now.timeline.now c.args.left.now.taken.now c.args.interval.now c.deref-2.result.now c.requires.left.all_stretches
+    (c.deref-2.ensures.value ∙ stretches_are c.args.left.now.rows.now c.args.left.now.timeline.now c.args.left.now.taken.now c.args.interval.now c.in_ok-stretches.stretches.items c.requires.left.all_stretches
+    c.in_ok-stretches.ensures)
 
 -- the jobs and the stretches that are served
 own_jobs : (c : After-deref-4) → c.deref-3.result.now ≡ contracted_jobs c.args.left.now.rows.now c.args.left.now.taken.now (inside c.args.left.now.rows.now c.args.left.now.taken.now c.args.interval.now c.args.left.now.waiting.now)
@@ -35,6 +57,32 @@ own_stretches c =
 members_wait : (c : After-deref-4) → All (CanWait c.args.left.now.rows.now c.args.left.now.taken.now) (inside c.args.left.now.rows.now c.args.left.now.taken.now c.args.interval.now c.args.left.now.waiting.now)
 members_wait c =
     All-filter (lies_in c.args.left.now.rows.now c.args.left.now.taken.now c.args.interval.now) (CanWait c.args.left.now.rows.now c.args.left.now.taken.now) c.args.left.now.waiting.now c.requires.left.can_wait
+
+pub serve-requires-clause-few : goal.serve-requires-clause-few
+serve-requires-clause-few c =
+    let rows = c.args.left.now.rows.now in
+    let removed = c.args.left.now.taken.now in
+    omega (
+      arith,
+      ap (λ (jobs : List Job). length jobs) (own_jobs c),
+      as_many rows removed (inside rows removed c.args.interval.now c.args.left.now.waiting.now),
+      few_inside rows removed c.args.interval.now c.args.left.now.waiting.now,
+      c.requires.left.few,
+    )
+
+pub serve-requires-clause-few_stretches : goal.serve-requires-clause-few_stretches
+serve-requires-clause-few_stretches c =
+    omega (
+      arith,
+      ap (λ (pieces : List Piece). length pieces) (own_stretches c),
+      few_left (stretches c.args.left.now.rows.now) c.args.left.now.taken.now c.args.interval.now,
+      few_stretches c.args.left.now.rows.now,
+      c.requires.left.few_jobs,
+    )
+
+pub serve-requires-clause-in_order : goal.serve-requires-clause-in_order
+serve-requires-clause-in_order c =
+    subst (PiecesFrom 0) (sym (own_stretches c)) (run_left c.args.left.now.rows.now c.args.left.now.taken.now c.requires.left.apart c.args.interval.now)
 
 pub serve-requires-clause-uncut : goal.serve-requires-clause-uncut
 serve-requires-clause-uncut c =

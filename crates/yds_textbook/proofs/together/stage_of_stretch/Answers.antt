@@ -1,8 +1,15 @@
-use Rattle.yds_model.proofs.Common.{ℕ, List, ◌∙◌, sym, ap}
+use Rattle.yds_model.proofs.Common.{ℕ, List, ◌∙◌, sym, ap, refl, length, arith}
 use Rattle.yds_textbook.specs.declared.stage.Stage.{Stage}
 use Rattle.yds_textbook.specs.Together.{stands_among}
-use Rattle.yds_textbook.proofs.Members.{passes_here}
+use Rattle.yds_textbook.proofs.Members.{fails_more, passes_here, none_passes}
 use Rattle.yds_textbook.proofs.together.stage_of_stretch.Goals as goal
+
+pub loop-place-preserved : goal.loop-place-preserved
+loop-place-preserved c =
+    fails_more (λ (stage : Stage). stands_among stage.stretches.items c.args.stretch) c.args.stages.now c.loop-place.place c.index-stages-place.result c.loop-place-test.true
+    c.index-stages-place.is
+    (sym (c.contains.ensures.value ∙ ap (λ (numbers : List ℕ). stands_among numbers c.args.stretch) c.deref.ensures.value) ∙ c.if-contains.false)
+    c.loop-place.invariant
 
 pub returns-then-contains : goal.returns-then-contains
 returns-then-contains c =
@@ -10,3 +17,8 @@ returns-then-contains c =
     c.index-stages-place.is
     (sym (c.contains.ensures.value ∙ ap (λ (numbers : List ℕ). stands_among numbers c.args.stretch) c.deref.ensures.value) ∙ c.if-contains.true)
     c.loop-place.invariant
+
+pub returns : goal.returns
+returns c =
+    none_passes (λ (stage : Stage). stands_among stage.stretches.items c.args.stretch) c.args.stages.now (length c.args.stages.now) refl
+    (λ k d below. c.loop-place.invariant k d (omega (arith, below, c.loop-place-test.false)))

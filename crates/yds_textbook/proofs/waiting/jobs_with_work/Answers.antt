@@ -1,9 +1,15 @@
-use Rattle.yds_model.proofs.Common.{◌≤◌, ◌∙◌, refl, sym, subst, arith, get_or_read, Job, IsJob, no_job}
+use Rattle.yds_model.proofs.Common.{◌≡◌, ℕ, ◌≤◌, List, ◌∙◌, refl, sym, subst, ap, arith, filter, get_or_read, take_all, Job, IsJob, no_job}
 use Rattle.yds_intensity.specs.Order.{IsDeadlineOrder}
 use Rattle.yds_intensity.proofs.Sweeps.{number_known}
-use Rattle.yds_textbook.proofs.Starting.{with_next, without_next}
+use Rattle.yds_textbook.specs.Waiting.{job_has_work}
+use Rattle.yds_textbook.proofs.Starting.{with_next, without_next, few_wait}
 use Rattle.yds_textbook.proofs.waiting.jobs_with_work.Goals as goal
 use Rattle.yds_textbook.proofs.waiting.jobs_with_work.Goals.{then-row-gt0+in_ok-push, else-row-gt0}
+
+pub bounds-rows-number : goal.bounds-rows-number
+bounds-rows-number c =
+    number_known c.args.rows.now c.deref-number-items.result.now c.loop-number.number-index
+    (subst (IsDeadlineOrder c.args.rows.now) (sym c.deref-number-items.ensures.value) c.in_ok-order.ensures) c.loop-number-test.true
 
 pub loop-number-preserved : goal.loop-number-preserved
 loop-number-preserved c =
@@ -23,3 +29,20 @@ loop-number-preserved c =
         can_wait = c.loop-number.invariant.can_wait;
       })
     ]
+
+pub returns-clause-all : goal.returns-clause-all
+returns-clause-all c = (
+  c.in_ok-order.field-0.items,
+  c.in_ok-order.ensures,
+  c.loop-number.invariant.so_far
+      ∙ ap (λ (xs : List ℕ). filter (job_has_work c.args.rows.now) xs)
+      (take_all c.loop-number.number-index c.deref-number-items.result.now c.loop-number-test.false ∙ c.deref-number-items.ensures.value),
+)
+
+pub returns-clause-few : goal.returns-clause-few
+returns-clause-few c =
+    let all : c.loop-number.waiting.items ≡ filter (job_has_work c.args.rows.now) c.in_ok-order.field-0.items =
+    c.loop-number.invariant.so_far
+    ∙ ap (λ (xs : List ℕ). filter (job_has_work c.args.rows.now) xs)
+    (take_all c.loop-number.number-index c.deref-number-items.result.now c.loop-number-test.false ∙ c.deref-number-items.ensures.value) in
+    rw all (few_wait c.args.rows.now c.in_ok-order.field-0.items c.in_ok-order.ensures)

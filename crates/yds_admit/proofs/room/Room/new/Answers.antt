@@ -11,10 +11,10 @@ returns-clause-room c =
     let long = rw c.deref-2.ensures.value at c.in_ok-pieces-2.ensures.as_long in
     let each = rw (c.deref-2.ensures.value, c.deref-3.ensures.value) at c.in_ok-pieces-2.ensures.each in
     record {
-      has_idle = left_has_idle board state c.requires pieces.jobs.items pieces.places.items idle c.in_ok-pieces.ensures.cutting cut c.in_ok-pieces.ensures.as_long;
+      has_idle = left_has_idle board state c.requires pieces.jobs pieces.places.items idle c.in_ok-pieces.ensures.cutting cut c.in_ok-pieces.ensures.as_long;
       links = c.in_ok-pieces.ensures.links;
-      bounds = left_bounds board state c.requires pieces.jobs.items pieces.places.items idle c.in_ok-pieces.ensures.cutting cut c.in_ok-pieces.ensures.as_long;
-      used = left_used board state c.requires pieces.jobs.items pieces.places.items idle c.in_ok-pieces.ensures.cutting cut c.in_ok-pieces.ensures.as_long
+      bounds = left_bounds board state c.requires pieces.jobs pieces.places.items idle c.in_ok-pieces.ensures.cutting cut c.in_ok-pieces.ensures.as_long;
+      used = left_used board state c.requires pieces.jobs pieces.places.items idle c.in_ok-pieces.ensures.cutting cut c.in_ok-pieces.ensures.as_long
           c.in_ok-pieces-2.field-0.items long each;
-      exact = λ fresh. left_exact board state c.requires pieces.jobs.items pieces.places.items idle c.in_ok-pieces.ensures.cutting cut c.in_ok-pieces.ensures.as_long;
+      exact = λ fresh. left_exact board state c.requires pieces.jobs pieces.places.items idle c.in_ok-pieces.ensures.cutting cut c.in_ok-pieces.ensures.as_long;
     }

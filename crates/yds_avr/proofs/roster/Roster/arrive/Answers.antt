@@ -3,7 +3,7 @@ use Rattle.yds_avr.specs.declared.rate.Rate.{Rate}
 use Rattle.yds_avr.specs.Rate.{IsRate}
 use Rattle.yds_avr.specs.Roster.{no_rate, AreRates}
 use Rattle.yds_avr.proofs.Rounded.{whole_few}
-use Rattle.yds_avr.proofs.Standing.{live_all, whole_fits, one_arrives}
+use Rattle.yds_avr.proofs.Standing.{live_all, whole_fits, one_arrives, other_order}
 use Rattle.yds_avr.proofs.roster.Roster.arrive.Goals as goal
 
 pub overflow_add-self : goal.overflow_add-self
@@ -34,3 +34,9 @@ pub settle-requires-clause-rates : goal.settle-requires-clause-rates
 settle-requires-clause-rates c =
     let rates : AreRates c.loop-self.self.order.items = rw c.loop-self.invariant.same c.requires.rates in
     live_all _ _ _ _ _ _ c.loop-self.invariant.parts IsRate rates.each
+
+pub returns-clause-stands : goal.returns-clause-stands
+returns-clause-stands c = record {
+  parts = other_order _ _ _ _ _ _ c.loop-self.invariant.parts c.settle.new.live.items _ c.settle.ensures.same c.settle.ensures.room;
+  falling = c.settle.ensures.falling;
+}

@@ -1,8 +1,21 @@
-use Rattle.yds_model.proofs.Common.{ap, rules, arith, below_more}
+use Rattle.yds_model.proofs.Common.{refl, ap, rules, arith, below_more}
 use Rattle.yds_edf.specs.declared.order.Due.{Due}
-use Rattle.yds_edf.proofs.Arrivals.{due_read, job_known, place_read, now_within, arrived_read, all_come}
+use Rattle.yds_edf.proofs.Arrivals.{within_later, due_read, job_known, place_read, now_within, arrived_read, all_come}
 use Rattle.yds_edf.proofs.engine.Engine.arrive.Goals as goal
 use Rattle.yds_edf.proofs.engine.Engine.arrive.Goals.{else-loop-self-test, then-loop-self-test+then-next-time}
+
+pub loop-self-init : goal.loop-self-init
+loop-self-init c = record {
+  kept = c.self.invariant.kept;
+  jobs = c.self.invariant.jobs;
+  before = λ k less. within_later _ _ _ (rw (← c.self.view_is) at c.requires) (c.self.invariant.come.before k less);
+  within = c.self.invariant.come.within;
+  rows = refl;
+  ties = refl;
+  grain = refl;
+  time = refl;
+  served = refl;
+}
 
 pub index-requires : goal.index-requires
 index-requires c = omega (arith, (job_known c.loop-self.invariant.kept c.loop-self.invariant.jobs (omega (arith, c.loop-self-test.true, c.len.ensures)) c.index-next.ensures).0)

@@ -1,14 +1,26 @@
-use Rattle.yds_model.proofs.Common.{◌≡◌, ◌∙◌, List, ap, Job, event_points, neighbours}
+use Rattle.yds_model.proofs.Common.{◌≡◌, ◌∙◌, List, ap, arith, Job, event_points, neighbours}
 use Rattle.yds_events.specs.Keys.{ends_of, AreKeys}
 use Rattle.yds_events.proofs.Orders.{keys_order}
 use Rattle.yds_events.proofs.Places.{windows_placed}
-use Rattle.yds_events.proofs.Times.{times_rise}
+use Rattle.yds_events.proofs.Times.{times_rise, events_in_range, length_ends}
 use Rattle.yds_events.proofs.timeline.Timeline.new.Goals as goal
+
+pub sorted_keys-requires : goal.sorted_keys-requires
+sorted_keys-requires c = rw (c.deref.ensures.value, c.in_ok-ends.ensures.ends) (omega (arith, length_ends c.args.rows.now, c.requires))
+
+pub cut-requires : goal.cut-requires
+cut-requires c = rw c.deref-2.ensures.value (c.deref.result.now, c.in_ok-keys.ensures)
 
 pub between-requires-clause-rising : goal.between-requires-clause-rising
 between-requires-clause-rising c =
     let are : AreKeys c.deref.result.now c.deref-2.result.now = rw c.deref-2.ensures.value c.in_ok-keys.ensures in
     rw (c.deref-3.ensures.value, c.in_ok-times.ensures.times c.deref.result.now are, c.deref.ensures.value, c.in_ok-ends.ensures.ends) (times_rise c.args.rows.now)
+
+pub between-requires-clause-in_range : goal.between-requires-clause-in_range
+between-requires-clause-in_range c =
+    let are : AreKeys c.deref.result.now c.deref-2.result.now = rw c.deref-2.ensures.value c.in_ok-keys.ensures in
+    rw (c.deref-3.ensures.value, c.in_ok-times.ensures.times c.deref.result.now are, c.deref.ensures.value, c.in_ok-ends.ensures.ends)
+    (events_in_range c.args.rows.now c.in_ok-ends.ensures.jobs)
 
 pub returns : goal.returns
 returns c =

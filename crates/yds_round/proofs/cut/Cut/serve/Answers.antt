@@ -4,7 +4,7 @@ use Rattle.yds_slots.specs.Schedule.{WrittenSchedule}
 use Rattle.yds_timetable.specs.Shares.{JobShare}
 use Rattle.yds_round.specs.Written.{fast_course, slow_course, listed}
 use Rattle.yds_round.proofs.Cuts.{known_listed, grain_listed, few_between}
-use Rattle.yds_round.proofs.Serving.{all_fit, step_within, room_for, known_served, fits_served, fits_middle, served_more}
+use Rattle.yds_round.proofs.Serving.{all_fit, step_within, room_for, few_served, known_served, fits_served, fits_middle, served_more}
 use Rattle.yds_round.proofs.cut.Cut.serve.Goals as goal
 
 -- the share that is read
@@ -40,6 +40,22 @@ put-requires-clause-grain c =
     (fits_served c.args.shares.now c.loop-share.share-index _ c.share-item.result c.loop-share-test.true (c.share.view_is ∙ c.share-item.is)
     split c.args.self.now.stretch c.args.rounded.now.jobs c.args.rounded.now.slots c.requires.fits c.loop-share.rounded
     (ap (λ (s : WrittenSchedule). s.slots) c.loop-share.invariant.written)) c.fast_slot.ensures
+
+pub put-requires-clause-room : goal.put-requires-clause-room
+put-requires-clause-room c =
+    let split = c.args.self.now.split in
+    let room = room_for split c.args.self.now.stretch c.args.rounded.now.slots c.args.shares.now c.loop-share.share-index c.loop-share-test.true c.requires.fits.room in
+    rw (c.loop-share.invariant.written) (omega (arith, room))
+
+pub slow_slot-requires-clause-few : goal.slow_slot-requires-clause-few
+slow_slot-requires-clause-few c =
+    let split = c.args.self.now.split in
+    omega (
+      arith,
+      c.reach-next.ensures.units,
+      few_served c.args.shares.now c.loop-share.share-index _ c.share-item.result c.loop-share-test.true (c.share.view_is ∙ c.share-item.is)
+          split c.args.self.now.stretch c.args.rounded.now.jobs c.args.rounded.now.slots c.requires.fits,
+    )
 
 pub put-requires-in-loop-share-clause-known : goal.put-requires-in-loop-share-clause-known
 put-requires-in-loop-share-clause-known c =

@@ -17,6 +17,16 @@ loop-job-init c = record {
       c.in_ok-begin.ensures.next);
 }
 
+pub set_late-requires-clause-within : goal.set_late-requires-clause-within
+set_late-requires-clause-within c = omega (
+  arith,
+  (c.requires.windows c.loop-job.job no_own c.loop-job-test.true).1,
+  c.in_ok-left.ensures.count,
+  c.loop-job.invariant.filling.filling.same_rooms,
+  length-map c.loop-job.self.cells.items (λ cell. cell.room),
+  length-map c.args.own.now.stretches.now (λ own. c.args.speed.per_time * own.length),
+)
+
 pub loop-job-preserved : goal.loop-job-preserved
 loop-job-preserved c =
     let jobs = c.args.own.now.jobs.now in

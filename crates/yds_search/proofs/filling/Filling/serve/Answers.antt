@@ -1,11 +1,11 @@
-use Rattle.yds_model.proofs.Common.{◌≡◌, ◌<◌, ◌≤◌, ◌+◌, ◌++◌, ◌∙◌, length, get_or, take, drop, List, [], ℕ, ap, arith, take_at, get_or-map, length-map, length-set}
+use Rattle.yds_model.proofs.Common.{◌≡◌, ◌<◌, ◌≤◌, ◌+◌, ◌++◌, ◌∙◌, length, get_or, set, take, drop, List, [], ℕ, refl, ap, arith, take_at, get_or-map, length-map, length-set}
 use Rattle.yds_events.specs.declared.window.Window.{Window}
 use Rattle.yds_events.specs.Window.{window_at, no_window, IsIn}
 use Rattle.yds_search.specs.declared.own.OwnJob.{OwnJob}
 use Rattle.yds_search.specs.Own.{own_windows, window_of, HaveWindows}
 use Rattle.yds_search.specs.Fill.{IsNext}
 use Rattle.yds_search.specs.Cells.{rooms_of}
-use Rattle.yds_search.proofs.Fills.{serve_ends, take_next, take_fills, next_jumps}
+use Rattle.yds_search.proofs.Fills.{serve_begins, serve_ends, take_next, take_fills, next_jumps}
 use Rattle.yds_search.proofs.Reaches.{take_rooms, serving_takes}
 use Rattle.yds_search.proofs.filling.Filling.serve.Goals as goal
 
@@ -30,6 +30,29 @@ inside_window jobs job m place windows known from upto =
       inside = record { from = from; upto = omega (arith, upto, ap (λ (window : Window). window.end) is) };
       within = omega (arith, upto, range.1);
       begins = omega (arith, ap (λ (window : Window). window.first) is);
+    }
+
+pub loop-place-init : goal.loop-place-init
+loop-place-init c =
+    let begins = ap (λ (window : Window). window.first) (window_is c.args.jobs.now c.args.job c.requires.known) in
+    let next : IsNext (rooms_of c.args.self.now.cells.items) c.deref_mut.result.now = rw c.deref_mut.ensures.value c.requires.next in
+    let found = c.next_place-place.ensures.place (rooms_of c.args.self.now.cells.items) next in
+    let same : take c.args.self.now.next.len (c.next_place-place.new.next ++ drop (length c.next_place-place.new.next) c.args.self.now.next.items) ≡ c.next_place-place.new.next =
+    take_at _ _ _ (c.next_place-place.auto.next ∙ c.deref_mut.ensures.len) in
+    record {
+      served = λ shares taken later. record {
+        shares' = shares;
+        served = serve_begins (own_windows c.args.jobs.now) c.args.job c.args.want shares (rooms_of c.args.self.now.cells.items) c.next_place-place.result taken later
+            (λ k from before. found.full k (omega (arith, from, begins)) before);
+        reaches = λ m so_far. so_far;
+        keeps = λ keeps. keeps;
+        lates = refl;
+      };
+      next = rw same (c.next_place-place.ensures.next (rooms_of c.args.self.now.cells.items) next);
+      from = omega (arith, found.after, begins);
+      within = rw same (omega (arith, found.within, c.next_place-place.auto.next));
+      count = refl;
+      late = refl;
     }
 
 pub returns-clause-served : goal.returns-clause-served

@@ -2,6 +2,21 @@ use Rattle.yds_model.proofs.Common.{◌≡◌, ◌++◌, ◌∷◌, [], List, ap
 use Rattle.yds_table.proofs.Lowest.{rising_pushed, kept_pushed}
 use Rattle.yds_table.proofs.table.Table.push.Goals as goal
 
+pub hull-requires-clause-rising : goal.hull-requires-clause-rising
+hull-requires-clause-rising c =
+    let above = rw (c.top.ensures, ← c.self.view_is) at c.if-point-top.false in
+    rw (c.deref-2.ensures.value, c.in_ok-points.ensures, c.deref.ensures.value, ← c.point.view_is)
+    (rising_pushed c.self.inside.points.items _ c.self.invariant.table.table.rising above)
+
+pub returns-in_default-clause-err : goal.returns-in_default-clause-err
+returns-in_default-clause-err c =
+    let above = rw (c.top.ensures, ← c.self.view_is) at c.if-point-top.false in
+    let all : c.deref-2.result.now ≡ c.self.inside.points.items ++ c.args.point ∷ [] =
+    c.deref-2.ensures.value ∙ c.in_ok-points.ensures ∙ ap (λ (points : List Point). points ++ c.args.point ∷ []) c.deref.ensures.value in
+    let rising : AreRising c.deref-2.result.now = rw all (rw (← c.point.view_is) (rising_pushed c.self.inside.points.items _ c.self.invariant.table.table.rising above)) in
+    let computed = hull_is_computed c.deref-2.result.now c.in_ok-lower.lower.items rising c.in_ok-lower.ensures.hull in
+    rw (← c.self.view_is) (rw (← c.point.view_is) above, rw (← all, ← computed, ← c.deref-3.ensures.value) c.in_default.ensures)
+
 pub invariant_of-self : goal.invariant_of-self
 invariant_of-self c =
     let above = rw (c.top.ensures, ← c.self.view_is) at c.if-point-top.false in

@@ -1,10 +1,21 @@
-use Rattle.yds_model.proofs.Common.{◌≡◌, List, ◌++◌, ap, ap₂, ◌∙◌, arith, length, refl}
+use Rattle.yds_model.proofs.Common.{◌≡◌, List, ◌++◌, ◌∷◌, [], ap, ap₂, ◌∙◌, arith, length, refl}
+use Rattle.yds_timetable.specs.declared.pace.Pace.{Pace}
 use Rattle.yds_timetable.specs.declared.timetable.KeptRow.{KeptRow}
 use Rattle.yds_timetable.specs.Shares.{JobShare}
 use Rattle.yds_timetable.specs.Kept.{rows_kept}
-use Rattle.yds_timetable.proofs.Keeping.{rows_stay_now, kept_stays_now, kept_more, on_err}
+use Rattle.yds_timetable.proofs.Keeping.{rows_stay_beside, rows_stay_now, kept_stays_now, kept_more, rows_more, on_err}
 use Rattle.yds_timetable.proofs.timetable.Timetable.push.Goals as goal
 use Rattle.yds_timetable.proofs.timetable.Timetable.push.Goals.{In_ok-pace}
+
+pub returns-in_err-end-clause-err : goal.returns-in_err-end-clause-err
+returns-in_err-end-clause-err c = on_err _
+    (ap (λ (shares : List JobShare). rows_kept c.self.inside.paces.items shares c.self.inside.rows.items) c.in_ok-extend_from_slice.ensures.items
+    ∙ rows_stay_beside c.self.inside.paces.items c.self.inside.shares.items c.args.shares.now c.self.inside.rows.items c.self.invariant ∙ c.self.view_is)
+
+pub returns-in_err-pace-clause-err : goal.returns-in_err-pace-clause-err
+returns-in_err-pace-clause-err c = on_err _
+    (ap₂ (λ (paces : List Pace) (shares : List JobShare). rows_kept paces shares c.self.inside.rows.items) c.in_err-pace.ensures.err c.in_ok-extend_from_slice.ensures.items
+    ∙ rows_stay_beside c.self.inside.paces.items c.self.inside.shares.items c.args.shares.now c.self.inside.rows.items c.self.invariant ∙ c.self.view_is)
 
 pub invariant_of-self-in_err-push : goal.invariant_of-self-in_err-push
 invariant_of-self-in_err-push c = rw (c.in_ok-extend_from_slice.ensures.items, c.in_err-push.ensures.items)
@@ -32,3 +43,11 @@ invariant_of-self-2 c =
     rw (c.in_ok-extend_from_slice.ensures.items, c.in_ok-push.ensures.items)
     (kept_more c.self.inside.paces.items c.keep_pace.new.paces.items c.args.pace c.in_ok-pace.pace c.self.inside.shares.items c.args.shares.now c.in_ok-pace.ensures.ok
     (last here) refl (begins here) (ends here) c.self.inside.rows.items c.self.invariant c.requires)
+
+pub returns-clause-ok : goal.returns-clause-ok
+returns-clause-ok c =
+    let here = (goal.at.returns-clause-ok c).In_ok-pace in
+    ap₂ (λ (shares : List JobShare) (rows : List KeptRow). rows_kept c.keep_pace.new.paces.items shares rows) c.in_ok-extend_from_slice.ensures.items c.in_ok-push.ensures.items
+    ∙ rows_more c.self.inside.paces.items c.keep_pace.new.paces.items c.args.pace c.in_ok-pace.pace c.self.inside.shares.items c.args.shares.now c.in_ok-pace.ensures.ok
+    (last here) refl (begins here) (ends here) c.self.inside.rows.items c.self.invariant
+    ∙ ap (λ rows. rows ++ record { stretch = c.args.stretch; pace = c.args.pace; shares = c.args.shares.now } ∷ []) c.self.view_is

@@ -1,0 +1,38 @@
+-- Jobs in three lists: how many they are, each of them, and one more among them.
+use Rattle.yds_model.proofs.Common.{◌≡◌, ℕ, zero, suc, ◌<◌, ◌≤◌, List, [], ◌∷◌, length, get_or, insert, refl, arith, ap, Job, job_at}
+use Rattle.yds_admit.specs.Rows.{rows_of, AreRows}
+
+-- as many as releases
+pub rows_len : (releases deadlines works : List ℕ) → AreRows releases deadlines works → length (rows_of releases deadlines works) ≡ length releases
+rows_len [] deadlines works are = refl
+rows_len (r ∷ releases) [] works are = absurd (omega (arith, are.due))
+rows_len (r ∷ releases) (d ∷ deadlines) [] are = absurd (omega (arith, are.wanted))
+rows_len (r ∷ releases) (d ∷ deadlines) (w ∷ works) are =
+    ap suc (rows_len releases deadlines works (record { due = omega (arith, are.due); wanted = omega (arith, are.wanted) }))
+
+-- each of them
+pub row_at : (releases deadlines works : List ℕ) → AreRows releases deadlines works → (k : ℕ) → k < length releases →
+    job_at (rows_of releases deadlines works) k ≡ record { release = get_or releases k 0; deadline = get_or deadlines k 0; work = get_or works k 0 }
+row_at [] deadlines works are k below = absurd (omega (arith, below))
+row_at (r ∷ releases) [] works are k below = absurd (omega (arith, are.due))
+row_at (r ∷ releases) (d ∷ deadlines) [] are k below = absurd (omega (arith, are.wanted))
+row_at (r ∷ releases) (d ∷ deadlines) (w ∷ works) are zero below = refl
+row_at (r ∷ releases) (d ∷ deadlines) (w ∷ works) are (suc k) below =
+    row_at releases deadlines works (record { due = omega (arith, are.due); wanted = omega (arith, are.wanted) }) k (omega (arith, below))
+
+-- one more among them
+pub rows_insert : (releases deadlines works : List ℕ) → AreRows releases deadlines works → (i release deadline work : ℕ) → i ≤ length releases →
+    rows_of (insert releases i release) (insert deadlines i deadline) (insert works i work)
+    ≡ insert (rows_of releases deadlines works) i (record { release = release; deadline = deadline; work = work })
+rows_insert releases deadlines works are zero release deadline work within = refl
+rows_insert [] deadlines works are (suc i) release deadline work within = absurd (omega (arith, within))
+rows_insert (r ∷ releases) [] works are (suc i) release deadline work within = absurd (omega (arith, are.due))
+rows_insert (r ∷ releases) (d ∷ deadlines) [] are (suc i) release deadline work within = absurd (omega (arith, are.wanted))
+rows_insert (r ∷ releases) (d ∷ deadlines) (w ∷ works) are (suc i) release deadline work within =
+    ap (λ (jobs : List Job). record { release = r; deadline = d; work = w } ∷ jobs)
+    (rows_insert releases deadlines works (record { due = omega (arith, are.due); wanted = omega (arith, are.wanted) }) i release deadline work (omega (arith, within)))
+
+-- as many as these jobs, which are the same
+pub row_count : (releases deadlines works : List ℕ) (jobs : List Job) → AreRows releases deadlines works → rows_of releases deadlines works ≡ jobs →
+    length jobs ≡ length releases
+row_count releases deadlines works jobs are is = omega (arith, rows_len releases deadlines works are, ap (λ (some : List Job). length some) is)

@@ -1,0 +1,16 @@
+-- Jobs in three lists.
+use Rattle.std.specs.Prelude.{ℕ, ◌≤◌, List, [], ◌∷◌, length}
+use Rattle.yds_model.specs.Job.{Job}
+
+-- the jobs with these releases, deadlines and works
+abbrev pub rows_of : List ℕ → List ℕ → List ℕ → List Job
+rows_of [] deadlines works = []
+rows_of (release ∷ releases) [] works = []
+rows_of (release ∷ releases) (deadline ∷ deadlines) [] = []
+rows_of (release ∷ releases) (deadline ∷ deadlines) (work ∷ works) =
+    record { release = release; deadline = deadline; work = work } ∷ rows_of releases deadlines works
+
+-- each release has a deadline and a work
+pub record AreRows (releases deadlines works : List ℕ) : Type 0 where
+  pub due : length releases ≤ length deadlines
+  pub wanted : length releases ≤ length works
