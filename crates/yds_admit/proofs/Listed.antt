@@ -1,5 +1,5 @@
 -- Jobs in three lists: how many they are, each of them, and one more among them.
-use Rattle.yds_model.proofs.Common.{◌≡◌, ℕ, zero, suc, ◌<◌, ◌≤◌, List, [], ◌∷◌, length, get_or, insert, refl, arith, ap, Job, job_at}
+use Rattle.yds_model.proofs.Common.{◌≡◌, ℕ, zero, suc, ◌<◌, ◌≤◌, List, [], ◌∷◌, ◌++◌, length, get_or, insert, refl, arith, ap, Job, job_at}
 use Rattle.yds_admit.specs.Rows.{rows_of, AreRows}
 
 -- as many as releases
@@ -19,6 +19,19 @@ row_at (r ∷ releases) (d ∷ deadlines) [] are k below = absurd (omega (arith,
 row_at (r ∷ releases) (d ∷ deadlines) (w ∷ works) are zero below = refl
 row_at (r ∷ releases) (d ∷ deadlines) (w ∷ works) are (suc k) below =
     row_at releases deadlines works (record { due = omega (arith, are.due); wanted = omega (arith, are.wanted) }) k (omega (arith, below))
+
+-- one more behind them
+pub rows_push : (releases deadlines works : List ℕ) → AreRows releases deadlines works → (release deadline work : ℕ) →
+    rows_of (releases ++ release ∷ []) (deadlines ++ deadline ∷ []) (works ++ work ∷ [])
+    ≡ rows_of releases deadlines works ++ record { release = release; deadline = deadline; work = work } ∷ []
+rows_push [] [] [] are release deadline work = refl
+rows_push [] [] (w ∷ works) are release deadline work = absurd (omega (arith, are.wanted))
+rows_push [] (d ∷ deadlines) works are release deadline work = absurd (omega (arith, are.due))
+rows_push (r ∷ releases) [] works are release deadline work = absurd (omega (arith, are.due))
+rows_push (r ∷ releases) (d ∷ deadlines) [] are release deadline work = absurd (omega (arith, are.wanted))
+rows_push (r ∷ releases) (d ∷ deadlines) (w ∷ works) are release deadline work =
+    ap (λ (jobs : List Job). record { release = r; deadline = d; work = w } ∷ jobs)
+    (rows_push releases deadlines works (record { due = omega (arith, are.due); wanted = omega (arith, are.wanted) }) release deadline work)
 
 -- one more among them
 pub rows_insert : (releases deadlines works : List ℕ) → AreRows releases deadlines works → (i release deadline work : ℕ) → i ≤ length releases →

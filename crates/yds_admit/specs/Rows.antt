@@ -1,5 +1,5 @@
 -- Jobs in three lists.
-use Rattle.std.specs.Prelude.{ℕ, ◌≤◌, List, [], ◌∷◌, length}
+use Rattle.std.specs.Prelude.{◌≡◌, ℕ, List, [], ◌∷◌, length}
 use Rattle.yds_model.specs.Job.{Job}
 
 -- the jobs with these releases, deadlines and works
@@ -10,7 +10,7 @@ rows_of (release ∷ releases) (deadline ∷ deadlines) [] = []
 rows_of (release ∷ releases) (deadline ∷ deadlines) (work ∷ works) =
     record { release = release; deadline = deadline; work = work } ∷ rows_of releases deadlines works
 
--- each release has a deadline and a work
+-- as many deadlines and works as releases
 pub record AreRows (releases deadlines works : List ℕ) : Type 0 where
-  pub due : length releases ≤ length deadlines
-  pub wanted : length releases ≤ length works
+  pub due : length deadlines ≡ length releases
+  pub wanted : length works ≡ length releases

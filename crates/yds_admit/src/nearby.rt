@@ -1,4 +1,4 @@
-ghost use Rattle.std.specs.Prelude.{◌≡◌, ℕ, ◌+◌, ◌*◌, ◌<◌, ◌≤◌, ◌⊎◌, length, slice_index, sum_by};
+ghost use Rattle.std.specs.Prelude.{◌≡◌, ℕ, ◌+◌, ◌*◌, ◌<◌, ◌≤◌, ◌⊎◌, nat_le, if◌then◌else◌, length, slice_index, sum_by};
 ghost use Rattle.yds_model.specs.declared.limits.TheConstants.{MAX_WORK};
 ghost use Rattle.yds_model.specs.Job.{job_at};
 ghost use Rattle.yds_admit.specs.Pieces.{went};
@@ -47,9 +47,22 @@ pub(crate) fn units_between(pieces: &Pieces, first: usize, last: usize, end: usi
 {
     let mut units = 0;
     for number in first..last {
-        if pieces.places[number] <= end {
-            units += u64::from(pieces.jobs.work(number));
-        }
+        units += part_before(pieces, number, end);
     }
     units
+}
+
+/// The units of one of the pieces, if they take room before the place `end`, and else none.
+#[inline]
+fn part_before(pieces: &Pieces, number: usize, end: usize) -> u64
+    requires as_long { length pieces.now.places.items ≡ length pieces.now.jobs }
+    requires within { number < length pieces.now.jobs }
+    ensures { result ≡ (if nat_le (slice_index pieces.now.places.items number) end then (job_at pieces.now.jobs number).work else 0) }
+{
+    let work = u64::from(pieces.jobs.work(number));
+    if pieces.places[number] <= end {
+        work
+    } else {
+        0
+    }
 }

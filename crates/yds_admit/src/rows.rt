@@ -69,8 +69,13 @@ impl Rows {
     pub(crate) fn push(&mut self, row: JobRow) -> Result<(), Memory>
         ensures { IfOk result (λ _. self.new ≡ self.old ++ row ∷ []) }
     {
-        let number = self.len();
-        self.insert(number, row)
+        self.works.reserve(1)?;
+        self.deadlines.reserve(1)?;
+        self.releases.reserve(1)?;
+        self.works.push(row.work)?;
+        self.deadlines.push(row.deadline)?;
+        self.releases.push(row.release)?;
+        Ok(())
     }
 
     /// Puts one more among them, with this number.
@@ -78,6 +83,9 @@ impl Rows {
         requires { number ≤ length self.old }
         ensures { IfOk result (λ _. self.new ≡ insert self.old number row) }
     {
+        self.works.reserve(1)?;
+        self.deadlines.reserve(1)?;
+        self.releases.reserve(1)?;
         self.works.insert(number, row.work)?;
         self.deadlines.insert(number, row.deadline)?;
         self.releases.insert(number, row.release)?;
