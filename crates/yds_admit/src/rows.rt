@@ -20,9 +20,9 @@ impl Model for Rows {
 
     ghost Value = { List Job };
 
-    ghost use Rattle.yds_admit.specs.Rows.{rows_of, AreRows};
+    ghost use Rattle.yds_admit.specs.Rows.{listed_jobs, AreRows};
 
-    ghost view = { λ rows. rows_of rows.releases.items rows.deadlines.items rows.works.items };
+    ghost view = { λ rows. listed_jobs rows.releases.items rows.deadlines.items rows.works.items };
 
     ghost invariant = { λ rows. AreRows rows.releases.items rows.deadlines.items rows.works.items };
 }

@@ -1,15 +1,15 @@
 use Rattle.yds_model.proofs.Common.{◌≡◌, ◌<◌, ℕ, List, length, get_or, sym, subst, arith, rules, ap, nat_le, IsPartitionedBy, always_returns_same, leb-true, leb-false, le-leb, get_or_default, Job, job_at}
 use Rattle.yds_admit.specs.Chain.{IsFalling}
-use Rattle.yds_admit.specs.Rows.{rows_of, AreRows}
+use Rattle.yds_admit.specs.Rows.{listed_jobs, AreRows}
 use Rattle.yds_admit.proofs.Listed.{rows_len, row_at, row_count}
 use Rattle.yds_admit.proofs.rows.Rows.released_from.Goals as goal
 
 -- a release of theirs
 of_row : (releases deadlines works : List ℕ) → AreRows releases deadlines works → (k : ℕ) → k < length releases →
-    (job_at (rows_of releases deadlines works) k).release ≡ get_or releases k 0
+    (job_at (listed_jobs releases deadlines works) k).release ≡ get_or releases k 0
 of_row releases deadlines works are k below = ap (λ (job : Job). job.release) (row_at releases deadlines works are k below)
 
-parted : (releases deadlines works : List ℕ) → AreRows releases deadlines works → (time : ℕ) → IsFalling (rows_of releases deadlines works) →
+parted : (releases deadlines works : List ℕ) → AreRows releases deadlines works → (time : ℕ) → IsFalling (listed_jobs releases deadlines works) →
     IsPartitionedBy (λ release. nat_le time release) releases
 parted releases deadlines works are time falling i j d order within later = le-leb time (get_or releases i d) (omega (
   arith,
