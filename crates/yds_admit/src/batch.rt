@@ -26,6 +26,7 @@ pub(crate) fn admit_batch(
     ensures state { IfOk result (λ count. IsState board.now state.new) }
     ensures more { IfOk result (λ count. state.new.next ≡ state.old.next + count) }
     ensures short { IfOk result (λ count. count ≤ length board.now.rows.now) }
+    ensures none { IfOk result (λ count. count ≡ 0 → state.new ≡ state.old) }
 {
     let mut count = wanted.min(board.rows.len() - state.next);
     while count > SHORT_BATCH {

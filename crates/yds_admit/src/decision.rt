@@ -48,20 +48,29 @@ pub(crate) fn decide(alloc: Global, rows: &[JobRow], top: u32) -> Result<Decisio
     })
 }
 
-/// Decides jobs one by one until so many in a row are admitted as make a short batch. Answers how long a batch is to be tried next.
+/// Decides jobs one by one until a batch is admitted again, which is tried after so many in a row that are admitted as make a short one.
+/// Answers how long the next batch is to be.
 fn one_by_one(alloc: Global, board: &Board, state: &mut State) -> Result<usize, Memory>
     requires state { IsState board.now state.old }
     requires more { state.old.next < length board.now.rows.now }
     ensures state { IfOk result (λ _. IsState board.now state.new) }
     ensures more { IfOk result (λ _. state.old.next < state.new.next) }
-    ensures short { IfOk result (λ wanted. wanted ≤ 2 * SHORT_BATCH) }
+    ensures short { IfOk result (λ wanted. wanted ≤ 2 * MAX_JOBS) }
 {
     let mut room = Room::new(alloc, board, state)?;
     let mut admitted = 0;
-    while state.next < board.rows.len() && admitted < SHORT_BATCH {
+    while state.next < board.rows.len() {
         if decide_next(alloc, board, state, &mut room)? {
             admitted += 1;
         } else {
+            admitted = 0;
+        }
+        if admitted == SHORT_BATCH {
+            let count = admit_batch(alloc, board, state, 2 * SHORT_BATCH)?;
+            if count > 0 {
+                return Ok(2 * count);
+            }
+            // What is known of the room holds on: no job was admitted.
             admitted = 0;
         }
     }
