@@ -6,7 +6,6 @@ use Rattle.yds_model.specs.Policy.{numbers_of}
 use Rattle.yds_model.specs.Admission.{Refusal, AdmitsAfter, IsAdmission, jobs_with}
 use Rattle.yds_laws.specs.AdmissionLaws.{HasRoom}
 use Rattle.yds_admit.specs.Board.{IsBoard, IsMarked}
-use Rattle.yds_admit.specs.Orders.{AreOrdered}
 use Rattle.yds_admit.specs.declared.board.Board.{Board}
 use Rattle.yds_admit.specs.declared.state.State.{State}
 
@@ -36,7 +35,6 @@ pub record IsState (board : Board) (state : State) : Type 0 where
   pub within : state.next ≤ length board.rows.now
   pub decided : Decided board.rows.now board.top state.next state.taken.items state.jobs.items state.refused.items
   pub marked : IsMarked board.rows.now state.next state.marks.items state.jobs.items
-  pub ordered : AreOrdered state.jobs.items state.by_deadline.items
 
 -- the next job
 abbrev pub next_job : Board → State → Job

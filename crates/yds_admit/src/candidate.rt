@@ -3,6 +3,7 @@ ghost use Rattle.yds_admit.specs.Interval.{HasRoomFrom, IsFirstWith};
 ghost use Rattle.yds_admit.specs.Chain.{IsEnd};
 ghost use Rattle.yds_admit.specs.Idle.{Fits, IsIdleFrom};
 ghost use Rattle.yds_admit.specs.Pieces.{IsLeastBound};
+ghost use Rattle.yds_admit.specs.Orders.{AreOrdered};
 ghost use Rattle.yds_admit.specs.State.{IsState, next_job};
 ghost use Rattle.yds_admit.specs.Room.{IsRoom};
 
@@ -11,6 +12,8 @@ use crate::idle::{idle_place, take_before, take_between};
 use crate::interval::{Overfull, overfull_from};
 use crate::pieces::least_from_pieces;
 use crate::room::Room;
+use crate::rows::Rows;
+use crate::standing::deadline_place;
 use crate::state::State;
 use std::alloc::Global;
 use yds_model::Memory;
@@ -65,7 +68,7 @@ fn settle_next(board: &Board, state: &mut State, room: &mut Room) -> Result<Opti
         admit_beside(board, state, room, end)?;
         return Ok(Some(true));
     };
-    let Some(overfull) = first_overfull(board, state, from) else {
+    let Some(overfull) = first_overfull(board, state, &room.by_deadline, from) else {
         return Ok(None);
     };
     state.refuse_next(overfull)?;
@@ -100,6 +103,8 @@ fn admit_inside(
     );
     room.pieces.add(row, begin + 1)?;
     room.fresh = false;
+    let due = deadline_place(&room.by_deadline, row);
+    room.by_deadline.insert(due, *row)?;
     state.admit_next(board)?;
     Ok(())
 }
@@ -122,19 +127,22 @@ fn admit_beside(board: &Board, state: &mut State, room: &mut Room, end: usize) -
     let place = take_before(&mut room.idle, &mut room.links, end, u64::from(row.work));
     room.pieces.add(row, place)?;
     room.fresh = false;
+    let due = deadline_place(&room.by_deadline, row);
+    room.by_deadline.insert(due, *row)?;
     state.admit_next(board)?;
     Ok(())
 }
 
 /// The first overfull interval of the admitted jobs and the next one, if one begins at this time. None begins before.
-#[tactic(auto, using(std::proofs::lemmas::List::Sorted::length_permutation, crate::proofs::Least::room_alone))]
-fn first_overfull(board: &Board, state: &State, from: u32) -> Option<Overfull>
+#[tactic(auto, using(std::proofs::lemmas::List::Sorted::length_permutation))]
+fn first_overfull(board: &Board, state: &State, by_deadline: &Rows, from: u32) -> Option<Overfull>
     requires state { IsState board.now state.now }
     requires more { state.now.next < length board.now.rows.now }
+    requires ordered { AreOrdered state.now.jobs.items by_deadline.now }
     requires least { (end : ℕ) × (idle : List ℕ) × IsEnd board.now.times.items (next_job board.now state.now).deadline end
         × IsLeastBound board.now.top board.now.times.items state.now.jobs.items (next_job board.now state.now) end idle from }
     ensures { MatchOption result (HasRoomFrom board.now.top (state.now.jobs.items ++ next_job board.now state.now ∷ []) from)
         (λ overfull. IsFirstWith board.now.top (state.now.jobs.items ++ next_job board.now state.now ∷ []) overfull.from overfull.to overfull.work) }
 {
-    overfull_from(&state.by_deadline, state.next_row(board), from, board.top)
+    overfull_from(by_deadline, state.next_row(board), from, board.top)
 }

@@ -1,11 +1,11 @@
-ghost use Rattle.std.specs.Prelude.{◌≡◌, ◌*◌, ◌≤◌, ◌++◌, ◌∷◌, [], nat_le, if◌then◌else◌, IfOk, MatchOption, length, take, All};
+ghost use Rattle.std.specs.Prelude.{◌≡◌, ◌*◌, ◌<◌, ◌≤◌, ◌++◌, ◌∷◌, [], nat_le, if◌then◌else◌, IfOk, MatchOption, length, take, All};
 ghost use Rattle.std.specs.List.Sorted.{IsPermutation, IsNonDecreasingBy};
 ghost use Rattle.yds_model.specs.declared.limits.TheConstants.{MAX_WORK};
-ghost use Rattle.yds_model.specs.Job.{IsJob};
+ghost use Rattle.yds_model.specs.Job.{IsJob, job_at};
 ghost use Rattle.yds_model.specs.Confined.{released_work};
 ghost use Rattle.yds_admit.specs.Interval.{HasRoomFrom, IsFirstFrom};
 
-use crate::standing::due_before;
+use crate::rows::Rows;
 use yds_model::limits::{MAX_JOBS, MAX_TOP};
 use yds_model::{JobRow, Memory};
 
@@ -32,7 +32,7 @@ pub(crate) fn sort_by_deadline(jobs: &mut Vec<JobRow>) -> Result<(), Memory>
 /// The first interval from `from` that is overfull with one job more, if there is one. Without the job there is none: so it ends at
 /// the job's deadline or later.
 pub(crate) fn overfull_from(
-    by_deadline: &[JobRow],
+    by_deadline: &Rows,
     row: &JobRow,
     from: u32,
     top: u32,
@@ -48,18 +48,18 @@ pub(crate) fn overfull_from(
         (λ overfull. IsFirstFrom top (by_deadline.now ++ row.now ∷ []) from overfull.from overfull.to overfull.work) }
 {
     // All that is due by the job's deadline is counted in one walk.
-    let place = due_before(by_deadline, row.deadline + 1);
+    let place = by_deadline.due_before(row.deadline + 1);
     let mut work = u64::from(row.work) + released_before(by_deadline, place, from);
     let mut to = row.deadline;
     for number in place..by_deadline.len() {
-        let job = &by_deadline[number];
-        if to < job.deadline {
+        let deadline = by_deadline.deadline(number);
+        if to < deadline {
             if work > u64::from(top) * u64::from(to - from) {
                 return Some(Overfull { from, to, work });
             }
-            to = job.deadline;
+            to = deadline;
         }
-        work += released_part(job, from);
+        work += released_part(by_deadline, number, from);
     }
     if work > u64::from(top) * u64::from(to - from) {
         return Some(Overfull { from, to, work });
@@ -68,7 +68,7 @@ pub(crate) fn overfull_from(
 }
 
 /// The work of the jobs before a place that are released at a time or later, in units of work.
-fn released_before(by_deadline: &[JobRow], place: usize, from: u32) -> u64
+fn released_before(by_deadline: &Rows, place: usize, from: u32) -> u64
     requires few { length by_deadline.now ≤ MAX_JOBS }
     requires within { place ≤ length by_deadline.now }
     requires are { All IsJob by_deadline.now }
@@ -78,18 +78,24 @@ fn released_before(by_deadline: &[JobRow], place: usize, from: u32) -> u64
 {
     let mut work = 0;
     // Those that are due before that time were released before it.
-    for number in due_before(by_deadline, from).min(place)..place {
-        work += released_part(&by_deadline[number], from);
+    for number in by_deadline.due_before(from).min(place)..place {
+        work += released_part(by_deadline, number, from);
     }
     work
 }
 
-/// The work of a job that is released at a time or later, in units of work, and none of one that is released before.
+/// The work of one of the jobs, in units of work, if it is released at a time or later, and else none.
 #[inline]
-fn released_part(job: &JobRow, from: u32) -> u64
-    ensures part { result ≡ (if nat_le from job.now.release then job.now.work else 0) }
+fn released_part(by_deadline: &Rows, number: usize, from: u32) -> u64
+    requires known { number < length by_deadline.now }
+    requires are { All IsJob by_deadline.now }
+    ensures part { result ≡ (if nat_le from (job_at by_deadline.now number).release then (job_at by_deadline.now number).work else 0) }
     ensures few { result ≤ MAX_WORK }
 {
-    let work = u64::from(job.work);
-    if from <= job.release { work } else { 0 }
+    let work = u64::from(by_deadline.work(number));
+    if from <= by_deadline.release(number) {
+        work
+    } else {
+        0
+    }
 }

@@ -3,7 +3,9 @@ ghost use Rattle.yds_admit.specs.State.{IsState};
 ghost use Rattle.yds_admit.specs.Room.{IsRoom};
 
 use crate::board::Board;
+use crate::interval::sort_by_deadline;
 use crate::pieces::{Pieces, cut_each, used_before};
+use crate::rows::Rows;
 use crate::state::State;
 use std::alloc::Global;
 use yds_model::Memory;
@@ -19,10 +21,12 @@ pub(crate) struct Room {
     pub(crate) pieces: Pieces,
     /// Whether all of them were cut together: no job was admitted since.
     pub(crate) fresh: bool,
+    /// The admitted jobs by rising deadlines.
+    pub(crate) by_deadline: Rows,
 }
 
 impl Room {
-    /// The pieces of the admitted jobs, and what they leave idle.
+    /// The pieces of the admitted jobs, what they leave idle, and the jobs by rising deadlines.
     #[tactic(auto, using(crate::proofs::Left::left_less, crate::proofs::Left::left_few))]
     pub(crate) fn new(alloc: Global, board: &Board, state: &State) -> Result<Room, Memory>
         requires { IsState board.now state.now }
@@ -31,11 +35,14 @@ impl Room {
     {
         let (mut pieces, idle, links) = cut_each(alloc, board, &state.marks)?;
         pieces.used = used_before(alloc, &board.gaps, &idle)?;
+        let mut jobs = Vec::from_slice(alloc, &state.jobs)?;
+        sort_by_deadline(&mut jobs)?;
         Ok(Room {
             idle,
             links,
             pieces,
             fresh: true,
+            by_deadline: Rows::from_slice(alloc, &jobs)?,
         })
     }
 }

@@ -1,4 +1,5 @@
 ghost use Rattle.std.specs.Prelude.{◌≡◌, ℕ, ◌<◌, ◌≤◌, ◌++◌, ◌∷◌, [], IfOk, insert, length};
+ghost use Rattle.std.specs.List.Sorted.{IsNonDecreasingBy};
 ghost use Rattle.yds_model.specs.Job.{job_at};
 ghost use Rattle.yds_admit.specs.Chain.{IsFalling};
 
@@ -39,6 +40,17 @@ impl Rows {
         })
     }
 
+    /// These jobs, in their order.
+    pub(crate) fn from_slice(alloc: Global, jobs: &[JobRow]) -> Result<Rows, Memory>
+        ensures { IfOk result (λ rows. rows ≡ jobs.now) }
+    {
+        let mut rows = Rows::with_capacity(alloc, jobs.len())?;
+        for job in jobs {
+            rows.push(*job)?;
+        }
+        Ok(rows)
+    }
+
     /// How many they are.
     #[inline]
     pub(crate) fn len(&self) -> usize
@@ -54,6 +66,15 @@ impl Rows {
         ensures { result ≡ (job_at self.now number).release }
     {
         self.releases[number]
+    }
+
+    /// The deadline of one of them.
+    #[inline]
+    pub(crate) fn deadline(&self, number: usize) -> u32
+        requires { number < length self.now }
+        ensures { result ≡ (job_at self.now number).deadline }
+    {
+        self.deadlines[number]
     }
 
     /// The work of one of them.
@@ -100,5 +121,15 @@ impl Rows {
         ensures late { (k : ℕ) → result ≤ k → k < length self.now → (job_at self.now k).release < time }
     {
         self.releases.partition_point(|release| time <= *release)
+    }
+
+    /// How many of them, which stand in rising order of their deadlines, are due before a time.
+    pub(crate) fn due_before(&self, time: u32) -> usize
+        requires { IsNonDecreasingBy (λ job. job.deadline) self.now }
+        ensures within { result ≤ length self.now }
+        ensures before { (k : ℕ) → k < result → (job_at self.now k).deadline < time }
+        ensures after { (k : ℕ) → result ≤ k → k < length self.now → time ≤ (job_at self.now k).deadline }
+    {
+        self.deadlines.partition_point(|deadline| *deadline < time)
     }
 }

@@ -8,9 +8,8 @@ ghost use Rattle.yds_admit.specs.State.{IsState, next_job};
 ghost use Rattle.yds_admit.specs.Interval.{IsFirstWith};
 
 use crate::board::Board;
-use crate::interval::{Overfull, sort_by_deadline};
+use crate::interval::Overfull;
 use crate::refusal::Refusal;
-use crate::standing::deadline_place;
 use std::alloc::Global;
 use yds_model::{JobRow, Memory};
 
@@ -27,8 +26,6 @@ pub(crate) struct State {
     pub(crate) refused: Vec<Refusal>,
     /// Of each of all jobs, whether it is admitted.
     pub(crate) marks: Vec<bool>,
-    /// The admitted jobs by rising deadlines.
-    pub(crate) by_deadline: Vec<JobRow>,
 }
 
 impl State {
@@ -44,7 +41,6 @@ impl State {
             jobs: Vec::new(alloc),
             refused: Vec::new(alloc),
             marks: vec![in alloc; false; board.rows.len()]?,
-            by_deadline: Vec::new(alloc),
         })
     }
 
@@ -88,10 +84,7 @@ impl State {
             let row = &board.rows[number];
             self.taken.push(number as u32)?;
             self.jobs.push(*row)?;
-            self.by_deadline.push(*row)?;
         }
-        // Sorting takes little where most are in order already.
-        sort_by_deadline(&mut self.by_deadline)?;
         self.marks = marks;
         self.next = last;
         Ok(())
@@ -108,10 +101,8 @@ impl State {
     {
         let number = self.next;
         let row = self.next_row(board);
-        let place = deadline_place(&self.by_deadline, row);
         self.taken.push(number as u32)?;
         self.jobs.push(*row)?;
-        self.by_deadline.insert(place, *row)?;
         self.marks[number] = true;
         self.next = number + 1;
         Ok(())

@@ -1,10 +1,12 @@
-use Rattle.yds_model.proofs.Common.{◌≡◌, ℕ, ◌+◌, List, [], ◌∷◌, ◌++◌, ◌∙◌, sym, ap, subst, arith, false≢true, Job, no_job}
+use Rattle.yds_model.proofs.Common.{◌≡◌, ℕ, ◌+◌, List, [], ◌∷◌, ◌++◌, ◌∙◌, sym, ap, subst, arith, insert, false≢true, Job, no_job}
 use Rattle.yds_admit.specs.Idle.{HasIdle, IsTaken}
+use Rattle.yds_admit.specs.Orders.{AreOrdered}
 use Rattle.yds_admit.specs.Pieces.{AreBounds, AreMore, IsAdded}
 use Rattle.yds_admit.specs.State.{next_job}
 use Rattle.yds_admit.proofs.Bounds.{bounds_added, used_added, few_used, taken_gain}
 use Rattle.yds_admit.proofs.Idleness.{has_more, idle_room, lent}
 use Rattle.yds_admit.proofs.Next.{next_due}
+use Rattle.yds_admit.proofs.Ordered.{ordered_more}
 use Rattle.yds_admit.proofs.candidate.admit_inside.Goals as goal
 
 pub admit_next-requires-clause-room : goal.admit_next-requires-clause-room
@@ -56,6 +58,7 @@ returns-clause-room c =
     let whole = lent room.idle.len room.idle.items new room.idle.ok.0 taken.as_long in
     let leads = lent room.links.len room.links.items c.take_between.new.links room.links.ok.0
     (omega (arith, c.take_between.ensures.links.as_long, taken.as_long, c.requires.room.links.as_long)) in
+    let due : ℕ = c.deadline_place-due.result in
     record {
       has_idle = subst (HasIdle top times c.admit_next.new.self.jobs.items) (sym whole)
           (subst (λ (some : List Job). HasIdle top times some new) (sym c.in_ok-admit_next.ensures.jobs) idle);
@@ -64,6 +67,10 @@ returns-clause-room c =
           (subst (λ (some : List Job). AreBounds top times some new_pieces.jobs new_pieces.places.items new) (sym c.in_ok-admit_next.ensures.jobs) bounds);
       used = used_added times old_pieces.jobs old_pieces.places.items old_pieces.used.items row (begin + 1) new_pieces.jobs new_pieces.places.items new_pieces.used.items
           c.requires.room.bounds.as_long added c.requires.room.used more;
+      ordered = rw (c.in_ok-admit_next.ensures.jobs, c.in_ok-insert.ensures)
+          (subst (λ (one : Job). AreOrdered (jobs ++ row ∷ []) (insert room.by_deadline due one)) (sym c.row.view_is)
+          (subst (λ (one : Job). AreOrdered (jobs ++ one ∷ []) (insert room.by_deadline due c.next_row-row.result.now)) c.next_row-row.ensures
+          (ordered_more jobs room.by_deadline due c.next_row-row.result.now c.requires.room.ordered c.deadline_place-due.ensures.rising)));
       exact = λ fresh. absurd (false≢true fresh);
     }
 

@@ -10,4 +10,4 @@ returns-clause-room c =
     let links = rw c.deref.ensures.value at c.idle_place-near.ensures.links in
     let whole = lent old.len old.items new old.ok.0 (omega (arith, links.as_long, held.links.as_long)) in
     rw c.in_ok-refuse_next.ensures.jobs
-    (record { has_idle = held.has_idle; links = rw whole links; bounds = held.bounds; used = held.used; exact = held.exact })
+    (record { has_idle = held.has_idle; links = rw whole links; bounds = held.bounds; used = held.used; ordered = held.ordered; exact = held.exact })

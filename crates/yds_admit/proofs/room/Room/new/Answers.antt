@@ -16,5 +16,9 @@ returns-clause-room c =
       bounds = left_bounds board state c.requires pieces.jobs pieces.places.items idle c.in_ok-pieces.ensures.cutting cut c.in_ok-pieces.ensures.as_long;
       used = left_used board state c.requires pieces.jobs pieces.places.items idle c.in_ok-pieces.ensures.cutting cut c.in_ok-pieces.ensures.as_long
           c.in_ok-pieces-2.field-0.items long each;
+      ordered = record {
+        deadlines = rw (c.in_ok-from_slice.ensures, c.deref-5.ensures.value) (rw (c.in_ok-jobs.ensures.items, c.deref-4.ensures.value) at c.in_ok-sort_by_deadline.ensures.same);
+        rising = rw (c.in_ok-from_slice.ensures, c.deref-5.ensures.value) c.in_ok-sort_by_deadline.ensures.rising;
+      };
       exact = λ fresh. left_exact board state c.requires pieces.jobs pieces.places.items idle c.in_ok-pieces.ensures.cutting cut c.in_ok-pieces.ensures.as_long;
     }

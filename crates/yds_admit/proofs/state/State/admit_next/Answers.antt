@@ -1,7 +1,6 @@
 use Rattle.yds_model.proofs.Common.{◌∷◌, [], ◌++◌, sym, arith, subst, Job, IsJob, no_job}
 use Rattle.yds_laws.specs.AdmissionLaws.{HasRoom}
 use Rattle.yds_admit.proofs.Deciding.{takes}
-use Rattle.yds_admit.proofs.Ordered.{ordered_more}
 use Rattle.yds_admit.proofs.Marks.{one_more}
 use Rattle.yds_admit.proofs.state.State.admit_next.Goals as goal
 
@@ -20,7 +19,4 @@ returns-clause-state c =
           (takes rows board.top old.next old.taken.items old.jobs.items old.refused.items c.requires.state.on.some_top c.requires.more c.requires.state.decided row is
           is_job (subst (λ (one : Job). HasRoom board.top (old.jobs.items ++ one ∷ [])) (sym is) c.requires.room));
       marked = rw c.in_ok-push-2.ensures.items (one_more rows old.marks.items old.jobs.items old.next row c.requires.more is c.requires.state.marked);
-      ordered = rw (c.in_ok-push-2.ensures.items, c.in_ok-insert.ensures.items)
-          (ordered_more old.jobs.items old.by_deadline.items c.deadline_place-place.result row c.requires.state.ordered
-          (rw c.deref.ensures.value at c.deadline_place-place.ensures.rising));
     }

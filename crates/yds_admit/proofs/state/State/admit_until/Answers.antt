@@ -1,4 +1,4 @@
-use Rattle.yds_model.proofs.Common.{◌≡◌, ℕ, ◌∷◌, ◌++◌, [], List, ◌<◌, length, get_or, ◌∙◌, take, drop, sym, subst, ap, arith, get_or_default, append-nil, drop_all, length-take-le, Job, no_job, job_at, IsPermutation-append_left, IsPermutation-trans}
+use Rattle.yds_model.proofs.Common.{◌≡◌, ℕ, ◌++◌, [], List, ◌<◌, length, get_or, ◌∙◌, take, drop, sym, subst, ap, arith, get_or_default, append-nil, drop_all, length-take-le, Job, no_job, job_at}
 use Rattle.yds_admit.specs.Board.{IsMarked}
 use Rattle.yds_admit.specs.State.{Decided}
 use Rattle.yds_admit.proofs.Deciding.{takes_first}
@@ -15,7 +15,6 @@ loop-number-preserved c =
     record {
       decided = rw (c.in_ok-push.ensures.items, c.in_ok-push-2.ensures.items) first.0;
       whole = rw c.in_ok-push-2.ensures.items first.1;
-      deadlines = rw (c.in_ok-push-2.ensures.items, c.in_ok-push-3.ensures.items) (IsPermutation-append_left (row ∷ []) _ _ c.loop-number.invariant.deadlines);
     }
 
 pub returns-clause-state : goal.returns-clause-state
@@ -33,8 +32,4 @@ returns-clause-state c =
       within = c.requires.within;
       decided = subst (λ (n : ℕ). Decided rows c.args.board.now.top n state.taken.items state.jobs.items state.refused.items) e held.decided;
       marked = subst (λ (jobs : List Job). IsMarked rows last c.args.marks.items jobs) (sym whole) c.requires.marks;
-      ordered = record {
-        deadlines = IsPermutation-trans state.jobs.items state.by_deadline.items c.sort_by_deadline.new.jobs.items held.deadlines c.in_ok-sort_by_deadline.ensures.same;
-        rising = c.in_ok-sort_by_deadline.ensures.rising;
-      };
     }
