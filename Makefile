@@ -1,7 +1,7 @@
 # Builds, tries, tests and installs yds_cli.
 #
 #   make            proves every crate and builds build/yds_cli
-#   make run        the same, and plans the document EXAMPLE with it
+#   make run        proves the crates that the program is made of, builds it, and plans the document EXAMPLE with it
 #   make try        runs the program on DOCUMENT with the words of COMMAND, unproved, after a minute or two
 #   make test       the gate: every proof, test, refused edit and stored run
 #   make check      the built program answers every example and stored row byte for byte, within seconds
@@ -34,7 +34,6 @@ SHELL := /bin/bash
 PROGRAM := yds_cli
 BINARY := build/$(PROGRAM)
 SOURCES := crates.txt $(shell find crates -path '*/out' -prune -o \( -name '*.rt' -o -name '*.antt' \) -print)
-CRATES := $(shell grep -c '^[a-z]' crates.txt)
 # Some wait for those that they stand on: so there are twice as many as processors, where memory holds them.
 JOBS ?= $(shell awk -v n=$$(nproc) '/^MemTotal/ { m = int($$2 / 2097152); print m < 1 ? 1 : m < 2 * n ? m : 2 * n }' /proc/meminfo)
 PREFIX ?= /usr/local
@@ -66,23 +65,24 @@ LIBRARY_FILES := libyds.so libyds.so.$(firstword $(subst ., ,$(VERSION))) libyds
 
 .PHONY: all run try test check recipes faults fuzz costly bench bench-library library library-test wheel install install-program install-library uninstall uninstall-program uninstall-library map deb dist check-build record-build packages-test clean tool
 
-all: $(BINARY)
+all: $(BINARY) build/proved
 
 HAS_TOOL = command -v rt >/dev/null 2>&1 || { echo "make: the command 'rt' of the Rattle toolchain is not on the PATH; install the kit that README.md names." >&2; exit 1; }
 
 tool:
 	@$(HAS_TOOL)
 
-# A line for each crate that is proved. The one on which all others stand comes first, on all processors. How long it took is kept for the next
-# time. Where the program is built, no tool is wanted.
+# What the program is made of: the crate on which all others stand comes first, on all processors; then the others side by side, with a line for
+# each that was checked; then the program itself. How long it took is kept for the next time. Where the program is built, no tool is wanted.
+TELL = awk '/^== / && $$2 != "summary" { printf "crate %d: %s\n", ++k, $$2; fflush() }'
+
 $(BINARY): $(SOURCES)
 	@$(HAS_TOOL)
 	@mkdir -p build
-	@echo "Proving $(CRATES) crates, $(JOBS) side by side$$(test -f build/seconds && echo "; the last time this took $$(cat build/seconds) seconds")."
+	@echo "Proving the program's crates, $(JOBS) side by side$$(test -f build/seconds && echo "; the last time this took $$(cat build/seconds) seconds")."
 	@set -o pipefail; began=$$(date +%s); \
 	(cd crates/yds_model && rt lib) >build/log 2>&1 \
-	&& rt all check --jobs $(JOBS) 2>&1 | tee build/log \
-	| awk -v n=$(CRATES) '/^== / && $$2 != "summary" { printf "crate %d of %d: %s\n", ++k, n, $$2; fflush() }' \
+	&& (cd crates/yds_run && rt all check --jobs $(JOBS)) 2>&1 | tee build/log | $(TELL) \
 	&& echo "Building $(PROGRAM)." \
 	&& (cd crates/$(PROGRAM) && rt run $(PROGRAM) -- plan </dev/null) >>build/log 2>&1 \
 	|| { tail -n 40 build/log >&2; exit 1; }; \
@@ -91,6 +91,13 @@ $(BINARY): $(SOURCES)
 	@cp crates/$(PROGRAM)/out/$(PROGRAM) build/$(PROGRAM)-dynamic
 	@CC=$(CC) LINK=$(LINK) sh packaging/link.sh
 	@echo "Built $@ in $$(cat build/seconds) seconds."
+
+# The other crates too: the library's, the textbook's, the law of parts and the examples.
+build/proved: $(SOURCES) | $(BINARY)
+	@$(HAS_TOOL)
+	@echo "Proving the other crates."
+	@set -o pipefail; rt all check --jobs $(JOBS) 2>&1 | tee build/log | $(TELL) || { tail -n 40 build/log >&2; exit 1; }
+	@touch $@
 
 run: $(BINARY)
 	@echo "$(BINARY) plan < $(EXAMPLE)"
