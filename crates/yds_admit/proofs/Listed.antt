@@ -1,5 +1,5 @@
 -- Jobs in three lists: how many they are, each of them, and one more among them.
-use Rattle.yds_model.proofs.Common.{◌≡◌, ℕ, zero, suc, ◌<◌, ◌≤◌, List, [], ◌∷◌, ◌++◌, length, get_or, insert, refl, arith, ap, Job, job_at}
+use Rattle.yds_model.proofs.Common.{◌≡◌, ℕ, zero, suc, ◌<◌, ◌≤◌, List, [], ◌∷◌, ◌++◌, length, get_or, insert, ◌∙◌, refl, sym, arith, ap, Job, job_at}
 use Rattle.yds_admit.specs.Rows.{listed_jobs, AreRows}
 
 -- as many as releases
@@ -49,3 +49,16 @@ rows_insert (r ∷ releases) (d ∷ deadlines) (w ∷ works) are (suc i) release
 pub row_count : (releases deadlines works : List ℕ) (jobs : List Job) → AreRows releases deadlines works → listed_jobs releases deadlines works ≡ jobs →
     length jobs ≡ length releases
 row_count releases deadlines works jobs are is = omega (arith, rows_len releases deadlines works are, ap (λ (some : List Job). length some) is)
+
+-- a job's numbers stand in the lists
+pub record IsListed (releases deadlines works : List ℕ) (jobs : List Job) (k : ℕ) : Type 0 where
+  pub release : get_or releases k 0 ≡ (job_at jobs k).release
+  pub deadline : get_or deadlines k 0 ≡ (job_at jobs k).deadline
+  pub work : get_or works k 0 ≡ (job_at jobs k).work
+
+-- so do those of each of these jobs, which are the same
+pub each_listed : (releases deadlines works : List ℕ) (jobs : List Job) → AreRows releases deadlines works → listed_jobs releases deadlines works ≡ jobs →
+    (k : ℕ) → k < length releases → IsListed releases deadlines works jobs k
+each_listed releases deadlines works jobs are is k below =
+    let row = sym (row_at releases deadlines works are k below) ∙ ap (λ (some : List Job). job_at some k) is in
+    record { release = ap (λ (job : Job). job.release) row; deadline = ap (λ (job : Job). job.deadline) row; work = ap (λ (job : Job). job.work) row }

@@ -1,5 +1,5 @@
-use Rattle.yds_model.proofs.Common.{◌<◌, List, length, ◌∙◌, sym, arith, ap, get_or_read, Job, job_at}
-use Rattle.yds_admit.proofs.Listed.{row_at, row_count}
+use Rattle.yds_model.proofs.Common.{◌<◌, length, ◌∙◌, arith, get_or_read}
+use Rattle.yds_admit.proofs.Listed.{row_count, each_listed}
 use Rattle.yds_admit.proofs.rows.Rows.work.Goals as goal
 
 pub index-requires : goal.index-requires
@@ -7,10 +7,7 @@ index-requires c = omega (arith, c.requires, c.self.invariant.wanted, row_count 
 
 pub returns : goal.returns
 returns c =
-    let releases = c.self.inside.releases.items in
-    let deadlines = c.self.inside.deadlines.items in
-    let works = c.self.inside.works.items in
-    let below : c.args.number < length releases = omega (arith, c.requires, row_count releases deadlines works c.args.self.now c.self.invariant c.self.view_is) in
-    get_or_read works c.args.number c.index.result.now (omega (arith, below, c.self.invariant.wanted)) c.index.ensures 0
-    ∙ sym (ap (λ (job : Job). job.work) (row_at releases deadlines works c.self.invariant c.args.number below))
-    ∙ ap (λ (jobs : List Job). (job_at jobs c.args.number).work) c.self.view_is
+    let rows = c.self.inside in
+    let below : c.args.number < length rows.releases.items = omega (arith, c.requires, row_count rows.releases.items rows.deadlines.items rows.works.items c.args.self.now c.self.invariant c.self.view_is) in
+    get_or_read rows.works.items c.args.number c.index.result.now (omega (arith, below, c.self.invariant.wanted)) c.index.ensures 0
+    ∙ (each_listed rows.releases.items rows.deadlines.items rows.works.items c.args.self.now c.self.invariant c.self.view_is c.args.number below).work
