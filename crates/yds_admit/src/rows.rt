@@ -44,11 +44,19 @@ impl Rows {
     pub(crate) fn from_slice(alloc: Global, jobs: &[JobRow]) -> Result<Rows, Memory>
         ensures { IfOk result (λ rows. rows ≡ jobs.now) }
     {
-        let mut rows = Rows::with_capacity(alloc, jobs.len())?;
+        let mut releases = Vec::with_capacity(alloc, jobs.len())?;
+        let mut deadlines = Vec::with_capacity(alloc, jobs.len())?;
+        let mut works = Vec::with_capacity(alloc, jobs.len())?;
         for job in jobs {
-            rows.push(*job)?;
+            releases.push(job.release)?;
+            deadlines.push(job.deadline)?;
+            works.push(job.work)?;
         }
-        Ok(rows)
+        Ok(Rows {
+            releases,
+            deadlines,
+            works,
+        })
     }
 
     /// How many they are.
