@@ -131,7 +131,7 @@ costly: $(BINARY)
 bench: $(BINARY)
 	@CC=$(CC) CXX=$(CXX) sh bench/bench.sh
 
-# The archive is made with the shared object. The crates are proved side by side, with the program, before either.
+# The archive is made with the shared object. What they stand on is proved with the program, and their own crate as they are built.
 $(LIBRARY): $(SOURCES) library/build.sh library/yds.map | $(BINARY)
 	@CC=$(CC) sh library/build.sh
 
