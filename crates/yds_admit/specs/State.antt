@@ -1,6 +1,7 @@
 -- What is decided of jobs.
 use Rattle.std.specs.Prelude.{◌≡◌, ℕ, ◌<◌, ◌≤◌, ◌++◌, List, length, drop}
 use Rattle.std.specs.List.{All}
+use Rattle.std.specs.List.Sorted.{IsPermutation}
 use Rattle.yds_model.specs.Job.{Job, IsJob, job_at}
 use Rattle.yds_model.specs.Policy.{numbers_of}
 use Rattle.yds_model.specs.Admission.{Refusal, AdmitsAfter, IsAdmission, jobs_with}
@@ -35,6 +36,7 @@ pub record IsState (board : Board) (state : State) : Type 0 where
   pub within : state.next ≤ length board.rows.now
   pub decided : Decided board.rows.now board.top state.next state.taken.items state.jobs.items state.refused.items
   pub marked : IsMarked board.rows.now state.next state.marks.items state.jobs.items
+  pub same : IsPermutation state.jobs.items state.nearly_sorted.items
 
 -- the next job
 abbrev pub next_job : Board → State → Job

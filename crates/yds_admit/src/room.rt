@@ -28,21 +28,23 @@ pub(crate) struct Room {
 impl Room {
     /// The pieces of the admitted jobs, what they leave idle, and the jobs by rising deadlines.
     #[tactic(auto, using(crate::proofs::Left::left_less, crate::proofs::Left::left_few))]
-    pub(crate) fn new(alloc: Global, board: &Board, state: &State) -> Result<Room, Memory>
-        requires { IsState board.now state.now }
-        ensures room { IfOk result (IsRoom board.now state.now.jobs.items) }
+    pub(crate) fn new(alloc: Global, board: &Board, state: &mut State) -> Result<Room, Memory>
+        requires { IsState board.now state.old }
+        ensures state { IfOk result (λ _. IsState board.now state.new) }
+        ensures next { IfOk result (λ _. state.new.next ≡ state.old.next) }
+        ensures room { IfOk result (IsRoom board.now state.new.jobs.items) }
         ensures fresh { IfOk result (λ room. room.fresh ≡ true) }
     {
         let (mut pieces, idle, links) = cut_each(alloc, board, &state.marks)?;
         pieces.used = used_before(alloc, &board.gaps, &idle)?;
-        let mut jobs = Vec::from_slice(alloc, &state.jobs)?;
-        sort_by_deadline(&mut jobs)?;
+        // Sorting takes little where most are in order already.
+        sort_by_deadline(&mut state.nearly_sorted)?;
         Ok(Room {
             idle,
             links,
             pieces,
             fresh: true,
-            by_deadline: Rows::from_slice(alloc, &jobs)?,
+            by_deadline: Rows::from_slice(alloc, &state.nearly_sorted)?,
         })
     }
 }

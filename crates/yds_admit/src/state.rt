@@ -26,6 +26,8 @@ pub(crate) struct State {
     pub(crate) refused: Vec<Refusal>,
     /// Of each of all jobs, whether it is admitted.
     pub(crate) marks: Vec<bool>,
+    /// The admitted jobs, of which the first stand by rising deadlines: all that were there when they were sorted last.
+    pub(crate) nearly_sorted: Vec<JobRow>,
 }
 
 impl State {
@@ -41,6 +43,7 @@ impl State {
             jobs: Vec::new(alloc),
             refused: Vec::new(alloc),
             marks: vec![in alloc; false; board.rows.len()]?,
+            nearly_sorted: Vec::new(alloc),
         })
     }
 
@@ -84,6 +87,7 @@ impl State {
             let row = &board.rows[number];
             self.taken.push(number as u32)?;
             self.jobs.push(*row)?;
+            self.nearly_sorted.push(*row)?;
         }
         self.marks = marks;
         self.next = last;
@@ -103,6 +107,7 @@ impl State {
         let row = self.next_row(board);
         self.taken.push(number as u32)?;
         self.jobs.push(*row)?;
+        self.nearly_sorted.push(*row)?;
         self.marks[number] = true;
         self.next = number + 1;
         Ok(())

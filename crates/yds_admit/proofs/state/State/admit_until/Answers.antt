@@ -1,4 +1,4 @@
-use Rattle.yds_model.proofs.Common.{◌≡◌, ℕ, ◌++◌, [], List, ◌<◌, length, get_or, ◌∙◌, take, drop, sym, subst, ap, arith, get_or_default, append-nil, drop_all, length-take-le, Job, no_job, job_at}
+use Rattle.yds_model.proofs.Common.{◌∷◌, ◌≡◌, ℕ, ◌++◌, [], List, ◌<◌, length, get_or, ◌∙◌, take, drop, sym, subst, ap, arith, get_or_default, append-nil, drop_all, length-take-le, Job, no_job, job_at, IsPermutation-append_left}
 use Rattle.yds_admit.specs.Board.{IsMarked}
 use Rattle.yds_admit.specs.State.{Decided}
 use Rattle.yds_admit.proofs.Deciding.{takes_first}
@@ -14,6 +14,7 @@ loop-number-preserved c =
     _ c.requires.state.on.some_top c.loop-number-test.true c.requires.within c.loop-number.invariant.decided c.loop-number.invariant.whole c.requires.room row is (c.requires.state.on.are c.loop-number.number c.index-board-number.result below) in
     record {
       decided = rw (c.in_ok-push.ensures.items, c.in_ok-push-2.ensures.items) first.0;
+      same = rw (c.in_ok-push-2.ensures.items, c.in_ok-push-3.ensures.items) (IsPermutation-append_left (row ∷ []) c.loop-number.self.jobs.items c.loop-number.self.nearly_sorted.items c.loop-number.invariant.same);
       whole = rw c.in_ok-push-2.ensures.items first.1;
     }
 
@@ -32,4 +33,5 @@ returns-clause-state c =
       within = c.requires.within;
       decided = subst (λ (n : ℕ). Decided rows c.args.board.now.top n state.taken.items state.jobs.items state.refused.items) e held.decided;
       marked = subst (λ (jobs : List Job). IsMarked rows last c.args.marks.items jobs) (sym whole) c.requires.marks;
+      same = held.same;
     }

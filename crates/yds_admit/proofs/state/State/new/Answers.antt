@@ -1,4 +1,4 @@
-use Rattle.yds_model.proofs.Common.{ℕ, ◌≡◌, false, arith, length, inl, inr, replicate, get_or, cases_lt, get_or-replicate, length-replicate, get_or_past}
+use Rattle.yds_model.proofs.Common.{[], ℕ, ◌≡◌, false, arith, length, inl, inr, replicate, get_or, cases_lt, get_or-replicate, length-replicate, get_or_past, IsPermutation-refl}
 use Rattle.yds_admit.proofs.Deciding.{begun}
 use Rattle.yds_admit.proofs.Marks.{none_marked}
 use Rattle.yds_admit.proofs.state.State.new.Goals as goal
@@ -19,4 +19,5 @@ returns-clause-state c =
       within = omega arith;
       decided = rw (c.new.ensures.items, c.new-2.ensures.items, c.new-3.ensures.items) (begun board.rows.now board.top);
       marked = rw (is, c.new-2.ensures.items) (none_marked board.rows.now (replicate n false) (length-replicate n false) (λ number from. none n number));
+      same = rw (c.new-2.ensures.items, c.new-4.ensures.items) (IsPermutation-refl []);
     }

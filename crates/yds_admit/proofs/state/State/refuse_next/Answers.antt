@@ -14,4 +14,5 @@ returns-clause-state c board is more first =
           (refuses board.rows.now board.top old.next old.taken.items old.jobs.items old.refused.items is.on.some_top more is.decided (next_job board old) refl (is.on.are old.next no_job more)
           c.args.overfull.from c.args.overfull.to c.args.overfull.work first.first first.all);
       marked = later_none board.rows.now old.marks.items old.jobs.items old.next is.marked;
+      same = is.same;
     }
