@@ -72,10 +72,11 @@ HAS_TOOL = command -v rt >/dev/null 2>&1 || { echo "make: the command 'rt' of th
 tool:
 	@$(HAS_TOOL)
 
-# What the program is made of: the crate on which all others stand comes first, on all processors; then the others side by side, with a line for
-# each that was checked; then the program itself. How long it took is kept for the next time. Where the program is built, no tool is wanted.
+# A line for each crate that was checked, well or not.
 TELL = awk '/^== / && $$2 != "summary" { printf "crate %d: %s\n", ++k, $$2; fflush() }'
 
+# What the program is made of: the crate on which all others stand comes first, on all processors; then the others side by side; then the program
+# itself. How long it took is kept for the next time. Where the program is built, no tool is wanted.
 $(BINARY): $(SOURCES)
 	@$(HAS_TOOL)
 	@mkdir -p build
@@ -92,7 +93,7 @@ $(BINARY): $(SOURCES)
 	@CC=$(CC) LINK=$(LINK) sh packaging/link.sh
 	@echo "Built $@ in $$(cat build/seconds) seconds."
 
-# The other crates too: the library's, the textbook's, the law of parts and the examples.
+# All crates: what the program is made of is kept, so the library's, the textbook's, the law of parts and the examples are left.
 build/proved: $(SOURCES) | $(BINARY)
 	@$(HAS_TOOL)
 	@echo "Proving the other crates."
