@@ -60,7 +60,7 @@ SEED ?= 1
 DOCUMENTS ?= 100000
 
 LIBRARY := build/libyds.so
-PACKAGE_FILES := $(notdir $(wildcard library/python/yds/*.py)) py.typed
+PACKAGE_FILES := $(notdir $(wildcard python/yds/*.py)) py.typed
 LIBRARY_FILES := libyds.so libyds.so.$(firstword $(subst ., ,$(VERSION))) libyds.so.$(VERSION) libyds.a
 
 .PHONY: all run try test check recipes faults fuzz costly bench bench-library library library-test wheel install install-program install-library uninstall uninstall-program uninstall-library map deb dist check-build record-build packages-test clean tool
@@ -140,7 +140,7 @@ library: $(LIBRARY)
 
 library-test: $(BINARY) $(LIBRARY)
 	@CC=$(CC) CXX=$(CXX) sh library/test/test.sh
-	@sh library/python/test.sh
+	@sh python/test.sh
 	@sh recipes/test.sh library
 
 # Packages have what is built: only where it isn't there, the library is built first.
@@ -180,7 +180,7 @@ install-library: $(LIBRARY)
 	sed 's|@PREFIX@|$(PREFIX)|; s|@VERSION@|$(VERSION)|' library/yds.pc.in >$(LIB)/pkgconfig/yds.pc
 	chmod 644 $(LIB)/pkgconfig/yds.pc
 	install -d $(PACKAGE)
-	install -m 644 $(PACKAGE_FILES:%=library/python/yds/%) $(PACKAGE)
+	install -m 644 $(PACKAGE_FILES:%=python/yds/%) $(PACKAGE)
 	@test -n "$(DESTDIR)" || ldconfig 2>/dev/null || echo "ldconfig, run by root, lets programs find $(LIB)/libyds.so.1"
 
 uninstall: uninstall-program uninstall-library

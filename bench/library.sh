@@ -18,7 +18,7 @@ for file in "$YDS" "$build/libyds.so"; do
 done
 "${CC:-cc}" -std=gnu11 -O2 -Wall -I"$here/../library" -o "$work/library" "$here/library.c" "$build/libyds.so" || exit 1
 ln -s "$build/libyds.so" "$work/libyds.so.1"
-LD_LIBRARY_PATH=$work YDS_LIBRARY=$build/libyds.so PYTHONPATH=$here/../library/python
+LD_LIBRARY_PATH=$work YDS_LIBRARY=$build/libyds.so PYTHONPATH=$here/../python
 export LD_LIBRARY_PATH YDS_LIBRARY PYTHONPATH
 cat <<TEXT
 plan of so many drawn jobs: answers a second, one after another

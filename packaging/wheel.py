@@ -49,11 +49,11 @@ def shared_object(path: Path) -> bytes:
 
 def contents(version: str) -> Dict[str, bytes]:
     """The files of the wheel by their names, all but its record."""
-    package = Path("library/python/yds")
+    package = Path("python/yds")
     info = f"yds-{version}.dist-info"
     files = {f"yds/{path.name}": path.read_bytes() for path in package.iterdir() if path.suffix in (".py", ".typed")}
     files["yds/libyds.so.1"] = shared_object(Path("build/libyds.so"))
-    description = Path("library/python/README.md").read_text(encoding="utf-8")
+    description = Path("python/README.md").read_text(encoding="utf-8")
     files[f"{info}/METADATA"] = METADATA.format(version=version, description=description).encode()
     files[f"{info}/WHEEL"] = WHEEL.format(platform=PLATFORM).encode()
     for licence in ("LICENSE-MIT", "LICENSE-APACHE"):

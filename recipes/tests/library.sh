@@ -6,7 +6,7 @@ test_library() {
 	mkdir "$work/lib"
 	ln -s "$build/libyds.so" "$work/lib/libyds.so.1"
 	ln -s "$build/libyds.so" "$work/lib/libyds.so"
-	CPATH=$here/../library LIBRARY_PATH=$work/lib LD_LIBRARY_PATH=$work/lib PYTHONPATH=$here/../library/python PYTHONDONTWRITEBYTECODE=1
+	CPATH=$here/../library LIBRARY_PATH=$work/lib LD_LIBRARY_PATH=$work/lib PYTHONPATH=$here/../python PYTHONDONTWRITEBYTECODE=1
 	export CPATH LIBRARY_PATH LD_LIBRARY_PATH PYTHONPATH PYTHONDONTWRITEBYTECODE
 	commands_of ../../docs/library.md
 	unset CPATH LIBRARY_PATH LD_LIBRARY_PATH PYTHONPATH PYTHONDONTWRITEBYTECODE

@@ -6,7 +6,7 @@ from typing import Iterator, List, NamedTuple
 
 import yds
 
-ROOT = Path(__file__).resolve().parents[3]
+ROOT = Path(__file__).resolve().parents[2]
 PROGRAM = os.environ.get("YDS", str(ROOT / "build" / "yds_cli"))
 
 

@@ -1,13 +1,13 @@
 #!/bin/sh
 # test.sh: tries the Python package yds over build/libyds.so (a part of `make library-test`).
 #
-#   sh library/python/test.sh
+#   sh python/test.sh
 #
 # The tests and the examples in the texts; the same tests of the wheel, in an empty virtual environment where the toolchain isn't on the PATH; and the types, where
 # mypy is there. Environment: YDS (the program; build/yds_cli without it), PYTHON (python3), DOCUMENTS (how many fuzzed documents; 2000) and SEED (1).
 # The last line is 'N passed, M failed'; the exit status is 1 where M isn't 0.
 
-cd "$(dirname "$0")/../.." || exit 1
+cd "$(dirname "$0")/.." || exit 1
 YDS=${YDS:-$PWD/build/yds_cli}
 case $YDS in /*) ;; *) YDS=$PWD/$YDS ;; esac
 PYTHON=${PYTHON:-python3}
@@ -25,13 +25,13 @@ try() {
 	echo "$name: $(grep -v '^OK' "$work/log" | grep . | tail -n 1)"
 }
 
-tests() { "$@" -m unittest discover -s library/python/tests; }
-from_here() { YDS_LIBRARY=$PWD/build/libyds.so PYTHONPATH=library/python tests "$PYTHON"; }
+tests() { "$@" -m unittest discover -s python/tests; }
+from_here() { YDS_LIBRARY=$PWD/build/libyds.so PYTHONPATH=python tests "$PYTHON"; }
 
 # The wheel, made twice: into the folder of releases and, from a copy of it all, into another.
 twice() {
 	sh packaging/wheel.sh >"$work/sums" && mkdir "$work/again" || return 1
-	cp -r VERSION CHANGELOG.md LICENSE-MIT LICENSE-APACHE packaging library "$work/again" && mkdir "$work/again/build" && cp build/libyds.so "$work/again/build" || return 1
+	cp -r VERSION CHANGELOG.md LICENSE-MIT LICENSE-APACHE packaging library python "$work/again" && mkdir "$work/again/build" && cp build/libyds.so "$work/again/build" || return 1
 	SOURCE_DATE_EPOCH=$(git log -1 --format=%ct 2>/dev/null || cat packaging/commit-time) sh "$work/again/packaging/wheel.sh" >"$work/sums" || return 1
 	cmp build/dist/yds-*.whl "$work"/again/build/dist/yds-*.whl && echo "the same bytes"
 }
@@ -42,12 +42,12 @@ installed() {
 	tests env -i PATH="$work/venv/bin:/usr/bin:/bin" PYTHONDONTWRITEBYTECODE=1 YDS="$YDS" DOCUMENTS=200 python || return 1
 	env -i PATH="$work/venv/bin:/usr/bin:/bin" python -c 'import yds; print("from", yds.__path__[0].split("/venv/")[1])'
 }
-types() { MYPYPATH=library/python mypy --strict --no-incremental library/python/yds library/examples/governor.py; }
+types() { MYPYPATH=python mypy --strict --no-incremental python/yds library/examples/governor.py; }
 
 # The picture of docs/library.md has the texts of the one that is drawn here.
 texts() { grep -o '>[^<]*</text>' "$1"; }
 picture() {
-	YDS_LIBRARY=$PWD/build/libyds.so PYTHONPATH=library/python "$PYTHON" library/examples/ratios.py "$work/library-ratios.svg" || return 1
+	YDS_LIBRARY=$PWD/build/libyds.so PYTHONPATH=python "$PYTHON" library/examples/ratios.py "$work/library-ratios.svg" || return 1
 	texts "$work/library-ratios.svg" >"$work/drawn" && texts docs/pictures/library-ratios.svg >"$work/stored" && diff "$work/stored" "$work/drawn" && echo "as in docs/pictures"
 }
 

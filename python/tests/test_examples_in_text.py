@@ -14,7 +14,7 @@ def load_tests(loader: unittest.TestLoader, tests: unittest.TestSuite, pattern: 
     tests.addTests(doctest.DocTestSuite(yds))
     for module in pkgutil.iter_modules(yds.__path__, "yds."):
         tests.addTests(doctest.DocTestSuite(importlib.import_module(module.name)))
-    for page in ("docs/library.md", "README.md", "library/python/README.md"):
+    for page in ("docs/library.md", "README.md", "python/README.md"):
         tests.addTests(doctest.DocFileSuite(str(ROOT / page), module_relative=False, encoding="utf-8"))
     return tests
 
