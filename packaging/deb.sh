@@ -21,11 +21,18 @@ maintainer="the yds_cli authors <maintainers@yds-cli.invalid>"
 changelog() {
 	echo "$1 ($version) unstable; urgency=medium"
 	echo
-	awk -v version="$version" '/^## / { told = $2 == version } told && /^- / {
-		line = "  *"
-		for (i = 2; i <= NF; i++) { if (length(line) + length($i) > 78) { print line; line = "   " } line = line " " $i }
-		print line
-	}' CHANGELOG.md
+	awk -v version="$version" '
+		function close_item(n, word, i, line) {
+			n = split(item, word, " ")
+			line = "  *"
+			for (i = 1; i <= n; i++) { if (length(line) + length(word[i]) > 78) { print line; line = "   " } line = line " " word[i] }
+			if (n) print line
+			item = ""
+		}
+		/^## / { close_item(); told = $2 == version }
+		told && /^- / { close_item(); item = substr($0, 3) }
+		told && /^  / { item = item $0 }
+		END { close_item() }' CHANGELOG.md
 	echo
 	echo " -- $maintainer  $(date -u -R -d "@$SOURCE_DATE_EPOCH")"
 }
