@@ -3,7 +3,7 @@
 #   make            proves every crate and builds build/yds_cli
 #   make run        proves the crates that the program is made of, builds it, and plans the document EXAMPLE with it
 #   make try        runs the program on DOCUMENT with the words of COMMAND, unproved, after a minute or two
-#   make test       the gate: every proof, test, refused edit and stored run
+#   make test       the gate: every proof, test, refused edit and stored run, and the checks that checks/gate.py lists
 #   make check      the built program answers every example and stored row byte for byte, within seconds
 #   make recipes    every recipe on its sample, with the built program
 #   make faults     refuses the built program memory, reads and writes in turn, and random bytes, and breaks its streams
@@ -108,7 +108,7 @@ try: tool
 	@cd crates/$(PROGRAM) && rt try $(PROGRAM) -- $(COMMAND) <../../$(DOCUMENT)
 
 test: tool
-	@rt ci
+	@python3 checks/gate.py
 
 check: $(BINARY)
 	@sh examples/check.sh ../$(BINARY)

@@ -1,0 +1,224 @@
+"""test_checks.py: tries the gate with a stand-in for `rt`, and the check of the pages with faults that are planted.
+
+    python3 checks/test_checks.py
+
+The last line is 'N passed, M failed'.
+"""
+
+import os
+import subprocess
+import sys
+import tempfile
+import time
+import unittest
+from pathlib import Path
+from typing import List, Tuple
+
+ROOT = Path(__file__).resolve().parent.parent
+
+RUN_ALL = "import sys; sys.path.insert(0, 'checks'); import gate; sys.exit(gate.run_all([gate.PROOFS, ('check',)]))"
+
+
+class InFolder(unittest.TestCase):
+    """Each test has a folder of its own."""
+
+    def setUp(self) -> None:
+        folder = tempfile.TemporaryDirectory()
+        self.addCleanup(folder.cleanup)
+        self.folder = Path(folder.name)
+
+    def write(self, name: str, text: str) -> Path:
+        path = self.folder / name
+        path.parent.mkdir(parents=True, exist_ok=True)
+        path.write_text(text, encoding="utf-8")
+        return path
+
+
+class Gate(InFolder):
+    """What the gate answers to the proofs and to one check, both of them shell scripts."""
+
+    def gate(self, proofs: str, check: str = "echo 2 passed, 0 failed") -> Tuple[List[str], int]:
+        """The lines and the status. Without a script there is no such command."""
+        for name, script in (("rt", proofs), ("check", check)):
+            if script:
+                self.write(name, f"#!/bin/sh\n{script}\n").chmod(0o755)
+        environment = {**os.environ, "PATH": f"{self.folder}:/usr/bin:/bin", "PYTHONDONTWRITEBYTECODE": "1"}
+        done = subprocess.run(
+            [sys.executable, "-c", RUN_ALL], cwd=ROOT, env=environment, stdout=subprocess.PIPE, encoding="utf-8"
+        )
+        return done.stdout.splitlines(), done.returncode
+
+    def test_both_pass(self) -> None:
+        self.assertEqual(
+            self.gate("echo proving $1; echo 3 passed, 0 failed"),
+            (["proving ci", "3 passed, 0 failed", "2 passed, 0 failed", "5 passed, 0 failed"], 0),
+        )
+
+    def test_the_proofs_fail_and_the_check_still_runs(self) -> None:
+        lines, status = self.gate("echo 3 passed, 4 failed; exit 1")
+        self.assertEqual((lines[1:], status), (["2 passed, 0 failed", "5 passed, 4 failed"], 1))
+
+    def test_the_check_fails(self) -> None:
+        lines, status = self.gate("echo 3 passed, 0 failed", "echo 2 passed, 1 failed; exit 5")
+        self.assertEqual((lines[-1], status), ("5 passed, 1 failed", 5))
+
+    def test_the_status_is_that_of_the_first_failure(self) -> None:
+        lines, status = self.gate("echo 3 passed, 1 failed; exit 3", "echo 2 passed, 1 failed; exit 5")
+        self.assertEqual((lines[-1], status), ("5 passed, 2 failed", 3))
+
+    def test_a_failure_with_status_0_is_one(self) -> None:
+        lines, status = self.gate("echo 3 passed, 1 failed")
+        self.assertEqual((lines[-1], status), ("5 passed, 1 failed", 1))
+
+    def test_a_status_without_a_failure_is_one(self) -> None:
+        lines, status = self.gate("echo 3 passed, 0 failed; exit 4")
+        self.assertEqual(lines[1], "gate: rt ci ended with status 4, though nothing failed by its counts")
+        self.assertEqual((lines[-1], status), ("5 passed, 1 failed", 4))
+
+    def test_killed(self) -> None:
+        lines, status = self.gate("echo 3 passed; kill -9 $$")
+        self.assertEqual(lines[1], "gate: rt ci ended with status 137 and without its counts")
+        self.assertEqual((lines[-1], status), ("2 passed, 1 failed", 137))
+
+    def test_killed_after_its_counts(self) -> None:
+        lines, status = self.gate("echo 3 passed, 0 failed; kill -9 $$")
+        self.assertEqual((lines[-1], status), ("5 passed, 1 failed", 137))
+
+    def test_killed_while_what_it_began_holds_the_pipe(self) -> None:
+        begun = time.monotonic()
+        lines, status = self.gate("sleep 60 & echo $! >" + str(self.folder / "number") + "; kill -9 $$")
+        self.assertLess(time.monotonic() - begun, 30)
+        self.assertEqual((lines[-1], status), ("2 passed, 1 failed", 137))
+        os.kill(int((self.folder / "number").read_text()), 15)
+
+    def test_silent(self) -> None:
+        lines, status = self.gate(":")
+        self.assertEqual(lines[0], "gate: rt ci ended with status 0 and without its counts")
+        self.assertEqual((lines[-1], status), ("2 passed, 1 failed", 1))
+
+    def test_counts_that_arent_the_last_line(self) -> None:
+        for after in ("; echo more", "; echo", " now"):
+            with self.subTest(after):
+                lines, status = self.gate("echo 3 passed, 0 failed" + after)
+                self.assertEqual((lines[-1], status), ("2 passed, 1 failed", 1))
+
+    def test_a_last_line_without_its_end(self) -> None:
+        lines, status = self.gate("printf '3 passed, 0 failed'")
+        self.assertEqual((lines[-1], status), ("5 passed, 0 failed", 0))
+
+    def test_no_such_command(self) -> None:
+        lines, status = self.gate("echo 3 passed, 0 failed", "")
+        self.assertEqual(lines[1], "gate: check can't be run: No such file or directory")
+        self.assertEqual((lines[-1], status), ("3 passed, 1 failed", 127))
+
+
+class Pages(InFolder):
+    """What the check of the pages answers to pages that are written here."""
+
+    def check(self) -> Tuple[List[str], int]:
+        done = subprocess.run(
+            [sys.executable, "docs/check.py", str(self.folder)], cwd=ROOT, stdout=subprocess.PIPE, encoding="utf-8"
+        )
+        return done.stdout.splitlines(), done.returncode
+
+    def test_all_is_well(self) -> None:
+        self.write("README.md", "# One\n\n[two](docs/two.md#a-heading-of-1) [here](#one) ![file](docs/a.svg)\n")
+        self.write("docs/two.md", "## A `heading` of [1](../README.md)!\n")
+        self.write("docs/a.svg", "")
+        self.assertEqual(self.check(), (["6 passed, 0 failed"], 0))
+
+    def test_width(self) -> None:
+        text = "x" * 120
+        self.write("page.md", f"{text}\n\nx{text}\n- y\n  x{text}\n    x{text}\n")
+        faults = {3: 121, 5: 123, 6: 125}
+        told = [f"page.md:{line}: {columns} columns, and a page has 120" for line, columns in faults.items()]
+        self.assertEqual(self.check(), ([*told, "0 passed, 3 failed"], 1))
+
+    def test_width_counts_characters(self) -> None:
+        self.write("page.md", "µ" * 120 + "\n")
+        self.assertEqual(self.check(), (["1 passed, 0 failed"], 0))
+
+    def test_what_may_be_longer(self) -> None:
+        line = "x" * 121
+        self.write("a.svg", "")
+        code = f"    {line}\n\n```\n{line}\n```\n"
+        self.write("page.md", f"| {line} |\n\n{code}\n![{line}](a.svg)\n\n- [{line}](a.svg).\n")
+        self.assertEqual(self.check(), (["3 passed, 0 failed"], 0))
+
+    def test_a_picture_in_a_long_line(self) -> None:
+        self.write("a.svg", "")
+        self.write("page.md", f"![{'x' * 121}](a.svg) is long\n")
+        self.assertEqual(self.check(), (["page.md:1: 139 columns, and a page has 120", "1 passed, 1 failed"], 1))
+
+    def test_links_that_lead_nowhere(self) -> None:
+        self.write("docs/page.md", "# One\n\n[a](#two) [b](no.md)\n[c](../../docs/page.md) [d]()\n[e](page.md#one-1)\n")
+        self.assertEqual(
+            self.check(),
+            (
+                [
+                    "docs/page.md:3: a link to #two, and page.md has no such heading",
+                    "docs/page.md:3: a link to no.md, and there is no such file here",
+                    "docs/page.md:4: a link to ../../docs/page.md, and there is no such file here",
+                    "docs/page.md:4: a link without a target",
+                    "docs/page.md:5: a link to page.md#one-1, and page.md has no such heading",
+                    "1 passed, 5 failed",
+                ],
+                1,
+            ),
+        )
+
+    def test_a_link_to_what_is_built(self) -> None:
+        self.write("build/page.md", "")
+        self.write("page.md", "[built](build/page.md)\n")
+        told = "page.md:1: a link to build/page.md, and there is no such file here"
+        self.assertEqual(self.check(), ([told, "1 passed, 1 failed"], 1))
+
+    def test_a_heading_of_a_file_that_is_no_page(self) -> None:
+        self.write("Makefile", "# test\n")
+        self.write("page.md", "[a](Makefile#test)\n")
+        told = "page.md:1: a link to Makefile#test, and Makefile has no such heading"
+        self.assertEqual(self.check(), ([told, "1 passed, 1 failed"], 1))
+
+    def test_links_over_two_lines_and_by_name(self) -> None:
+        self.write("page.md", "[a\nb](#none) and [c]\n\n[c]: nothing.md\n")
+        self.assertEqual(
+            self.check(),
+            (
+                [
+                    "page.md:2: a link to #none, and page.md has no such heading",
+                    "page.md:4: a link to nothing.md, and there is no such file here",
+                    "1 passed, 2 failed",
+                ],
+                1,
+            ),
+        )
+
+    def test_two_headings_of_one_text(self) -> None:
+        self.write("page.md", "# One\n\n## One\n\n[a](#one) [b](#one-1)\n")
+        self.assertEqual(self.check(), (["3 passed, 0 failed"], 0))
+
+    def test_code_has_no_links_and_no_headings(self) -> None:
+        self.write("page.md", "`[a](none)` and `[b\nc](none)`\n\n    [d](none)\n    # One\n\n[e](#one)\n")
+        told = "page.md:7: a link to #one, and page.md has no such heading"
+        self.assertEqual(self.check(), ([told, "1 passed, 1 failed"], 1))
+
+    def test_links_out_of_the_repository_are_told(self) -> None:
+        self.write("page.md", "[a](https://example.org/b#c)\n")
+        told = "links out of the repository, which weren't followed: 1"
+        self.assertEqual(self.check(), ([told, "1 passed, 0 failed"], 0))
+
+    def test_no_page(self) -> None:
+        lines, status = self.check()
+        self.assertEqual((lines[-1], status), ("0 passed, 1 failed", 1))
+
+
+def main() -> int:
+    suite = unittest.defaultTestLoader.loadTestsFromModule(sys.modules[__name__])
+    result = unittest.TextTestRunner(stream=sys.stdout).run(suite)
+    failed = len(result.failures) + len(result.errors)
+    print(f"{result.testsRun - failed} passed, {failed} failed")
+    return 1 if failed else 0
+
+
+if __name__ == "__main__":
+    sys.exit(main())
