@@ -1,0 +1,163 @@
+"""test_edits.py: tries the check of the edits with a small repository, and with faults that are planted in it.
+
+    python3 checks/test_edits.py
+
+The last line is 'N passed, M failed'.
+"""
+
+import shutil
+import subprocess
+import sys
+import tempfile
+import unittest
+from pathlib import Path
+from typing import List, Tuple
+
+ROOT = Path(__file__).resolve().parent.parent
+
+CODE = """mod row;
+
+pub use row::Row;
+
+/// A row's length.
+pub fn length(row: &Row) -> u32
+    requires { 1 ≤ row.now }
+    ensures value { result ≡ row.now }
+    ensures some { 1 ≤ result }
+{
+    row.length()
+}
+
+fn half(length: u32) -> u32
+    ensures { result ≡ length / 2 }
+{
+    length / 2
+}
+"""
+
+ROW = """impl<'a> Row<'a> {
+    pub fn length(&self) -> u32
+        ensures { result ≡ self.now }
+    {
+        self.length
+    }
+}
+
+impl Order for Row<'_> {
+    fn comes(&self, other: &Self) -> bool
+        ensures first { IsTrue result ↔ self.now < other.now }
+    {
+        self.is_less(other)
+    }
+}
+"""
+
+EDIT = """file: src/row.rt
+old: self.length
+new: self.length / 2
+# breaks: Row::length
+# breaks: length.value
+"""
+
+
+class Edits(unittest.TestCase):
+    """Each test has a repository of one crate with one edit, and its page."""
+
+    def setUp(self) -> None:
+        folder = tempfile.TemporaryDirectory()
+        self.addCleanup(folder.cleanup)
+        self.folder = Path(folder.name)
+        self.write("crates/low/src/lib.rt", CODE)
+        self.write("crates/low/src/row.rt", ROW)
+        self.write("crates/low/must-fail/half.edit", EDIT)
+        self.write("docs/edits.md", "")
+        shutil.copy(ROOT / "docs" / "edits.py", self.folder / "docs" / "edits.py")
+        self.write_page()
+
+    def write(self, name: str, text: str) -> None:
+        path = self.folder / name
+        path.parent.mkdir(parents=True, exist_ok=True)
+        path.write_text(text, encoding="utf-8")
+
+    def run_script(self, *words: str) -> Tuple[List[str], int]:
+        """What the script writes, without what it says of the functions that this repository lacks."""
+        command = [sys.executable, str(self.folder / "docs" / "edits.py"), *words]
+        ended = subprocess.run(command, stdout=subprocess.PIPE, universal_newlines=True)
+        lines = [it for it in ended.stdout.splitlines() if "there is no public function" not in it]
+        return lines, ended.returncode
+
+    def write_page(self) -> None:
+        self.assertEqual(self.run_script(), ([], 0))
+
+    def faults(self) -> List[str]:
+        lines, status = self.run_script("--check")
+        self.assertRegex(lines[-1], r"\d+ passed, \d+ failed")
+        self.assertEqual(status, 1)
+        return lines[:-1]
+
+    def replace(self, old: str, new: str) -> None:
+        path = self.folder / "crates/low/must-fail/half.edit"
+        text = path.read_text(encoding="utf-8")
+        self.assertIn(old, text)
+        path.write_text(text.replace(old, new), encoding="utf-8")
+
+    def test_nothing_is_wrong(self) -> None:
+        self.assertEqual(self.faults(), [])
+
+    def test_the_page_has_each_public_clause(self) -> None:
+        page = (self.folder / "docs/edits.md").read_text(encoding="utf-8")
+        self.assertIn("Edits: 1. Public clauses: 4. Of these without an edit: 2.", page)
+        self.assertIn("| `length.value` | `half` |", page)
+        self.assertIn("| `Row::length` | `half` |", page)
+        self.assertIn("Without: `length.some`, `Row::comes.first`.", page)
+        self.assertNotIn("`half`.", page)
+
+    def test_a_page_of_before(self) -> None:
+        self.write("docs/edits.md", "# Edits\n")
+        self.assertEqual(self.faults(), ["docs/edits.md isn't what docs/edits.py writes"])
+
+    def test_an_edit_that_says_nothing(self) -> None:
+        self.replace("# breaks: Row::length\n# breaks: length.value\n", "")
+        self.write_page()
+        self.assertEqual(self.faults(), ["crates/low/must-fail/half.edit: it has no line that says what it breaks"])
+
+    def test_a_clause_that_is_not_there(self) -> None:
+        for said in ("length.none", "length", "Row::length.value", "other/length.value", "nothing"):
+            with self.subTest(said):
+                self.write("crates/low/must-fail/half.edit", EDIT.replace("length.value", said))
+                self.write_page()
+                self.assertEqual(self.faults(), [f"crates/low/must-fail/half.edit: there is no clause {said}"])
+
+    def test_a_clause_of_another_crate(self) -> None:
+        self.write("crates/high/src/lib.rt", CODE)
+        self.replace("# breaks: length.value", "# breaks: high/length.value")
+        self.write_page()
+        self.assertEqual(self.faults(), [])
+        self.assertIn("| `length.value` | `low/half` |", (self.folder / "docs/edits.md").read_text(encoding="utf-8"))
+
+    def test_an_old_text_that_stands_twice(self) -> None:
+        self.replace("old: self.length", "old: ensures")
+        found = "its old text stands 2 times in src/row.rt, and not once"
+        self.assertEqual(self.faults(), [f"crates/low/must-fail/half.edit: {found}"])
+
+    def test_a_later_pair_reads_what_the_earlier_made(self) -> None:
+        self.replace("# breaks: Row", "old: self.length / 2\nnew: self.length / 3\n# breaks: Row")
+        self.assertEqual(self.faults(), [])
+
+    def test_too_many_edits(self) -> None:
+        for number in range(8):
+            self.write(f"crates/low/must-fail/half_{number}.edit", EDIT)
+        self.write_page()
+        self.assertEqual(self.faults(), ["crates/low: 9 edits, and at most 8 are wanted"])
+
+
+def main() -> int:
+    suite = unittest.defaultTestLoader.loadTestsFromModule(sys.modules[__name__])
+    result = unittest.TextTestRunner(stream=sys.stdout).run(suite)
+    failed = len(result.failures) + len(result.errors)
+    print(f"{result.testsRun - failed} passed, {failed} failed")
+    return 1 if failed else 0
+
+
+if __name__ == "__main__":
+    sys.exit(main())
