@@ -27,6 +27,8 @@ PROOFS: Command = ("rt", "ci")
 CHECKS: List[Command] = [
     (sys.executable, "checks/test_checks.py"),
     (sys.executable, "docs/check.py"),
+    (sys.executable, "checks/test_edits.py"),
+    (sys.executable, "docs/edits.py", "--check"),
 ]
 
 COUNTS = re.compile(rb"(\d+) passed, (\d+) failed\s*")
