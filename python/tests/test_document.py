@@ -137,6 +137,14 @@ class Answers(unittest.TestCase):
         self.assertEqual(yds.Document(POLICIES).avr(1).rounded, 3)
         self.assertEqual(yds.Document(POLICIES).avr(6).slots[1], yds.Slot("b", 1, Fraction(8, 5), 1))
 
+    def test_numbers_come_from_their_lines(self) -> None:
+        """What stands behind the line of the energy or of the grid is another's: a comment's last word is no number."""
+        rounded = yds.Document([("a", 0, 4, 8)], [(0, 0), (2, 9)]).round()
+        with_comment = yds.Rounded.from_text(rounded.text + b"# see 7\n")
+        self.assertEqual((rounded.energy, with_comment.energy), (36, 36))
+        run = yds.Run.from_text(yds.Document(POLICIES).avr(1).text + b"# seen at 9 17\n")
+        self.assertEqual((run.grid, run.rounded), (1, 3))
+
     def test_compare(self) -> None:
         compared = yds.Document(POLICIES, [(0, 0), (1, 1), (2, 3)]).compare(6)
         assert isinstance(compared, yds.Comparison)

@@ -133,6 +133,15 @@ def lines_of(text: bytes, *kinds: bytes) -> Iterator[List[bytes]]:
             yield fields
 
 
+def line_of(text: bytes, kind: bytes) -> List[bytes]:
+    """The fields after the kind, in the one line of this kind. It stands near the end of the answers that have it."""
+    for line in reversed(text.split(b"\n")):
+        fields = line.split()
+        if fields[:1] == [kind]:
+            return fields[1:]
+    raise ValueError(f"the text has no line {kind.decode()!r}")
+
+
 def read_jobs(text: bytes) -> Tuple[Job, ...]:
     """The jobs of a text."""
     rows = lines_of(text, b"job")

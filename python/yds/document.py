@@ -268,7 +268,7 @@ class Rounded(Document):
         >>> Document(jobs=[("a", 0, 4, 6)], points=[(0, 0), (1, 1), (2, 3)]).round().energy
         Fraction(8, 1)
         """
-        return _spelling.read_fraction(self.text.rsplit(None, 1)[-1])
+        return _spelling.read_fraction(_spelling.line_of(self.text, b"energy")[0])
 
 
 class Run(Document):
@@ -277,12 +277,12 @@ class Run(Document):
     @property
     def grid(self) -> int:
         """So many parts of a unit of work the policy counts in."""
-        return int(self.text.rsplit(None, 2)[-2])
+        return int(_spelling.line_of(self.text, b"grid")[0])
 
     @property
     def rounded(self) -> int:
         """At how many event points the run rounded up. Where it is 0, the run is the policy itself."""
-        return int(self.text.rsplit(None, 1)[-1])
+        return int(_spelling.line_of(self.text, b"grid")[1])
 
 
 class Admission(Document):
