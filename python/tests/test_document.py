@@ -1,5 +1,6 @@
 """Documents: what they are made of, what is refused, and what each method answers. The values are worked by hand."""
 
+import copy
 import pickle
 import unittest
 from decimal import Decimal
@@ -238,6 +239,85 @@ class Answers(unittest.TestCase):
         self.assertEqual(judged(slots, [yds.Level(4, 3, (yds.Piece(0, 4),), ("a",))]).condition, "K4")
         seventh = judged([("a", 0, 1, 1), ("a", 1, 2, 2), ("a", 2, 4, 1)], levels)
         self.assertEqual((seventh.condition, seventh.index, seventh.slot.speed), ("K7", 1, 2))
+
+
+class Answered(unittest.TestCase):
+    """Answers come from calls. What doesn't fit together is none."""
+
+    ONE = yds.Document([("a", 0, 4, 8)], [(0, 0), (2, 9)])
+
+    def test_rows_make_no_answer(self) -> None:
+        with self.assertRaisesRegex(TypeError, r"a Plan is an answer, and comes from document\.plan\(\); Document\(\.\."):
+            yds.Plan([("a", 0, 4, 8)])
+        with self.assertRaisesRegex(TypeError, r"a Rounded .* document\.round\(\)"):
+            yds.Rounded([("a", 0, 4, 8)], [(0, 0), (2, 9)])
+        with self.assertRaisesRegex(TypeError, r"a Run .* document\.avr\(\) or document\.oa\(\)"):
+            yds.Run([("a", 0, 4, 8)])
+        for kind in (yds.Plan, yds.Rounded, yds.Run, yds.Admission, yds.Expansion):
+            with self.subTest(kind.__name__):
+                with self.assertRaisesRegex(TypeError, "is an answer"):
+                    kind()
+                with self.assertRaisesRegex(TypeError, "is an answer"):
+                    kind.from_decimal([("a", 0, 4, 8)], denominator=1)
+                with self.assertRaisesRegex(TypeError, "is an answer"):
+                    kind.from_pandas({"name": ["a"], "release": [0], "deadline": [4], "work": [8]})
+
+    def test_a_stored_answer_is_read_again(self) -> None:
+        answers = [self.ONE.plan(), self.ONE.round(), yds.Document(POLICIES).avr(1), yds.Document(POLICIES).oa(1)]
+        for answer in answers:
+            with self.subTest(answer.text):
+                again = type(answer).from_text(b"# stored\n" + answer.text.replace(b"\n", b"\r\n"))
+                self.assertIs(type(again), type(answer))
+                self.assertEqual((again.jobs, again.slots, again.levels), (answer.jobs, answer.slots, answer.levels))
+                self.assertEqual(type(answer).from_text(answer.text), answer)
+
+    def test_another_text_is_no_answer(self) -> None:
+        plan, rounded, run = self.ONE.plan().text, self.ONE.round().text, yds.Document(POLICIES).avr(1).text
+        for kind, text, difference in (
+            (yds.Plan, rounded, "it has 'energy 36' where the answer has 'level 8 4'"),
+            (yds.Plan, plan.replace(b"level 8 4", b"level 9 4"), "it has 'level 9 4' where the answer has 'level 8 4'"),
+            (yds.Plan, plan.replace(b"slot a 0 4 8\n", b""), "'level 8 4' where the answer has 'slot a 0 4 8'"),
+            (yds.Plan, b"", None),
+            (yds.Rounded, rounded.replace(b"energy 36", b"energy 35"), "'energy 35' where .* 'energy 36'"),
+            (yds.Rounded, plan, "'level 8 4' where the answer has 'energy 36'"),
+            (yds.Rounded, rounded[: -len(b"energy 36\n")], "it has 'nothing' where the answer has 'energy 36'"),
+            (yds.Rounded, b"job a 0 2 5\npoint 0 1\npoint 2 9\n", "where the answer has 'too-slow work 5"),
+            (yds.Run, run.replace(b"grid 1 3", b"grid 1 0"), "'grid 1 0' where the answer has 'grid 1 3'"),
+            (yds.Run, run.replace(b"grid 1 3", b"grid 2 3"), "where the answer has"),
+            (yds.Run, plan, "has no line 'grid'"),
+        ):
+            with self.subTest(kind=kind.__name__, text=text):
+                if difference is None:
+                    self.assertEqual(kind.from_text(text).peak, 0)
+                    continue
+                with self.assertRaisesRegex(ValueError, difference):
+                    kind.from_text(text)
+                self.assertEqual(yds.Document.from_text(text).text, text)
+        with self.assertRaisesRegex(yds.Refused, "line 1, column 1: UnknownKind"):
+            yds.Plan.from_text(b"jobs a 0 4 8\n")
+        with self.assertRaisesRegex(yds.Refused, "line 2, column 6: OutOfRange"):
+            yds.Run.from_text(b"job a 0 4 8\ngrid 0 0\n")
+
+    def test_what_comments_tell_is_not_read_again(self) -> None:
+        admission = yds.Document([("a", 0, 2, 3), ("b", 0, 2, 1)]).admit(1)
+        with self.assertRaisesRegex(TypeError, r"document\.admit\(top\) again"):
+            yds.Admission.from_text(admission.text)
+        with self.assertRaisesRegex(TypeError, r"yds\.expand\(tasks, horizon\) again"):
+            yds.Expansion.from_text(yds.expand([("a", 0, 4, 4, 2)], horizon=8).text)
+
+    def test_answers_are_copied_and_compared(self) -> None:
+        admission = yds.Document([("a", 0, 2, 3), ("b", 0, 2, 1)]).admit(1)
+        expansion = yds.expand([("a", 0, 4, 4, 2)], horizon=8)
+        for answer in (self.ONE.plan(), self.ONE.round(), yds.Document(POLICIES).oa(1), admission, expansion):
+            for again in (copy.copy(answer), copy.deepcopy(answer), pickle.loads(pickle.dumps(answer))):
+                with self.subTest(type(answer).__name__):
+                    self.assertIs(type(again), type(answer))
+                    self.assertEqual((again, hash(again), again.slots), (answer, hash(answer), answer.slots))
+            as_document = yds.Document.from_text(answer.text)
+            self.assertIs(type(as_document), yds.Document)
+            self.assertEqual((as_document, hash(as_document)), (answer, hash(answer)))
+        self.assertEqual(pickle.loads(pickle.dumps(admission)).refused, admission.refused)
+        self.assertEqual(copy.copy(expansion).one_level, yds.OneLevel(4, 8))
 
 
 class Refusals(unittest.TestCase):

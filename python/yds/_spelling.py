@@ -133,6 +133,12 @@ def lines_of(text: bytes, *kinds: bytes) -> Iterator[List[bytes]]:
             yield fields
 
 
+def statements(text: bytes) -> List[List[bytes]]:
+    """The fields of each line that says something: comments and empty lines don't."""
+    lines = (line.split() for line in text.split(b"\n"))
+    return [fields for fields in lines if fields and not fields[0].startswith(b"#")]
+
+
 def line_of(text: bytes, kind: bytes) -> List[bytes]:
     """The fields after the kind, in the one line of this kind. It stands near the end of the answers that have it."""
     for line in reversed(text.split(b"\n")):

@@ -4,9 +4,9 @@ from __future__ import annotations
 
 from fractions import Fraction
 from functools import cached_property
-from itertools import chain
+from itertools import chain, zip_longest
 from operator import index
-from typing import Any, Iterable, NamedTuple, Optional, Sequence, Tuple, Type, TypeVar, Union
+from typing import Any, ClassVar, Iterable, List, NamedTuple, Optional, Sequence, Tuple, Type, TypeVar, Union
 
 from yds import _spelling
 from yds._library import Answer, Status, answer, as_bytes
@@ -16,6 +16,7 @@ from yds.results import Comparison, Curve, Judgement, Refusal, Report, TooSlow, 
 from yds.rows import Job, JobLike, Level, Point, PointLike, Slot, SlotLike, TaskLike
 
 D = TypeVar("D", bound="Document")
+A = TypeVar("A", bound="_Answered")
 
 
 def _ask(words: Sequence[str], text: bytes) -> Answer:
@@ -71,9 +72,7 @@ class Document:
         >>> Document.from_text("job a 0 4 8\\n").plan().slots
         (Slot(job='a', start=Fraction(0, 1), end=Fraction(4, 1), work=Fraction(8, 1)),)
         """
-        document = cls.__new__(cls)
-        document._text = text.encode("utf-8") if isinstance(text, str) else as_bytes(text)
-        return document
+        return cls._made(text.encode("utf-8") if isinstance(text, str) else as_bytes(text))
 
     @classmethod
     def from_decimal(
@@ -222,11 +221,17 @@ class Document:
         return Admission._of(_ask(["admit", str(index(top))], self.text))
 
     @classmethod
+    def _made(cls: Type[D], text: bytes, written: bool = False) -> D:
+        """The document of this text, which the library wrote, or which it has yet to read."""
+        document = cls.__new__(cls)
+        document._text = text
+        document._written = written
+        return document
+
+    @classmethod
     def _of(cls: Type[D], answered: Answer) -> D:
         """The document that the library wrote."""
-        document = cls.from_text(answered.text)
-        document._written = True
-        return document
+        return cls._made(answered.text, written=True)
 
     def __str__(self) -> str:
         return self.text.decode("utf-8", "replace")
@@ -244,7 +249,51 @@ class Document:
         return hash(self.text)
 
 
-class Plan(Document):
+class _Answered(Document):
+    """A document that a call answers. Rows and texts from elsewhere make none of it: they needn't fit together."""
+
+    _from: ClassVar[str]
+
+    def __init__(self, *_: object, **__: object) -> None:
+        raise TypeError(
+            f"a {type(self).__name__} is an answer, and comes from {self._from}; "
+            "Document(..) makes a document of these rows"
+        )
+
+    @classmethod
+    def from_text(cls: Type[A], text: Union[bytes, str]) -> A:
+        """The answer that was stored as this text. Comments don't count.
+
+        The library answers the text's jobs and points once more. A text that isn't just that answer raises ValueError.
+        """
+        document = Document.from_text(text)
+        own = _spelling.statements(document.text)
+        wanted = [_spelling.statements(answer) for answer in cls._again(document)]
+        if own not in wanted:
+            raise ValueError(
+                f"the text isn't the answer of {cls._from} to its own jobs and points: "
+                f"{_difference(own, wanted[0])}; Document.from_text(..) makes a document of any text"
+            )
+        return cls._made(document.text, written=True)
+
+    @classmethod
+    def _again(cls, document: Document) -> Sequence[bytes]:
+        """The texts that such an answer to the document may have."""
+        raise TypeError(
+            f"the text of a {cls.__name__} tells only a part of what it answers, the rest in comments that may be lost: "
+            f"ask {cls._from} again; Document.from_text(..) reads its jobs and slots"
+        )
+
+
+def _difference(own: List[List[bytes]], wanted: List[List[bytes]]) -> str:
+    """The first line in which the two texts differ."""
+    for mine, other in zip_longest(own, wanted, fillvalue=[b"nothing"]):
+        if mine != other:
+            return f"it has {b' '.join(mine).decode()!r} where the answer has {b' '.join(other).decode()!r}"
+    return "it has the same lines"
+
+
+class Plan(_Answered):
     """A document with the slots and levels of its jobs' plan.
 
     >>> plan = Document(jobs=[("a", 0, 4, 8)]).plan()
@@ -252,14 +301,22 @@ class Plan(Document):
     (Fraction(2, 1), True)
     """
 
+    _from = "document.plan()"
+
     @property
     def peak(self) -> Fraction:
         """The least constant speed that meets every deadline: that of the first level, or 0."""
         return self.levels[0].speed if self.levels else Fraction(0)
 
+    @classmethod
+    def _again(cls, document: Document) -> Sequence[bytes]:
+        return [document.plan().text]
 
-class Rounded(Document):
+
+class Rounded(_Answered):
     """A document with slots that run at its points, and the energy that they take."""
+
+    _from = "document.round()"
 
     @cached_property
     def energy(self) -> Fraction:
@@ -270,9 +327,15 @@ class Rounded(Document):
         """
         return _spelling.read_fraction(_spelling.line_of(self.text, b"energy")[0])
 
+    @classmethod
+    def _again(cls, document: Document) -> Sequence[bytes]:
+        return [document.round().text]
 
-class Run(Document):
+
+class Run(_Answered):
     """A document with the slots of a policy's run."""
+
+    _from = "document.avr() or document.oa()"
 
     @property
     def grid(self) -> int:
@@ -284,14 +347,21 @@ class Run(Document):
         """At how many event points the run rounded up. Where it is 0, the run is the policy itself."""
         return int(_spelling.line_of(self.text, b"grid")[1])
 
+    @classmethod
+    def _again(cls, document: Document) -> Sequence[bytes]:
+        grid = int(_spelling.line_of(document._readable, b"grid")[0])
+        return [document.avr(grid).text, document.oa(grid).text]
 
-class Admission(Document):
+
+class Admission(_Answered):
     """A document of the admitted jobs, with slots at or below the top speed.
 
     >>> admission = Document(jobs=[("a", 0, 4, 4), ("b", 0, 2, 4), ("c", 1, 3, 1)]).admit(top=2)
     >>> [job.name for job in admission.jobs], admission.refused
     (['a', 'b'], (Refusal(job='c', start=0, end=4, work=9, top=2),))
     """
+
+    _from = "document.admit(top)"
 
     @cached_property
     def refused(self) -> Tuple[Refusal, ...]:
@@ -312,8 +382,10 @@ class OneLevel(NamedTuple):
         return Fraction(self.work, self.length)
 
 
-class Expansion(Document):
+class Expansion(_Answered):
     """A document of the jobs of periodic tasks."""
+
+    _from = "yds.expand(tasks, horizon)"
 
     @cached_property
     def one_level(self) -> Optional[OneLevel]:
