@@ -134,9 +134,25 @@ class Answers(unittest.TestCase):
         self.assertEqual(
             [slot.speed for slot in run.slots], [Fraction(2, 3), Fraction(7, 6), Fraction(7, 6), Fraction(7, 6)]
         )
-        self.assertEqual((run.grid, run.rounded), (6, 0))
+        self.assertEqual((run.grid, run.rounded, run.exact), (6, 0, True))
         self.assertEqual(yds.Document(POLICIES).avr(1).rounded, 3)
+        self.assertFalse(yds.Document(POLICIES).avr(1).exact)
         self.assertEqual(yds.Document(POLICIES).avr(6).slots[1], yds.Slot("b", 1, Fraction(8, 5), 1))
+
+    def test_policies_count_in_fine_parts_where_nothing_is_said(self) -> None:
+        """The speeds 2/3 and 5/3 of Average Rate, which parts of 1 make 1, 2 and 0."""
+        document = yds.Document(POLICIES, [(0, 0), (1, 1), (2, 3)])
+        run = document.avr()
+        self.assertEqual((run.grid, run.exact), (720720, True))
+        speeds = [Fraction(2, 3), Fraction(5, 3), Fraction(5, 3), Fraction(2, 3)]
+        self.assertEqual([slot.speed for slot in run.slots], speeds)
+        self.assertEqual([slot.speed for slot in document.avr(1).slots], [1, 2, 2])
+        self.assertEqual((document.oa().grid, document.oa().exact, document.oa(1).exact), (720720, True, False))
+        compared, coarse = document.compare(), document.compare(1)
+        assert isinstance(compared, yds.Comparison) and isinstance(coarse, yds.Comparison)
+        self.assertEqual((compared.avr.energy, compared.oa.energy), (Fraction(11, 3), Fraction(10, 3)))
+        self.assertEqual((coarse.avr.energy, coarse.oa.energy), (4, 3))
+        self.assertEqual((compared.avr.rounded, coarse.avr.rounded), (0, 3))
 
     def test_numbers_come_from_their_lines(self) -> None:
         """What stands behind the line of the energy or of the grid is another's: a comment's last word is no number."""
@@ -247,7 +263,8 @@ class Answered(unittest.TestCase):
     ONE = yds.Document([("a", 0, 4, 8)], [(0, 0), (2, 9)])
 
     def test_rows_make_no_answer(self) -> None:
-        with self.assertRaisesRegex(TypeError, r"a Plan is an answer, and comes from document\.plan\(\); Document\(\.\."):
+        message = r"a Plan is an answer, and comes from document\.plan\(\); Document\(\.\.\) makes a document of these rows"
+        with self.assertRaisesRegex(TypeError, message):
             yds.Plan([("a", 0, 4, 8)])
         with self.assertRaisesRegex(TypeError, r"a Rounded .* document\.round\(\)"):
             yds.Rounded([("a", 0, 4, 8)], [(0, 0), (2, 9)])

@@ -15,6 +15,9 @@ from yds.errors import OutOfMemory, Refused, UsageError
 from yds.results import Comparison, Curve, Judgement, Refusal, Report, TooSlow, Trial, Verdict
 from yds.rows import Job, JobLike, Level, Point, PointLike, Slot, SlotLike, TaskLike
 
+FINE_GRID = 720720
+"""So many parts of a unit of work do the policies count in, where nothing is said: it has all divisors up to 16."""
+
 D = TypeVar("D", bound="Document")
 A = TypeVar("A", bound="_Answered")
 
@@ -160,24 +163,35 @@ class Document:
         answered = _ask(["round"], self.text)
         return Rounded._of(answered) if answered.status is Status.DONE else TooSlow.read(answered.text)
 
-    def avr(self, grid: int) -> Run:
-        """The run of the online policy Average Rate, on works of one part in grid (1 to 1,000,000)."""
+    def avr(self, grid: int = FINE_GRID) -> Run:
+        """The run of the online policy Average Rate, on works of one part in grid (1 to 1,000,000).
+
+        What the policy does between two event points is rounded up to such parts. Look at the run's `exact` or
+        `rounded` before its energy is called the policy's: on a coarse grid it is another's.
+        """
         return Run._of(_ask(["avr", "--grid", str(index(grid))], self.text))
 
-    def oa(self, grid: int) -> Run:
+    def oa(self, grid: int = FINE_GRID) -> Run:
         """The run of the online policy Optimal Available, on works of one part in grid (1 to 1,000,000).
 
-        >>> run = Document(jobs=[("a", 0, 3, 2), ("b", 1, 2, 1)]).oa(grid=6)
-        >>> run.slots[1].speed, run.rounded
-        (Fraction(7, 6), 0)
+        It rounds as `avr` does.
+
+        >>> document = Document(jobs=[("a", 0, 3, 2), ("b", 1, 2, 1)])
+        >>> run, coarse = document.oa(), document.oa(grid=1)
+        >>> run.slots[1].speed, run.exact
+        (Fraction(7, 6), True)
+        >>> coarse.slots[1].speed, coarse.rounded
+        (Fraction(1, 1), 1)
         """
         return Run._of(_ask(["oa", "--grid", str(index(grid))], self.text))
 
-    def compare(self, grid: int) -> Union[Comparison, TooSlow]:
+    def compare(self, grid: int = FINE_GRID) -> Union[Comparison, TooSlow]:
         """What the plan and the runs of both policies spend on the points; TooSlow as for round.
 
+        The runs are those of `avr` and `oa` on this grid, and each side tells where they rounded.
+
         >>> document = Document([("a", 0, 3, 2), ("b", 1, 2, 1)], [(0, 0), (1, 1), (2, 3)])
-        >>> compared = document.compare(grid=6)
+        >>> compared = document.compare()
         >>> compared.plan.energy, compared.avr.energy, compared.oa.energy
         (Fraction(3, 1), Fraction(11, 3), Fraction(10, 3))
         """
@@ -280,7 +294,7 @@ class _Answered(Document):
     def _again(cls, document: Document) -> Sequence[bytes]:
         """The texts that such an answer to the document may have."""
         raise TypeError(
-            f"the text of a {cls.__name__} tells only a part of what it answers, the rest in comments that may be lost: "
+            f"the text of a {cls.__name__} tells a part of it in comments, which may be lost: "
             f"ask {cls._from} again; Document.from_text(..) reads its jobs and slots"
         )
 
@@ -344,8 +358,13 @@ class Run(_Answered):
 
     @property
     def rounded(self) -> int:
-        """At how many event points the run rounded up. Where it is 0, the run is the policy itself."""
+        """At how many event points the run rounded up."""
         return int(_spelling.line_of(self.text, b"grid")[1])
+
+    @property
+    def exact(self) -> bool:
+        """Whether the run is the policy itself: it rounded nowhere."""
+        return self.rounded == 0
 
     @classmethod
     def _again(cls, document: Document) -> Sequence[bytes]:
