@@ -263,20 +263,19 @@ class Answered(unittest.TestCase):
     ONE = yds.Document([("a", 0, 4, 8)], [(0, 0), (2, 9)])
 
     def test_rows_make_no_answer(self) -> None:
-        message = r"a Plan is an answer, and comes from document\.plan\(\); Document\(\.\.\) makes a document of these rows"
-        with self.assertRaisesRegex(TypeError, message):
+        with self.assertRaisesRegex(TypeError, r"Plan is the answer of document\.plan\(\), and isn't made of rows"):
             yds.Plan([("a", 0, 4, 8)])
-        with self.assertRaisesRegex(TypeError, r"a Rounded .* document\.round\(\)"):
+        with self.assertRaisesRegex(TypeError, r"Rounded .* document\.round\(\)"):
             yds.Rounded([("a", 0, 4, 8)], [(0, 0), (2, 9)])
-        with self.assertRaisesRegex(TypeError, r"a Run .* document\.avr\(\) or document\.oa\(\)"):
+        with self.assertRaisesRegex(TypeError, r"Run .* document\.avr\(\) or document\.oa\(\)"):
             yds.Run([("a", 0, 4, 8)])
         for kind in (yds.Plan, yds.Rounded, yds.Run, yds.Admission, yds.Expansion):
             with self.subTest(kind.__name__):
-                with self.assertRaisesRegex(TypeError, "is an answer"):
+                with self.assertRaisesRegex(TypeError, "is the answer of"):
                     kind()
-                with self.assertRaisesRegex(TypeError, "is an answer"):
+                with self.assertRaisesRegex(TypeError, "is the answer of"):
                     kind.from_decimal([("a", 0, 4, 8)], denominator=1)
-                with self.assertRaisesRegex(TypeError, "is an answer"):
+                with self.assertRaisesRegex(TypeError, "is the answer of"):
                     kind.from_pandas({"name": ["a"], "release": [0], "deadline": [4], "work": [8]})
 
     def test_a_stored_answer_is_read_again(self) -> None:

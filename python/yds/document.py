@@ -270,8 +270,8 @@ class _Answered(Document):
 
     def __init__(self, *_: object, **__: object) -> None:
         raise TypeError(
-            f"a {type(self).__name__} is an answer, and comes from {self._from}; "
-            "Document(..) makes a document of these rows"
+            f"{type(self).__name__} is the answer of {self._from}, and isn't made of rows; "
+            "Document(..) makes a document of them"
         )
 
     @classmethod
@@ -294,7 +294,7 @@ class _Answered(Document):
     def _again(cls, document: Document) -> Sequence[bytes]:
         """The texts that such an answer to the document may have."""
         raise TypeError(
-            f"the text of a {cls.__name__} tells a part of it in comments, which may be lost: "
+            f"{cls.__name__} tells a part of the answer in comments, which may be lost: "
             f"ask {cls._from} again; Document.from_text(..) reads its jobs and slots"
         )
 
