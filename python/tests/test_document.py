@@ -88,6 +88,19 @@ class Making(unittest.TestCase):
         with self.assertRaises(TypeError):
             yds.Document.from_pandas(jobs.assign(work=0.5))
 
+    def test_columns_of_unlike_length(self) -> None:
+        jobs = {"name": ["a", "b", "c"], "release": [0, 0, 0], "deadline": [4, 5, 6], "work": [8]}
+        with self.assertRaisesRegex(ValueError, r"columns of jobs differ in length \(name 3, .* work 1\)"):
+            yds.Document.from_pandas(jobs)
+        jobs["work"] = iter([8, 8, 8])  # type: ignore[assignment]
+        self.assertEqual(len(yds.Document.from_pandas(jobs).jobs), 3)
+        jobs["work"] = [8, 8, 8]
+        with self.assertRaisesRegex(ValueError, r"columns of points differ in length \(speed 2, power 1\)"):
+            yds.Document.from_pandas(jobs, {"speed": [0, 3], "power": [1]})
+        with self.assertRaises(KeyError):
+            yds.Document.from_pandas({"name": ["a"], "release": [0], "deadline": [4]})
+        self.assertEqual(yds.Document.from_pandas({column: [] for column in yds.Job._fields}).text, b"")
+
     def test_what_crosses_a_process(self) -> None:
         plan = yds.Document(THREE).plan()
         again = pickle.loads(pickle.dumps(plan))

@@ -100,6 +100,15 @@ def row_lines(kind: str, rows: Iterable[Sequence[Any]]) -> Iterator[str]:
         yield " ".join([kind, name(named), *map(whole, numbers)])
 
 
+def rows_of(table: Any, kind: str, columns: Sequence[str]) -> List[Any]:
+    """The rows of a table of columns, which have to be of one length."""
+    found = [list(table[column]) for column in columns]
+    if len({len(values) for values in found}) > 1:
+        lengths = ", ".join(f"{column} {len(values)}" for column, values in zip(columns, found))
+        raise ValueError(f"the columns of {kind} differ in length ({lengths}): give each row every field")
+    return list(zip(*found))
+
+
 def point_lines(points: Iterable[Sequence[Any]]) -> Iterator[str]:
     """A line for each operating point."""
     for speed, power in points:

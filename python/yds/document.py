@@ -109,12 +109,15 @@ class Document:
         """The rows of a DataFrame with the columns name, release, deadline and work.
 
         The points are those of another, with the columns speed and power. Anything with such columns does, as a dict.
+        Columns of one table that differ in length raise ValueError.
 
         >>> Document.from_pandas({"name": ["a"], "release": [0], "deadline": [4], "work": [8]}).jobs
         (Job(name='a', release=0, deadline=4, work=8),)
         """
-        rows = zip(*(jobs[column] for column in Job._fields))
-        return cls(rows, () if points is None else zip(*(points[column] for column in Point._fields)))
+        return cls(
+            _spelling.rows_of(jobs, "jobs", Job._fields),
+            () if points is None else _spelling.rows_of(points, "points", Point._fields),
+        )
 
     @property
     def text(self) -> bytes:
