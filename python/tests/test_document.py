@@ -108,6 +108,19 @@ class Making(unittest.TestCase):
         self.assertEqual(again.slots, plan.slots)
         self.assertEqual(pickle.loads(pickle.dumps(plan.report())), plan.report())
 
+    def test_a_document_does_not_change(self) -> None:
+        document = yds.Document(THREE, [(0, 0), (3, 9)])
+        document.jobs
+        for target in (document, document.plan(), document.round()):
+            for name in ("jobs", "points", "slots", "levels", "text", "_text", "energy", "job"):
+                with self.subTest(kind=type(target).__name__, name=name):
+                    with self.assertRaisesRegex(AttributeError, f"'{name}' can't be set; Document"):
+                        setattr(target, name, [("z", 0, 1, 1)])
+                    with self.assertRaisesRegex(AttributeError, f"'{name}' can't be taken away; Document"):
+                        delattr(target, name)
+        self.assertEqual(document, yds.Document(THREE, [(0, 0), (3, 9)]))
+        self.assertEqual(document.jobs, tuple(yds.Job(*row) for row in THREE))
+
     def test_how_they_look(self) -> None:
         plan = yds.Document([("a", 0, 4, 8)]).plan()
         self.assertEqual(str(plan), plan.text.decode())

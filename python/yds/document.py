@@ -66,7 +66,9 @@ class Document:
         levels: Iterable[Level] = (),
     ) -> None:
         head = chain(_spelling.row_lines("job", jobs), _spelling.point_lines(points))
-        self._text = _spelling.joined(chain(head, _spelling.slot_lines(slots), _spelling.level_lines(levels)))
+        self.__dict__["_text"] = _spelling.joined(
+            chain(head, _spelling.slot_lines(slots), _spelling.level_lines(levels))
+        )
 
     @classmethod
     def from_text(cls: Type[D], text: Union[bytes, str]) -> D:
@@ -241,9 +243,16 @@ class Document:
     def _made(cls: Type[D], text: bytes, written: bool = False) -> D:
         """The document of this text, which the library wrote, or which it has yet to read."""
         document = cls.__new__(cls)
-        document._text = text
-        document._written = written
+        document.__dict__.update(_text=text, _written=written)
         return document
+
+    def __setattr__(self, name: str, value: object) -> None:
+        raise AttributeError(f"a document doesn't change, and so {name!r} can't be set; {self._changed}")
+
+    def __delattr__(self, name: str) -> None:
+        raise AttributeError(f"a document doesn't change, and so {name!r} can't be taken away; {self._changed}")
+
+    _changed: ClassVar[str] = "Document(jobs, points, slots, levels) makes another"
 
     @classmethod
     def _of(cls: Type[D], answered: Answer) -> D:
