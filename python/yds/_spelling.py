@@ -4,51 +4,14 @@ from __future__ import annotations
 
 import math
 import re
-from decimal import Decimal
 from fractions import Fraction
 from functools import lru_cache
-from numbers import Rational
-from typing import Any, Dict, Iterable, Iterator, List, Sequence, Tuple, Union
+from typing import Any, Dict, Iterable, Iterator, List, Sequence, Tuple
 
-from yds.rows import Exact, Job, Level, Piece, Point, Slot
-
-Decimalish = Union[int, float, str, Decimal, Fraction]
-DecimalRow = Tuple[str, Decimalish, Decimalish, Decimalish]
+from yds._numbers import exact, whole
+from yds.rows import Job, Level, Piece, Point, Slot
 
 _NAME = re.compile(r"[!-~]{1,64}")
-
-
-def exact(value: Any) -> Fraction:
-    """The value of an int or a Fraction, also of numpy's ints. A float isn't taken."""
-    if isinstance(value, Fraction):
-        return value
-    if isinstance(value, Rational):
-        return Fraction(int(value.numerator), int(value.denominator))
-    raise TypeError(
-        f"{value!r} is neither an int nor a Fraction, and what is counted is exact. "
-        "Document.from_decimal(.., denominator=..) takes decimals, and counts in units of 1/denominator"
-    )
-
-
-def nearest(value: Decimalish, denominator: int) -> int:
-    """How many parts of 1/denominator the value is, to the nearest; half a part goes to the even number."""
-    try:
-        return round(Fraction(value) * denominator)
-    except OverflowError:
-        raise ValueError(f"{value!r} is no number") from None
-
-
-def whole(value: Any) -> str:
-    """The spelling of a number that has to be whole."""
-    if type(value) is int:
-        return str(value)
-    number = exact(value)
-    if number.denominator != 1:
-        raise ValueError(
-            f"{value!r} isn't whole, as it has to be here: count in finer units. "
-            "Document.from_decimal(.., denominator=..) does so, in units of 1/denominator"
-        )
-    return str(number.numerator)
 
 
 def fraction(value: Fraction, denominator: int) -> str:
@@ -97,7 +60,7 @@ def level_lines(levels: Iterable[Level]) -> Iterator[str]:
 def row_lines(kind: str, rows: Iterable[Sequence[Any]]) -> Iterator[str]:
     """A line for each row of a name and whole numbers."""
     for named, *numbers in rows:
-        yield " ".join([kind, name(named), *map(whole, numbers)])
+        yield " ".join([kind, name(named), *(str(whole(number)) for number in numbers)])
 
 
 def rows_of(table: Any, kind: str, columns: Sequence[str]) -> List[Any]:

@@ -10,7 +10,7 @@ from typing import Any, ClassVar, Iterable, List, NamedTuple, Optional, Sequence
 
 from yds import _spelling
 from yds._library import Answer, Status, answer, as_bytes
-from yds._spelling import Decimalish, DecimalRow
+from yds._numbers import Decimalish, nearest, whole
 from yds.errors import OutOfMemory, Refused, UsageError
 from yds.results import Comparison, Curve, Judgement, Refusal, Report, TooSlow, Trial, Verdict
 from yds.rows import Job, JobLike, Level, Point, PointLike, Slot, SlotLike, TaskLike
@@ -18,6 +18,7 @@ from yds.rows import Job, JobLike, Level, Point, PointLike, Slot, SlotLike, Task
 FINE_GRID = 720720
 """So many parts of a unit of work do the policies count in, where nothing is said: it has all divisors up to 16."""
 
+DecimalRow = Tuple[str, Decimalish, Decimalish, Decimalish]
 D = TypeVar("D", bound="Document")
 A = TypeVar("A", bound="_Answered")
 
@@ -98,7 +99,7 @@ class Document:
         """
 
         def counted(value: Decimalish) -> int:
-            return _spelling.nearest(value, denominator)
+            return nearest(value, denominator)
 
         return cls(
             ((name, counted(release), counted(deadline), counted(work)) for name, release, deadline, work in jobs),
@@ -443,7 +444,7 @@ def expand(tasks: Union[bytes, str, Iterable[TaskLike]], horizon: Optional[int] 
     else:
         if horizon is None:
             raise TypeError("rows of tasks want a horizon")
-        head = [f"horizon {_spelling.whole(horizon)}"]
+        head = [f"horizon {whole(horizon)}"]
         text = _spelling.joined(chain(head, _spelling.row_lines("task", tasks)))
     return Expansion._of(_ask(["expand"], text))
 

@@ -11,7 +11,7 @@ from dataclasses import replace
 from fractions import Fraction
 from typing import Any, Iterable, List, Optional, Sequence, Tuple, TypeVar
 
-from yds._spelling import exact
+from yds._numbers import exact
 from yds.document import Document
 from yds.results import Judgement, Verdict
 from yds.rows import Level, Slot, SlotLike
