@@ -61,6 +61,46 @@ class Making(unittest.TestCase):
             with self.assertRaises((ValueError, ZeroDivisionError)):
                 yds.Document.from_decimal([("a", 0, 1, value)], denominator=10)
 
+    def test_a_denominator_is_a_whole_number(self) -> None:
+        rows = [("a", 0, 4, 8)]
+        for denominator in (1.5, True, "10", Decimal(10), None):
+            with self.assertRaisesRegex(TypeError, "the denominator is a whole number of at least 1, and .* is none"):
+                yds.Document.from_decimal(rows, denominator=denominator)  # type: ignore[arg-type]
+        for denominator in (0, -10, Fraction(1, 2)):
+            with self.assertRaisesRegex(ValueError, "the denominator is a whole number of at least 1, and not "):
+                yds.Document.from_decimal(rows, denominator=denominator)  # type: ignore[arg-type]
+        whole = yds.Document.from_decimal(rows, denominator=Fraction(10))  # type: ignore[arg-type]
+        self.assertEqual(whole.text, b"job a 0 40 80\n")
+
+    def test_decimals_that_would_vanish(self) -> None:
+        def counted(*row: object, most: object = None) -> bytes:
+            return yds.Document.from_decimal([row], denominator=1000, most=most).text  # type: ignore
+
+        for work in (0.0004, "0.0004", Decimal("0.0005"), Fraction(1, 2001)):
+            with self.assertRaisesRegex(ValueError, "is a work above 0, and comes to no unit of 1/1000"):
+                counted("a", 0, 4, work)
+            with self.assertRaisesRegex(ValueError, "is a work above 0, and comes to no unit of 1/1000"):
+                yds.Document.from_decimal([("a", 0, 4, 1)], slots=[("a", 0, 1, work)], denominator=1000)
+        self.assertEqual(counted("a", 0, 4, 0.0), b"job a 0 4000 0\n")
+        self.assertEqual(counted("a", 0, 4, 0.0006), b"job a 0 4000 1\n")
+        self.assertEqual(counted("a", 0.0004, 4, 1), b"job a 0 4000 1000\n")
+        for row in ((-0.0004, 4, 1), (0, -4, 1), (0, 4, -0.0004), (0, 4, "-1")):
+            with self.assertRaisesRegex(ValueError, "is below 0, as no time and no work is"):
+                counted("a", *row)
+        with self.assertRaisesRegex(TypeError, "True is a truth value, and no number"):
+            counted("a", 0, True, 1)
+
+    def test_how_far_decimals_may_be_moved(self) -> None:
+        third = [("a", 0, Fraction(50, 3), 1)]
+        document = yds.Document.from_decimal(third, denominator=3, most=0)
+        self.assertEqual(document.text, b"job a 0 50 3\n")
+        document = yds.Document.from_decimal(third, denominator=1000, most=Fraction(1, 3000))
+        self.assertEqual(document.text, b"job a 0 16667 1000\n")
+        with self.assertRaisesRegex(ValueError, "comes to 16667 units of 1/1000, and is moved by more than 0"):
+            yds.Document.from_decimal(third, denominator=1000, most=0)
+        with self.assertRaisesRegex(ValueError, "comes to 17 units of 1/1, and is moved by more than 1/10"):
+            yds.Document.from_decimal([("a", 0, "16.667", 1)], denominator=1, most="0.1")
+
     def test_a_name_is_one_field(self) -> None:
         for name in ("", "a b", "a\nb", "a\r", "a\t", "é", "a" * 65):
             with self.assertRaisesRegex(ValueError, "is no name"):

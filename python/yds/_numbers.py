@@ -5,7 +5,7 @@ from __future__ import annotations
 from decimal import Decimal
 from fractions import Fraction
 from numbers import Rational
-from typing import Any, Union
+from typing import Any, Optional, Union
 
 Decimalish = Union[int, float, str, Decimal, Fraction]
 
@@ -35,9 +35,54 @@ def whole(value: Any) -> int:
     return number.numerator
 
 
-def nearest(value: Decimalish, denominator: int) -> int:
-    """How many parts of 1/denominator the value is, to the nearest; half a part goes to the even number."""
+def counted(value: Any, what: str, least: int) -> int:
+    """The value of a whole number that counts something, and is at least so much."""
+    if isinstance(value, bool) or not isinstance(value, Rational):
+        raise TypeError(f"{what} is a whole number of at least {least}, and {value!r} is none")
+    if value.denominator != 1 or value < least:
+        raise ValueError(f"{what} is a whole number of at least {least}, and not {value!r}")
+    return int(value.numerator)
+
+
+class Units:
+    """Decimals, counted in units of 1/denominator to the nearest; half a unit goes to the even number."""
+
+    def __init__(self, denominator: Any, most: Optional[Decimalish] = None) -> None:
+        self._denominator = counted(denominator, "the denominator", 1)
+        self._most = None if most is None else decimal(most)
+
+    def time(self, value: Decimalish) -> int:
+        """The units of a time."""
+        return self._nearest(decimal(value), value)
+
+    def work(self, value: Decimalish) -> int:
+        """The units of a work. One above 0 that comes to no unit is refused: it would be wanted no more."""
+        given = decimal(value)
+        units = self._nearest(given, value)
+        if units == 0 and given > 0:
+            raise ValueError(
+                f"{value!r} is a work above 0, and comes to no unit of 1/{self._denominator}: "
+                "take a greater denominator, or give 0"
+            )
+        return units
+
+    def _nearest(self, given: Fraction, value: Decimalish) -> int:
+        if given < 0:
+            raise ValueError(f"{value!r} is below 0, as no time and no work is")
+        units = round(given * self._denominator)
+        if self._most is not None and abs(Fraction(units, self._denominator) - given) > self._most:
+            raise ValueError(
+                f"{value!r} comes to {units} units of 1/{self._denominator}, and is moved by more than {self._most}: "
+                "take another denominator, or a greater most"
+            )
+        return units
+
+
+def decimal(value: Decimalish) -> Fraction:
+    """The exact value of a decimal: of a float, a Decimal or a text too."""
+    if isinstance(value, bool):
+        raise TypeError(f"{value!r} is a truth value, and no number")
     try:
-        return round(Fraction(value) * denominator)
+        return Fraction(value)
     except OverflowError:
         raise ValueError(f"{value!r} is no number") from None

@@ -10,7 +10,7 @@ from typing import Any, ClassVar, Iterable, List, NamedTuple, Optional, Sequence
 
 from yds import _spelling
 from yds._library import Answer, Status, answer, as_bytes
-from yds._numbers import Decimalish, nearest, whole
+from yds._numbers import Decimalish, Units, whole
 from yds.errors import OutOfMemory, Refused, UsageError
 from yds.results import Comparison, Curve, Judgement, Refusal, Report, TooSlow, Trial, Verdict
 from yds.rows import Job, JobLike, Level, Point, PointLike, Slot, SlotLike, TaskLike
@@ -88,23 +88,25 @@ class Document:
         slots: Iterable[DecimalRow] = (),
         *,
         denominator: int,
+        most: Optional[Decimalish] = None,
     ) -> D:
         """A document of times and works that may be decimals: floats, Decimals, or texts.
 
         They are counted in units of 1/denominator, each rounded to the nearest; half a unit goes to the even number.
         So speeds stay what they are, and the points with them, and energies come in units of 1/denominator too.
 
+        ValueError is raised where a number is below 0, where a work above 0 would come to no unit, and, if most is
+        given, where a number is moved by more than that (in units of time and work, as the rows are).
+
         >>> Document.from_decimal([("frame", 0, 16.667, 3.25)], denominator=1000).jobs
         (Job(name='frame', release=0, deadline=16667, work=3250),)
         """
-
-        def counted(value: Decimalish) -> int:
-            return nearest(value, denominator)
-
+        units = Units(denominator, most)
+        time, done = units.time, units.work
         return cls(
-            ((name, counted(release), counted(deadline), counted(work)) for name, release, deadline, work in jobs),
+            ((name, time(release), time(deadline), done(work)) for name, release, deadline, work in jobs),
             points,
-            ((job, counted(start), counted(end), counted(work)) for job, start, end, work in slots),
+            ((job, time(start), time(end), done(work)) for job, start, end, work in slots),
         )
 
     @classmethod
