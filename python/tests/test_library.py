@@ -83,6 +83,15 @@ class Calling(unittest.TestCase):
         with self.assertRaises(TypeError):
             yds.answer("plan", JOB)
 
+    def test_words_are_a_list_of_strings(self) -> None:
+        for words in ({"avr", "--grid", "1"}, {"plan": 1}, (word for word in ["plan"]), b"plan", None):
+            with self.assertRaisesRegex(TypeError, "the words are a list, a string for each"):
+                yds.answer(words, JOB)  # type: ignore[arg-type]
+        for words in ([1], ["avr", "--grid", 1], [None]):
+            with self.assertRaisesRegex(TypeError, "a word of the command line is a string, and not"):
+                yds.answer(words, JOB)  # type: ignore[arg-type]
+        self.assertEqual(yds.answer(("plan",), JOB), (yds.Status.DONE, PLAN))
+
     def test_status_is_a_number(self) -> None:
         status, text = yds.answer(["audit"], JOB)
         self.assertEqual((int(status), status, text), (1, yds.Status.NO, b"work a given 0 wanted 8\n"))

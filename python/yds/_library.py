@@ -5,6 +5,7 @@ from __future__ import annotations
 import ctypes
 import os
 import struct
+from collections.abc import Sequence as SequenceType
 from enum import IntEnum
 from pathlib import Path
 from typing import NamedTuple, Optional, Sequence, Union
@@ -59,9 +60,9 @@ class Library:
 
     def answer(self, words: Sequence[Union[str, bytes]], data: bytes = b"") -> Answer:
         """The answer to the words, from the data. Where the first room is too small, a second has the needed size."""
-        if isinstance(words, (str, bytes)):
-            raise TypeError("the words are a list, a string for each")
-        spelled = [word if isinstance(word, bytes) else word.encode("utf-8", "surrogateescape") for word in words]
+        if isinstance(words, (str, bytes)) or not isinstance(words, SequenceType):
+            raise TypeError(f"the words are a list, a string for each, and not {words!r}")
+        spelled = [_spelled(word) for word in words]
         data = as_bytes(data)
         array = (_Word * max(len(spelled), 1))(*(_Word(word, len(word)) for word in spelled))
         needed = ctypes.c_size_t()
@@ -72,6 +73,15 @@ class Library:
             if needed.value <= size:
                 return Answer(Status(status), ctypes.string_at(room, needed.value))
             size = needed.value
+
+
+def _spelled(word: Union[str, bytes]) -> bytes:
+    """The bytes of a word of the command line."""
+    if isinstance(word, str):
+        return word.encode("utf-8", "surrogateescape")
+    if isinstance(word, bytes):
+        return word
+    raise TypeError(f"a word of the command line is a string, and not {word!r}")
 
 
 def as_bytes(data: bytes) -> bytes:
