@@ -276,6 +276,14 @@ class Answers(unittest.TestCase):
         with self.assertRaisesRegex(TypeError, "horizon"):
             yds.expand([("control", 0, 4, 4, 2)])
 
+    def test_a_text_of_tasks_has_its_own_horizon(self) -> None:
+        text = b"horizon 8\ntask s 0 4 4 2\n"
+        for tasks in (text, text.decode(), bytearray(text), memoryview(text)):
+            self.assertEqual(yds.expand(tasks).one_level, yds.OneLevel(4, 8))
+            for horizon in (99, 8, 0):
+                with self.assertRaisesRegex(TypeError, "a text of tasks has a line of its own for the horizon"):
+                    yds.expand(tasks, horizon=horizon)
+
     def test_trial(self) -> None:
         trial = yds.trial(0, 2)
         self.assertEqual((trial.jobs, trial.levels, trial.slots, trial.peak), (2, 2, 2, (53709, 18257)))

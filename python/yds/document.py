@@ -439,10 +439,10 @@ def expand(tasks: Union[bytes, str, Iterable[TaskLike]], horizon: Optional[int] 
     >>> len(expansion.jobs), expansion.one_level.speed
     (5, Fraction(1, 1))
     """
-    if isinstance(tasks, str):
-        text = tasks.encode("utf-8")
-    elif isinstance(tasks, bytes):
-        text = tasks
+    if isinstance(tasks, (str, bytes, bytearray, memoryview)):
+        if horizon is not None:
+            raise TypeError("a text of tasks has a line of its own for the horizon: write it there, or give rows")
+        text = tasks.encode("utf-8") if isinstance(tasks, str) else as_bytes(tasks)
     else:
         if horizon is None:
             raise TypeError("rows of tasks want a horizon")
