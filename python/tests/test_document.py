@@ -410,6 +410,57 @@ class Answered(unittest.TestCase):
         self.assertEqual(copy.copy(expansion).one_level, yds.OneLevel(4, 8))
 
 
+class Numbers(unittest.TestCase):
+    """What is no number, or not exact, is refused wherever a number stands."""
+
+    def test_truth_values(self) -> None:
+        document = yds.Document(THREE, [(0, 0), (9, 9)])
+        for call in (
+            lambda: yds.Document([("a", False, 4, 8)]),
+            lambda: yds.Document(points=[(0, True)]),
+            lambda: yds.Document(slots=[("a", 0, 4, True)]),
+            lambda: yds.Document(levels=[yds.Level(True, 4)]),
+            lambda: yds.expand([("a", 0, 4, 4, True)], horizon=8),
+            lambda: yds.expand([("a", 0, 4, 4, 1)], horizon=True),
+            lambda: document.avr(True),
+            lambda: document.oa(True),
+            lambda: document.compare(True),
+            lambda: document.admit(True),
+            lambda: yds.trial(0, True),
+            lambda: yds.trial(False, 1),
+            lambda: document.curve().above(True),
+            lambda: yds.Slot("a", 0, 1, True).speed,
+            lambda: yds.schedule.judge(document, [("a", 0, True, 1)]),
+        ):
+            with self.assertRaisesRegex(TypeError, "(is a truth value, and no number|is a whole number, and .* is none)"):
+                call()
+
+    def test_floats(self) -> None:
+        curve = yds.Document(THREE).curve()
+        for speed in (0.1, float("nan"), float("inf"), Decimal("0.1"), "1"):
+            with self.assertRaisesRegex(TypeError, r"is neither an int nor a Fraction.*as in Fraction\('0.1'\)$"):
+                curve.above(speed)  # type: ignore[arg-type]
+        self.assertEqual(curve.above(Fraction("0.1")), Fraction(84, 5))
+        for slot in (("a", 0, 1, 0.1), ("a", 0.5, 1, 1), ("a", 0, 1.0, 1)):
+            with self.assertRaisesRegex(TypeError, "is neither an int nor a Fraction"):
+                yds.Slot(*slot).speed  # type: ignore[arg-type]
+        for call in (yds.Document(THREE).avr, yds.Document(THREE).oa, yds.Document(THREE).admit):
+            with self.assertRaisesRegex(TypeError, "is a whole number, and 2.0 is none"):
+                call(2.0)  # type: ignore[arg-type]
+            with self.assertRaisesRegex(ValueError, r"is a whole number, and not Fraction\(1, 2\)"):
+                call(Fraction(1, 2))  # type: ignore[arg-type]
+            self.assertEqual(call(Fraction(6)), call(6))  # type: ignore[arg-type]
+
+    def test_points_of_an_audit(self) -> None:
+        document = yds.Document([("a", 0, 4, 8)], [(0, 0), (2, 9)], [("a", 0, 4, 8)])
+        self.assertTrue(document.audit(points=True))
+        for points in ("yes", "", 1, 0, None, [(0, 0)]):
+            with self.assertRaisesRegex(TypeError, "points is True or False, and not"):
+                document.audit(points=points)  # type: ignore[arg-type]
+            with self.assertRaisesRegex(TypeError, "points is True or False, and not"):
+                yds.schedule.judge(document, [("a", 0, 4, 8)], points=points)  # type: ignore[arg-type]
+
+
 class Refusals(unittest.TestCase):
     def test_a_fault_has_its_place(self) -> None:
         with self.assertRaises(yds.Refused) as raised:

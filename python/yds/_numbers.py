@@ -10,37 +10,38 @@ from typing import Any, Optional, Union
 Decimalish = Union[int, float, str, Decimal, Fraction]
 
 
-def exact(value: Any) -> Fraction:
-    """The value of an int or a Fraction, also of numpy's ints. A float isn't taken."""
+DECIMALS = ". Document.from_decimal(.., denominator=..) takes decimals, and counts in units of 1/denominator"
+"""What is told beside a float in a document's rows."""
+
+
+def exact(value: Any, advice: str = ". Fraction takes its text, as in Fraction('0.1')") -> Fraction:
+    """The value of an int or a Fraction, also of numpy's ints. Neither a float nor a truth value is taken."""
     if isinstance(value, Fraction):
         return value
+    if isinstance(value, bool):
+        raise TypeError(f"{value!r} is a truth value, and no number")
     if isinstance(value, Rational):
         return Fraction(int(value.numerator), int(value.denominator))
-    raise TypeError(
-        f"{value!r} is neither an int nor a Fraction, and what is counted is exact. "
-        "Document.from_decimal(.., denominator=..) takes decimals, and counts in units of 1/denominator"
-    )
+    raise TypeError(f"{value!r} is neither an int nor a Fraction, and what is counted is exact{advice}")
 
 
 def whole(value: Any) -> int:
     """The value of a number that has to be whole."""
     if type(value) is int:
         return value
-    number = exact(value)
+    number = exact(value, DECIMALS)
     if number.denominator != 1:
-        raise ValueError(
-            f"{value!r} isn't whole, as it has to be here: count in finer units. "
-            "Document.from_decimal(.., denominator=..) does so, in units of 1/denominator"
-        )
+        raise ValueError(f"{value!r} isn't whole, as it has to be here: count in finer units{DECIMALS}")
     return number.numerator
 
 
-def counted(value: Any, what: str, least: int) -> int:
-    """The value of a whole number that counts something, and is at least so much."""
+def integer(value: Any, what: str, least: Optional[int] = None) -> int:
+    """The value of a whole number that is an option of a call."""
+    wanted = f"{what} is a whole number" + ("" if least is None else f" of at least {least}")
     if isinstance(value, bool) or not isinstance(value, Rational):
-        raise TypeError(f"{what} is a whole number of at least {least}, and {value!r} is none")
-    if value.denominator != 1 or value < least:
-        raise ValueError(f"{what} is a whole number of at least {least}, and not {value!r}")
+        raise TypeError(f"{wanted}, and {value!r} is none")
+    if value.denominator != 1 or (least is not None and value < least):
+        raise ValueError(f"{wanted}, and not {value!r}")
     return int(value.numerator)
 
 
@@ -48,7 +49,7 @@ class Units:
     """Decimals, counted in units of 1/denominator to the nearest; half a unit goes to the even number."""
 
     def __init__(self, denominator: Any, most: Optional[Decimalish] = None) -> None:
-        self._denominator = counted(denominator, "the denominator", 1)
+        self._denominator = integer(denominator, "the denominator", 1)
         self._most = None if most is None else decimal(most)
 
     def time(self, value: Decimalish) -> int:

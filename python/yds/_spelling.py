@@ -8,7 +8,7 @@ from fractions import Fraction
 from functools import lru_cache
 from typing import Any, Dict, Iterable, Iterator, List, Sequence, Tuple
 
-from yds._numbers import exact, whole
+from yds._numbers import DECIMALS, exact, whole
 from yds.rows import Job, Level, Piece, Point, Slot
 
 _NAME = re.compile(r"[!-~]{1,64}")
@@ -38,7 +38,10 @@ def common(denominators: Iterable[int]) -> int:
 
 def slot_lines(slots: Iterable[Sequence[Any]]) -> Iterator[str]:
     """The slots, each with its ends over one denominator, and the works of each job over one denominator."""
-    given = [(name(job), exact(start), exact(end), exact(work)) for job, start, end, work in slots]
+    given = [
+        (name(job), exact(start, DECIMALS), exact(end, DECIMALS), exact(work, DECIMALS))
+        for job, start, end, work in slots
+    ]
     grains: Dict[str, int] = {}
     for job, _, _, work in given:
         grains[job] = common([grains.get(job, 1), work.denominator])

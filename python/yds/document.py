@@ -5,12 +5,11 @@ from __future__ import annotations
 from fractions import Fraction
 from functools import cached_property
 from itertools import chain, zip_longest
-from operator import index
 from typing import Any, ClassVar, Iterable, List, NamedTuple, Optional, Sequence, Tuple, Type, TypeVar, Union
 
 from yds import _spelling
 from yds._library import Answer, Status, answer, as_bytes
-from yds._numbers import Decimalish, Units, whole
+from yds._numbers import Decimalish, Units, integer, whole
 from yds.errors import OutOfMemory, Refused, UsageError
 from yds.results import Comparison, Curve, Judgement, Refusal, Report, TooSlow, Trial, Verdict
 from yds.rows import Job, JobLike, Level, Point, PointLike, Slot, SlotLike, TaskLike
@@ -177,7 +176,7 @@ class Document:
         What the policy does between two event points is rounded up to such parts. Look at the run's `exact` or
         `rounded` before its energy is called the policy's: on a coarse grid it is another's.
         """
-        return Run._of(_ask(["avr", "--grid", str(index(grid))], self.text))
+        return Run._of(_ask(["avr", "--grid", str(integer(grid, "the grid"))], self.text))
 
     def oa(self, grid: int = FINE_GRID) -> Run:
         """The run of the online policy Optimal Available, on works of one part in grid (1 to 1,000,000).
@@ -191,7 +190,7 @@ class Document:
         >>> coarse.slots[1].speed, coarse.rounded
         (Fraction(1, 1), 1)
         """
-        return Run._of(_ask(["oa", "--grid", str(index(grid))], self.text))
+        return Run._of(_ask(["oa", "--grid", str(integer(grid, "the grid"))], self.text))
 
     def compare(self, grid: int = FINE_GRID) -> Union[Comparison, TooSlow]:
         """What the plan and the runs of both policies spend on the points; TooSlow as for round.
@@ -203,7 +202,7 @@ class Document:
         >>> compared.plan.energy, compared.avr.energy, compared.oa.energy
         (Fraction(3, 1), Fraction(11, 3), Fraction(10, 3))
         """
-        answered = _ask(["compare", "--grid", str(index(grid))], self.text)
+        answered = _ask(["compare", "--grid", str(integer(grid, "the grid"))], self.text)
         return Comparison.read(answered.text) if answered.status is Status.DONE else TooSlow.read(answered.text)
 
     def audit(self, points: bool = False) -> Verdict:
@@ -215,6 +214,8 @@ class Document:
         >>> verdict.feasible, verdict.cause, verdict.job, verdict.index, verdict.deadline
         (False, 'late', 'a', 0, 4)
         """
+        if not isinstance(points, bool):
+            raise TypeError(f"points is True or False, and not {points!r}; the document's own points are taken")
         answered = _ask(["audit", "--points"] if points else ["audit"], self.text)
         return Verdict.read(answered.text, self._slots_if(answered))
 
@@ -240,7 +241,7 @@ class Document:
 
         Each is admitted, in the document's order, where it can be served beside those admitted before it.
         """
-        return Admission._of(_ask(["admit", str(index(top))], self.text))
+        return Admission._of(_ask(["admit", str(integer(top, "the top speed"))], self.text))
 
     @classmethod
     def _made(cls: Type[D], text: bytes, written: bool = False) -> D:
@@ -457,4 +458,5 @@ def trial(seed: int, jobs: int) -> Trial:
     >>> trial(seed=0, jobs=2).peak
     (53709, 18257)
     """
-    return Trial.read(_ask(["trial", str(index(seed)), str(index(jobs))], b"").text)
+    words = ["trial", str(integer(seed, "the seed")), str(integer(jobs, "the number of jobs"))]
+    return Trial.read(_ask(words, b"").text)

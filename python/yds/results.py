@@ -9,6 +9,7 @@ from dataclasses import dataclass
 from fractions import Fraction
 from typing import Dict, List, NamedTuple, Optional, Sequence, Tuple, Union
 
+from yds._numbers import exact
 from yds._spelling import read_fraction
 from yds.rows import Exact, Slot
 
@@ -207,11 +208,12 @@ class Curve(Result):
         >>> yds.Document(jobs=[("a", 0, 12, 4), ("b", 2, 10, 8), ("c", 4, 6, 6)]).curve().above(2)
         Fraction(2, 1)
         """
-        if speed < 0:
-            raise ValueError("a speed is at least 0")
+        at = exact(speed)
+        if at < 0:
+            raise ValueError(f"a speed is at least 0, and not {speed!r}")
         for low, high in zip(self.breaks, self.breaks[1:]):
-            if low.speed <= speed <= high.speed:
-                return low.excess + (high.excess - low.excess) * (speed - low.speed) / (high.speed - low.speed)
+            if low.speed <= at <= high.speed:
+                return low.excess + (high.excess - low.excess) * (at - low.speed) / (high.speed - low.speed)
         return Fraction(0)
 
     @classmethod

@@ -5,6 +5,8 @@ from __future__ import annotations
 from fractions import Fraction
 from typing import NamedTuple, Tuple, Union
 
+from yds._numbers import exact
+
 Exact = Union[int, Fraction]
 """A number that is exact: a float isn't."""
 
@@ -40,7 +42,7 @@ class Slot(NamedTuple):
         >>> Slot("b", 2, 4, Fraction(8, 3)).speed
         Fraction(4, 3)
         """
-        return Fraction(self.work) / (self.end - self.start)
+        return exact(self.work) / (exact(self.end) - exact(self.start))
 
 
 class Piece(NamedTuple):
