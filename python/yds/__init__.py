@@ -38,7 +38,7 @@ from yds.results import (
     Trial,
     Verdict,
 )
-from yds.rows import Exact, Job, Level, Piece, Point, Slot, Task
+from yds.rows import Exact, Job, Level, Piece, Point, Rows, Slot, Task
 
 __all__ = [
     "Admission",
@@ -63,6 +63,7 @@ __all__ = [
     "Report",
     "ReportLevel",
     "Rounded",
+    "Rows",
     "Run",
     "Side",
     "Slot",

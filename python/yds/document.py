@@ -12,7 +12,7 @@ from yds._library import Answer, Status, answer, as_bytes
 from yds._numbers import Decimalish, Units, integer, whole
 from yds.errors import OutOfMemory, Refused, UsageError
 from yds.results import Comparison, Curve, Judgement, Refusal, Report, TooSlow, Trial, Verdict
-from yds.rows import Job, JobLike, Level, Point, PointLike, Slot, SlotLike, TaskLike
+from yds.rows import Job, JobLike, Level, Point, PointLike, Rows, Slot, SlotLike, TaskLike
 
 FINE_GRID = 720720
 """So many parts of a unit of work do the policies count in, where nothing is said: it has all divisors up to 16."""
@@ -155,6 +155,17 @@ class Document:
         """The levels of a certificate, in the order of their lines."""
         return _spelling.read_levels(self._readable)
 
+    @property
+    def rows(self) -> Rows:
+        """All rows. Two documents say the same where these are equal; their texts may still differ.
+
+        >>> half = Document.from_text("job a 0 4 1\\nslot a 0+1/2 4 1")
+        >>> quarters = Document.from_text("job a 0 4 1\\nslot a 0+2/4 4 1")
+        >>> half == quarters, half.rows == quarters.rows
+        (False, True)
+        """
+        return Rows(self.jobs, self.points, self.slots, self.levels)
+
     def plan(self) -> Plan:
         """The schedule that does the least work above every speed, with the levels that show it."""
         return Plan._of(_ask(["plan"], self.text))
@@ -271,6 +282,7 @@ class Document:
         return f"{type(self).__name__}.from_text({shown!r})"
 
     def __eq__(self, other: object) -> bool:
+        """Whether the texts are the same, byte for byte. Fractions that are spelled otherwise differ: `rows` don't."""
         if not isinstance(other, Document):
             return NotImplemented
         return self.text == other.text

@@ -66,6 +66,15 @@ class Level(NamedTuple):
         return Fraction(self.work, self.length)
 
 
+class Rows(NamedTuple):
+    """All rows of a document. Numbers are compared by their values, however a text spells them."""
+
+    jobs: Tuple[Job, ...]
+    points: Tuple[Point, ...]
+    slots: Tuple[Slot, ...]
+    levels: Tuple[Level, ...]
+
+
 class Task(NamedTuple):
     """A periodic task: a job at the offset and after each period, due so long after its release. All is whole."""
 
