@@ -20,7 +20,7 @@ What is proved is the library under this package: yds.answer hands words and byt
 This package spells documents and reads answers, and is only tested.
 """
 
-from yds import schedule
+from yds import energy, schedule
 from yds._library import Answer, Status, answer
 from yds.document import Admission, Document, Expansion, OneLevel, Plan, Rounded, Run, expand, trial
 from yds.errors import OutOfMemory, Refused, UsageError, YdsError
@@ -75,6 +75,7 @@ __all__ = [
     "Verdict",
     "YdsError",
     "answer",
+    "energy",
     "expand",
     "schedule",
     "trial",

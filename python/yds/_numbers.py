@@ -5,7 +5,7 @@ from __future__ import annotations
 from decimal import Decimal
 from fractions import Fraction
 from numbers import Rational
-from typing import Any, Optional, Union
+from typing import Any, Dict, Iterable, Optional, Union
 
 Decimalish = Union[int, float, str, Decimal, Fraction]
 
@@ -87,3 +87,15 @@ def decimal(value: Decimalish) -> Fraction:
         return Fraction(value)
     except OverflowError:
         raise ValueError(f"{value!r} is no number") from None
+
+
+def total(values: Iterable[Fraction]) -> Fraction:
+    """The sum. Those of one denominator are added first, and then neighbours, so that few denominators grow long."""
+    parts: Dict[int, int] = {}
+    for value in values:
+        parts[value.denominator] = parts.get(value.denominator, 0) + value.numerator
+    sums = [Fraction(numerator, denominator) for denominator, numerator in sorted(parts.items())]
+    while len(sums) > 1:
+        rest = sums[-1:] if len(sums) % 2 else []
+        sums = [one + other for one, other in zip(sums[::2], sums[1::2])] + rest
+    return sums[0] if sums else Fraction(0)

@@ -9,7 +9,9 @@ from typing import Any, ClassVar, Iterable, List, NamedTuple, Optional, Sequence
 
 from yds import _spelling
 from yds._library import Answer, Status, answer, as_bytes
+from yds._measured import Measured
 from yds._numbers import Decimalish, Units, integer, whole
+from yds.energy import Span
 from yds.errors import OutOfMemory, Refused, UsageError
 from yds.results import Comparison, Curve, Judgement, Refusal, Report, TooSlow, Trial, Verdict
 from yds.rows import Job, JobLike, Level, Point, PointLike, Rows, Slot, SlotLike, TaskLike
@@ -34,7 +36,7 @@ def _ask(words: Sequence[str], text: bytes) -> Answer:
     return answered
 
 
-class Document:
+class Document(Measured):
     """Jobs for one processor of variable speed, and perhaps its operating points, slots of a schedule, and levels.
 
     Times, works and speeds are in units of your choice, with work = speed * time. Rows are tuples of these fields:
@@ -344,11 +346,17 @@ class Plan(_Answered):
     """
 
     _from = "document.plan()"
+    _by = "hull"
 
     @property
     def peak(self) -> Fraction:
         """The least constant speed that meets every deadline: that of the first level, or 0."""
         return self.levels[0].speed if self.levels else Fraction(0)
+
+    def _spans(self, start: Optional[int], end: Optional[int]) -> List[Span]:
+        """Those of the levels: their slots have one speed each, and lie between all releases and deadlines."""
+        named = enumerate(self.levels)
+        return [Span(f"levels[{place}]", Fraction(level.work), Fraction(level.length)) for place, level in named]
 
     @classmethod
     def _again(cls, document: Document) -> Sequence[bytes]:
@@ -378,6 +386,7 @@ class Run(_Answered):
     """A document with the slots of a policy's run."""
 
     _from = "document.avr() or document.oa()"
+    _by = "hull"
 
     @property
     def grid(self) -> int:

@@ -1,0 +1,71 @@
+"""What can be asked of the slots of a document beside the library's answers, in numbers of Python."""
+
+from __future__ import annotations
+
+from fractions import Fraction
+from typing import ClassVar, List, Optional, Tuple, overload
+
+from yds._turns import in_turn
+from yds.energy import By, Energy, Power, Span, Table, checked, is_exponent, of_spans
+from yds.rows import Job, Point, Slot
+
+
+class Measured:
+    """Jobs, points and slots, and what is measured of them."""
+
+    _by: ClassVar[By] = None
+
+    @property
+    def jobs(self) -> Tuple[Job, ...]:
+        """The jobs in the order of their lines."""
+        raise NotImplementedError
+
+    @property
+    def points(self) -> Tuple[Point, ...]:
+        """The operating points, at rising speeds."""
+        raise NotImplementedError
+
+    @property
+    def slots(self) -> Tuple[Slot, ...]:
+        """The slots and runs in the order of their lines."""
+        raise NotImplementedError
+
+    @overload
+    def energy_for(self, power: int) -> Fraction: ...
+    @overload
+    def energy_for(self, power: float) -> float: ...
+    @overload
+    def energy_for(self, power: Optional[Table] = None, by: By = None) -> Fraction: ...
+    def energy_for(self, power: Optional[Power] = None, by: By = None) -> Energy:
+        """What the slots spend where the power is this exponent or table; the document's own points where none is said.
+
+        `yds.energy` tells of both, of `by`, and of what is refused. On a table, time from the first release to the last
+        deadline in which nothing runs draws the power at speed 0. A plan and a policy's run mix points by the lower
+        hull, as `round` and `compare` do. Whether the slots are feasible isn't asked here: `audit` says it.
+
+        >>> import yds
+        >>> plan = yds.Document([("a", 0, 4, 6)], points=[(0, 1), (1, 2), (2, 5)]).plan()
+        >>> plan.energy_for(), plan.energy_for(3), round(plan.energy_for(2.5), 3)
+        (Fraction(14, 1), Fraction(27, 2), 11.023)
+        """
+        if power is None and not self.points:
+            raise ValueError("the document has no points: say an exponent or a table, as energy_for(3)")
+        table = self.points if power is None else power
+        if is_exponent(table):
+            return of_spans(self._spans(None, None), table, None, by)
+        rows = checked(table)  # type: ignore[arg-type]
+        start, end = self._window()
+        spans = self._spans(start, end) if rows[0][1] else self._spans(None, None)
+        return of_spans(spans, rows, Fraction(end - start) if rows[0][1] else None, by or self._by)
+
+    def _window(self) -> Tuple[int, int]:
+        """The first release and the last deadline; 0 and 0 where there are no jobs."""
+        first = min((job.release for job in self.jobs), default=0)
+        return first, max((job.deadline for job in self.jobs), default=0)
+
+    def _spans(self, start: Optional[int], end: Optional[int]) -> List[Span]:
+        """The slots' works and times, each between start and end."""
+        if not self.slots and any(job.work for job in self.jobs):
+            raise ValueError("the document has jobs and no slots: document.plan() answers with some")
+        turns = in_turn(self.slots, start, end)
+        return [Span(f"slots[{turn.place}]", turn.work, turn.length) for turn in turns]

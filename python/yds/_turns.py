@@ -1,0 +1,59 @@
+"""Slots of one processor, in the order of their times."""
+
+from __future__ import annotations
+
+from fractions import Fraction
+from typing import Iterable, List, NamedTuple, Optional
+
+from yds._numbers import exact
+from yds.rows import Exact, SlotLike
+
+
+class Turn(NamedTuple):
+    """A slot in its turn: its place in the given list, its job, when it runs, and how much work it gives."""
+
+    place: int
+    job: str
+    start: Fraction
+    end: Fraction
+    work: Fraction
+
+    @property
+    def length(self) -> Fraction:
+        """Units of time."""
+        return self.end - self.start
+
+    @property
+    def speed(self) -> Fraction:
+        """Work per unit of time."""
+        return self.work / self.length
+
+
+def in_turn(slots: Iterable[SlotLike], start: Optional[Exact] = None, end: Optional[Exact] = None) -> List[Turn]:
+    """The slots in the order of their times; ValueError where they aren't one at a time, or not from start to end."""
+    turns = [
+        Turn(place, job, exact(begin), exact(until), exact(work))
+        for place, (job, begin, until, work) in enumerate(slots)
+    ]
+    for turn in turns:
+        _check(turn, start, end)
+    turns.sort(key=lambda turn: (turn.start, turn.end))
+    for before, after in zip(turns, turns[1:]):
+        if after.start < before.end:
+            raise ValueError(
+                f"slots[{after.place}] begins at {after.start}, before slots[{before.place}] ends at {before.end}, "
+                "and one processor runs one slot at a time"
+            )
+    return turns
+
+
+def _check(turn: Turn, start: Optional[Exact], end: Optional[Exact]) -> None:
+    """Raises ValueError where the slot by itself is none, or isn't from start to end."""
+    if turn.end <= turn.start:
+        raise ValueError(f"slots[{turn.place}] ends at {turn.end}, and not after its start {turn.start}")
+    if turn.work < 0:
+        raise ValueError(f"slots[{turn.place}] has the work {turn.work}, and a work is at least 0")
+    if start is not None and turn.start < start:
+        raise ValueError(f"slots[{turn.place}] begins at {turn.start}, before the start {start} of what is counted")
+    if end is not None and turn.end > end:
+        raise ValueError(f"slots[{turn.place}] ends at {turn.end}, after the end {end} of what is counted")
