@@ -3,8 +3,9 @@
 from __future__ import annotations
 
 from fractions import Fraction
-from typing import ClassVar, List, Optional, Tuple, overload
+from typing import Any, ClassVar, Dict, List, Optional, Tuple, overload
 
+from yds._tables import Profile, columns, profile, to_pandas
 from yds._turns import in_turn
 from yds.energy import By, Energy, Power, Span, Table, checked, is_exponent, of_spans
 from yds.rows import Job, Point, Slot
@@ -65,7 +66,34 @@ class Measured:
 
     def _spans(self, start: Optional[int], end: Optional[int]) -> List[Span]:
         """The slots' works and times, each between start and end."""
+        turns = in_turn(self._some_slots(), start, end)
+        return [Span(f"slots[{turn.place}]", turn.work, turn.length) for turn in turns]
+
+    def _some_slots(self) -> Tuple[Slot, ...]:
+        """The slots; ValueError where there are none, and jobs want work."""
         if not self.slots and any(job.work for job in self.jobs):
             raise ValueError("the document has jobs and no slots: document.plan() answers with some")
-        turns = in_turn(self.slots, start, end)
-        return [Span(f"slots[{turn.place}]", turn.work, turn.length) for turn in turns]
+        return self.slots
+
+    def profile(self, exact: bool = False) -> Profile:
+        """The speed over time, from the first release on: when it changes, and to what.
+
+        The numbers are floats for a picture, each the nearest to the exact one; Fractions where exact is True.
+
+        >>> import yds
+        >>> yds.Document([("a", 0, 4, 8), ("b", 5, 9, 6)]).plan().profile()
+        Profile(times=[0.0, 4.0, 5.0, 9.0], speeds=[2.0, 0.0, 1.5, 0.0])
+        """
+        starts = [slot.start for slot in self._some_slots()]
+        return profile(self.slots, min([self._window()[0], *starts]) if self.jobs else None, exact)
+
+    def columns(self, exact: bool = False) -> Dict[str, List[Any]]:
+        """The slots as columns, in their order: job, start and end (units of time), work, and speed (work per time).
+
+        The numbers are floats, each the nearest to the exact one; Fractions where exact is True.
+        """
+        return columns(self.slots, exact)
+
+    def to_pandas(self, exact: bool = False) -> Any:
+        """The columns of the slots as a pandas.DataFrame, in floats; in Fractions where exact is True."""
+        return to_pandas(self.slots, exact)

@@ -29,14 +29,22 @@ class Turn(NamedTuple):
         return self.work / self.length
 
 
-def in_turn(slots: Iterable[SlotLike], start: Optional[Exact] = None, end: Optional[Exact] = None) -> List[Turn]:
-    """The slots in the order of their times; ValueError where they aren't one at a time, or not from start to end."""
+def turns_of(slots: Iterable[SlotLike], start: Optional[Exact] = None, end: Optional[Exact] = None) -> List[Turn]:
+    """The slots in the given order; ValueError where one doesn't end after its start, or lies outside start and end."""
     turns = [
         Turn(place, job, exact(begin), exact(until), exact(work))
         for place, (job, begin, until, work) in enumerate(slots)
     ]
+    first = None if start is None else exact(start)
+    last = None if end is None else exact(end)
     for turn in turns:
-        _check(turn, start, end)
+        _check(turn, first, last)
+    return turns
+
+
+def in_turn(slots: Iterable[SlotLike], start: Optional[Exact] = None, end: Optional[Exact] = None) -> List[Turn]:
+    """The slots in the order of their times; ValueError where they aren't one at a time, or not from start to end."""
+    turns = turns_of(slots, start, end)
     turns.sort(key=lambda turn: (turn.start, turn.end))
     for before, after in zip(turns, turns[1:]):
         if after.start < before.end:
@@ -47,7 +55,7 @@ def in_turn(slots: Iterable[SlotLike], start: Optional[Exact] = None, end: Optio
     return turns
 
 
-def _check(turn: Turn, start: Optional[Exact], end: Optional[Exact]) -> None:
+def _check(turn: Turn, start: Optional[Fraction], end: Optional[Fraction]) -> None:
     """Raises ValueError where the slot by itself is none, or isn't from start to end."""
     if turn.end <= turn.start:
         raise ValueError(f"slots[{turn.place}] ends at {turn.end}, and not after its start {turn.start}")

@@ -1,4 +1,4 @@
-"""Schedules of other programs, judged.
+"""Schedules of other programs, judged, and as tables of numbers.
 
 A schedule is a list of slots in any order. Their ends and works may be ints or Fractions of any denominators: the ends
 of each slot are brought to one denominator, and the works of each job to one, as the library wants them. No number is
@@ -12,9 +12,12 @@ from fractions import Fraction
 from typing import Any, Iterable, List, Optional, Sequence, Tuple, TypeVar
 
 from yds._numbers import exact
+from yds._tables import Profile, columns, profile, to_pandas
 from yds.document import Document
 from yds.results import Judgement, Verdict
 from yds.rows import Level, Slot, SlotLike
+
+__all__ = ["Profile", "check", "columns", "judge", "profile", "to_pandas"]
 
 Told = TypeVar("Told", Verdict, Judgement)
 
