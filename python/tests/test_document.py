@@ -169,12 +169,31 @@ class Making(unittest.TestCase):
         for target in (document, document.plan(), document.round()):
             for name in ("jobs", "points", "slots", "levels", "text", "_text", "energy", "job"):
                 with self.subTest(kind=type(target).__name__, name=name):
-                    with self.assertRaisesRegex(AttributeError, f"'{name}' can't be set; Document"):
+                    with self.assertRaisesRegex(AttributeError, f"'{name}' can't be set; document.replace"):
                         setattr(target, name, [("z", 0, 1, 1)])
-                    with self.assertRaisesRegex(AttributeError, f"'{name}' can't be taken away; Document"):
+                    with self.assertRaisesRegex(AttributeError, f"'{name}' can't be taken away; document.replace"):
                         delattr(target, name)
         self.assertEqual(document, yds.Document(THREE, [(0, 0), (3, 9)]))
         self.assertEqual(document.jobs, tuple(yds.Job(*row) for row in THREE))
+
+    def test_other_rows_in_place_of_a_documents_own(self) -> None:
+        document = yds.Document(THREE, [(0, 0), (3, 9)])
+        self.assertEqual(document.replace(), document)
+        self.assertEqual(document.replace(points=[(0, 1), (4, 9)]), yds.Document(THREE, [(0, 1), (4, 9)]))
+        self.assertEqual(document.replace(points=()), yds.Document(THREE))
+        self.assertEqual(document.replace(jobs=THREE[:1]).rows, yds.Document(THREE[:1], [(0, 0), (3, 9)]).rows)
+        plan = document.plan()
+        again = plan.replace(points=[(0, 1), (4, 9)])
+        self.assertIs(type(again), yds.Document)
+        self.assertEqual(again.rows, plan.rows._replace(points=(yds.Point(0, 1), yds.Point(4, 9))))
+        self.assertTrue(again.check())
+        self.assertFalse(plan.replace(slots=()).audit())
+        self.assertEqual(plan.replace(levels=()).check().condition, "K3")
+        with self.assertRaisesRegex(yds.Refused, "UnknownName, in 'slot"):
+            plan.replace(jobs=THREE[:1]).audit()
+        self.assertEqual(document.__replace__(jobs=[]), yds.Document(points=[(0, 0), (3, 9)]))
+        if hasattr(copy, "replace"):
+            self.assertEqual(copy.replace(document, jobs=[]), yds.Document(points=[(0, 0), (3, 9)]))
 
     def test_how_they_look(self) -> None:
         plan = yds.Document([("a", 0, 4, 8)]).plan()

@@ -157,6 +157,33 @@ class Document(Measured):
         """The levels of a certificate, in the order of their lines."""
         return _spelling.read_levels(self._readable)
 
+    def replace(
+        self,
+        jobs: Optional[Iterable[JobLike]] = None,
+        points: Optional[Iterable[PointLike]] = None,
+        slots: Optional[Iterable[SlotLike]] = None,
+        levels: Optional[Iterable[Level]] = None,
+    ) -> Document:
+        """A document with these rows in place of the document's own, and all its other rows.
+
+        An answer's is a document, and no such answer: its slots needn't fit the new rows. `audit` and `check` say
+        whether they do.
+
+        >>> document = Document([("a", 0, 4, 6)], points=[(0, 0), (2, 3)])
+        >>> document.round().energy, document.replace(points=[(0, 0), (1, 1), (2, 3)]).round().energy
+        (Fraction(9, 1), Fraction(8, 1))
+        """
+        return Document(
+            self.jobs if jobs is None else jobs,
+            self.points if points is None else points,
+            self.slots if slots is None else slots,
+            self.levels if levels is None else levels,
+        )
+
+    def __replace__(self, **changes: Any) -> Document:
+        """What copy.replace calls, from Python 3.13 on."""
+        return self.replace(**changes)
+
     @property
     def rows(self) -> Rows:
         """All rows. Two documents say the same where these are equal; their texts may still differ.
@@ -269,7 +296,7 @@ class Document(Measured):
     def __delattr__(self, name: str) -> None:
         raise AttributeError(f"a document doesn't change, and so {name!r} can't be taken away; {self._changed}")
 
-    _changed: ClassVar[str] = "Document(jobs, points, slots, levels) makes another"
+    _changed: ClassVar[str] = "document.replace(jobs=..) makes another"
 
     @classmethod
     def _of(cls: Type[D], answered: Answer) -> D:
