@@ -32,11 +32,17 @@ class Measured:
         raise NotImplementedError
 
     @overload
-    def energy_for(self, power: int) -> Fraction: ...
+    def energy_for(self, power: int) -> Fraction:
+        ...
+
     @overload
-    def energy_for(self, power: float) -> float: ...
+    def energy_for(self, power: float) -> float:
+        ...
+
     @overload
-    def energy_for(self, power: Optional[Table] = None, by: By = None) -> Fraction: ...
+    def energy_for(self, power: Optional[Table] = None, by: By = None) -> Fraction:
+        ...
+
     def energy_for(self, power: Optional[Power] = None, by: By = None) -> Energy:
         """What the slots spend where the power is this exponent or table; the document's own points where none is said.
 

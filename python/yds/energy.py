@@ -46,11 +46,17 @@ class Span(NamedTuple):
 @overload
 def of_slots(
     slots: Iterable[SlotLike], power: int, start: Optional[Exact] = None, end: Optional[Exact] = None
-) -> Fraction: ...
+) -> Fraction:
+    ...
+
+
 @overload
 def of_slots(
     slots: Iterable[SlotLike], power: float, start: Optional[Exact] = None, end: Optional[Exact] = None
-) -> float: ...
+) -> float:
+    ...
+
+
 @overload
 def of_slots(
     slots: Iterable[SlotLike],
@@ -58,7 +64,10 @@ def of_slots(
     start: Optional[Exact] = None,
     end: Optional[Exact] = None,
     by: By = None,
-) -> Fraction: ...
+) -> Fraction:
+    ...
+
+
 def of_slots(
     slots: Iterable[SlotLike],
     power: Power,
@@ -156,9 +165,7 @@ def _by_table(
     return total([*drawn, idle * rest])
 
 
-def _drawn(
-    span: Span, powers: Dict[Fraction, Fraction], lower: List[Tuple[Fraction, Fraction]], by: By
-) -> Fraction:
+def _drawn(span: Span, powers: Dict[Fraction, Fraction], lower: List[Tuple[Fraction, Fraction]], by: By) -> Fraction:
     """The power that the span draws."""
     speed = span.work / span.length
     if speed > lower[-1][0]:
