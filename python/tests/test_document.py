@@ -198,10 +198,65 @@ class Making(unittest.TestCase):
     def test_how_they_look(self) -> None:
         plan = yds.Document([("a", 0, 4, 8)]).plan()
         self.assertEqual(str(plan), plan.text.decode())
-        self.assertEqual(
-            repr(plan), "Plan.from_text(b'job a 0 4 8\\nslot a 0 4 8\\nlevel 8 4\\npiece 0 4\\nmember a\\n')"
-        )
-        self.assertTrue(repr(yds.Document(THREE * 9)).endswith("..')"))
+        self.assertEqual(repr(plan), "<Plan of 1 job, work 8, 0 to 4: 1 slot, 1 level, peak 2>")
+        self.assertEqual(repr(yds.Document()), "<Document of 0 jobs>")
+        faulty = yds.Document.from_text(b"jobs a 0 4 8\n\xff")
+        self.assertEqual(repr(faulty), "<Document, refused: line 1, column 1: UnknownKind, in 'jobs a 0 4 8'>")
+        self.assertEqual(str(faulty), "jobs a 0 4 8\n\ufffd")
+
+    def test_each_answer_is_shown_in_one_line(self) -> None:
+        document = yds.Document(THREE, [(0, 0), (3, 9)])
+        policies = yds.Document(POLICIES, [(0, 0), (1, 1), (2, 3)])
+        for answer, shown in (
+            (document, "<Document of 3 jobs, work 18, 0 to 12: 2 points>"),
+            (document.plan(), "<Plan of 3 jobs, work 18, 0 to 12: 2 points, 5 slots, 3 levels, peak 3>"),
+            (document.round(), "<Rounded of 3 jobs, work 18, 0 to 12: 2 points, 5 slots, energy 54>"),
+            (policies.avr(1), "<Run of 2 jobs, work 3, 0 to 3: 3 points, 3 slots, grid 1, rounded 3>"),
+            (policies.compare(), "<Comparison: plan energy 3, avr energy 11/3, oa energy 10/3>"),
+            (policies.compare(1), "<Comparison: plan energy 3, avr energy 4 (rounded 3), oa energy 3 (rounded 1)>"),
+            (
+                yds.Document(POLICIES, [(0, 0), (1, 1)]).compare(),
+                "<Comparison: plan energy 3, avr too slow, oa too slow>",
+            ),
+            (document.admit(2), "<Admission of 2 jobs, work 12, 0 to 12: 2 points, 2 slots, 1 refused>"),
+            (yds.expand([("s", 0, 4, 4, 1)], 8), "<Expansion of 2 jobs, work 2, 0 to 8: one level of speed 1/4>"),
+            (yds.expand([("s", 1, 4, 4, 1)], 8), "<Expansion of 1 job, work 1, 1 to 5>"),
+            (document.report(), "<Report of 3 jobs, work 18, 0 to 12: 3 levels, peak 3, idle 0>"),
+            (document.curve(), "<Curve of 4 breaks: 18 above the speed 0, 0 above 3>"),
+            (yds.trial(0, 2), "<Trial of 2 jobs: 2 levels, 2 slots, peak 53709/18257>"),
+            (yds.trial(0, 0), "<Trial of 0 jobs: 0 levels, 0 slots, peak none>"),
+            (
+                yds.Document([("a", 0, 2, 5)], [(0, 1), (2, 9)]).round(),
+                "<TooSlow: work 5 in 2 needs the speed 5/2, the top is 2>",
+            ),
+        ):
+            with self.subTest(shown):
+                self.assertEqual(repr(answer), shown)
+
+    def test_each_verdict_is_shown_in_one_line(self) -> None:
+        def shown(*slots: tuple, points: bool = False) -> str:
+            return repr(yds.Document([("a", 2, 6, 4)], [(0, 0), (2, 9)], slots).audit(points))
+
+        self.assertEqual(shown(("a", 2, 6, 4)), "<Verdict feasible>")
+        self.assertEqual(shown(("a", 2, 2, 4)), "<Verdict backward: slot 0 of a runs from 2 to 2>")
+        overlap = "<Verdict overlap: slot 1 of a begins at 7/2, the one before ends at 4>"
+        self.assertEqual(shown(("a", 2, 4, 2), ("a", Fraction(7, 2), 5, 2)), overlap)
+        self.assertEqual(shown(("a", 1, 4, 4)), "<Verdict early: slot 0 of a begins at 1, release 2>")
+        self.assertEqual(shown(("a", 2, Fraction(13, 2), 4)), "<Verdict late: slot 0 of a ends at 13/2, deadline 6>")
+        off = "<Verdict off-point: slot 0 of a gives 4 from 2 to 5, at no point's speed>"
+        self.assertEqual(shown(("a", 2, 5, 4), points=True), off)
+        self.assertEqual(shown(("a", 2, 5, Fraction(7, 2))), "<Verdict work: a is given 7/2 of 4>")
+
+        def judged(slots: list, levels: list) -> str:
+            return repr(yds.Document([("a", 0, 4, 4)], (), slots, levels).check())
+
+        level = yds.Level(4, 4, (yds.Piece(0, 4),), ("a",))
+        self.assertEqual(judged([("a", 0, 4, 4)], [level]), "<Judgement accepted>")
+        self.assertEqual(judged([("a", 0, 5, 4)], [level]), "<Judgement K1: late: slot 0 of a ends at 5, deadline 4>")
+        self.assertEqual(judged([("a", 0, 4, 4)], [level._replace(pieces=())]), "<Judgement K2: level 0>")
+        self.assertEqual(judged([("a", 0, 4, 4)], []), "<Judgement K3: job a>")
+        seventh = judged([("a", 0, 1, 1), ("a", 1, 2, 2), ("a", 2, 4, 1)], [level])
+        self.assertEqual(seventh, "<Judgement K7: slot 1 of a has the speed 2>")
 
 
 class Answers(unittest.TestCase):

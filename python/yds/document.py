@@ -7,7 +7,7 @@ from functools import cached_property
 from itertools import chain, zip_longest
 from typing import Any, ClassVar, Iterable, List, NamedTuple, Optional, Sequence, Tuple, Type, TypeVar, Union
 
-from yds import _spelling
+from yds import _shown, _spelling
 from yds._library import Answer, Status, answer, as_bytes
 from yds._measured import Measured
 from yds._numbers import Decimalish, Units, integer, whole
@@ -205,7 +205,7 @@ class Document(Measured):
         TooSlow where no schedule stays at or below the top point.
 
         >>> Document(jobs=[("a", 0, 2, 5)], points=[(0, 1), (2, 9)]).round()
-        TooSlow(text=b'too-slow work 5 length 2 top 2\\n', work=5, length=2, top=2)
+        <TooSlow: work 5 in 2 needs the speed 5/2, the top is 2>
         """
         answered = _ask(["round"], self.text)
         return Rounded._of(answered) if answered.status is Status.DONE else TooSlow.read(answered.text)
@@ -307,8 +307,15 @@ class Document(Measured):
         return self.text.decode("utf-8", "replace")
 
     def __repr__(self) -> str:
-        shown = self.text if len(self.text) <= 60 else self.text[:60] + b".."
-        return f"{type(self).__name__}.from_text({shown!r})"
+        """One line for a reader; `text` and the rows have all."""
+        try:
+            return _shown.document(type(self).__name__, self.rows, self._told())
+        except Refused as fault:
+            return f"<{type(self).__name__}, refused: {fault}>"
+
+    def _told(self) -> List[str]:
+        """What an answer tells beside its rows."""
+        return []
 
     def __eq__(self, other: object) -> bool:
         """Whether the texts are the same, byte for byte. Fractions that are spelled otherwise differ: `rows` don't."""
@@ -385,6 +392,9 @@ class Plan(_Answered):
         named = enumerate(self.levels)
         return [Span(f"levels[{place}]", Fraction(level.work), Fraction(level.length)) for place, level in named]
 
+    def _told(self) -> List[str]:
+        return [f"peak {self.peak}"]
+
     @classmethod
     def _again(cls, document: Document) -> Sequence[bytes]:
         return [document.plan().text]
@@ -403,6 +413,9 @@ class Rounded(_Answered):
         Fraction(8, 1)
         """
         return _spelling.read_fraction(_spelling.line_of(self.text, b"energy")[0])
+
+    def _told(self) -> List[str]:
+        return [f"energy {self.energy}"]
 
     @classmethod
     def _again(cls, document: Document) -> Sequence[bytes]:
@@ -430,6 +443,9 @@ class Run(_Answered):
         """Whether the run is the policy itself: it rounded nowhere."""
         return self.rounded == 0
 
+    def _told(self) -> List[str]:
+        return [f"grid {self.grid}", f"rounded {self.rounded}"]
+
     @classmethod
     def _again(cls, document: Document) -> Sequence[bytes]:
         grid = int(_spelling.line_of(document._readable, b"grid")[0])
@@ -445,6 +461,9 @@ class Admission(_Answered):
     """
 
     _from = "document.admit(top)"
+
+    def _told(self) -> List[str]:
+        return [f"{len(self.refused)} refused"]
 
     @cached_property
     def refused(self) -> Tuple[Refusal, ...]:
@@ -469,6 +488,9 @@ class Expansion(_Answered):
     """A document of the jobs of periodic tasks."""
 
     _from = "yds.expand(tasks, horizon)"
+
+    def _told(self) -> List[str]:
+        return [f"one level of speed {self.one_level.speed}"] if self.one_level else []
 
     @cached_property
     def one_level(self) -> Optional[OneLevel]:

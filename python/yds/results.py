@@ -9,12 +9,13 @@ from dataclasses import dataclass
 from fractions import Fraction
 from typing import Dict, List, NamedTuple, Optional, Sequence, Tuple, Union
 
+from yds import _shown
 from yds._numbers import exact
 from yds._spelling import read_fraction
 from yds.rows import Exact, Slot
 
 
-@dataclass(frozen=True)
+@dataclass(frozen=True, repr=False)
 class Result:
     """An answer."""
 
@@ -24,12 +25,16 @@ class Result:
     def __str__(self) -> str:
         return self.text.decode("ascii")
 
+    def __repr__(self) -> str:
+        """One line for a reader. The fields have all."""
+        raise NotImplementedError
+
 
 def _lines(text: bytes) -> List[List[bytes]]:
     return [line.split() for line in text.splitlines()]
 
 
-@dataclass(frozen=True)
+@dataclass(frozen=True, repr=False)
 class Verdict(Result):
     """What `audit` says. It is true where the slots give each job its work in its window, one job at a time."""
 
@@ -60,6 +65,9 @@ class Verdict(Result):
     def __bool__(self) -> bool:
         return self.feasible
 
+    def __repr__(self) -> str:
+        return _shown.verdict(self)
+
     @classmethod
     def read(cls, text: bytes, slots: Sequence[Slot]) -> Verdict:
         """The verdict that the text tells, of these slots in the order in which they were judged."""
@@ -81,7 +89,7 @@ class Verdict(Result):
         )
 
 
-@dataclass(frozen=True)
+@dataclass(frozen=True, repr=False)
 class Judgement(Result):
     """What `check` says. It is true where the levels show that the slots are least above every speed."""
 
@@ -106,6 +114,9 @@ class Judgement(Result):
     def __bool__(self) -> bool:
         return self.accepted
 
+    def __repr__(self) -> str:
+        return _shown.judgement(self)
+
     @classmethod
     def read(cls, text: bytes, slots: Sequence[Slot]) -> Judgement:
         """The judgement that the text tells, of these slots in the order in which they were judged."""
@@ -123,7 +134,7 @@ class Judgement(Result):
         return cls(text, condition, index=index, slot=slots[index])
 
 
-@dataclass(frozen=True)
+@dataclass(frozen=True, repr=False)
 class TooSlow(Result):
     """A no of `round` and `compare`: some jobs want more work in a time than the top point can do. It is false."""
 
@@ -142,6 +153,9 @@ class TooSlow(Result):
     def __bool__(self) -> bool:
         return False
 
+    def __repr__(self) -> str:
+        return _shown.too_slow(self)
+
     @classmethod
     def read(cls, text: bytes) -> TooSlow:
         """What the line `too-slow work W length L top F` tells."""
@@ -157,7 +171,7 @@ class ReportLevel(NamedTuple):
     speed: Fraction
 
 
-@dataclass(frozen=True)
+@dataclass(frozen=True, repr=False)
 class Report(Result):
     """What `report` says of a plan."""
 
@@ -179,6 +193,9 @@ class Report(Result):
         """The least constant speed that meets every deadline: that of the first level, or 0."""
         return self.levels[0].speed if self.levels else Fraction(0)
 
+    def __repr__(self) -> str:
+        return _shown.report(self)
+
     @classmethod
     def read(cls, text: bytes) -> Report:
         """What the table tells."""
@@ -194,7 +211,7 @@ class Break(NamedTuple):
     excess: Fraction
 
 
-@dataclass(frozen=True)
+@dataclass(frozen=True, repr=False)
 class Curve(Result):
     """The least work that any feasible schedule does above each speed, where that curve bends."""
 
@@ -215,6 +232,9 @@ class Curve(Result):
             if low.speed <= at <= high.speed:
                 return low.excess + (high.excess - low.excess) * (at - low.speed) / (high.speed - low.speed)
         return Fraction(0)
+
+    def __repr__(self) -> str:
+        return _shown.curve(self)
 
     @classmethod
     def read(cls, text: bytes) -> Curve:
@@ -247,13 +267,16 @@ class Side:
     """At how many event points a policy's run rounded up to the grid; None for the plan, which never rounds."""
 
 
-@dataclass(frozen=True)
+@dataclass(frozen=True, repr=False)
 class Comparison(Result):
     """What the plan and the runs of both policies spend. The plan's energy is the least."""
 
     plan: Side
     avr: Side
     oa: Side
+
+    def __repr__(self) -> str:
+        return _shown.comparison(self)
 
     @classmethod
     def read(cls, text: bytes) -> Comparison:
@@ -284,7 +307,7 @@ class Refusal(NamedTuple):
     top: int
 
 
-@dataclass(frozen=True)
+@dataclass(frozen=True, repr=False)
 class Trial(Result):
     """The numbers of a plan of drawn jobs, which the checker has accepted."""
 
@@ -293,6 +316,9 @@ class Trial(Result):
     slots: int
     peak: Optional[Tuple[int, int]]
     """The work and the length of the fastest level; None where there is none."""
+
+    def __repr__(self) -> str:
+        return _shown.trial(self)
 
     @classmethod
     def read(cls, text: bytes) -> Trial:
