@@ -52,6 +52,8 @@ def contents(version: str) -> Dict[str, bytes]:
     package = Path("python/yds")
     info = f"yds-{version}.dist-info"
     files = {f"yds/{path.name}": path.read_bytes() for path in package.iterdir() if path.suffix in (".py", ".typed")}
+    if f'__version__ = "{version}"\n'.encode() not in files["yds/__init__.py"]:
+        sys.exit(f"wheel.py: python/yds/__init__.py doesn't say __version__ = {version!r}, which VERSION says")
     files["yds/libyds.so.1"] = shared_object(Path("build/libyds.so"))
     description = Path("python/README.md").read_text(encoding="utf-8")
     files[f"{info}/METADATA"] = METADATA.format(version=version, description=description).encode()

@@ -9,7 +9,7 @@ from typing import Dict, List
 from unittest import mock
 
 import yds
-from stored import rows
+from stored import ROOT, rows
 from yds import _library
 
 JOB = b"job a 0 4 8\n"
@@ -31,6 +31,11 @@ class Finding(unittest.TestCase):
         keys = {_library._open()._keys for _ in range(9)}
         self.assertEqual(len(keys), 9)
         self.assertTrue(all(0 <= key < 1 << 64 for pair in keys for key in pair))
+
+
+class Version(unittest.TestCase):
+    def test_the_package_has_the_version_of_the_library(self) -> None:
+        self.assertEqual(yds.__version__, (ROOT / "VERSION").read_text().strip())
 
 
 class Calling(unittest.TestCase):

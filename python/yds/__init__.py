@@ -40,6 +40,8 @@ from yds.results import (
 )
 from yds.rows import Exact, Job, Level, Piece, Point, Rows, Slot, Task
 
+__version__ = "1.0.0"
+
 __all__ = [
     "Admission",
     "Answer",
