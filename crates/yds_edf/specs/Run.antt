@@ -6,9 +6,8 @@ use Rattle.yds_model.specs.Job.{Job}
 use Rattle.yds_model.specs.Slot.{WrittenSlot}
 use Rattle.yds_model.specs.Piece.{Piece}
 use Rattle.yds_model.specs.Divisor.{common_divisor}
-use Rattle.yds_model.specs.Event.{stretches}
+use Rattle.yds_model.specs.Event.{stretches, stretch_at}
 use Rattle.yds_model.specs.Policy.{HasRunDenominators}
-use Rattle.yds_model.specs.Comparison.{stretch_at}
 use Rattle.yds_events.specs.Stretch.{length_of}
 use Rattle.yds_timetable.specs.declared.pace.Pace.{Pace}
 use Rattle.yds_timetable.specs.Shares.{JobShare, total_units, shares_in}

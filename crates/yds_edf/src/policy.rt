@@ -1,6 +1,5 @@
 ghost use Rattle.std.specs.Prelude.{◌≡◌, ◌+◌, ◌<◌, Some, length};
-ghost use Rattle.yds_model.specs.Event.{stretches};
-ghost use Rattle.yds_model.specs.Comparison.{stretch_at};
+ghost use Rattle.yds_model.specs.Event.{stretches, stretch_at};
 ghost use Rattle.yds_edf.specs.Queue.{pending_in, IsTold};
 
 use crate::queue::Queue;

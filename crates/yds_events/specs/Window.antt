@@ -2,9 +2,8 @@
 use Rattle.std.specs.Prelude.{◌≡◌, ℕ, ◌<◌, ◌≤◌, ◌↔◌, List, length, slice_index}
 use Rattle.std.specs.List.{slice_index_or}
 use Rattle.yds_model.specs.Job.{Job, job_at}
-use Rattle.yds_model.specs.Event.{stretches}
+use Rattle.yds_model.specs.Event.{stretches, stretch_at}
 use Rattle.yds_events.specs.declared.window.Window.{Window}
-use Rattle.yds_model.specs.Comparison.{stretch_at}
 use Rattle.yds_events.specs.Stretch.{length_of}
 
 -- how long the jobs' stretch with this number is

@@ -93,7 +93,7 @@ pub use Rattle.yds_model.specs.Audit.{AllStand, AreInGrain, AreSlots, Backward, 
 pub use Rattle.yds_model.specs.AuditAnswer.{AuditAnswer, CheckAnswer, judgement_status, judgement_words, verdict_status, verdict_words}
 pub use Rattle.yds_model.specs.AverageRate.{average_rate, average_rate_rounds, is_live, IsAverageRateRun, rounds_term, term_numerator, term_of, terms_of}
 pub use Rattle.yds_model.specs.CompareAnswer.{CompareAnswer, ComparedAnswer, rounded_line, side_lines, spent_lines}
-pub use Rattle.yds_model.specs.Comparison.{all_energy, all_time_at, HoldsAll, HoldsStretch, in_parts, IsSide, IsSpent, IsSpentAt, IsTooSlowFor, Side, Spends, Spent, stretch_at, time_at, TooSlowFor, work_in}
+pub use Rattle.yds_model.specs.Comparison.{all_energy, all_time_at, HoldsAll, HoldsStretch, in_parts, IsSide, IsSpent, IsSpentAt, IsTooSlowFor, Side, Spends, Spent, time_at, TooSlowFor, work_in}
 pub use Rattle.yds_model.specs.Confined.{released_work, window_is_within, work_within}
 pub use Rattle.yds_model.specs.Curve.{Break, break_at, breaks_of, IsLeastExcess, least_above}
 pub use Rattle.yds_model.specs.CurveAnswer.{break_line, curve_text}
@@ -102,7 +102,7 @@ pub use Rattle.yds_model.specs.Document.{Document, Grid, name_at, no_document, w
 pub use Rattle.yds_model.specs.EarliestFirst.{ComesFirst, EarliestAfter, IsEarliestFirst, IsFirstDue, MayRun}
 pub use Rattle.yds_model.specs.Energy.{busy, first_release, greatest, horizon, idle, interpolated_energy, interpolated_power, IsAtPoint, IsEnergyOnPoints, last_deadline, on_lines, product, SpendsAtPoints, total}
 pub use Rattle.yds_model.specs.Entry.{document_said, energy_said, EnergyEntry, Entry, first_of_them, grid_said, GridEntry, is_level, job_named, JobEntry, LevelEntry, levels_said, member_said, MemberEntry, name_said, piece_said, PieceEntry, point_said, PointEntry, slot_said, SlotEntry, ticks_said, TicksEntry}
-pub use Rattle.yds_model.specs.Event.{event_points, IsUncut, LiesIn, LiesWritten, neighbours, rising_times, stretches, with_time}
+pub use Rattle.yds_model.specs.Event.{event_points, IsUncut, LiesIn, LiesWritten, neighbours, rising_times, stretch_at, stretches, with_time}
 pub use Rattle.yds_model.specs.Excess.{excess, IsLeast, IsLeastAt}
 pub use Rattle.yds_model.specs.ExpandAnswer.{expansion_text, level_comment}
 pub use Rattle.yds_model.specs.Explains.{Explains, ExplainsAt, Forces}

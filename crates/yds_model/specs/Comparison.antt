@@ -1,7 +1,7 @@
 -- What a schedule spends on the operating points, where each stretch runs at one speed: in each stretch at the points of the lower hull
 -- around its speed, as long at each as gives that speed.
 use Rattle.std.specs.Prelude.{◌≡◌, ℕ, ◌-◌, ◌*◌, ◌/◌, ◌≤◌, List, [], ◌∷◌, length, map, sum_by, nat_le, ◌==◌, if◌then◌else◌}
-use Rattle.std.specs.List.{All, slice_index_or}
+use Rattle.std.specs.List.{All}
 use Rattle.yds_model.specs.Numbers.{IsFirstFailure}
 use Rattle.yds_model.specs.Job.{Job}
 use Rattle.yds_model.specs.Scale.{Fraction}
@@ -9,7 +9,7 @@ use Rattle.yds_model.specs.Slot.{WrittenSlot, WholeSlot, AtEachScale}
 use Rattle.yds_model.specs.Piece.{Piece}
 use Rattle.yds_model.specs.Table.{Point, hull_of, hull_multiple}
 use Rattle.yds_model.specs.Divisor.{in_lowest_terms}
-use Rattle.yds_model.specs.Event.{stretches}
+use Rattle.yds_model.specs.Event.{stretches, stretch_at}
 use Rattle.yds_model.specs.Policy.{slots_in}
 use Rattle.yds_model.specs.Rounding.{top_of}
 
@@ -61,9 +61,6 @@ IsSpent jobs points slots spent = AtEachScale slots (IsSpentAt jobs points spent
 -- the top point is fast enough for the stretch
 abbrev pub HoldsStretch : List Point → ℕ → List WholeSlot → Piece → Type 0
 HoldsStretch points scale slots stretch = work_in scale stretch slots ≤ top_of points * ((stretch.to - stretch.from) * scale)
-
-abbrev pub stretch_at : List Job → ℕ → Piece
-stretch_at jobs i = slice_index_or (stretches jobs) i (record { from = 0; to = 0 })
 
 -- The stretch is the first for which the top point is too slow, and serves so many units of the grid.
 pub record IsTooSlowFor (jobs : List Job) (points : List Point) (grid : ℕ) (slots : List WrittenSlot) (units from to : ℕ) : Type 0 where

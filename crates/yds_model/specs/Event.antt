@@ -1,6 +1,6 @@
 -- The event points of jobs, which are their releases and deadlines, and the stretches between neighbours of them.
 use Rattle.std.specs.Prelude.{ℕ, ◌*◌, ◌≤◌, List, [], ◌∷◌, nat_lt, ◌==◌, if◌then◌else◌}
-use Rattle.std.specs.List.{flat_map, Any}
+use Rattle.std.specs.List.{flat_map, slice_index_or, Any}
 use Rattle.yds_model.specs.Job.{Job}
 use Rattle.yds_model.specs.Scale.{numerator}
 use Rattle.yds_model.specs.Slot.{WrittenSlot, WholeSlot}
@@ -28,6 +28,10 @@ neighbours (time ∷ next ∷ times) = record { from = time; to = next } ∷ nei
 
 abbrev pub stretches : List Job → List Piece
 stretches jobs = neighbours (event_points jobs)
+
+-- the stretch at a place; one of no length stands where there is none
+abbrev pub stretch_at : List Job → ℕ → Piece
+stretch_at jobs i = slice_index_or (stretches jobs) i (record { from = 0; to = 0 })
 
 -- the slot doesn't begin before the stretch and doesn't end after it
 pub record LiesIn (scale : ℕ) (slot : WholeSlot) (stretch : Piece) : Type 0 where

@@ -5,11 +5,10 @@ use Rattle.yds_model.specs.Job.{Job}
 use Rattle.yds_model.specs.Slot.{WrittenSlot}
 use Rattle.yds_model.specs.Piece.{Piece}
 use Rattle.yds_model.specs.Level.{Level}
-use Rattle.yds_model.specs.Event.{stretches}
+use Rattle.yds_model.specs.Event.{stretches, stretch_at}
 use Rattle.yds_timetable.specs.declared.pace.Pace.{Pace}
 use Rattle.yds_timetable.specs.Timetable.{Row, row_of, rows_of, slots_of}
 use Rattle.yds_search.specs.Found.{Group, Found, group_at, per_time, per_work, group_of}
-use Rattle.yds_model.specs.Comparison.{stretch_at}
 
 -- a group's speed in lowest terms, as a pace
 abbrev pub pace_of_group : Group → Pace

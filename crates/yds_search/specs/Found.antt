@@ -4,9 +4,8 @@ use Rattle.std.specs.Prelude.{◌≡◌, ℕ, ◌+◌, ◌*◌, ◌/◌, ◌<◌
 use Rattle.std.specs.List.{slice_index_or, All, range_with_len}
 use Rattle.yds_model.specs.Job.{Job, job_at}
 use Rattle.yds_model.specs.Divisor.{common_divisor}
-use Rattle.yds_model.specs.Event.{stretches}
+use Rattle.yds_model.specs.Event.{stretches, stretch_at}
 use Rattle.yds_model.specs.EarliestFirst.{ComesFirst}
-use Rattle.yds_model.specs.Comparison.{stretch_at}
 use Rattle.yds_events.specs.Window.{length_at, IsInWindow}
 use Rattle.yds_timetable.specs.Shares.{JobShare, share_at}
 
