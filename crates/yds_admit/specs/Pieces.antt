@@ -3,7 +3,7 @@ use Rattle.std.specs.Prelude.{◌≡◌, ℕ, ◌+◌, ◌-◌, ◌*◌, ◌<◌
 use Rattle.std.specs.List.{All, Any, Contains}
 use Rattle.yds_model.specs.declared.limits.TheConstants.{MAX_JOBS, MAX_WORK}
 use Rattle.yds_model.specs.Job.{Job, job_at}
-use Rattle.yds_edf.specs.Pending.{sum_below}
+use Rattle.yds_model.specs.Numbers.{sum_below}
 use Rattle.yds_admit.specs.declared.pieces.Pieces.{Pieces}
 use Rattle.yds_model.specs.Confined.{work_within}
 use Rattle.yds_admit.specs.Chain.{IsFalling, IsChain, due_work}

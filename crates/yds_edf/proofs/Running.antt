@@ -7,7 +7,8 @@ use Rattle.yds_events.specs.Stretch.{IsStretch, no_stretch, length_of}
 use Rattle.yds_events.proofs.Neighbours.{stretches_run, few_stretches}
 use Rattle.yds_events.proofs.InOrder.{starts_rise}
 use Rattle.yds_timetable.specs.Shares.{JobShare, units_given, total_units, shares_in}
-use Rattle.yds_edf.specs.Pending.{sum_below, pending_of_job}
+use Rattle.yds_edf.specs.Pending.{pending_of_job}
+use Rattle.yds_model.specs.Numbers.{sum_below}
 use Rattle.yds_edf.specs.Serving.{IsServing}
 use Rattle.yds_edf.specs.Queue.{JobQueue, new_queue, IsNoEarlier, pending_in, units_left, unfinished, Adds, IsTold, Serves}
 use Rattle.yds_timetable.specs.declared.pace.Pace.{Pace}
@@ -18,7 +19,7 @@ use Rattle.yds_timetable.proofs.Paces.{lies_written, speed_written}
 use Rattle.yds_timetable.specs.Room.{CanLay}
 use Rattle.yds_timetable.proofs.Rows.{no_row, paced_all, rows_over}
 use Rattle.yds_edf.specs.Run.{by_number, IsServedBefore, pending_before, IsLowest, AreRowsOf, IsPolicyRun, PutsRow}
-use Rattle.yds_edf.proofs.Sums.{sum_below_same, sum_below_bound}
+use Rattle.yds_model.proofs.SumsBelow.{sum_below_same, sum_below_bound}
 use Rattle.yds_edf.proofs.Filled.{stands_in}
 use Rattle.yds_edf.proofs.Parts.{in_added, before_added, in_kept, before_kept}
 

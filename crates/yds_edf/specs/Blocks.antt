@@ -2,7 +2,7 @@
 use Rattle.std.specs.Prelude.{◌≡◌, ℕ, ◌+◌, ◌*◌, ◌<◌, ◌≤◌, List, length, slice_index, All}
 use Rattle.yds_model.specs.declared.limits.TheConstants.{MAX_JOBS, MAX_WORK}
 use Rattle.yds_edf.specs.declared.limits.TheConstants.{MAX_GRAIN}
-use Rattle.yds_edf.specs.Pending.{sum_below}
+use Rattle.yds_model.specs.Numbers.{sum_below}
 use Rattle.yds_edf.specs.declared.blocks.TheConstants.{BLOCK}
 
 -- the units at the places before this one

@@ -2,11 +2,6 @@
 use Rattle.std.specs.Prelude.{ℕ, zero, suc, ◌+◌, ◌-◌, ◌*◌, nat_le, Bool, false, if◌then◌else◌, List, Option, Some, None}
 use Rattle.yds_model.specs.Job.{Job, job_at}
 
--- the sum of a number for each of the numbers below n
-abbrev pub sum_below : ℕ → (ℕ → ℕ) → ℕ
-sum_below zero f = 0
-sum_below (suc n) f = sum_below n f + f n
-
 -- the units that a job wants
 abbrev pub units_wanted : List Job → ℕ → ℕ → ℕ
 units_wanted jobs grain number = (job_at jobs number).work * grain

@@ -1,7 +1,7 @@
 -- What a run of a policy on a grid is, of which only that is left open how many units a stretch serves and where it is
 -- rounded: stretch by stretch shares are served earliest deadline first, and fill the stretch at one pace.
 use Rattle.std.specs.Prelude.{◌≡◌, ℕ, ◌+◌, ◌/◌, ◌<◌, ◌≤◌, ◌⊎◌, Bool, Option, Some, None, if◌then◌else◌, List, [], ◌∷◌, ◌++◌, length, All, AllPairs}
-use Rattle.yds_model.specs.Numbers.{Each}
+use Rattle.yds_model.specs.Numbers.{Each, sum_below}
 use Rattle.yds_model.specs.Job.{Job}
 use Rattle.yds_model.specs.Slot.{WrittenSlot}
 use Rattle.yds_model.specs.Piece.{Piece}
@@ -12,7 +12,6 @@ use Rattle.yds_events.specs.Stretch.{length_of}
 use Rattle.yds_timetable.specs.declared.pace.Pace.{Pace}
 use Rattle.yds_timetable.specs.Shares.{JobShare, total_units, shares_in}
 use Rattle.yds_timetable.specs.Timetable.{Row, row_at, stretches_of, shares_of, slots_of, IsFilledAt, IsRow, HasGrain}
-use Rattle.yds_edf.specs.Pending.{sum_below}
 use Rattle.yds_edf.specs.Serving.{IsDueBefore, IsServing}
 use Rattle.yds_edf.specs.Filled.{pending_at_start}
 

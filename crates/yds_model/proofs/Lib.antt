@@ -1,4 +1,5 @@
 pub mod Sums
+pub mod SumsBelow
 pub mod Confined
 pub mod Horizon
 pub mod Lists

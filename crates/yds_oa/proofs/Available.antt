@@ -5,11 +5,11 @@ use Rattle.yds_events.specs.Stretch.{no_stretch}
 use Rattle.yds_events.proofs.Times.{not_later, release_at, deadline_at}
 use Rattle.yds_events.proofs.Neighbours.{count_stretches, stretch_begins, stretch_ends, stretch_forward, release_outside, deadline_outside}
 use Rattle.yds_timetable.specs.Shares.{JobShare, units_given, total_units, shares_in, shares_before}
-use Rattle.yds_edf.specs.Pending.{sum_below, units_wanted}
+use Rattle.yds_edf.specs.Pending.{units_wanted}
+use Rattle.yds_model.specs.Numbers.{sum_below}
 use Rattle.yds_edf.specs.Filled.{IsInTime}
 use Rattle.yds_edf.specs.Run.{pending_before, IsServed, IsLaidOut, IsPolicyRun}
-use Rattle.yds_edf.proofs.Sums.{sum_below_same, sum_below_at_most, sum_below_less, sum_by_grouped}
-use Rattle.yds_edf.proofs.Numbers.{sum_numbers, sum_places}
+use Rattle.yds_model.proofs.SumsBelow.{sum_below_same, sum_below_at_most, sum_below_less, sum_by_grouped, sum_numbers, sum_places}
 use Rattle.yds_timetable.proofs.Places.{all_before, none_before}
 use Rattle.yds_edf.proofs.Parts.{given_next, share_given}
 use Rattle.yds_edf.proofs.Demand.{none_given}

@@ -6,7 +6,7 @@ use Rattle.yds_edf.specs.Blocks.{units_before}
 use Rattle.yds_edf.specs.Order.{no_due, due_at}
 use Rattle.yds_oa.specs.declared.walk.Walk.{Walk}
 use Rattle.yds_oa.specs.Greatest.{AreInOrder, AreDueAfter, IsQuotientAmong, IsNotGreater, IsGreatestWithin, IsWalk}
-use Rattle.yds_edf.proofs.Sums.{sum_below_term}
+use Rattle.yds_model.proofs.SumsBelow.{sum_below_term}
 use Rattle.yds_edf.proofs.PlacedSums.{before_rises, none_left}
 
 -- before a place with no units before it there are none

@@ -7,13 +7,13 @@ use Rattle.yds_events.proofs.Neighbours.{release_outside, deadline_outside}
 use Rattle.yds_search.specs.Found.{Group, per_time, per_work, units_of_job, units_in_stretch}
 use Rattle.yds_search.specs.Views.{group_view}
 use Rattle.yds_search.proofs.Lowest.{lowest}
-use Rattle.yds_edf.specs.Pending.{sum_below, units_wanted}
+use Rattle.yds_edf.specs.Pending.{units_wanted}
+use Rattle.yds_model.specs.Numbers.{sum_below}
 use Rattle.yds_timetable.specs.Shares.{JobShare, units_given, total_units, shares_in, shares_before}
 use Rattle.yds_edf.specs.Serving.{IsDueBefore}
 use Rattle.yds_edf.specs.Filled.{pending_at_start}
 use Rattle.yds_edf.specs.Demand.{capacity_at}
-use Rattle.yds_edf.proofs.Sums.{sum_below_same, sum_by_grouped}
-use Rattle.yds_edf.proofs.Numbers.{sum_below-mul, sum_places, sum_numbers}
+use Rattle.yds_model.proofs.SumsBelow.{sum_below_same, sum_by_grouped, sum_below-mul, sum_places, sum_numbers}
 use Rattle.yds_edf.proofs.Filled.{stands_in}
 use Rattle.yds_critical.specs.declared.interval.Interval.{Interval}
 use Rattle.yds_critical.specs.Critical.{IsCritical}

@@ -3,7 +3,7 @@ use Rattle.yds_model.proofs.Common.{◌≡◌, ℕ, ◌+◌, ◌-◌, ◌<◌, �
 use Rattle.yds_model.specs.declared.limits.TheConstants.{MAX_JOBS}
 use Rattle.yds_events.specs.Window.{IsInWindow}
 use Rattle.yds_search.proofs.KeySums.{inside_range}
-use Rattle.yds_edf.specs.Pending.{sum_below}
+use Rattle.yds_model.specs.Numbers.{sum_below}
 use Rattle.yds_intensity.specs.Order.{IsDeadlineOrder}
 use Rattle.yds_intensity.proofs.Sweeps.{number_known}
 use Rattle.yds_critical.specs.declared.interval.Interval.{Interval}
