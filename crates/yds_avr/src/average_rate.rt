@@ -5,7 +5,7 @@ ghost use Rattle.yds_model.specs.AverageRate.{IsAverageRateRun, terms_of, averag
 ghost use Rattle.yds_model.specs.Within.{AreSlotsOf};
 ghost use Rattle.yds_timetable.specs.Timetable.{slots_of};
 ghost use Rattle.yds_timetable.specs.Room.{CanLay};
-ghost use Rattle.yds_edf.specs.Run.{AreRowsOf};
+ghost use Rattle.yds_edf.specs.PolicyRun.{AreRowsOf};
 ghost use Rattle.yds_avr.specs.Rate.{IsLive, rate_term, rate_rounds};
 ghost use Rattle.yds_avr.specs.Roster.{IsRosterBefore};
 

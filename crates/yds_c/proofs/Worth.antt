@@ -20,7 +20,7 @@ use Rattle.yds_texts.proofs.RoundText.{rounded_holds_least_energy, refused_is_to
 use Rattle.yds_texts.proofs.RunText.{runs_are_read}
 use Rattle.yds_texts.proofs.TaskTexts.{expansions_are_read}
 use Rattle.yds_run.specs.Words.{asked}
-use Rattle.yds_run.specs.Run.{IsWhole, Writes, WritesWhole}
+use Rattle.yds_run.specs.Endings.{IsWhole, Writes, WritesWhole}
 use Rattle.yds_run.proofs.Complete.{whole_outcome}
 use Rattle.yds_run.proofs.Reported.{report_held}
 use Rattle.yds_c.specs.Worth.{IsWorth}

@@ -4,7 +4,7 @@ use Rattle.yds_model.specs.declared.status.Status.{Status}
 use Rattle.yds_model.specs.Answer.{AnswersRequest}
 use Rattle.yds_model.specs.Status.{status_code}
 use Rattle.yds_run.specs.Words.{asked}
-use Rattle.yds_run.specs.Run.{IsWhole}
+use Rattle.yds_run.specs.Endings.{IsWhole}
 use Rattle.yds_c.specs.Put.{IsPut}
 use Rattle.yds_c.specs.Worth.{IsWorth}
 

@@ -1,5 +1,5 @@
 pub mod Products
-pub mod Parts
+pub mod LevelParts
 pub mod Homes
 pub mod OneHome
 pub mod Small

@@ -4,7 +4,7 @@ use Rattle.yds_checker.specs.declared.placed.Placed.{Placed}
 use Rattle.yds_checker.specs.Placed.{holding}
 use Rattle.yds_model.specs.declared.limits.TheConstants.{MAX_LEVELS}
 use Rattle.yds_checker.specs.Heights.{no_placed, placed_at, AreHeights, AreWithin}
-use Rattle.yds_checker.specs.Run.{AreInTurn, AreJoined}
+use Rattle.yds_checker.specs.PiecesInTurn.{AreInTurn, AreJoined}
 use Rattle.yds_checker.specs.Standing.{AreInRun}
 use Rattle.yds_checker.proofs.Units.{Holds, held_at, held_where, held_twice}
 

@@ -4,4 +4,4 @@ pub mod Judgement
 pub mod Placed
 pub mod Standing
 pub mod Heights
-pub mod Run
+pub mod PiecesInTurn

@@ -8,12 +8,12 @@ ghost use Rattle.yds_model.specs.Judgement.{SlotsHold, IsJudgement};
 ghost use Rattle.yds_certificate.specs.Certificate.{IsCertificate};
 ghost use Rattle.yds_checker.specs.Judgement.{judgement_view};
 
+use crate::falling::first_faster;
 use crate::home::homes_of;
 use crate::judgement::Judgement;
 use crate::member::first_wrong_member;
-use crate::order::first_faster;
 use crate::pieces::{Standing, standing_of};
-use crate::run::Run;
+use crate::pieces_in_turn::PiecesInTurn;
 use crate::speeds::first_wrong_speed;
 use crate::sums::first_wrong_sums;
 use crate::windows::first_uncovered;
@@ -52,7 +52,7 @@ fn judgement_of_levels(
     if let Some(level) = first_faster(levels) {
         return Ok(Judgement::Order(level));
     }
-    let run = Run::new(alloc, placed)?;
+    let run = PiecesInTurn::new(alloc, placed)?;
     if let Some(job) = first_uncovered(rows, &homes, &run) {
         return Ok(Judgement::Window(job));
     }

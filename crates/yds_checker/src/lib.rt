@@ -7,14 +7,14 @@
 #![tactic(auto)]
 
 mod checker;
+mod falling;
 mod heights;
 mod home;
 mod judgement;
 mod member;
-mod order;
 mod pieces;
+mod pieces_in_turn;
 mod placed;
-mod run;
 mod speeds;
 mod sums;
 mod windows;

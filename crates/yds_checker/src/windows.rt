@@ -8,12 +8,12 @@ ghost use Rattle.yds_checker.specs.Home.{AreSettled};
 ghost use Rattle.yds_checker.specs.Standing.{AreInRun};
 
 use crate::home::Home;
-use crate::run::Run;
+use crate::pieces_in_turn::PiecesInTurn;
 use yds_model::JobRow;
 
 /// Whether the job's window is covered by the pieces of the level of which it is a member, if there is one, and of
 /// earlier levels.
-fn is_covered(rows: &[JobRow], homes: &[Home], run: &Run, job: usize) -> bool
+fn is_covered(rows: &[JobRow], homes: &[Home], run: &PiecesInTurn, job: usize) -> bool
     requires known { job < length rows.now }
     requires jobs { length homes.now ≡ length rows.now }
     ensures { (levels : List LevelOfPlan) → AreSettled rows.now levels homes.now → AreInRun levels run.now →
@@ -27,7 +27,7 @@ fn is_covered(rows: &[JobRow], homes: &[Home], run: &Run, job: usize) -> bool
 }
 
 /// The first job whose window isn't covered, if there is one.
-pub(crate) fn first_uncovered(rows: &[JobRow], homes: &[Home], run: &Run) -> Option<u32>
+pub(crate) fn first_uncovered(rows: &[JobRow], homes: &[Home], run: &PiecesInTurn) -> Option<u32>
     requires few { length rows.now ≤ MAX_JOBS }
     requires jobs { length homes.now ≡ length rows.now }
     ensures { (levels : List LevelOfPlan) → AreSettled rows.now levels homes.now → AreInRun levels run.now →

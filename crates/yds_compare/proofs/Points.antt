@@ -3,8 +3,8 @@ use Rattle.yds_model.proofs.Common.{◌≡◌, ℕ, zero, suc, ◌+◌, ◌-◌,
 use Rattle.yds_energy.proofs.OneEnergy.{places_rise}
 use Rattle.yds_energy.proofs.PointTimes.{gap_divides, pair_time, idle_time}
 use Rattle.yds_compare.specs.declared.load.Load.{Load}
-use Rattle.yds_compare.specs.declared.share.Share.{Share}
-use Rattle.yds_compare.specs.Share.{time_share_at, IsShareOf, IsShareBetween, IsFirstHolding}
+use Rattle.yds_compare.specs.declared.time_share.TimeShare.{TimeShare}
+use Rattle.yds_compare.specs.TimeShare.{time_share_at, IsShareOf, IsShareBetween, IsFirstHolding}
 
 -- # In plain numbers
 
@@ -98,7 +98,7 @@ found points hull load (suc place) low high is rising first some is_low is_high 
       slower = λ k one below. first.slower k below;
     }
 
-pub found_share : (points hull : List Point) (load : Load) (low high : Point) (share : Share) → hull ≡ hull_of points → AreFound hull load (hull_multiple points) low high →
+pub found_share : (points hull : List Point) (load : Load) (low high : Point) (share : TimeShare) → hull ≡ hull_of points → AreFound hull load (hull_multiple points) low high →
     IsShareBetween (hull_multiple points) load low high share → IsShareOf (hull_multiple points) (hull_of points) load share
 found_share points hull load low high share is at between =
     let same : (speed : ℕ) → time_share_at share speed ≡ pair_time (hull_multiple points) load.time load.work low high speed =

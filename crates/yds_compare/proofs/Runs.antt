@@ -3,7 +3,7 @@ use Rattle.yds_model.proofs.Common.{◌≡◌, ℕ, ◌-◌, ◌*◌, ◌<◌, �
 use Rattle.yds_events.specs.Stretch.{length_of}
 use Rattle.yds_timetable.specs.Timetable.{Row, row_at, stretches_of, slots_of}
 use Rattle.yds_timetable.proofs.Rows.{no_row, rows_solid, row_work}
-use Rattle.yds_edf.specs.Run.{AreRowsOf}
+use Rattle.yds_edf.specs.PolicyRun.{AreRowsOf}
 use Rattle.yds_edf.proofs.Standing.{as_many_rows, row_stretch, rows_order}
 use Rattle.yds_compare.specs.declared.load.Load.{Load}
 use Rattle.yds_compare.specs.Load.{load_of, loads_of, load_at, IsHeldAt}

@@ -3,23 +3,23 @@ use Rattle.yds_model.proofs.Common.{◌≡◌, ℕ, ◌+◌, ◌*◌, ◌/◌, �
 use Rattle.yds_model.specs.declared.limits.TheConstants.{MAX_GRID, MAX_TIME, MAX_POINTS, MAX_POINT_POWER, MAX_GAPS}
 use Rattle.yds_timetable.proofs.Lists.{all_zip_push}
 use Rattle.yds_compare.specs.declared.load.Load.{Load}
-use Rattle.yds_compare.specs.declared.share.Share.{Share}
-use Rattle.yds_compare.specs.Share.{time_share_at, IsShareOf}
+use Rattle.yds_compare.specs.declared.time_share.TimeShare.{TimeShare}
+use Rattle.yds_compare.specs.TimeShare.{time_share_at, IsShareOf}
 use Rattle.yds_compare.specs.Spent.{time_of_loads, energy_of_loads}
 
 -- the shares' times are the loads'
-pub time_is : (multiple : ℕ) (hull : List Point) (loads : List Load) (shares : List Share) (speed : ℕ) → AllZip (IsShareOf multiple hull) loads shares →
+pub time_is : (multiple : ℕ) (hull : List Point) (loads : List Load) (shares : List TimeShare) (speed : ℕ) → AllZip (IsShareOf multiple hull) loads shares →
     sum_by (λ share. time_share_at share speed) shares ≡ sum_by (λ load. time_at multiple load.time load.work hull speed) loads
 time_is multiple hull [] [] speed zip = refl
 time_is multiple hull [] (share ∷ shares) speed zip = absurd zip
 time_is multiple hull (load ∷ loads) [] speed zip = absurd zip
 time_is multiple hull (load ∷ loads) (share ∷ shares) speed zip =
-    sum_by-cons (λ (s : Share). time_share_at s speed) share shares
+    sum_by-cons (λ (s : TimeShare). time_share_at s speed) share shares
     ∙ ap₂ (λ a b. a + b) (zip.0.each speed) (time_is multiple hull loads shares speed zip.1)
     ∙ sym (sum_by-cons (λ (l : Load). time_at multiple l.time l.work hull speed) load loads)
 
 -- and at most all their time
-pub time_short : (multiple : ℕ) (hull : List Point) (loads : List Load) (shares : List Share) (speed : ℕ) → AllZip (IsShareOf multiple hull) loads shares →
+pub time_short : (multiple : ℕ) (hull : List Point) (loads : List Load) (shares : List TimeShare) (speed : ℕ) → AllZip (IsShareOf multiple hull) loads shares →
     sum_by (λ share. time_share_at share speed) shares ≤ sum_by (λ load. load.time) loads * multiple
 time_short multiple hull [] [] speed zip = omega arith
 time_short multiple hull [] (share ∷ shares) speed zip = absurd zip
@@ -27,13 +27,13 @@ time_short multiple hull (load ∷ loads) [] speed zip = absurd zip
 time_short multiple hull (load ∷ loads) (share ∷ shares) speed zip =
     omega (
       arith,
-      sum_by-cons (λ (s : Share). time_share_at s speed) share shares,
+      sum_by-cons (λ (s : TimeShare). time_share_at s speed) share shares,
       ap (λ n. n * multiple) (sum_by-cons (λ (l : Load). l.time) load loads),
       zip.0.in_range speed,
       time_short multiple hull loads shares speed zip.1,
     )
 
-module _ (points : List Point) (unit : ℕ) (loads : List Load) (shares : List Share) (zip : AllZip (IsShareOf (hull_multiple points) (hull_of points)) loads shares)
+module _ (points : List Point) (unit : ℕ) (loads : List Load) (shares : List TimeShare) (zip : AllZip (IsShareOf (hull_multiple points) (hull_of points)) loads shares)
     (short : sum_by (λ load. load.time) loads ≤ MAX_TIME * unit) where
   pub time_within : (speed : ℕ) → time_of_loads points loads speed ≤ MAX_TIME * (unit * hull_multiple points)
   time_within speed =
@@ -71,7 +71,7 @@ pub den_within : (unit multiple : ℕ) → unit ≤ MAX_GRID → multiple ≤ MA
 den_within unit multiple few gaps = mul-le-mul few gaps
 
 -- one more load and its share
-pub zip_step : (points : List Point) (loads : List Load) (shares : List Share) (i : ℕ) (d : Load) (share : Share) → i < length loads →
+pub zip_step : (points : List Point) (loads : List Load) (shares : List TimeShare) (i : ℕ) (d : Load) (share : TimeShare) → i < length loads →
     AllZip (IsShareOf (hull_multiple points) (hull_of points)) (take i loads) shares → IsShareOf (hull_multiple points) (hull_of points) (get_or loads i d) share →
     AllZip (IsShareOf (hull_multiple points) (hull_of points)) (take (i + 1) loads) (shares ++ share ∷ [])
 zip_step points loads shares i d share within all one =

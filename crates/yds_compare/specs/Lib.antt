@@ -1,4 +1,4 @@
 pub mod Load
-pub mod Share
+pub mod TimeShare
 pub mod Spent
 pub mod Side

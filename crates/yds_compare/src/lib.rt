@@ -9,9 +9,9 @@
 
 mod comparison;
 mod load;
-mod share;
 mod side;
 mod spent;
+mod time_share;
 
 pub use comparison::{Comparison, compare};
 pub use side::Side;

@@ -4,7 +4,7 @@ ghost use Rattle.yds_model.specs.Event.{stretches as job_stretches};
 ghost use Rattle.yds_model.specs.Comparison.{IsSide};
 ghost use Rattle.yds_events.specs.Stretch.{length_of};
 ghost use Rattle.yds_timetable.specs.Timetable.{slots_of};
-ghost use Rattle.yds_edf.specs.Run.{AreRowsOf};
+ghost use Rattle.yds_edf.specs.PolicyRun.{AreRowsOf};
 ghost use Rattle.yds_compare.specs.Side.{side_view};
 
 use crate::load::{first_above, loads_of};

@@ -4,11 +4,11 @@ ghost use Rattle.yds_model.specs.declared.limits.TheConstants.{MAX_GRID, MAX_TIM
 ghost use Rattle.yds_model.specs.Table.{hull_of, hull_multiple};
 ghost use Rattle.yds_model.specs.Rounding.{top_of};
 ghost use Rattle.yds_compare.specs.Load.{IsHeldAt};
-ghost use Rattle.yds_compare.specs.Share.{time_share_at, IsShareOf};
+ghost use Rattle.yds_compare.specs.TimeShare.{time_share_at, IsShareOf};
 ghost use Rattle.yds_compare.specs.Spent.{IsSpentOn};
 
 use crate::load::Load;
-use crate::share::Share;
+use crate::time_share::TimeShare;
 use std::alloc::Global;
 use std::marker::Model;
 use yds_fraction::{Amount, in_lowest_terms};
@@ -33,19 +33,19 @@ impl Model for Spent {
 }
 
 /// How long each load runs at the points.
-fn shares_of(alloc: Global, loads: &[Load], table: &Table) -> Result<Vec<Share>, Memory>
+fn shares_of(alloc: Global, loads: &[Load], table: &Table) -> Result<Vec<TimeShare>, Memory>
     requires { All (IsHeldAt (top_of table.now)) loads.now }
     ensures { IfOk result (λ shares. AllZip (IsShareOf (hull_multiple table.now) (hull_of table.now)) loads.now shares.items) }
 {
     let mut shares = Vec::with_capacity(alloc, loads.len())?;
     for load in loads {
-        shares.push(Share::of(*load, table))?;
+        shares.push(TimeShare::of(*load, table))?;
     }
     Ok(shares)
 }
 
 /// The time at the point of this speed.
-fn time_at(shares: &[Share], speed: u32) -> u128
+fn time_at(shares: &[TimeShare], speed: u32) -> u128
     requires { sum_by (λ share. time_share_at share speed) shares.now < 2 ^ 128 }
     ensures { result ≡ sum_by (λ share. time_share_at share speed) shares.now }
 {

@@ -4,7 +4,7 @@ use Rattle.yds_contract.specs.declared.removed.Removed.{Removed}
 use Rattle.yds_contract.specs.Removed.{removed_at, removed_stretches, AreSummed}
 use Rattle.yds_contract.specs.Removing.{IsAppended}
 use Rattle.yds_contract.proofs.Cells.{piece_at}
-use Rattle.yds_contract.proofs.Kept.{count, stretch_at}
+use Rattle.yds_contract.proofs.RemovedStretches.{count, stretch_at}
 
 -- all that is removed, by the last stretch
 pub total_by_last : (removed : List Removed) → AreSummed removed → 0 < length removed →

@@ -6,7 +6,7 @@ use Rattle.yds_contract.specs.Contracted.{AreApartFrom, place, Removes}
 use Rattle.yds_contract.specs.Removed.{removed_stretches, AreSummed, IsContraction}
 use Rattle.yds_contract.specs.Removing.{IsAppended}
 use Rattle.yds_contract.proofs.Cells.{piece_at}
-use Rattle.yds_contract.proofs.Kept.{ends_fit, end_fits}
+use Rattle.yds_contract.proofs.RemovedStretches.{ends_fit, end_fits}
 use Rattle.yds_contract.proofs.Joined.{joined, joined_before, joined_inside, joined_after, joined_total, joined_ends, joined_reaches, joined_apart, joined_removes}
 
 -- the first i stretches are taken up: those that lie before, and the one that is being joined, from here to there

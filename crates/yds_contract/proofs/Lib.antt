@@ -1,7 +1,7 @@
 pub mod Cells
 pub mod Pieces
-pub mod Places
-pub mod Kept
+pub mod ContractedPlaces
+pub mod RemovedStretches
 pub mod Joined
 pub mod Appending
 pub mod Joining

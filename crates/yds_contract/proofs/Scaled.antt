@@ -6,7 +6,7 @@ use Rattle.yds_contract.specs.Contracted.{AreApartFrom, removed_before, place}
 use Rattle.yds_contract.specs.Removed.{removed_at, stretch_of, removed_stretches, IsContraction}
 use Rattle.yds_contract.specs.Spread.{piece_in_parts}
 use Rattle.yds_contract.proofs.Cells.{piece_at, no_piece, apart_weaker, whole_before}
-use Rattle.yds_contract.proofs.Kept.{count, stretch_at, ends_fit, few_removed}
+use Rattle.yds_contract.proofs.RemovedStretches.{count, stretch_at, ends_fit, few_removed}
 
 pub parts_apart : (parts start : ℕ) (pieces : List Piece) → 1 ≤ parts → AreApartFrom start pieces → AreApartFrom (start * parts) (map (piece_in_parts parts) pieces)
 parts_apart parts start [] some apart = tt

@@ -1,14 +1,14 @@
 -- What an engine keeps as jobs arrive: their units come to their places.
 use Rattle.yds_model.proofs.Common.{rules, ◌≡◌, ℕ, ◌+◌, ◌-◌, ◌*◌, ◌<◌, ◌≤◌, true, List, length, set, slice_index, slice_index_or, ◌∙◌, sym, arith, inl, inr, ap, cond, length-set, nat_lt, Option, Some, None, IsNonDecreasingBy, cases_lt, cases_eq, lt-ltb, le-ltb, leb-true, true≢false, mul-le-mul, get_or_read, Job, no_job}
-use Rattle.yds_edf.specs.declared.order.Due.{Due}
+use Rattle.yds_edf.specs.declared.due_order.Due.{Due}
 use Rattle.yds_edf.specs.declared.pending.PendingJobs.{PendingJobs}
-use Rattle.yds_edf.specs.Order.{no_due, due_at}
+use Rattle.yds_edf.specs.DueOrder.{no_due, due_at}
 use Rattle.yds_edf.specs.Pending.{units_wanted, is_within}
 use Rattle.yds_model.specs.Numbers.{sum_below}
 use Rattle.yds_edf.specs.Queue.{units_left, IsNoEarlier}
 use Rattle.yds_edf.specs.Engine.{TiedQueue, IsTiedQueue, AreArrived, HaveArrived}
 use Rattle.yds_model.proofs.SumsBelow.{sum_below_bound}
-use Rattle.yds_edf.proofs.Places.{all_placed, entry_at, apart, placed_at, places_apart, ranked_with}
+use Rattle.yds_edf.proofs.JobPlaces.{all_placed, entry_at, apart, placed_at, places_apart, ranked_with}
 use Rattle.yds_edf.proofs.Steps.{changed_here, changed_elsewhere}
 
 -- the units that all jobs want are within the words of 64 bits

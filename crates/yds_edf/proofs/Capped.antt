@@ -8,7 +8,7 @@ use Rattle.yds_model.specs.Numbers.{sum_below}
 use Rattle.yds_edf.specs.Serving.{IsServing}
 use Rattle.yds_edf.specs.Demand.{capacity_at, IsWithinCapacity, AreUncut}
 use Rattle.yds_edf.specs.Filled.{IsInTime}
-use Rattle.yds_edf.specs.Run.{by_number, pending_before, IsServed, IsLaidOut, IsPolicyRun}
+use Rattle.yds_edf.specs.PolicyRun.{by_number, pending_before, IsServed, IsLaidOut, IsPolicyRun}
 use Rattle.yds_model.proofs.SumsBelow.{sum_below_same, sum_numbers, sum_below-mul}
 use Rattle.yds_edf.proofs.Demand.{in_window, in_full}
 use Rattle.yds_edf.proofs.Filled.{stands_in}

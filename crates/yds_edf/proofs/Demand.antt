@@ -13,8 +13,8 @@ use Rattle.yds_events.proofs.InOrder.{has_length, starts_rise}
 use Rattle.yds_edf.specs.Demand.{capacity_at, capacity_between, IsWithinCapacity, AreUncut}
 use Rattle.yds_edf.specs.Filled.{pending_at_start}
 use Rattle.yds_model.proofs.SumsBelow.{sum_below_same, sum_below_at_most, sum_below_zero, sum_below-add, sum_below_term, sum_below_change, sum_below_less, sum_by_grouped, sum_below-mul, sum_places}
-use Rattle.yds_timetable.proofs.Places.{all_before, none_before}
-use Rattle.yds_edf.proofs.Parts.{given_next, share_given}
+use Rattle.yds_timetable.proofs.SharePlaces.{all_before, none_before}
+use Rattle.yds_edf.proofs.AddedShares.{given_next, share_given}
 
 -- a term that counts where two orders hold
 both : (a b c d x : ℕ) → a ≤ b → c ≤ d → cond (nat_le a b && nat_le c d) x 0 ≡ x

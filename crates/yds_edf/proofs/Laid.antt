@@ -1,6 +1,6 @@
 -- The slots of shares that take at most a stretch's capacity.
 use Rattle.yds_model.proofs.Common.{◌≡◌, ℕ, ◌+◌, ◌*◌, ◌≤◌, List, subst, ap, ◌∙◌, arith, All, eq_of_mul-eq-mul_left, at_scale, of_whole, slots_at, Piece, FillsAtSpeed}
-use Rattle.yds_slots.proofs.Parts.{of_parts_over}
+use Rattle.yds_slots.proofs.WorkParts.{of_parts_over}
 use Rattle.yds_events.specs.Stretch.{length_of}
 use Rattle.yds_timetable.specs.Shares.{JobShare, total_units}
 use Rattle.yds_timetable.specs.Pace.{lowest_pace, time_after, slots_from, IsPaceOf}

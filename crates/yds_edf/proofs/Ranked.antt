@@ -1,15 +1,15 @@
 -- What an engine's places say of its jobs: how much of each is pending, and which of them is due first.
 use Rattle.yds_model.proofs.Common.{◌≡◌, ℕ, ◌<◌, ◌≤◌, ◌⊎◌, List, length, slice_index, ◌∙◌, refl, sym, subst, arith, inl, inr, ap, cond, nat_lt, cases_lt, cases_order, lt-ltb, le-ltb, job_at}
-use Rattle.yds_edf.specs.declared.order.Due.{Due}
+use Rattle.yds_edf.specs.declared.due_order.Due.{Due}
 use Rattle.yds_edf.specs.declared.pending.PendingJobs.{PendingJobs}
 use Rattle.yds_edf.specs.Blocks.{units_before, IsFirstPlace}
-use Rattle.yds_edf.specs.Order.{due_at}
+use Rattle.yds_edf.specs.DueOrder.{due_at}
 use Rattle.yds_edf.specs.Serving.{IsDueBefore}
 use Rattle.yds_edf.specs.Queue.{pending_in, all_pending, units_left}
 use Rattle.yds_edf.specs.Ranked.{IsFresh, ArePendingIn}
 use Rattle.yds_edf.specs.Engine.{TiedQueue, IsEngine}
 use Rattle.yds_model.proofs.SumsBelow.{sum_below_same, sum_below_term}
-use Rattle.yds_edf.proofs.Places.{entry_at, stands_at, placed_at, sum_in_order}
+use Rattle.yds_edf.proofs.JobPlaces.{entry_at, stands_at, placed_at, sum_in_order}
 
 module _ {tied : TiedQueue} {arrivals : List Due} {arrived : ℕ} {pending : PendingJobs} (engine : IsEngine tied arrivals arrived pending) where
   -- the units at a job's place are those that are pending of it

@@ -11,8 +11,8 @@ use Rattle.yds_timetable.proofs.Rows.{row_serves}
 use Rattle.yds_edf.specs.Pending.{units_wanted}
 use Rattle.yds_edf.specs.Serving.{IsDueBefore}
 use Rattle.yds_edf.specs.Filled.{IsInTime}
-use Rattle.yds_edf.specs.Run.{by_number, pending_before, IsServed, IsLaidOut}
-use Rattle.yds_edf.proofs.Parts.{given_next, share_given}
+use Rattle.yds_edf.specs.PolicyRun.{by_number, pending_before, IsServed, IsLaidOut}
+use Rattle.yds_edf.proofs.AddedShares.{given_next, share_given}
 use Rattle.yds_edf.proofs.Filled.{stands_in}
 use Rattle.yds_timetable.proofs.Rows.{run_pairs}
 use Rattle.yds_edf.proofs.Standing.{IsShare, Stands, as_many_rows, row_stretch, rows_order, one_at_a_time, all_shares, all_stand, length_whole, work_before, all_work}

@@ -2,7 +2,7 @@
 use Rattle.yds_model.proofs.Common.{rules, ◌≡◌, ℕ, suc, take, get_or, ap₂, None, ◌/◌, ◌+◌, ◌-◌, ◌*◌, ◌<◌, ◌≤◌, min, List, [], ◌∷◌, ◌++◌, length, slice_index, ◌∙◌, refl, sym, subst, arith, inl, inr, ap, cond, true, false, add-one, Bool, ◌==◌, All, AllPairs, Some, Option, MatchOption, Contains, from_bool, cases_lt, cases_eq, get_or-replicate, get_or-map, get_or_append_left, get_or_at, length-append, length-map, length-take-le, append-nil, map-append, take_all, take_more, flat_map-append, get_or-eq_default, All-nil, All-cons, All-append, All-weaker, All-contains, Contains-get_or, le_refl, sum_by-append, sum_by-cons, Each, common_divisor, Job, Piece, stretches, HasSpeed, HasRunDenominators, stretch_at, AllPairs-append, All-flat}
 use Rattle.yds_model.specs.declared.limits.TheConstants.{MAX_GRID, MAX_JOBS, MAX_SLOT_WORK, MAX_WORK}
 use Rattle.yds_model.specs.Plan.{IsOver}
-use Rattle.yds_slots.proofs.Parts.{of_parts_over}
+use Rattle.yds_slots.proofs.WorkParts.{of_parts_over}
 use Rattle.yds_events.specs.Stretch.{IsStretch, no_stretch, length_of}
 use Rattle.yds_events.proofs.Neighbours.{stretches_run, few_stretches}
 use Rattle.yds_events.proofs.InOrder.{starts_rise}
@@ -14,14 +14,14 @@ use Rattle.yds_edf.specs.Queue.{JobQueue, new_queue, IsNoEarlier, pending_in, un
 use Rattle.yds_timetable.specs.declared.pace.Pace.{Pace}
 use Rattle.yds_timetable.specs.Pace.{slot_of, lowest_pace}
 use Rattle.yds_timetable.specs.Timetable.{Row, row_at, stretches_of, row_slots, shares_of, slots_of, IsFilledAt, IsRow, HasGrain}
-use Rattle.yds_timetable.proofs.Lowest.{lowest_fills}
+use Rattle.yds_timetable.proofs.LowestPace.{lowest_fills}
 use Rattle.yds_timetable.proofs.Paces.{lies_written, speed_written}
 use Rattle.yds_timetable.specs.Room.{CanLay}
 use Rattle.yds_timetable.proofs.Rows.{no_row, paced_all, rows_over}
-use Rattle.yds_edf.specs.Run.{by_number, IsServedBefore, pending_before, IsLowest, AreRowsOf, IsPolicyRun, PutsRow}
+use Rattle.yds_edf.specs.PolicyRun.{by_number, IsServedBefore, pending_before, IsLowest, AreRowsOf, IsPolicyRun, PutsRow}
 use Rattle.yds_model.proofs.SumsBelow.{sum_below_same, sum_below_bound}
 use Rattle.yds_edf.proofs.Filled.{stands_in}
-use Rattle.yds_edf.proofs.Parts.{in_added, before_added, in_kept, before_kept}
+use Rattle.yds_edf.proofs.AddedShares.{in_added, before_added, in_kept, before_kept}
 
 -- the first stretches have been served
 pub record Running (jobs : List Job) (grid : ℕ) (units : (ℕ → ℕ) → Piece → ℕ) (i : ℕ) (now : JobQueue) (shares : List JobShare) : Type 0 where

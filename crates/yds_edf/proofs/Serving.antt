@@ -8,7 +8,7 @@ use Rattle.yds_edf.specs.Serving.{IsDueBefore}
 use Rattle.yds_edf.specs.Queue.{JobQueue, pending_in, all_pending, units_left, unfinished, Adds, Serves}
 use Rattle.yds_edf.specs.Engine.{TiedQueue, IsTiedQueue, with_served, ServesFirst, ServesTied}
 use Rattle.yds_model.proofs.SumsBelow.{sum_below_same, sum_below-add, sum_below_bound, sum_below_change, sum_below_term, sum_by_grouped}
-use Rattle.yds_edf.proofs.Parts.{share_given}
+use Rattle.yds_edf.proofs.AddedShares.{share_given}
 use Rattle.yds_edf.proofs.Steps.{changed_here, changed_elsewhere}
 
 -- how many of the first jobs have units left

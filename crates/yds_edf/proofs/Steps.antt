@@ -1,13 +1,13 @@
 -- What serving the job at the first place with units keeps of an engine.
 use Rattle.yds_model.proofs.Common.{rules, ◌≡◌, ◌≢◌, ℕ, ◌+◌, ◌-◌, ◌<◌, ◌≤◌, min, List, length, set, slice_index, slice_index_or, slice_set, ◌∙◌, refl, sym, arith, inl, inr, ap, cond, length-set, get_or-set_other, get_or-set_same, nat_lt, cases_eq, cases_lt, lt-ltb, le-ltb, get_or_read, mul-le-mul, no_job}
-use Rattle.yds_edf.specs.declared.order.Due.{Due}
+use Rattle.yds_edf.specs.declared.due_order.Due.{Due}
 use Rattle.yds_edf.specs.declared.pending.PendingJobs.{PendingJobs}
 use Rattle.yds_edf.specs.Blocks.{IsFirstPlace}
-use Rattle.yds_edf.specs.Order.{due_at}
+use Rattle.yds_edf.specs.DueOrder.{due_at}
 use Rattle.yds_edf.specs.Pending.{units_wanted}
 use Rattle.yds_edf.specs.Queue.{pending_in, units_left}
 use Rattle.yds_edf.specs.Engine.{TiedQueue, IsTiedQueue, IsEngine, with_served, ServesFirst}
-use Rattle.yds_edf.proofs.Places.{entry_at, placed_at, ranked_with}
+use Rattle.yds_edf.proofs.JobPlaces.{entry_at, placed_at, ranked_with}
 use Rattle.yds_edf.proofs.Ranked.{fresh_at, pending_is_left, first_is_due}
 
 -- the number at a place, once that at a place was changed

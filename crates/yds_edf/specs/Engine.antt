@@ -5,9 +5,9 @@ use Rattle.yds_model.specs.declared.limits.TheConstants.{MAX_JOBS}
 use Rattle.yds_model.specs.Numbers.{Each}
 use Rattle.yds_model.specs.Job.{IsJob}
 use Rattle.yds_edf.specs.declared.limits.TheConstants.{MAX_GRAIN}
-use Rattle.yds_edf.specs.declared.order.Due.{Due}
+use Rattle.yds_edf.specs.declared.due_order.Due.{Due}
 use Rattle.yds_edf.specs.declared.pending.PendingJobs.{PendingJobs}
-use Rattle.yds_edf.specs.Order.{due_jobs, due_at}
+use Rattle.yds_edf.specs.DueOrder.{due_jobs, due_at}
 use Rattle.yds_edf.specs.Pending.{units_wanted, is_within}
 use Rattle.yds_timetable.specs.Shares.{JobShare}
 use Rattle.yds_edf.specs.Serving.{IsDueBefore, IsServing}

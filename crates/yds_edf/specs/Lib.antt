@@ -4,8 +4,8 @@ pub mod Demand
 pub mod Filled
 pub mod Queue
 pub mod Blocks
-pub mod Order
+pub mod DueOrder
 pub mod Ranked
 pub mod Engine
 pub mod Laid
-pub mod Run
+pub mod PolicyRun

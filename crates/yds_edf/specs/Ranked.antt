@@ -3,7 +3,7 @@ use Rattle.std.specs.Prelude.{◌≡◌, ℕ, ◌<◌, List, length, slice_index
 use Rattle.yds_model.specs.Numbers.{Each}
 use Rattle.yds_model.specs.Job.{Job}
 use Rattle.yds_edf.specs.declared.pending.PendingJobs.{PendingJobs}
-use Rattle.yds_edf.specs.Order.{due_at, AreByDeadline}
+use Rattle.yds_edf.specs.DueOrder.{due_at, AreByDeadline}
 use Rattle.yds_edf.specs.Serving.{IsDueBefore}
 use Rattle.yds_edf.specs.Queue.{JobQueue, pending_in}
 

@@ -21,8 +21,8 @@ ghost use Rattle.yds_edf.specs.Pending.{is_within};
 ghost use Rattle.yds_edf.specs.Serving.{AreTies};
 ghost use Rattle.yds_edf.specs.Queue.{new_queue, IsNoEarlier, all_pending, pending_in, pending_due};
 
+use crate::due_order::{Due, by_release};
 use crate::limits::MAX_GRAIN;
-use crate::order::{Due, by_release};
 use crate::pending::PendingJobs;
 use std::alloc::Global;
 use std::marker::Model;

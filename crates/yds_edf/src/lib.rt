@@ -9,20 +9,20 @@
 #![tactic(auto)]
 
 mod blocks;
+mod due_order;
 mod engine;
 mod filling;
 mod laying;
 pub mod limits;
-mod order;
 mod pending;
 mod policy;
 mod policy_run;
 mod queue;
 
 pub use blocks::{PlacedUnits, block_end, group_end};
+pub use due_order::Due;
 pub use filling::fill;
 pub use laying::lay;
-pub use order::Due;
 pub use pending::PendingJobs;
 pub use policy::{Policy, Setting};
 pub use policy_run::{PolicyRun, PolicyTimetable, run_policy, serve_policy};

@@ -3,8 +3,8 @@ ghost use Rattle.yds_edf.specs.Serving.{AreTies};
 ghost use Rattle.yds_edf.specs.Ranked.{AreRanked};
 
 use crate::blocks::PlacedUnits;
+use crate::due_order::{Due, by_deadline, places_in};
 use crate::limits::MAX_GRAIN;
-use crate::order::{Due, by_deadline, places_in};
 use std::alloc::Global;
 use yds_model::limits::{MAX_JOBS, MAX_WORK};
 use yds_model::{JobRow, Memory};

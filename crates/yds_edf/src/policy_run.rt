@@ -4,7 +4,7 @@ ghost use Rattle.yds_model.specs.Within.{AreSlotsOf};
 ghost use Rattle.yds_timetable.specs.Timetable.{slots_of};
 ghost use Rattle.yds_timetable.specs.Room.{CanLay};
 ghost use Rattle.yds_edf.specs.Queue.{new_queue, Serves};
-ghost use Rattle.yds_edf.specs.Run.{AreRowsOf, IsPolicyRun, PutsRow};
+ghost use Rattle.yds_edf.specs.PolicyRun.{AreRowsOf, IsPolicyRun, PutsRow};
 
 use crate::limits::MAX_STRETCHES;
 use crate::policy::Policy;

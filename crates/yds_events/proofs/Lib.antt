@@ -5,5 +5,5 @@ pub mod Keys
 pub mod Cut
 pub mod Orders
 pub mod Neighbours
-pub mod Places
+pub mod WindowPlaces
 pub mod Following

@@ -1,7 +1,7 @@
 -- The jobs in order of deadline: those whose deadlines sorted keys have.
 use Rattle.yds_model.proofs.Common.{◌≡◌, ℕ, ◌+◌, ◌*◌, ◌%◌, ◌<◌, ◌≤◌, ◌⊎◌, List, ◌∙◌, length, get_or, map, true, ap, arith, All, filter, eq-eqb, eqb-true, get_or-map, get_or_default, length-map, All-filter, filter_passes, AllPairs-from_increasing, IsStrictlyIncreasing-filter, Job, job_at, contains_filter}
 use Rattle.yds_events.specs.Keys.{ends_of, key_of, time_of_key, number_of_key, is_deadline, job_of_key, AreKeys}
-use Rattle.yds_events.specs.Order.{IsOrder}
+use Rattle.yds_events.specs.ServingOrder.{IsOrder}
 use Rattle.yds_events.proofs.Keys.{IsKey, all_keys, key_at, strictly}
 use Rattle.yds_events.proofs.Times.{length_ends, deadline_end}
 

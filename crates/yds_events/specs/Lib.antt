@@ -1,5 +1,5 @@
 pub mod Keys
-pub mod Order
+pub mod ServingOrder
 pub mod Stretch
 pub mod Timeline
 pub mod Window

@@ -3,7 +3,7 @@ use Rattle.std.specs.Prelude.{◌≡◌, List}
 use Rattle.yds_model.specs.Job.{Job}
 use Rattle.yds_model.specs.Event.{stretches}
 use Rattle.yds_events.specs.declared.timeline.Timeline.{Timeline}
-use Rattle.yds_events.specs.Order.{IsOrder}
+use Rattle.yds_events.specs.ServingOrder.{IsOrder}
 use Rattle.yds_events.specs.Window.{AreWindows}
 
 -- the jobs' stretches, their windows among these, and who is due when

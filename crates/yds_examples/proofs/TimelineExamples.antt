@@ -2,7 +2,7 @@
 -- into five stretches.
 use Rattle.yds_model.proofs.Common.{◌≡◌, ℕ, suc, ◌<◌, List, [], ◌∷◌, length, refl, ◌∙◌, slice_index, ◌↔◌, get_or_default, Job, job_at, stretches}
 use Rattle.yds_events.specs.declared.window.Window.{Window}
-use Rattle.yds_events.specs.Order.{Precedes, IsOrder}
+use Rattle.yds_events.specs.ServingOrder.{Precedes, IsOrder}
 use Rattle.yds_events.specs.Window.{window_at, IsIn, IsInWindow, AreWindows}
 use Rattle.yds_examples.proofs.Tests.{Test, tests, proved, refuted, test_le, test_each, test_grid, test_ordered, test_contains, test_like, test_implied, test_both}
 use Rattle.yds_examples.proofs.ThreeJobs.{jobs, piece}

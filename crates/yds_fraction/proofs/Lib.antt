@@ -1,5 +1,5 @@
 pub mod Halves
-pub mod Kept
-pub mod Lowest
+pub mod WithinLimits
+pub mod OverDivisor
 pub mod Values
 pub mod WholeFirst

@@ -1,4 +1,4 @@
-pub mod Order
+pub mod ValueOrder
 pub mod Ratio
 pub mod OrderLaws
 pub mod Mixed

@@ -8,7 +8,7 @@ use Rattle.std.specs.Prelude.{Some}
 use Rattle.std.proofs.lemmas.Cmp.{ranked, on_total, eq_by_cmp_equiv, nat_cmp_total}
 use Rattle.std.proofs.Math.Nat.{mul-lt-mul_of_pos_left}
 use Rattle.yds_model.specs.Scale.{Quotient}
-use Rattle.yds_fraction.specs.Order.{parts, quotient_cmp, quotient_same, quotient_of, fraction_cmp, fraction_same}
+use Rattle.yds_fraction.specs.ValueOrder.{parts, quotient_cmp, quotient_same, quotient_of, fraction_cmp, fraction_same}
 
 -- a positive factor keeps the answer
 scaled_by : (k m n : ℕ) → 1 ≤ k → (r : Ordering) → MatchOrdering r (m < n) (m ≡ n) (n < m) → MatchOrdering r (k * m < k * n) (k * m ≡ k * n) (k * n < k * m)

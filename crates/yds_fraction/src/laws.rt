@@ -1,6 +1,6 @@
 //! Laws of the words of this crate's contracts. Each is a call of no parameters that does nothing.
 
-ghost use Rattle.yds_fraction.specs.Order.{OrderOfFractions, OrderOfQuotients};
+ghost use Rattle.yds_fraction.specs.ValueOrder.{OrderOfFractions, OrderOfQuotients};
 ghost use Rattle.yds_fraction.specs.Mixed.{SumCarriesOne, MultipleCarriesFactor};
 
 /// What `cmp` answers of two fractions, also by a key as in sorting, says how their values stand.

@@ -4,7 +4,7 @@ ghost use Rattle.std.specs.Cmp.{partial_equiv_from_equiv};
 ghost use Rattle.std.specs.Ordering.{MatchOrdering};
 ghost use Rattle.yds_model.specs.Scale.{of_whole, of_parts, at_scale, AreAlike, IsLess, IsSame};
 ghost use Rattle.yds_model.specs.Text.{fraction_text};
-ghost use Rattle.yds_fraction.specs.Order.{fraction_cmp, fraction_same};
+ghost use Rattle.yds_fraction.specs.ValueOrder.{fraction_cmp, fraction_same};
 ghost use Rattle.yds_fraction.specs.OrderLaws.{fraction_total, fraction_equivalence, fraction_order};
 ghost use Rattle.yds_fraction.specs.Mixed.{
   IsLimit,

@@ -4,7 +4,7 @@ ghost use Rattle.std.specs.Cmp.{partial_equiv_from_equiv};
 ghost use Rattle.std.specs.Ordering.{MatchOrdering};
 ghost use Rattle.yds_model.specs.Scale.{Quotient, IsLessQuotient, IsSameQuotient};
 ghost use Rattle.yds_fraction.specs.Text.{quotient_text};
-ghost use Rattle.yds_fraction.specs.Order.{quotient_cmp, quotient_same};
+ghost use Rattle.yds_fraction.specs.ValueOrder.{quotient_cmp, quotient_same};
 ghost use Rattle.yds_fraction.specs.Ratio.{AreBounds, IsRatio, mediant_of};
 ghost use Rattle.yds_fraction.specs.OrderLaws.{quotient_total, quotient_equivalence, quotient_order};
 

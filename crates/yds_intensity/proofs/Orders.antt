@@ -2,7 +2,7 @@
 use Rattle.yds_model.proofs.Common.{◌≡◌, ℕ, zero, suc, ◌+◌, ◌<◌, ◌≤◌, false, List, [], ◌∷◌, ◌∙◌, length, get_or, map, refl, sym, ap, subst, inl, inr, add-one, arith, All, nat_cmp, is_lt, IsPermutation, IsNonDecreasingBy, IsSortedByKey, IsStableByKey, get_or-map, length-map, length-map-range_with_len, get_or-map-range_with_len, All-map, IsPermutation-map, All-permutation, ties_still_rise, cases_lt, nat_tests, Job, job_at, numbers_of}
 use Rattle.yds_intensity.specs.declared.deadline_order.Due.{Due}
 use Rattle.yds_intensity.specs.Due.{due_of}
-use Rattle.yds_intensity.specs.Order.{IsDeadlineOrder}
+use Rattle.yds_intensity.specs.DeadlineOrder.{IsDeadlineOrder}
 
 abbrev no_due : Due
 no_due = record { deadline = 0; number = 0 }

@@ -4,7 +4,7 @@ use Rattle.yds_model.specs.declared.limits.TheConstants.{MAX_WORK}
 use Rattle.yds_intensity.specs.declared.sweeping.Sum.{Sum}
 use Rattle.yds_intensity.specs.Sums.{no_sum, sum_at, HaveRisingEnds, AreSums}
 use Rattle.yds_intensity.specs.Put.{IsPut}
-use Rattle.yds_intensity.specs.Order.{IsDeadlineOrder}
+use Rattle.yds_intensity.specs.DeadlineOrder.{IsDeadlineOrder}
 
 abbrev pub ends_of : List Sum → List ℕ
 ends_of sums = map (λ sum. sum.end) sums

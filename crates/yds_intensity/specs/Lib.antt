@@ -1,4 +1,4 @@
-pub mod Order
+pub mod DeadlineOrder
 pub mod Sums
 pub mod Due
 pub mod Put

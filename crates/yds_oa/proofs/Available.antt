@@ -8,10 +8,10 @@ use Rattle.yds_timetable.specs.Shares.{JobShare, units_given, total_units, share
 use Rattle.yds_edf.specs.Pending.{units_wanted}
 use Rattle.yds_model.specs.Numbers.{sum_below}
 use Rattle.yds_edf.specs.Filled.{IsInTime}
-use Rattle.yds_edf.specs.Run.{pending_before, IsServed, IsLaidOut, IsPolicyRun}
+use Rattle.yds_edf.specs.PolicyRun.{pending_before, IsServed, IsLaidOut, IsPolicyRun}
 use Rattle.yds_model.proofs.SumsBelow.{sum_below_same, sum_below_at_most, sum_below_less, sum_by_grouped, sum_numbers, sum_places}
-use Rattle.yds_timetable.proofs.Places.{all_before, none_before}
-use Rattle.yds_edf.proofs.Parts.{given_next, share_given}
+use Rattle.yds_timetable.proofs.SharePlaces.{all_before, none_before}
+use Rattle.yds_edf.proofs.AddedShares.{given_next, share_given}
 use Rattle.yds_edf.proofs.Demand.{none_given}
 use Rattle.yds_edf.proofs.Filled.{stands_in}
 use Rattle.yds_edf.proofs.RunAt.{run_at}

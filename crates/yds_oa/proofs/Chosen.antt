@@ -2,16 +2,16 @@
 use Rattle.yds_model.proofs.Common.{◌≡◌, ℕ, zero, suc, ◌+◌, ◌-◌, ◌*◌, ◌<◌, ◌≤◌, List, length, slice_index, ◌∙◌, refl, sym, subst, ap, arith, inl, inr, add-one, IsNonDecreasingBy, cases_lt, cases_eq, lt-leb, mul-le-mul_left, le_of_mul-le-mul_left, Each, Job, Piece}
 use Rattle.yds_model.specs.Numbers.{sum_below}
 use Rattle.yds_model.proofs.SumsBelow.{sum_below_zero, sum_places}
-use Rattle.yds_edf.specs.declared.order.Due.{Due}
+use Rattle.yds_edf.specs.declared.due_order.Due.{Due}
 use Rattle.yds_edf.specs.declared.pending.PendingJobs.{PendingJobs}
 use Rattle.yds_oa.specs.declared.quotient.Quotient.{Quotient}
 use Rattle.yds_oa.specs.Asked.{due_by}
 use Rattle.yds_edf.specs.Blocks.{units_before}
-use Rattle.yds_edf.specs.Order.{no_due, due_at, AreByDeadline}
+use Rattle.yds_edf.specs.DueOrder.{no_due, due_at, AreByDeadline}
 use Rattle.yds_oa.specs.Greatest.{IsOfDeadline, IsGreatest, AreDueAfter, IsQuotientAt, IsGreatestOf}
 use Rattle.yds_oa.proofs.Waiting.{weight_by, waits_is, due_in_order}
 use Rattle.yds_edf.proofs.PlacedSums.{one_place_more, before_rises}
-use Rattle.yds_edf.proofs.Places.{entry_at}
+use Rattle.yds_edf.proofs.JobPlaces.{entry_at}
 
 -- # The places that are due by a time
 

@@ -1,7 +1,7 @@
 -- The waiting jobs, and the units that are due, in order of numbers and in order of deadlines.
 use Rattle.yds_model.proofs.Common.{◌≡◌, ℕ, ◌<◌, ◌≤◌, List, length, get_or, ◌∙◌, refl, sym, arith, cond, true, false, Bool, nat_le, nat_lt, ◌&&◌, All, Contains, sum_by, IsPermutation, lt-ltb, get_or-map, length-map, length-range_with_len, get_or-range_with_len, sum_by-IsPermutation, All-filter, filter_passes, Job, job_at, Piece, numbers_of, sum_by_same, sum_by-map, sum_by-filter, contains_filter}
-use Rattle.yds_edf.specs.declared.order.Due.{Due}
-use Rattle.yds_edf.specs.Order.{due_job, due_jobs}
+use Rattle.yds_edf.specs.declared.due_order.Due.{Due}
+use Rattle.yds_edf.specs.DueOrder.{due_job, due_jobs}
 use Rattle.yds_oa.specs.Asked.{is_waiting, waiting, due_by, deadlines}
 
 -- # Who waits

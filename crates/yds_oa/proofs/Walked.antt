@@ -3,7 +3,7 @@ use Rattle.yds_model.proofs.Common.{◌≡◌, ℕ, ◌+◌, ◌-◌, ◌*◌, �
 use Rattle.yds_edf.specs.declared.pending.PendingJobs.{PendingJobs}
 use Rattle.yds_oa.specs.declared.quotient.Quotient.{Quotient}
 use Rattle.yds_edf.specs.Blocks.{units_before}
-use Rattle.yds_edf.specs.Order.{no_due, due_at}
+use Rattle.yds_edf.specs.DueOrder.{no_due, due_at}
 use Rattle.yds_oa.specs.declared.walk.Walk.{Walk}
 use Rattle.yds_oa.specs.Greatest.{AreInOrder, AreDueAfter, IsQuotientAmong, IsNotGreater, IsGreatestWithin, IsWalk}
 use Rattle.yds_model.proofs.SumsBelow.{sum_below_term}

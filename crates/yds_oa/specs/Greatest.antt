@@ -9,7 +9,7 @@ use Rattle.yds_edf.specs.declared.pending.PendingJobs.{PendingJobs}
 use Rattle.yds_oa.specs.declared.walk.Walk.{Walk}
 use Rattle.yds_oa.specs.Asked.{is_waiting, due_by}
 use Rattle.yds_edf.specs.Blocks.{units_before}
-use Rattle.yds_edf.specs.Order.{due_at}
+use Rattle.yds_edf.specs.DueOrder.{due_at}
 
 -- the quotient is that of a waiting job's deadline, or at least no greater
 pub record IsOfDeadline (jobs : List Job) (pending : ℕ → ℕ) (stretch : Piece) (units time : ℕ) : Type 0 where

@@ -4,7 +4,7 @@ ghost use Rattle.yds_model.specs.OptimalAvailable.{IsOptimalAvailableRun};
 ghost use Rattle.yds_model.specs.Within.{AreSlotsOf};
 ghost use Rattle.yds_timetable.specs.Timetable.{slots_of};
 ghost use Rattle.yds_timetable.specs.Room.{CanLay};
-ghost use Rattle.yds_edf.specs.Run.{AreRowsOf};
+ghost use Rattle.yds_edf.specs.PolicyRun.{AreRowsOf};
 ghost use Rattle.yds_oa.specs.Asked.{most_asked, most_rounds};
 
 use crate::walk::greatest_quotient;

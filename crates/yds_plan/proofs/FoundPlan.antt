@@ -11,7 +11,7 @@ use Rattle.yds_search.specs.Found.{Found, IsFound, group_of, group_at, per_time,
 use Rattle.yds_events.specs.Window.{length_at}
 use Rattle.yds_plan.specs.Laid.{level_of, levels_among, together, members_of, stretches_of_level, level_numbered, levels_of, pace_of_group, row_found, rows_found, laid_slots}
 use Rattle.yds_plan.specs.Timetabled.{pace_of_level, RunsAtLevel, IsTimetabled}
-use Rattle.yds_slots.proofs.Parts.{of_parts_over}
+use Rattle.yds_slots.proofs.WorkParts.{of_parts_over}
 use Rattle.yds_events.proofs.Neighbours.{release_outside, deadline_outside, stretch_with, few_stretches}
 use Rattle.yds_plan.proofs.Merged.{all_of_blocks}
 use Rattle.yds_plan.proofs.Rows.{IsLaid, sorted_shares, has_work, terms, paced, unpaced, all_laid, rows_are, slots_length, length_sorted}

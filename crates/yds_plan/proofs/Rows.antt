@@ -2,7 +2,7 @@
 use Rattle.yds_model.proofs.Common.{◌≡◌, ℕ, ◌+◌, ◌*◌, ◌<◌, ◌≤◌, ◌==◌, ◌⊎◌, List, [], Some, None, ◌∙◌, length, map, get_or, sym, refl, ap, ap₂, subst, arith, inl, inr, Option, slice_get, option_map, All, AllPairs, AllZip, Contains, filter, flat_map, sum_by, range_with_len, cases_eq, cases_lt, eq-eqb, eqb-true, ne_eqb, get_or_default, length-map, nil_from_length, slice_get-map, slice_get-get_or, slice_get_past, All-contains, All-contains_itself, All-filter, All-from_get_or, All-map, filter_agree, filter_passes, flat_map-map, AllPairs-filter, get_or-le-sum_by, div-le_self, mul-le-mul_left, mul-le-mul_right, Job, IsJob, job_at, WrittenSlot, Piece, common_divisor, stretches, ComesFirst, stretch_at, sum_by_same, sum_by-filter}
 use Rattle.yds_model.specs.declared.limits.TheConstants.{MAX_JOBS, MAX_SLOT_WORK, MAX_WORK}
 use Rattle.yds_model.specs.Plan.{IsOver}
-use Rattle.yds_slots.proofs.Parts.{of_parts_over}
+use Rattle.yds_slots.proofs.WorkParts.{of_parts_over}
 use Rattle.yds_events.specs.Stretch.{IsStretch}
 use Rattle.yds_events.specs.Window.{length_at}
 use Rattle.yds_events.proofs.Neighbours.{few_stretches, stretch_forward, stretch_in_range}
@@ -14,7 +14,7 @@ use Rattle.yds_timetable.specs.Room.{CanLay}
 use Rattle.yds_timetable.proofs.Lists.{AllZip-flat, AllZip-weaker, all_second, length_zipped}
 use Rattle.yds_timetable.proofs.Paces.{each_pair}
 use Rattle.yds_search.specs.Found.{Group, Found, IsFound, IsShare, group_of, no_group, group_at, per_time, per_work, units_of_job}
-use Rattle.yds_search.proofs.Lowest.{Lowest, lowest}
+use Rattle.yds_search.proofs.LowestSpeed.{Lowest, lowest}
 use Rattle.yds_search.proofs.KeySums.{in_range, sum_by-flat_map, split_all, count_all}
 use Rattle.yds_plan.specs.Laid.{pace_of_group, row_found, rows_found, laid_slots}
 use Rattle.yds_plan.proofs.Merged.{all_of_blocks, pairs_of_blocks}

@@ -10,8 +10,8 @@ use Rattle.yds_timetable.proofs.Filling.{length_from}
 use Rattle.yds_timetable.proofs.Lists.{all_of_part, zipped_at, length_zipped}
 use Rattle.yds_timetable.proofs.Rows.{no_row}
 use Rattle.yds_plan.specs.Timetabled.{pace_of_level, RunsAtLevel, IsTimetabled}
-use Rattle.yds_round.specs.declared.pace.Pace.{Pace}
-use Rattle.yds_round.specs.Pace.{IsPaceOf, no_pace, pace_at}
+use Rattle.yds_round.specs.declared.level_pace.LevelPace.{LevelPace}
+use Rattle.yds_round.specs.LevelPace.{IsLevelPaceOf, no_pace, pace_at}
 use Rattle.yds_round.specs.Written.{written_at, FitsJob}
 use Rattle.yds_round.specs.Cut.{CanRound}
 use Rattle.yds_round.specs.Rounded.{written_row, written_to, level_number_at}
@@ -95,8 +95,8 @@ runs_there levels None (Some number) at = absurd at
 runs_there levels (Some pace) None at = absurd at
 runs_there levels (Some pace) (Some number) at = inr (number, refl, at.0, ap (λ (p : Speed). Some p) at.1)
 
-module _ (jobs : List Job) (points : List Point) (planned : List WrittenSlot) (levels : List Level) (paces : List Pace) (rows : List Row) (numbers : List (Option ℕ))
-    (plan : IsPlan jobs planned levels) (are : AllZip (IsPaceOf points) levels paces) (on : IsTimetabled jobs rows numbers planned levels) (all_rows : All IsRow rows) where
+module _ (jobs : List Job) (points : List Point) (planned : List WrittenSlot) (levels : List Level) (paces : List LevelPace) (rows : List Row) (numbers : List (Option ℕ))
+    (plan : IsPlan jobs planned levels) (are : AllZip (IsLevelPaceOf points) levels paces) (on : IsTimetabled jobs rows numbers planned levels) (all_rows : All IsRow rows) where
   scale : (n : ℕ) × IsScale n planned
   scale = scale_exists planned plan.proper.feasible.solid
 
@@ -140,8 +140,8 @@ module _ (jobs : List Job) (points : List Point) (planned : List WrittenSlot) (l
       written_is : made ≡ written_at row.stretch row.shares (level_slots (level_at levels n) row.stretch row.shares) (pace_at paces n).split
       written_is = ap (written_row paces row) is_number ∙ ap (λ (slots : List WrittenSlot). written_at row.stretch row.shares slots (pace_at paces n).split) slots_are
 
-      pace_is : IsPaceOf points (level_at levels n) (pace_at paces n)
-      pace_is = zipped_at (IsPaceOf points) levels paces n no_level no_pace are is_level
+      pace_is : IsLevelPaceOf points (level_at levels n) (pace_at paces n)
+      pace_is = zipped_at (IsLevelPaceOf points) levels paces n no_level no_pace are is_level
 
       level_rounds : RoundsStretch (hull_of points) levels row.stretch (row_slots row) made
       level_rounds = rw (written_is, slots_are)
@@ -258,7 +258,7 @@ module _ (jobs : List Job) (points : List Point) (planned : List WrittenSlot) (l
     ]
 
     pub pace_known : n < length paces
-    pace_known = omega (arith, level_there.0, length_zipped (IsPaceOf points) levels paces are)
+    pace_known = omega (arith, level_there.0, length_zipped (IsLevelPaceOf points) levels paces are)
 
     pub can_round : length jobs ≤ MAX_JOBS →
         CanRound (pace_at paces n).split next.stretch (length jobs) (written_to paces rows numbers k) next.shares (row_slots next)

@@ -1,6 +1,6 @@
 -- A part of a stretch that is cut, at a scale: its slots run at one point's speed without a gap.
 use Rattle.yds_model.proofs.Common.{◌≡◌, ℕ, ◌+◌, ◌-◌, ◌*◌, ◌<◌, ◌≤◌, ◌==◌, List, [], ◌∷◌, ◌++◌, refl, sym, ap, ◌∙◌, subst, arith, inl, inr, if◌then◌else◌, All, cases_lt, nat_tests, sum_by-cons, All-tail, mul-pos, mul-le-mul_right, eq_of_mul-eq-mul_right, eq_of_mul-eq-mul_left, WrittenSlot, WholeSlot, IsDivided, slot_at_scale, slots_at, work_given, Piece, RunsAtPoint}
-use Rattle.yds_slots.proofs.Parts.{of_parts_at}
+use Rattle.yds_slots.proofs.WorkParts.{of_parts_at}
 use Rattle.yds_timetable.specs.Shares.{JobShare, total_units}
 use Rattle.yds_round.specs.Written.{Course, slots_after}
 use Rattle.yds_round.proofs.Cuts.{piece_between, some_between, none_between}

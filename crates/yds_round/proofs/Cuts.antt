@@ -2,7 +2,7 @@
 use Rattle.yds_model.proofs.Common.{◌≡◌, ℕ, ◌+◌, ◌-◌, ◌*◌, ◌<◌, ◌≤◌, ◌⊎◌, List, [], ◌∷◌, ◌++◌, length, refl, sym, ap, ◌∙◌, subst, arith, inl, inr, Bool, append_assoc, if◌then◌else◌, Option, Some, None, IfSome, All, cases_lt, lt-ltb, le-ltb, append-nil, length-append, All-nil, All-cons, All-append, sum_by-cons, mul-le-mul_right, of_parts, WrittenSlot, Piece}
 use Rattle.yds_model.specs.Plan.{IsOver}
 use Rattle.yds_slots.specs.Schedule.{FitsGrain}
-use Rattle.yds_slots.proofs.Parts.{of_parts_over}
+use Rattle.yds_slots.proofs.WorkParts.{of_parts_over}
 use Rattle.yds_round.specs.declared.split.Split.{Split}
 use Rattle.yds_timetable.specs.Shares.{JobShare, total_units}
 use Rattle.yds_timetable.proofs.Grains.{fits_own}

@@ -1,7 +1,7 @@
 -- What a rounded plan spends, as one fraction.
 use Rattle.yds_model.proofs.Common.{◌≡◌, ℕ, ◌+◌, ◌-◌, ◌*◌, ◌/◌, ◌^◌, ◌<◌, ◌≤◌, arith, IsGcd, same_from_IsGcd, mul-le-mul, mul-le-mul_right, div-le_of_le-mul, Fraction, of_parts, numerator, IsSame, common_divisor, IsLowest, IsFraction, divisor_is_greatest, same_through}
 use Rattle.yds_model.specs.declared.limits.TheConstants.{MAX_ENERGY, MAX_GAPS, MAX_POINT_POWER}
-use Rattle.yds_slots.proofs.Parts.{of_parts_value}
+use Rattle.yds_slots.proofs.WorkParts.{of_parts_value}
 
 -- Levels that take so long together spend so much, and the horizon's other time has this power.
 module _ (spent busy long power multiple : ℕ) (few : spent ≤ MAX_POINT_POWER * busy * multiple) (within : busy ≤ long)

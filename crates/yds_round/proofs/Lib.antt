@@ -1,4 +1,4 @@
-pub mod Parts
+pub mod SplitParts
 pub mod Splits
 pub mod Turns
 pub mod Reaching
@@ -6,7 +6,7 @@ pub mod Pieces
 pub mod Cuts
 pub mod Serving
 pub mod Paces
-pub mod Kept
+pub mod KeptSlots
 pub mod Energies
 pub mod Courses
 pub mod Shares

@@ -2,9 +2,9 @@
 use Rattle.yds_model.proofs.Common.{◌≡◌, ℕ, ◌+◌, ◌-◌, ◌*◌, ◌/◌, ◌^◌, ◌<◌, ◌≤◌, List, [], ◌∷◌, sym, ap, ◌∙◌, subst, arith, inl, inr, AllZip, ◌∣◌, sum_by-cons, div-mul_cancel, mul-le-mul, mul-le-mul_right, Level, Point, point_at, hull_of, hull_multiple, Quotient, Option, Some, None, sum_by}
 use Rattle.yds_model.specs.declared.limits.TheConstants.{MAX_LEVEL_LENGTH, MAX_POINT_POWER}
 use Rattle.yds_energy.proofs.PointTimes.{gap_divides}
-use Rattle.yds_round.specs.declared.pace.Pace.{Pace}
+use Rattle.yds_round.specs.declared.level_pace.LevelPace.{LevelPace}
 use Rattle.yds_round.specs.declared.split.Split.{Split}
-use Rattle.yds_round.specs.Pace.{RunsAtOne, RunsAs, IsPaceOf}
+use Rattle.yds_round.specs.LevelPace.{RunsAtOne, RunsAs, IsLevelPaceOf}
 use Rattle.yds_table.specs.Around.{AreAround}
 
 -- # Between two points
@@ -76,10 +76,10 @@ in_range_by : (points : List Point) (level : Level) (parts : ℕ) (split : Optio
 in_range_by points level parts None is = is.in_range
 in_range_by points level parts (Some split) is = is.spends.in_range
 
-in_range : (points : List Point) (level : Level) (pace : Pace) → IsPaceOf points level pace → pace.energy ≤ MAX_POINT_POWER * level.length * hull_multiple points
+in_range : (points : List Point) (level : Level) (pace : LevelPace) → IsLevelPaceOf points level pace → pace.energy ≤ MAX_POINT_POWER * level.length * hull_multiple points
 in_range points level pace is = in_range_by points level pace.energy pace.split is
 
-pub spent_fits : (points : List Point) (levels : List Level) (paces : List Pace) → AllZip (IsPaceOf points) levels paces →
+pub spent_fits : (points : List Point) (levels : List Level) (paces : List LevelPace) → AllZip (IsLevelPaceOf points) levels paces →
     sum_by (λ pace. pace.energy) paces ≤ MAX_POINT_POWER * sum_by (λ level. level.length) levels * hull_multiple points
 spent_fits points [] [] are = omega arith
 spent_fits points [] (pace ∷ paces) are = absurd are
@@ -88,6 +88,6 @@ spent_fits points (level ∷ levels) (pace ∷ paces) are = omega (
   arith,
   in_range points level pace are.0,
   spent_fits points levels paces are.1,
-  sum_by-cons (λ (p : Pace). p.energy) pace paces,
+  sum_by-cons (λ (p : LevelPace). p.energy) pace paces,
   ap (λ n. MAX_POINT_POWER * n * hull_multiple points) (sum_by-cons (λ (l : Level). l.length) level levels),
 )

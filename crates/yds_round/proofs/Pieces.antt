@@ -2,7 +2,7 @@
 use Rattle.yds_model.proofs.Common.{◌≡◌, ℕ, ◌+◌, ◌-◌, ◌*◌, ◌≤◌, min, max, arith, mul-le-mul_right, Fraction, Piece, IsFraction, IsSlot, parts_alike}
 use Rattle.yds_model.specs.declared.limits.TheConstants.{MAX_DENOMINATOR, MAX_SLOT_WORK, MAX_TIME}
 use Rattle.yds_fraction.specs.Mixed.{IsMixed}
-use Rattle.yds_fraction.proofs.Kept.{IsFraction-within}
+use Rattle.yds_fraction.proofs.WithinLimits.{IsFraction-within}
 use Rattle.yds_round.specs.Written.{moment}
 
 -- what is done in a part between two numbers of units is no more than those units

@@ -2,7 +2,7 @@
 use Rattle.yds_model.proofs.Common.{◌≡◌, ℕ, ◌-◌, ◌*◌, ◌<◌, ◌≤◌, min, max, arith, Fraction, IsFraction}
 use Rattle.yds_model.specs.declared.limits.TheConstants.{MAX_DENOMINATOR, MAX_TIME, MAX_WHOLE}
 use Rattle.yds_fraction.specs.Mixed.{IsMixed}
-use Rattle.yds_fraction.proofs.Kept.{IsFraction-within}
+use Rattle.yds_fraction.proofs.WithinLimits.{IsFraction-within}
 use Rattle.yds_round.specs.declared.cut.Cut.{Cut}
 use Rattle.yds_round.specs.Written.{all_units, turn, moment}
 use Rattle.yds_round.specs.Cut.{IsCut, IsReached}

@@ -1,13 +1,13 @@
 -- The energy of a plan that is rounded, by what its levels spend.
 use Rattle.yds_model.proofs.Common.{◌≡◌, ℕ, zero, suc, ◌*◌, ◌<◌, ◌≤◌, List, [], ◌∷◌, ◌++◌, length, map, refl, ap, arith, inl, inr, Option, Some, None, sum, All, AllZip, sum_by, cases_lt, All-append, All-from_get_or, All-weaker, sum_by-cons, mul-le-mul_right, le_of_mul-le-mul_right, eq_of_mul-eq-mul_left, Job, Fraction, numerator, WrittenSlot, IsSolid, Level, no_level, level_at, Point, IsTable, hull_of, hull_multiple, stretches, IsPlan, IsSlot, top_of, IsTooFast, RoundsStretches, IsEnergyOf, scale_exists}
-use Rattle.yds_fraction.proofs.Kept.{some_parts}
+use Rattle.yds_fraction.proofs.WithinLimits.{some_parts}
 use Rattle.yds_energy.specs.RoundingLaws.{IsLevelCost}
 use Rattle.yds_laws.proofs.Bound.{scale_right}
 use Rattle.yds_energy.proofs.RoundingScale.{one_scale_decides_energy}
 use Rattle.yds_energy.proofs.LevelsEnergy.{rounded_costs_its_levels}
 use Rattle.yds_round.specs.declared.split.Split.{Split}
-use Rattle.yds_round.specs.declared.pace.Pace.{Pace}
-use Rattle.yds_round.specs.Pace.{RunsAs, IsPaceOf}
+use Rattle.yds_round.specs.declared.level_pace.LevelPace.{LevelPace}
+use Rattle.yds_round.specs.LevelPace.{RunsAs, IsLevelPaceOf}
 use Rattle.yds_round.specs.Energy.{energy_parts}
 
 -- # Too fast
@@ -40,20 +40,20 @@ cost_by : (points : List Point) (level : Level) (parts : ℕ) (split : Option Sp
 cost_by points level parts None at = inl (at.point, at.in_hull, at.has_speed, omega (arith, at.spends))
 cost_by points level parts (Some split) at = inr (at.low, at.high, at.around, omega (arith, at.spends.on_line))
 
-costs_of : (points : List Point) (levels : List Level) (paces : List Pace) → AllZip (IsPaceOf points) levels paces →
+costs_of : (points : List Point) (levels : List Level) (paces : List LevelPace) → AllZip (IsLevelPaceOf points) levels paces →
     AllZip (IsLevelCost (hull_of points) (hull_multiple points)) levels (map (λ pace. pace.energy) paces)
 costs_of points [] [] are = tt
 costs_of points [] (pace ∷ paces) are = absurd are
 costs_of points (level ∷ levels) [] are = absurd are
 costs_of points (level ∷ levels) (pace ∷ paces) are = (cost_by points level pace.energy pace.split are.0, costs_of points levels paces are.1)
 
-sum_of : (paces : List Pace) → sum (map (λ pace. pace.energy) paces) ≡ sum_by (λ pace. pace.energy) paces
+sum_of : (paces : List LevelPace) → sum (map (λ pace. pace.energy) paces) ≡ sum_by (λ pace. pace.energy) paces
 sum_of [] = refl
 sum_of (pace ∷ paces) = omega (
   arith,
   sum_of paces,
-  sum_by-cons (λ (p : Pace). p.energy) pace paces,
-  sum_by-cons (λ (n : ℕ). n) pace.energy (map (λ (p : Pace). p.energy) paces),
+  sum_by-cons (λ (p : LevelPace). p.energy) pace paces,
+  sum_by-cons (λ (n : ℕ). n) pace.energy (map (λ (p : LevelPace). p.energy) paces),
 )
 
 -- the fraction of so many parts is the energy at a scale
@@ -65,13 +65,13 @@ pub slots_solid : (slots : List WrittenSlot) → All IsSlot slots → All IsSoli
 slots_solid slots each = grind (arith, All-weaker, some_parts)
 
 -- so it is at each
-pub energy_is : (jobs : List Job) (points : List Point) (planned : List WrittenSlot) (levels : List Level) (paces : List Pace) (written : List WrittenSlot) (energy : Fraction) →
-    IsPlan jobs planned levels → IsTable points → AllZip (IsPaceOf points) levels paces → RoundsStretches (hull_of points) levels (stretches jobs) planned written →
+pub energy_is : (jobs : List Job) (points : List Point) (planned : List WrittenSlot) (levels : List Level) (paces : List LevelPace) (written : List WrittenSlot) (energy : Fraction) →
+    IsPlan jobs planned levels → IsTable points → AllZip (IsLevelPaceOf points) levels paces → RoundsStretches (hull_of points) levels (stretches jobs) planned written →
     All IsSolid written → 1 ≤ energy.den → 1 ≤ hull_multiple points →
     numerator energy * hull_multiple points ≡ energy_parts jobs points levels paces * energy.den → IsEnergyOf jobs points written energy
 energy_is jobs points planned levels paces written energy plan table are rounds solid some_den some parts =
     let scale = scale_exists (planned ++ written) (All-append IsSolid planned written plan.proper.feasible.solid solid) in
-    let costs = rounded_costs_its_levels jobs points planned levels written (map (λ (pace : Pace). pace.energy) paces) (hull_multiple points) scale.0 plan table rounds
+    let costs = rounded_costs_its_levels jobs points planned levels written (map (λ (pace : LevelPace). pace.energy) paces) (hull_multiple points) scale.0 plan table rounds
     (costs_of points levels paces are) scale.1 in
     let all : hull_multiple points * costs.0 ≡ scale.0 * energy_parts jobs points levels paces =
     omega (arith, costs.2, ap (λ n. scale.0 * n) (sum_of paces)) in

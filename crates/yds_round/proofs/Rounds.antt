@@ -4,7 +4,7 @@ use Rattle.yds_model.specs.declared.limits.TheConstants.{MAX_SLOTS, MAX_SLOT_WOR
 use Rattle.yds_model.specs.Plan.{IsOver}
 use Rattle.yds_events.specs.Stretch.{length_of}
 use Rattle.yds_laws.proofs.Bound.{scale_left, scale_right}
-use Rattle.yds_slots.proofs.Parts.{of_parts_over}
+use Rattle.yds_slots.proofs.WorkParts.{of_parts_over}
 use Rattle.yds_timetable.specs.Shares.{JobShare, total_units}
 use Rattle.yds_timetable.specs.Pace.{slots_from, Fills}
 use Rattle.yds_timetable.proofs.Filling.{length_from}
@@ -12,7 +12,7 @@ use Rattle.yds_timetable.proofs.Rows.{row_solid, row_over}
 use Rattle.yds_plan.specs.Timetabled.{pace_of_level}
 use Rattle.yds_round.specs.declared.split.Split.{Split}
 use Rattle.yds_round.specs.Split.{IsSplitOf}
-use Rattle.yds_round.specs.Pace.{RunsAtTwo, RunsAs}
+use Rattle.yds_round.specs.LevelPace.{RunsAtTwo, RunsAs}
 use Rattle.yds_round.specs.Written.{Course, all_units, fast_course, slow_course, slots_after, cut_slots, written_at, FitsJob}
 use Rattle.yds_round.specs.Cut.{CanRound}
 use Rattle.yds_round.proofs.Cuts.{WorksOver, piece_between, all_after, cut_over}

@@ -1,6 +1,6 @@
 -- What a stretch that is cut gives each job: as much as the plan.
 use Rattle.yds_model.proofs.Common.{◌≡◌, ℕ, ◌+◌, ◌-◌, ◌*◌, ◌≤◌, ◌==◌, ◌∙◌, min, max, List, [], ◌∷◌, ap, sym, arith, if◌then◌else◌, All, nat_tests, sum_by-cons, All-tail, eq_of_mul-eq-mul_right, mul-pos, mul-le-mul_right, WholeSlot, IsDivided, slot_at_scale, slots_at, work_given, Piece}
-use Rattle.yds_slots.proofs.Parts.{of_parts_at}
+use Rattle.yds_slots.proofs.WorkParts.{of_parts_at}
 use Rattle.yds_timetable.specs.declared.pace.Pace.{Pace}
 use Rattle.yds_timetable.specs.Shares.{JobShare, units_given}
 use Rattle.yds_timetable.specs.Pace.{slot_of, slots_from}

@@ -1,7 +1,7 @@
 pub mod Fault
 pub mod Part
 pub mod Split
-pub mod Pace
+pub mod LevelPace
 pub mod Written
 pub mod Cut
 pub mod Rounded

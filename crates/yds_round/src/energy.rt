@@ -6,10 +6,10 @@ ghost use Rattle.yds_model.specs.Table.{hull_multiple};
 ghost use Rattle.yds_model.specs.Divisor.{IsLowest};
 ghost use Rattle.yds_model.specs.Energy.{first_release, last_deadline, horizon};
 ghost use Rattle.yds_model.specs.Within.{IsFraction, IsLevel};
-ghost use Rattle.yds_round.specs.Pace.{IsPaceOf};
+ghost use Rattle.yds_round.specs.LevelPace.{IsLevelPaceOf};
 ghost use Rattle.yds_round.specs.Energy.{busy_length, energy_parts};
 
-use crate::pace::Pace;
+use crate::level_pace::LevelPace;
 use yds_certificate::Level;
 use yds_fraction::Amount;
 use yds_model::JobRow;
@@ -40,7 +40,7 @@ fn busy_length(levels: &[Level]) -> u64
 }
 
 /// What the levels spend together at their paces, in the parts that these are in.
-fn spent(paces: &[Pace]) -> u128
+fn spent(paces: &[LevelPace]) -> u128
     requires { sum_by (λ pace. pace.energy) paces.now < 2 ^ 128 }
     ensures { result ≡ sum_by (λ pace. pace.energy) paces.now }
 {
@@ -48,10 +48,15 @@ fn spent(paces: &[Pace]) -> u128
 }
 
 /// What the levels spend at these paces, and the time of the horizon outside them at the power of the table's first point.
-pub(crate) fn energy(rows: &[JobRow], table: &Table, levels: &[Level], paces: &[Pace]) -> Amount
+pub(crate) fn energy(
+    rows: &[JobRow],
+    table: &Table,
+    levels: &[Level],
+    paces: &[LevelPace],
+) -> Amount
     requires few { length levels.now ≤ MAX_LEVELS }
     requires limits { All IsLevel levels.now }
-    requires paces { AllZip (IsPaceOf table.now) levels.now paces.now }
+    requires paces { AllZip (IsLevelPaceOf table.now) levels.now paces.now }
     requires within { busy_length levels.now ≤ horizon rows.now }
     ensures value { numerator result * hull_multiple table.now ≡ energy_parts rows.now table.now levels.now paces.now * result.den }
     ensures multiple { 1 ≤ hull_multiple table.now }

@@ -8,7 +8,7 @@
 mod cut;
 mod energy;
 mod fault;
-mod pace;
+mod level_pace;
 mod part;
 mod rounding;
 mod split;

@@ -7,7 +7,7 @@ ghost use Rattle.yds_model.specs.Within.{IsFraction, AreSlotsOf};
 ghost use Rattle.yds_timetable.specs.Timetable.{row_at, IsRow};
 ghost use Rattle.yds_plan.specs.Timetabled.{IsTimetabled};
 ghost use Rattle.yds_round.specs.Fault.{IsCauseOfRoundFault, HasFastLevel, too_slow};
-ghost use Rattle.yds_round.specs.Pace.{IsPaceOf};
+ghost use Rattle.yds_round.specs.LevelPace.{IsLevelPaceOf};
 ghost use Rattle.yds_round.specs.Written.{written_at};
 ghost use Rattle.yds_round.specs.Cut.{CanKeep, CanRound};
 ghost use Rattle.yds_round.specs.Rounded.{written_to};
@@ -15,7 +15,7 @@ ghost use Rattle.yds_round.specs.Rounded.{written_to};
 use crate::cut::Cut;
 use crate::energy::energy;
 use crate::fault::RoundFault;
-use crate::pace::Pace;
+use crate::level_pace::LevelPace;
 use std::alloc::Global;
 use yds_certificate::Level;
 use yds_fraction::Amount;
@@ -53,13 +53,13 @@ pub fn fault_of(table: &Table, levels: &[Level]) -> Option<RoundFault>
 }
 
 /// The pace of each level on the table.
-fn paces_of(alloc: Global, table: &Table, levels: &[Level]) -> Result<Vec<Pace>, Memory>
+fn paces_of(alloc: Global, table: &Table, levels: &[Level]) -> Result<Vec<LevelPace>, Memory>
     requires { All (λ level. ¬ (IsTooFast table.now level)) levels.now }
-    ensures { IfOk result (λ paces. AllZip (IsPaceOf table.now) levels.now paces.items) }
+    ensures { IfOk result (λ paces. AllZip (IsLevelPaceOf table.now) levels.now paces.items) }
 {
     let mut paces = Vec::with_capacity(alloc, levels.len())?;
     for level in levels {
-        paces.push(Pace::of(level, table))?;
+        paces.push(LevelPace::of(level, table))?;
     }
     Ok(paces)
 }
@@ -80,7 +80,7 @@ fn round_stretch(
     timetable: &Timetable,
     number: usize,
     planned: &[Slot],
-    pace: &Pace,
+    pace: &LevelPace,
     rounded: &mut Schedule,
 ) -> Result<(), Memory>
     requires known { number < length timetable.now }
@@ -105,12 +105,12 @@ fn round_slots(
     rows: &[JobRow],
     plan: &Planned,
     table: &Table,
-    paces: &[Pace],
+    paces: &[LevelPace],
 ) -> Result<Schedule, Memory>
     requires few { length rows.now ≤ MAX_JOBS }
     requires plan { IsPlan rows.now plan.now.schedule.slots plan.now.certificate }
     requires timetable { IsTimetabled rows.now plan.now.timetable plan.now.level_of_stretch.items plan.now.schedule.slots plan.now.certificate }
-    requires paces { AllZip (IsPaceOf table.now) plan.now.certificate paces.now }
+    requires paces { AllZip (IsLevelPaceOf table.now) plan.now.certificate paces.now }
     ensures written { IfOk result (λ rounded. rounded ≡ record {
       jobs = length rows.now;
       slots = written_to paces.now plan.now.timetable plan.now.level_of_stretch.items (length plan.now.timetable);

@@ -4,7 +4,7 @@ use Rattle.yds_model.specs.declared.limits.TheConstants.{MAX_INPUT}
 use Rattle.yds_model.specs.declared.status.Status.{Status}
 use Rattle.yds_model.specs.declared.status.Status.TheVariants as statuses
 use Rattle.yds_texts.specs.JudgedText.{IsJudged}
-use Rattle.yds_run.specs.Run.{IsWhole, Writes, WritesWhole, AnswersBytes, AnswersTaken, Outcome}
+use Rattle.yds_run.specs.Endings.{IsWhole, Writes, WritesWhole, AnswersBytes, AnswersTaken, Outcome}
 
 -- what is an answer to one thing and so to another
 pub writes_of : (One Other : List ℕ → Status → Type 0) (result : Status) (old new : Option (List ℕ)) (flushed : Option ℕ)

@@ -2,7 +2,7 @@
 use Rattle.yds_model.proofs.Common.{◌≡◌, ◌≢◌, ◌⊎◌, ℕ, List, Option, Result, Ok, Err, inl, inr, subst, sym, ap, arith, ◌∙◌, IfOk, MatchResult}
 use Rattle.yds_model.specs.declared.status.Status.{Status}
 use Rattle.yds_model.specs.declared.status.Status.TheVariants as statuses
-use Rattle.yds_run.specs.Run.{IsWhole, IsDelivered, Replies}
+use Rattle.yds_run.specs.Endings.{IsWhole, IsDelivered, Replies}
 use Rattle.yds_run.proofs.Complete.{writes_of}
 
 -- a run that delivered an answer ended as the answer does, or by a fault of the sink

@@ -1,5 +1,5 @@
 pub mod Words
-pub mod Run
+pub mod Endings
 pub mod WithPoints
 pub mod Told
 pub mod VerdictLine

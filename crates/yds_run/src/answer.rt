@@ -10,7 +10,7 @@ pub trait Answer {
     ghost use Rattle.std.specs.Prelude.{ℕ, List};
     ghost use Rattle.yds_model.specs.declared.status.Status.{Status};
     ghost use Rattle.yds_port.specs.Sink.{Puts};
-    ghost use Rattle.yds_run.specs.Run.{IsWhole};
+    ghost use Rattle.yds_run.specs.Endings.{IsWhole};
 
     // The text that is written.
     ghost text: { Self → List ℕ };

@@ -2,7 +2,7 @@ ghost use Rattle.std.specs.Prelude.{◌≡◌, OnOk, OnErr};
 ghost use Rattle.std.specs.Io.KnownBytes.{Keeps};
 ghost use Rattle.yds_port.specs.Count.{Rose, next_count};
 ghost use Rattle.yds_port.specs.Sink.{IsFlushed};
-ghost use Rattle.yds_run.specs.Run.{IsDelivered};
+ghost use Rattle.yds_run.specs.Endings.{IsDelivered};
 
 use crate::answer::Answer;
 use yds_model::Status;

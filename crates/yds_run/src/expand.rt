@@ -5,7 +5,7 @@ ghost use Rattle.yds_model.specs.Answer.{AnswersTasks};
 ghost use Rattle.yds_model.specs.TaskReading.{task_reading};
 ghost use Rattle.yds_model.specs.Request.{OfTasks};
 ghost use Rattle.yds_port.specs.Count.{next_count};
-ghost use Rattle.yds_run.specs.Run.{IsWhole, CountTells, Replies, AnswersTaken};
+ghost use Rattle.yds_run.specs.Endings.{IsWhole, CountTells, Replies, AnswersTaken};
 
 use crate::answer::Answer;
 use crate::deliver::deliver;

@@ -1,7 +1,7 @@
 ghost use Rattle.std.specs.Prelude.{◌≡◌};
 ghost use Rattle.yds_model.specs.Answer.{AnswersRequest};
 ghost use Rattle.yds_run.specs.Words.{words_of, asked};
-ghost use Rattle.yds_run.specs.Run.{Replies};
+ghost use Rattle.yds_run.specs.Endings.{Replies};
 
 use crate::command::Command;
 use crate::deliver::deliver;

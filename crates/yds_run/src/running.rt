@@ -16,7 +16,7 @@ ghost use Rattle.yds_texts.specs.TaskLaws.{HoldsExpansion};
 ghost use Rattle.yds_port.specs.Count.{Rose, next_count};
 ghost use Rattle.yds_document.specs.Documents.{document_view};
 ghost use Rattle.yds_run.specs.Words.{words_of, asked, IsTrial, ReadsInput, question_view, IsAskable};
-ghost use Rattle.yds_run.specs.Run.{Outcome, IsWhole, CountTells, IsDelivered, Replies, AnswersBytes, AnswersTaken, IsTooLong};
+ghost use Rattle.yds_run.specs.Endings.{Outcome, IsWhole, CountTells, IsDelivered, Replies, AnswersBytes, AnswersTaken, IsTooLong};
 
 use crate::admit::admit_document;
 use crate::answer::Answer;

@@ -7,7 +7,7 @@ use Rattle.yds_search.specs.declared.found.TheConstants.{NO_GROUP}
 use Rattle.yds_search.specs.declared.own.OwnJob.{OwnJob}
 use Rattle.yds_search.specs.declared.own.OwnStretch.{OwnStretch}
 use Rattle.yds_search.specs.declared.stack.Stack.{Stack}
-use Rattle.yds_events.specs.Order.{Precedes, IsOrder}
+use Rattle.yds_events.specs.ServingOrder.{Precedes, IsOrder}
 use Rattle.yds_search.specs.Own.{Part, stretch_numbers}
 use Rattle.yds_search.specs.Instance.{IsInstance}
 use Rattle.yds_search.specs.Stack.{size_of, jobs_of, own_stretches_of}

@@ -6,14 +6,14 @@ use Rattle.yds_timetable.specs.Shares.{JobShare}
 use Rattle.yds_search.specs.declared.own.OwnJob.{OwnJob}
 use Rattle.yds_search.specs.declared.own.OwnStretch.{OwnStretch}
 use Rattle.yds_search.specs.Found.{Found, Group, per_time, per_work, units_of_job, units_in_stretch}
-use Rattle.yds_events.specs.Order.{Precedes}
+use Rattle.yds_events.specs.ServingOrder.{Precedes}
 use Rattle.yds_search.specs.Own.{Part, job_numbers, stretch_numbers, window_of, own_windows, HaveWindows, wants_at, rooms_at, share_by_number, shares_by_number, full_share, full_shares}
 use Rattle.yds_search.specs.Fill.{IsNotAfter, IsFill}
 use Rattle.yds_search.specs.Instance.{IsInstance}
 use Rattle.yds_search.specs.Waiting.{HasJob, HasStretch, IsWaiting}
 use Rattle.yds_search.specs.Search.{IsEarly, IsLaidOut}
 use Rattle.yds_search.proofs.KeySums.{over, over_same, over_add, sum_of_all, over_one, over_zero, sums_swap}
-use Rattle.yds_search.proofs.Lowest.{lowest}
+use Rattle.yds_search.proofs.LowestSpeed.{lowest}
 use Rattle.yds_search.proofs.Members.{AreApart, one_at, at_one, over_alone, same_place, all_pairs_map}
 use Rattle.yds_search.proofs.Shares.{units_between, over_stretches, over_jobs}
 

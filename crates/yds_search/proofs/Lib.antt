@@ -1,6 +1,6 @@
 pub mod KeySums
 mod Shares
-pub mod Lowest
+pub mod LowestSpeed
 mod Members
 mod Filled
 mod Marked

@@ -6,7 +6,7 @@ use Rattle.yds_timetable.specs.Shares.{JobShare, share_at, no_share}
 use Rattle.yds_search.specs.declared.own.OwnJob.{OwnJob}
 use Rattle.yds_search.specs.declared.own.OwnStretch.{OwnStretch}
 use Rattle.yds_search.specs.Found.{Found, Group, per_time, per_work, units_of_job, units_in_stretch}
-use Rattle.yds_events.specs.Order.{Precedes}
+use Rattle.yds_events.specs.ServingOrder.{Precedes}
 use Rattle.yds_search.specs.Own.{Part, stretch_numbers, window_of, own_windows, HaveWindows, wants_at, rooms_at, share_by_number}
 use Rattle.yds_search.specs.Fill.{IsNotAfter, IsFill}
 use Rattle.yds_search.specs.Closure.{IsMarked, AreClosing, AreClosed, AreRanks}
@@ -15,7 +15,7 @@ use Rattle.yds_search.specs.Stack.{moves, moving_part, staying_part, marked_with
 use Rattle.yds_search.specs.Waiting.{HasOne, HasJob, HasStretch, IsOwnJob, IsOwnStretch, IsWaiting, IsBefore, IsFast, IsSlow, IsBoundary, IsFollowed}
 use Rattle.yds_search.specs.Search.{IsSearch}
 use Rattle.yds_search.proofs.KeySums.{over_some, over_one}
-use Rattle.yds_search.proofs.Lowest.{lowest}
+use Rattle.yds_search.proofs.LowestSpeed.{lowest}
 use Rattle.yds_search.proofs.Members.{one_at, at_one, same_place, all_pairs_map}
 use Rattle.yds_search.proofs.Shares.{units_between, between_some, some_share}
 use Rattle.yds_search.proofs.Closures.{fill_closes}

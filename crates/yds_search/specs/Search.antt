@@ -9,7 +9,7 @@ use Rattle.yds_events.specs.Window.{length_at, IsIn}
 use Rattle.yds_timetable.specs.Shares.{JobShare}
 use Rattle.yds_search.specs.declared.found.TheConstants.{NO_GROUP}
 use Rattle.yds_search.specs.Found.{Found, Group, group_at, group_of, work_of_group, length_of_group, per_time, per_work, units_of_job, units_in_stretch, IsShare}
-use Rattle.yds_events.specs.Order.{Precedes}
+use Rattle.yds_events.specs.ServingOrder.{Precedes}
 use Rattle.yds_search.specs.Own.{Part}
 use Rattle.yds_search.specs.Stack.{jobs_of, own_stretches_of}
 use Rattle.yds_search.specs.Waiting.{HasOne, HasJob, HasStretch, IsSlow, AreWaiting}

@@ -9,7 +9,7 @@ use Rattle.yds_search.specs.declared.found.TheConstants.{NO_GROUP}
 use Rattle.yds_search.specs.declared.own.OwnJob.{OwnJob}
 use Rattle.yds_search.specs.declared.own.OwnStretch.{OwnStretch}
 use Rattle.yds_search.specs.Found.{Found, group_of}
-use Rattle.yds_events.specs.Order.{Precedes}
+use Rattle.yds_events.specs.ServingOrder.{Precedes}
 use Rattle.yds_search.specs.Own.{Part, stretch_numbers}
 
 -- one of the list is such

@@ -1,4 +1,4 @@
 pub mod Grains
-pub mod Parts
+pub mod WorkParts
 pub mod Receipts
-pub mod Order
+pub mod SlotOrder

@@ -2,12 +2,12 @@
 use Rattle.yds_model.proofs.Common.{◌≡◌, ℕ, ◌+◌, ◌-◌, ◌*◌, ◌/◌, ◌<◌, ◌≤◌, ◌⊎◌, inl, inr, List, [], ◌∷◌, ◌++◌, length, max, refl, sym, ap, ◌∙◌, subst, arith, Bool, ◌==◌, if◌then◌else◌, All, slice_index_or, slice_set, cases_eq, ne_eqb, eq-eqb, length-append, get_or-set_same, get_or-set_other, length-set, map-append, sum_by_push, sum_by-cons, All-push, All-tail, one-dvd, div-mul_cancel, div-one, dvd_refl, Fraction, of_whole, at_scale, numerator, WrittenSlot, IsDivided, IsScale, slots_at, work_given, grain_of, IsSlot, sum_by_zero, grain_positive, parts_den, All-front, All-last}
 use Rattle.yds_model.specs.declared.limits.TheConstants.{MAX_DENOMINATOR, MAX_SLOTS, MAX_SLOT_WORK}
 use Rattle.yds_fraction.specs.Mixed.{IsMixed, Adds, common_den}
-use Rattle.yds_fraction.proofs.Kept.{some_parts}
+use Rattle.yds_fraction.proofs.WithinLimits.{some_parts}
 use Rattle.yds_slots.specs.Received.{Receipt}
-use Rattle.yds_slots.specs.Kept.{IsInGrain, IsReceiptOf, nothing, receipt_at, IsKept}
+use Rattle.yds_slots.specs.KeptSlots.{IsInGrain, IsReceiptOf, nothing, receipt_at, IsKept}
 use Rattle.yds_slots.specs.Schedule.{FitsGrain}
 use Rattle.yds_slots.proofs.Grains.{grain_other, grain_same, grain_none, fits_on, fits_in}
-use Rattle.yds_slots.proofs.Parts.{parts_at, parts_pushed, IsWholeFor, parts_finer, of_parts_value, of_parts_is, summed}
+use Rattle.yds_slots.proofs.WorkParts.{parts_at, parts_pushed, IsWholeFor, parts_finer, of_parts_value, of_parts_is, summed}
 
 -- # A job without slots
 

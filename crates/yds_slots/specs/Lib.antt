@@ -1,4 +1,4 @@
 pub mod Received
-pub mod Kept
+pub mod KeptSlots
 pub mod Schedule
 pub mod Between

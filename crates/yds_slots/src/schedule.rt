@@ -1,6 +1,6 @@
 ghost use Rattle.std.specs.Prelude.{◌≡◌, ℕ, ◌<◌, ◌≤◌, List, [], ◌∷◌, ◌++◌, length, take, drop, filter, vec_len, IfOk, OnOk, OnErr};
 ghost use Rattle.std.specs.List.Sorted.{IsPermutation, IsSortedByKey, IsStableByKey};
-ghost use Rattle.yds_fraction.specs.Order.{fraction_cmp};
+ghost use Rattle.yds_fraction.specs.ValueOrder.{fraction_cmp};
 ghost use Rattle.std.specs.Int.{◌∣◌};
 ghost use Rattle.yds_model.specs.declared.limits.TheConstants.{MAX_DENOMINATOR, MAX_SLOTS};
 ghost use Rattle.yds_model.specs.Scale.{at_scale};
@@ -10,7 +10,7 @@ ghost use Rattle.yds_model.specs.Within.{AreSlotsOf};
 ghost use Rattle.yds_fraction.specs.Mixed.{IsMixed};
 ghost use Rattle.yds_slots.specs.Between.{RunInOrder, lies_between};
 ghost use Rattle.yds_slots.specs.Schedule.{WrittenSchedule, FitsGrain};
-ghost use Rattle.yds_slots.specs.Kept.{IsReceiptOf, receipt_at};
+ghost use Rattle.yds_slots.specs.KeptSlots.{IsReceiptOf, receipt_at};
 
 use crate::received::Received;
 use crate::search::{end_of, first_from};
@@ -35,7 +35,7 @@ pub struct Schedule {
 impl Model for Schedule {
     ghost use Rattle.yds_slots.specs.Between.{RunInOrder, lies_between};
     ghost use Rattle.yds_slots.specs.Schedule.{WrittenSchedule};
-    ghost use Rattle.yds_slots.specs.Kept.{IsKept};
+    ghost use Rattle.yds_slots.specs.KeptSlots.{IsKept};
 
     ghost Value = { WrittenSchedule };
 

@@ -1,3 +1,3 @@
 pub mod Multiples
-pub mod Lowest
+pub mod PushedPoint
 pub mod Neighbours

@@ -1,5 +1,5 @@
 pub mod Table
-pub mod Kept
+pub mod KeptTable
 pub mod Gaps
 pub mod Fault
 pub mod Around

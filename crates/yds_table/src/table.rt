@@ -30,7 +30,7 @@ pub struct Table {
 impl Model for Table {
     ghost use Rattle.std.specs.Prelude.{List};
     ghost use Rattle.yds_model.specs.Table.{Point as TablePoint};
-    ghost use Rattle.yds_table.specs.Kept.{IsKept};
+    ghost use Rattle.yds_table.specs.KeptTable.{IsKept};
 
     ghost Value = { List TablePoint };
 

@@ -2,7 +2,7 @@
 use Rattle.yds_model.proofs.Common.{◌≡◌, ℕ, Bool, true, false, cond, ◌||◌, List, [], ◌∷◌, ◌++◌, map, refl, sym, ap, ◌∙◌, ⊎_elim, cases_Bool, Bor, list_any, bytes_eq, Task, TaskSet}
 use Rattle.indexmap.specs.IndexSet.{IndexSet, Updates, contains_by}
 use Rattle.yds_tasks.specs.Fields.{has_name}
-use Rattle.yds_tasks.specs.Kept.{with_task}
+use Rattle.yds_tasks.specs.KeptTasks.{with_task}
 
 -- some image passes a test
 pub list_any-map : {X Y : Type 0} (p : Y → Bool) (f : X → Y) (xs : List X) → list_any p (map f xs) ≡ list_any (λ x. p (f x)) xs

@@ -13,7 +13,7 @@ use Rattle.yds_model.specs.TaskReading.{is_task_name, task_number_in, count_of_a
 use Rattle.yds_text.specs.declared.count.FieldCount.{FieldCount}
 use Rattle.yds_tasks.specs.declared.line_fault.LineFault.{LineFault}
 use Rattle.yds_tasks.specs.declared.line_fault.LineFault.TheVariants as faults
-use Rattle.yds_tasks.specs.Kept.{with_task}
+use Rattle.yds_tasks.specs.KeptTasks.{with_task}
 
 -- the definition says this fault, unless memory ran out
 abbrev pub Fails : {Y : Type 0} → LineFault → Result Y (Spot TaskReason) → Type 0

@@ -1,4 +1,4 @@
-pub mod Kept
+pub mod KeptTasks
 pub mod Read
 pub mod Fields
 pub mod Lines

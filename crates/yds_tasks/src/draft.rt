@@ -4,7 +4,7 @@ ghost use Rattle.yds_model.specs.declared.limits.TheConstants.{MAX_TASKS, MAX_JO
 ghost use Rattle.yds_model.specs.TaskReading.{TaskEntry, TaskEntryOf, read_horizon, read_task, read_task_fields, is_task_name, count_of_all};
 ghost use Rattle.yds_text.specs.Read.{field_read};
 ghost use Rattle.yds_tasks.specs.Fields.{Gives, task_name_of, task_of, has_name};
-ghost use Rattle.yds_tasks.specs.Kept.{with_task};
+ghost use Rattle.yds_tasks.specs.KeptTasks.{with_task};
 ghost use Rattle.yds_tasks.specs.Lines.{IsDraft, Holds, Takes, Tells};
 ghost use Rattle.yds_tasks.specs.Read.{task_read};
 

@@ -1,4 +1,4 @@
-ghost use Rattle.yds_tasks.specs.Kept.{IsTask};
+ghost use Rattle.yds_tasks.specs.KeptTasks.{IsTask};
 
 /// A periodic task: it asks for a job at its offset and again after each period, each due so long after its
 /// release. Times are in time units of the document.

@@ -3,7 +3,7 @@ ghost use Rattle.std.specs.List.{list_all, list_any};
 ghost use Rattle.yds_model.specs.declared.limits.TheConstants.{MAX_TASKS, MAX_TIME, MAX_JOBS};
 ghost use Rattle.yds_model.specs.Tasks.{nth_job, jobs_of_tasks, horizon_of, fills_horizon, has_work, one_level};
 ghost use Rattle.yds_model.specs.TaskReading.{count_of_all};
-ghost use Rattle.yds_tasks.specs.Kept.{IsTaskSet, with_task, task_at};
+ghost use Rattle.yds_tasks.specs.KeptTasks.{IsTaskSet, with_task, task_at};
 ghost use Rattle.yds_tasks.specs.Read.{task_read};
 
 use crate::task::Task;
@@ -27,7 +27,7 @@ pub struct TaskSet<'a> {
 impl<'a> Model for TaskSet<'a> {
     ghost use Rattle.std.specs.Prelude.{map};
     ghost use Rattle.yds_model.specs.Tasks.{TaskSet as TasksUntil};
-    ghost use Rattle.yds_tasks.specs.Kept.{KeepsTasks};
+    ghost use Rattle.yds_tasks.specs.KeptTasks.{KeepsTasks};
     ghost use Rattle.yds_tasks.specs.Read.{task_read};
 
     ghost Value = { TasksUntil };

@@ -3,7 +3,7 @@ use Rattle.yds_model.proofs.Common.{◌≡◌, ℕ, ◌+◌, ◌-◌, ◌<◌, �
 use Rattle.yds_model.specs.declared.limits.TheConstants.{MAX_DENOMINATOR}
 use Rattle.yds_model.specs.declared.number_fault.NumberFault.{NumberFault}
 use Rattle.yds_model.specs.declared.number_fault.NumberFault.TheVariants.{BadNumber, OutOfRange}
-use Rattle.yds_text.specs.Parts.{fraction_after, fraction_of_parts, is_bad}
+use Rattle.yds_text.specs.FractionParts.{fraction_after, fraction_of_parts, is_bad}
 use Rattle.yds_text.proofs.Digits.{Told, is_told, number_ends, first_separator, no_number_before}
 
 -- what stands from a place on is all of the rest

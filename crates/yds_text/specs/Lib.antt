@@ -1,5 +1,5 @@
 pub mod Left
 pub mod Read
 pub mod Count
-pub mod Parts
+pub mod FractionParts
 pub mod Plain

@@ -7,7 +7,7 @@ use Rattle.yds_critical.proofs.Searching.{best_works}
 use Rattle.yds_contract.specs.Contracted.{AreApartFrom, place, Removes}
 use Rattle.yds_textbook.specs.Waiting.{contracted, contracted_jobs, CanWait, lies_in, inside, outside}
 use Rattle.yds_textbook.specs.Stages.{IsDensest}
-use Rattle.yds_contract.proofs.Places.{place_rises, place_removes, window_left}
+use Rattle.yds_contract.proofs.ContractedPlaces.{place_rises, place_removes, window_left}
 
 -- some of the jobs have no more work in an interval than all have
 inside_less : (f : ℕ → Job) (q : ℕ → Bool) (numbers : List ℕ) (from to : ℕ) →

@@ -4,7 +4,7 @@ use Rattle.yds_model.proofs.Common.{◌≡◌, ℕ, ◌+◌, ◌-◌, ◌*◌, �
 use Rattle.yds_critical.specs.declared.interval.Interval.{Interval}
 use Rattle.yds_critical.specs.Critical.{IsCritical}
 use Rattle.yds_contract.specs.Contracted.{AreApartFrom, place, Removes}
-use Rattle.yds_contract.proofs.Places.{place_removes}
+use Rattle.yds_contract.proofs.ContractedPlaces.{place_removes}
 use Rattle.yds_textbook.specs.Waiting.{contracted, contracted_jobs, CanWait, lies_in, outside}
 use Rattle.yds_textbook.proofs.Densest.{is_denser}
 

@@ -11,7 +11,7 @@ use Rattle.yds_model.proofs.SumsBelow.{sum_below_same, sum_below_at_most, sum_be
 use Rattle.yds_critical.specs.declared.interval.Interval.{Interval}
 use Rattle.yds_critical.proofs.Shrinking.{nothing_within}
 use Rattle.yds_contract.specs.Contracted.{AreApartFrom, place}
-use Rattle.yds_contract.proofs.Places.{place_rises}
+use Rattle.yds_contract.proofs.ContractedPlaces.{place_rises}
 use Rattle.yds_textbook.specs.Waiting.{contracted, contracted_jobs, CanWait, lies_in, contracted_stretch, contracted_stretches, stretch_lies_in, stretches_inside, AreWhole}
 use Rattle.yds_textbook.specs.Served.{capacity_of, IsFastEnough}
 use Rattle.yds_textbook.proofs.Densest.{waits_at, as_many, are_jobs}

@@ -1,7 +1,7 @@
 -- What a stage is made of, as it is read from lists that are known to be equal to others.
 use Rattle.yds_model.proofs.Common.{◌≡◌, ℕ, ◌+◌, ◌*◌, ◌<◌, ◌≤◌, List, [], ◌∷◌, ◌++◌, length, get_or, map, take, add-one, ◌∙◌, sym, ap, arith, refl, subst, IsGcd, All, range_with_len, flat_map, length-map, map-append, map_more, length-filter, count_by-le-length, All-contains, Contains-get_or, length-range_with_len, flat_map-take, Job, Quotient, Piece, stretches}
 use Rattle.yds_events.specs.Stretch.{nth_stretch}
-use Rattle.yds_fraction.proofs.Lowest.{lowest_is}
+use Rattle.yds_fraction.proofs.OverDivisor.{lowest_is}
 use Rattle.yds_search.specs.declared.found.Group as groups
 use Rattle.yds_search.specs.Found.{Group, Found}
 use Rattle.yds_search.specs.Views.{group_view}

@@ -6,7 +6,7 @@ use Rattle.yds_events.specs.Window.{length_at, IsInWindow}
 use Rattle.yds_events.proofs.Neighbours.{release_outside, deadline_outside}
 use Rattle.yds_search.specs.Found.{Group, per_time, per_work, units_of_job, units_in_stretch}
 use Rattle.yds_search.specs.Views.{group_view}
-use Rattle.yds_search.proofs.Lowest.{lowest}
+use Rattle.yds_search.proofs.LowestSpeed.{lowest}
 use Rattle.yds_edf.specs.Pending.{units_wanted}
 use Rattle.yds_model.specs.Numbers.{sum_below}
 use Rattle.yds_timetable.specs.Shares.{JobShare, units_given, total_units, shares_in, shares_before}
@@ -18,7 +18,7 @@ use Rattle.yds_edf.proofs.Filled.{stands_in}
 use Rattle.yds_critical.specs.declared.interval.Interval.{Interval}
 use Rattle.yds_critical.specs.Critical.{IsCritical}
 use Rattle.yds_contract.specs.Contracted.{AreApartFrom, place}
-use Rattle.yds_contract.proofs.Places.{place_rises}
+use Rattle.yds_contract.proofs.ContractedPlaces.{place_rises}
 use Rattle.yds_textbook.specs.declared.stage.Stage.{Stage}
 use Rattle.yds_textbook.specs.Waiting.{contracted, contracted_jobs, CanWait, lies_in, contracted_stretch, contracted_stretches, stretch_lies_in, AreWhole}
 use Rattle.yds_textbook.specs.Served.{capacity_of}

@@ -4,12 +4,12 @@ use Rattle.yds_model.specs.declared.limits.TheConstants.{MAX_JOBS}
 use Rattle.yds_events.specs.Window.{IsInWindow}
 use Rattle.yds_search.proofs.KeySums.{inside_range}
 use Rattle.yds_model.specs.Numbers.{sum_below}
-use Rattle.yds_intensity.specs.Order.{IsDeadlineOrder}
+use Rattle.yds_intensity.specs.DeadlineOrder.{IsDeadlineOrder}
 use Rattle.yds_intensity.proofs.Sweeps.{number_known}
 use Rattle.yds_critical.specs.declared.interval.Interval.{Interval}
 use Rattle.yds_critical.specs.Critical.{IsCritical}
 use Rattle.yds_contract.specs.Contracted.{AreApartFrom, place, Removes}
-use Rattle.yds_contract.proofs.Places.{place_rises, place_removes}
+use Rattle.yds_contract.proofs.ContractedPlaces.{place_rises, place_removes}
 use Rattle.yds_textbook.specs.declared.stage.Stage.{Stage}
 use Rattle.yds_textbook.specs.Stages.{AreStages}
 use Rattle.yds_textbook.specs.Waiting.{contracted_jobs, CanWait, job_has_work, lies_in, outside, stretch_lies_in, AreWhole}

@@ -1,6 +1,6 @@
 -- The jobs that wait at first, one after another.
 use Rattle.yds_model.proofs.Common.{◌≡◌, ℕ, ◌+◌, ◌<◌, ◌≤◌, List, [], ◌∷◌, ◌++◌, length, take, get_or, cond, ◌∙◌, refl, sym, subst, ap, arith, true, false, Bool, filter, not, All, le-leb, lt-leb, append-nil, length-filter_both, All-append, All-cons, All-nil, filter_more, Job, IsJob, job_at}
-use Rattle.yds_intensity.specs.Order.{IsDeadlineOrder}
+use Rattle.yds_intensity.specs.DeadlineOrder.{IsDeadlineOrder}
 use Rattle.yds_intensity.proofs.Sweeps.{order_length}
 use Rattle.yds_textbook.specs.Waiting.{CanWait, job_has_work}
 

@@ -8,7 +8,7 @@ use Rattle.yds_search.specs.Found.{Found, IsShare, IsFound, group_of, group_at, 
 use Rattle.yds_search.specs.Views.{group_view}
 use Rattle.yds_search.proofs.KeySums.{over_same}
 use Rattle.yds_model.proofs.SumsBelow.{sum_below_bound}
-use Rattle.yds_intensity.specs.Order.{IsDeadlineOrder}
+use Rattle.yds_intensity.specs.DeadlineOrder.{IsDeadlineOrder}
 use Rattle.yds_critical.specs.declared.interval.Interval.{Interval}
 use Rattle.yds_critical.specs.Critical.{IsCritical}
 use Rattle.yds_contract.specs.Contracted.{place, Removes}

@@ -7,7 +7,7 @@ use Rattle.yds_events.proofs.Neighbours.{count_stretches, stretch_begins, stretc
 use Rattle.yds_model.specs.Numbers.{sum_below}
 use Rattle.yds_critical.specs.declared.interval.Interval.{Interval}
 use Rattle.yds_contract.specs.Contracted.{AreApartFrom, place, Removes}
-use Rattle.yds_contract.proofs.Places.{place_rises, place_removes}
+use Rattle.yds_contract.proofs.ContractedPlaces.{place_rises, place_removes}
 use Rattle.yds_textbook.specs.Waiting.{stretch_lies_in, AreWhole}
 
 -- a stretch that no interval's end cuts keeps its length, or loses all of it

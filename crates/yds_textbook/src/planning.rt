@@ -2,7 +2,7 @@ ghost use Rattle.std.specs.Prelude.{◌≡◌, ◌≤◌, ℕ, List, [], length,
 ghost use Rattle.yds_model.specs.declared.limits.TheConstants.{MAX_JOBS};
 ghost use Rattle.yds_model.specs.Event.{stretches};
 ghost use Rattle.yds_model.specs.Plan.{IsPlan};
-ghost use Rattle.yds_intensity.specs.Order.{IsDeadlineOrder};
+ghost use Rattle.yds_intensity.specs.DeadlineOrder.{IsDeadlineOrder};
 ghost use Rattle.yds_plan.specs.Timetabled.{IsTimetabled};
 ghost use Rattle.yds_textbook.specs.Waiting.{job_has_work};
 ghost use Rattle.yds_textbook.specs.Stages.{AreStages};

@@ -3,7 +3,7 @@ use Rattle.yds_model.proofs.Common.{◌≡◌, ℕ, ◌+◌, ◌*◌, ◌<◌, �
 use Rattle.yds_model.specs.declared.limits.TheConstants.{MAX_SLOTS, MAX_TIME, MAX_SLOT_WORK, MAX_WHOLE}
 use Rattle.yds_model.specs.Plan.{IsOver}
 use Rattle.yds_events.specs.Stretch.{no_stretch}
-use Rattle.yds_fraction.proofs.Kept.{IsFraction-within}
+use Rattle.yds_fraction.proofs.WithinLimits.{IsFraction-within}
 use Rattle.yds_slots.specs.Schedule.{FitsGrain}
 use Rattle.yds_timetable.specs.declared.limits.TheConstants.{MAX_UNITS}
 use Rattle.yds_timetable.specs.declared.pace.Pace.{Pace}

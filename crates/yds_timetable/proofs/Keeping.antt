@@ -4,7 +4,7 @@ use Rattle.yds_timetable.specs.declared.pace.Pace.{Pace}
 use Rattle.yds_timetable.specs.declared.timetable.KeptRow.{KeptRow}
 use Rattle.yds_timetable.specs.Shares.{JobShare}
 use Rattle.yds_timetable.specs.Timetable.{Row, IsRow}
-use Rattle.yds_timetable.specs.Kept.{pace_kept, row_kept, rows_kept, IsPlaced, IsKeptRow, AreKept, Keeps}
+use Rattle.yds_timetable.specs.KeptRows.{pace_kept, row_kept, rows_kept, IsPlaced, IsKeptRow, AreKept, Keeps}
 
 -- a part of a list stays where others come after it
 part_stays : (xs ys : List JobShare) (a b : ℕ) → b ≤ length xs → slice_range (xs ++ ys) a b ≡ slice_range xs a b

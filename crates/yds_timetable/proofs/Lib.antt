@@ -1,9 +1,9 @@
 pub mod Lists
-pub mod Lowest
+pub mod LowestPace
 pub mod Keeping
 pub mod Grains
 pub mod Filling
 pub mod Paces
 pub mod Rows
-pub mod Places
+pub mod SharePlaces
 pub mod Made

@@ -5,7 +5,7 @@ use Rattle.yds_timetable.specs.declared.pace.Pace.{Pace}
 use Rattle.yds_timetable.specs.declared.timetable.KeptRow.{KeptRow}
 use Rattle.yds_timetable.specs.Shares.{JobShare}
 use Rattle.yds_timetable.specs.Timetable.{Row, row_of, rows_of, stretches_of, IsRow}
-use Rattle.yds_timetable.specs.Kept.{pace_kept, row_kept, rows_kept, IsPlaced, IsKeptRow, AreKept}
+use Rattle.yds_timetable.specs.KeptRows.{pace_kept, row_kept, rows_kept, IsPlaced, IsKeptRow, AreKept}
 use Rattle.yds_timetable.specs.Sorted.{kept_row, AreSorted}
 use Rattle.yds_timetable.proofs.Lists.{map_range_same}
 use Rattle.yds_timetable.proofs.Rows.{no_row}

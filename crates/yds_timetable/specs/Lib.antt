@@ -1,6 +1,6 @@
 pub mod Shares
 pub mod Pace
 pub mod Timetable
-pub mod Kept
+pub mod KeptRows
 pub mod Sorted
 pub mod Room

@@ -4,7 +4,7 @@ ghost use Rattle.yds_model.specs.declared.limits.TheConstants.{MAX_SLOTS};
 ghost use Rattle.yds_events.specs.Stretch.{IsStretch};
 ghost use Rattle.yds_timetable.specs.Shares.{total_units};
 ghost use Rattle.yds_timetable.specs.Timetable.{row_at, rows_of, IsRow};
-ghost use Rattle.yds_timetable.specs.Kept.{Keeps};
+ghost use Rattle.yds_timetable.specs.KeptRows.{Keeps};
 ghost use Rattle.yds_timetable.specs.Sorted.{kept_row};
 
 use crate::pace::Pace;
@@ -37,7 +37,7 @@ pub struct Timetable {
 impl Model for Timetable {
     ghost use Rattle.std.specs.Prelude.{List};
     ghost use Rattle.yds_timetable.specs.Timetable.{Row};
-    ghost use Rattle.yds_timetable.specs.Kept.{rows_kept, AreKept};
+    ghost use Rattle.yds_timetable.specs.KeptRows.{rows_kept, AreKept};
 
     ghost Value = { List Row };
 

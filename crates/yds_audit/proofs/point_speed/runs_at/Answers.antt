@@ -1,4 +1,4 @@
-use Rattle.yds_fraction.proofs.Kept.{some_parts}
+use Rattle.yds_fraction.proofs.WithinLimits.{some_parts}
 use Rattle.yds_audit.proofs.Speeds.{speed_of_product}
 use Rattle.yds_audit.proofs.point_speed.runs_at.Goals as goal
 

@@ -1,4 +1,4 @@
-use Rattle.yds_fraction.proofs.Kept.{some_parts}
+use Rattle.yds_fraction.proofs.WithinLimits.{some_parts}
 use Rattle.yds_checker.proofs.Products.{speed_of_products}
 use Rattle.yds_checker.proofs.speeds.has_speed_of.Goals as goal
 

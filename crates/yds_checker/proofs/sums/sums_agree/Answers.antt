@@ -1,4 +1,4 @@
-use Rattle.yds_checker.proofs.Parts.{few_in_level}
+use Rattle.yds_checker.proofs.LevelParts.{few_in_level}
 use Rattle.yds_checker.proofs.sums.sums_agree.Goals as goal
 
 pub works_together-requires-clause-few : goal.works_together-requires-clause-few

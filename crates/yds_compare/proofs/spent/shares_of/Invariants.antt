@@ -1,5 +1,5 @@
 use Rattle.yds_model.proofs.Common.{take, AllZip, hull_of, hull_multiple}
-use Rattle.yds_compare.specs.Share.{IsShareOf}
+use Rattle.yds_compare.specs.TimeShare.{IsShareOf}
 use Rattle.yds_compare.proofs.spent.shares_of.Given as goal
 
 abbrev pub invariant-loop-load : goal.invariant-loop-load

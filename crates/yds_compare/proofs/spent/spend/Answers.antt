@@ -1,7 +1,7 @@
 use Rattle.yds_model.proofs.Common.{◌≡◌, ℕ, ◌*◌, ◌++◌, ◌∷◌, [], List, map, take, get_or, sym, ap, ap₂, ◌∙◌, arith, sum_by, take_more, map-append, sum_by_more, sum_by-take-le, mul-pos, Fraction, Point, hull_of, hull_multiple, in_lowest_terms, in_parts}
 use Rattle.yds_model.specs.declared.limits.TheConstants.{MAX_TIME, MAX_POINTS, MAX_POINT_POWER}
-use Rattle.yds_compare.specs.declared.share.Share.{Share}
-use Rattle.yds_compare.specs.Share.{time_share_at}
+use Rattle.yds_compare.specs.declared.time_share.TimeShare.{TimeShare}
+use Rattle.yds_compare.specs.TimeShare.{time_share_at}
 use Rattle.yds_compare.specs.Spent.{time_of_loads}
 use Rattle.yds_compare.proofs.Spending.{time_is, time_within, energy_within, next_within, whole_within, den_within}
 use Rattle.yds_compare.proofs.spent.spend.Goals as goal
@@ -15,7 +15,7 @@ time_at-time-requires c =
 
 pub overflow_mul-parts : goal.overflow_mul-parts
 overflow_mul-parts c =
-    let time = c.time_at-time.ensures ∙ ap (λ (s : List Share). sum_by (λ share. time_share_at share c.point.inside.speed) s) c.deref.ensures.value
+    let time = c.time_at-time.ensures ∙ ap (λ (s : List TimeShare). sum_by (λ share. time_share_at share c.point.inside.speed) s) c.deref.ensures.value
     ∙ time_is (hull_multiple c.args.table.now) (hull_of c.args.table.now) c.args.loads.now c.in_ok-shares.shares.items c.point.inside.speed c.in_ok-shares.ensures in
     let den = den_within c.args.unit (hull_multiple c.args.table.now) c.requires.unit_in_range (omega (arith, c.gaps.ensures.value, c.gaps.ensures.within)) in
     let next = next_within c.args.table.now c.args.unit c.args.loads.now c.in_ok-shares.shares.items c.in_ok-shares.ensures c.requires.time_in_range
@@ -26,7 +26,7 @@ overflow_mul-parts c =
 
 pub overflow_add-parts : goal.overflow_add-parts
 overflow_add-parts c =
-    let time = c.time_at-time.ensures ∙ ap (λ (s : List Share). sum_by (λ share. time_share_at share c.point.inside.speed) s) c.deref.ensures.value
+    let time = c.time_at-time.ensures ∙ ap (λ (s : List TimeShare). sum_by (λ share. time_share_at share c.point.inside.speed) s) c.deref.ensures.value
     ∙ time_is (hull_multiple c.args.table.now) (hull_of c.args.table.now) c.args.loads.now c.in_ok-shares.shares.items c.point.inside.speed c.in_ok-shares.ensures in
     let den = den_within c.args.unit (hull_multiple c.args.table.now) c.requires.unit_in_range (omega (arith, c.gaps.ensures.value, c.gaps.ensures.within)) in
     let next = next_within c.args.table.now c.args.unit c.args.loads.now c.in_ok-shares.shares.items c.in_ok-shares.ensures c.requires.time_in_range
@@ -37,7 +37,7 @@ overflow_add-parts c =
 
 pub in_lowest_terms-requires-clause-whole_in_range : goal.in_lowest_terms-requires-clause-whole_in_range
 in_lowest_terms-requires-clause-whole_in_range c =
-    let time = c.time_at-time.ensures ∙ ap (λ (s : List Share). sum_by (λ share. time_share_at share c.point.inside.speed) s) c.deref.ensures.value
+    let time = c.time_at-time.ensures ∙ ap (λ (s : List TimeShare). sum_by (λ share. time_share_at share c.point.inside.speed) s) c.deref.ensures.value
     ∙ time_is (hull_multiple c.args.table.now) (hull_of c.args.table.now) c.args.loads.now c.in_ok-shares.shares.items c.point.inside.speed c.in_ok-shares.ensures in
     let short = time_within c.args.table.now c.args.unit c.args.loads.now c.in_ok-shares.shares.items c.in_ok-shares.ensures c.requires.time_in_range c.point.inside.speed in
     let whole = whole_within c.time_at-time.result MAX_TIME (c.args.unit * c.gaps.result) (mul-pos c.requires.some_unit c.gaps.ensures.some)
@@ -46,7 +46,7 @@ in_lowest_terms-requires-clause-whole_in_range c =
 
 pub loop-point-preserved : goal.loop-point-preserved
 loop-point-preserved c =
-    let time = c.time_at-time.ensures ∙ ap (λ (s : List Share). sum_by (λ share. time_share_at share c.point.inside.speed) s) c.deref.ensures.value
+    let time = c.time_at-time.ensures ∙ ap (λ (s : List TimeShare). sum_by (λ share. time_share_at share c.point.inside.speed) s) c.deref.ensures.value
     ∙ time_is (hull_multiple c.args.table.now) (hull_of c.args.table.now) c.args.loads.now c.in_ok-shares.shares.items c.point.inside.speed c.in_ok-shares.ensures in
     let term : Point → ℕ = λ p. p.power * time_of_loads c.args.table.now c.args.loads.now p.speed in
     let next : c.from.result * c.time_at-time.result ≡ term c.point-item.result = ap₂ (λ a b. a * b) c.from.ensures time ∙ ap term c.point.view_is in

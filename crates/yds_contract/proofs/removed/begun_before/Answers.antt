@@ -1,7 +1,7 @@
 use Rattle.yds_model.proofs.Common.{arith, rules, nat_lt, always_returns_same, ltb-true, ltb-false, IsPartitionedBy-ltb}
 use Rattle.yds_contract.specs.declared.removed.Removed.{Removed}
 use Rattle.yds_contract.specs.Removed.{no_removed}
-use Rattle.yds_contract.proofs.Kept.{begin_in_order}
+use Rattle.yds_contract.proofs.RemovedStretches.{begin_in_order}
 use Rattle.yds_contract.proofs.removed.begun_before.Goals as goal
 
 pub returns : goal.returns

@@ -2,7 +2,7 @@ use Rattle.yds_model.proofs.Common.{List, ◌++◌, ap, sym, arith, refl, Piece}
 use Rattle.yds_model.specs.declared.limits.TheConstants.{MAX_TIME}
 use Rattle.yds_contract.specs.Removed.{removed_at, stretch_of, removed_stretches}
 use Rattle.yds_contract.specs.Clipped.{pieces_after}
-use Rattle.yds_contract.proofs.Kept.{count, stretch_at, removed_forward, end_fits, next_fits, walked_more, walked_all}
+use Rattle.yds_contract.proofs.RemovedStretches.{count, stretch_at, removed_forward, end_fits, next_fits, walked_more, walked_all}
 use Rattle.yds_contract.proofs.removed.pieces_between.Goals as goal
 
 pub loop-stretch-init : goal.loop-stretch-init

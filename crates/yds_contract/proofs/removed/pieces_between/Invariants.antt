@@ -1,6 +1,6 @@
 use Rattle.yds_model.specs.declared.limits.TheConstants.{MAX_TIME}
 use Rattle.yds_contract.specs.Removed.{removed_stretches}
-use Rattle.yds_contract.proofs.Kept.{Walked}
+use Rattle.yds_contract.proofs.RemovedStretches.{Walked}
 use Rattle.yds_contract.proofs.removed.pieces_between.Given as goal
 
 abbrev pub invariant-loop-stretch : goal.invariant-loop-stretch

@@ -1,5 +1,5 @@
 use Rattle.yds_model.proofs.Common.{◌-◌, sym, arith}
-use Rattle.yds_contract.proofs.Kept.{nothing_before, before_begun, removed_forward, few_removed}
+use Rattle.yds_contract.proofs.RemovedStretches.{nothing_before, before_begun, removed_forward, few_removed}
 use Rattle.yds_contract.proofs.removed.time_before.Goals as goal
 
 pub returns-then-begun-eq0 : goal.returns-then-begun-eq0

@@ -1,6 +1,6 @@
 use Rattle.yds_model.proofs.Common.{length, ◌-◌, ◌<◌, ap, arith, Piece}
 use Rattle.yds_contract.proofs.Cells.{no_piece}
-use Rattle.yds_contract.proofs.Kept.{count, stretch_at}
+use Rattle.yds_contract.proofs.RemovedStretches.{count, stretch_at}
 use Rattle.yds_contract.proofs.Appending.{total_by_last}
 use Rattle.yds_contract.proofs.removing.total_removed.Goals as goal
 

@@ -1,6 +1,6 @@
 use Rattle.yds_model.proofs.Common.{◌≡◌, ◌<◌, length, ap, sym, arith, Piece}
 use Rattle.yds_contract.specs.Removed.{removed_at, stretch_of, removed_stretches}
-use Rattle.yds_contract.proofs.Kept.{count, stretch_at, removed_forward, ends_fit}
+use Rattle.yds_contract.proofs.RemovedStretches.{count, stretch_at, removed_forward, ends_fit}
 use Rattle.yds_contract.proofs.Cells.{piece_at, no_piece}
 use Rattle.yds_contract.proofs.Joining.{fits_of, changed_forward, changed_fits, end_reached, joining_before, joining_inside, joining_after, joining_all, joined_kept, joined_changes}
 use Rattle.yds_contract.proofs.removing.with_removed.Goals as goal

@@ -4,7 +4,7 @@ use Rattle.yds_contract.specs.Removed.{removed_at, stretch_of, removed_stretches
 use Rattle.yds_contract.specs.Clipped.{pieces_after}
 use Rattle.yds_contract.specs.Spread.{piece_in_parts}
 use Rattle.yds_contract.proofs.Cells.{no_piece}
-use Rattle.yds_contract.proofs.Kept.{count, stretch_at, removed_forward, ends_fit, next_fits, walked_more, walked_pieces}
+use Rattle.yds_contract.proofs.RemovedStretches.{count, stretch_at, removed_forward, ends_fit, next_fits, walked_more, walked_pieces}
 use Rattle.yds_contract.proofs.Scaled.{parts_at, parts_count, parts_fit}
 use Rattle.yds_contract.proofs.spreading.spans_between.Goals as goal
 

@@ -1,5 +1,5 @@
 use Rattle.yds_model.proofs.Common.{◌≡◌, ◌≤◌, ◌-◌, ◌*◌, ap, ap₂, subst, ◌∙◌, arith, Fraction, IsSameQuotient, Level, in_lowest_terms, Break}
-use Rattle.yds_fraction.proofs.Lowest.{speed_reduced}
+use Rattle.yds_fraction.proofs.OverDivisor.{speed_reduced}
 use Rattle.yds_curve.proofs.bends.break_at.Goals as goal
 
 pub returns : goal.returns

@@ -1,6 +1,6 @@
 use Rattle.yds_model.proofs.Common.{sym}
 use Rattle.yds_model.specs.declared.limits.TheConstants.{MAX_WHOLE}
-use Rattle.yds_fraction.proofs.Kept.{IsFraction-within}
+use Rattle.yds_fraction.proofs.WithinLimits.{IsFraction-within}
 use Rattle.yds_document.proofs.FractionField.{fraction_within}
 use Rattle.yds_document.proofs.fields.fraction_in.Goals as goal
 

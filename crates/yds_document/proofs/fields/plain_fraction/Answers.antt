@@ -1,5 +1,5 @@
 use Rattle.yds_model.specs.declared.limits.TheConstants.{MAX_WHOLE}
-use Rattle.yds_fraction.proofs.Kept.{IsFraction-within}
+use Rattle.yds_fraction.proofs.WithinLimits.{IsFraction-within}
 use Rattle.yds_document.proofs.FractionField.{fraction_within}
 use Rattle.yds_document.proofs.fields.plain_fraction.Goals as goal
 

@@ -1,6 +1,6 @@
 use Rattle.yds_model.proofs.Common.{arith}
 use Rattle.yds_model.specs.declared.limits.TheConstants.{MAX_TIME, MAX_SLOT_WORK, MAX_WHOLE}
-use Rattle.yds_fraction.proofs.Kept.{IsFraction-within}
+use Rattle.yds_fraction.proofs.WithinLimits.{IsFraction-within}
 use Rattle.yds_document.proofs.RunParts.{parts_alike, tick_within}
 use Rattle.yds_document.proofs.run.slot_of_run.Goals as goal
 

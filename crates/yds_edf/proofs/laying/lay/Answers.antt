@@ -2,7 +2,7 @@ use Rattle.yds_model.proofs.Common.{◌*◌, ◌≤◌, arith, ap, All-weaker, P
 use Rattle.yds_model.specs.declared.limits.TheConstants.{MAX_SLOT_WORK, MAX_WORK}
 use Rattle.yds_timetable.specs.Shares.{JobShare}
 use Rattle.yds_timetable.specs.Pace.{lowest_pace}
-use Rattle.yds_timetable.proofs.Lowest.{lowest_is}
+use Rattle.yds_timetable.proofs.LowestPace.{lowest_is}
 use Rattle.yds_timetable.proofs.Filling.{can_run}
 use Rattle.yds_edf.proofs.Laid.{laid_runs, laid_full}
 use Rattle.yds_edf.proofs.laying.lay.Goals as goal

@@ -1,5 +1,5 @@
 use Rattle.yds_model.proofs.Common.{subst, IsSame}
-use Rattle.yds_fraction.proofs.Lowest.{reduced_is}
+use Rattle.yds_fraction.proofs.OverDivisor.{reduced_is}
 use Rattle.yds_fraction.proofs.lowest_terms.in_lowest_terms.Goals as goal
 
 pub returns : goal.returns

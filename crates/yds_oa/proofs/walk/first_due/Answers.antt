@@ -1,6 +1,6 @@
 use Rattle.yds_model.proofs.Common.{arith, inr, ap, get_or_read}
-use Rattle.yds_edf.specs.declared.order.Due.{Due}
-use Rattle.yds_edf.specs.Order.{no_due}
+use Rattle.yds_edf.specs.declared.due_order.Due.{Due}
+use Rattle.yds_edf.specs.DueOrder.{no_due}
 use Rattle.yds_oa.proofs.Walked.{none_there, due_behind}
 use Rattle.yds_oa.proofs.walk.first_due.Goals as goal
 

@@ -1,5 +1,5 @@
 use Rattle.yds_model.proofs.Common.{◌≡◌, ℕ, ◌-◌, ◌<◌, ◌≤◌, ◌⊎◌, length, slice_index}
-use Rattle.yds_edf.specs.Order.{due_at}
+use Rattle.yds_edf.specs.DueOrder.{due_at}
 use Rattle.yds_oa.proofs.walk.first_due.Given as goal
 
 abbrev pub invariant-loop-start : goal.invariant-loop-start

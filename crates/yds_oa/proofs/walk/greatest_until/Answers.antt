@@ -1,8 +1,8 @@
 use Rattle.yds_model.proofs.Common.{◌≡◌, ℕ, ◌+◌, ◌-◌, ◌<◌, ◌≤◌, List, length, slice_index, ◌∙◌, refl, ap, arith, get_or_default}
-use Rattle.yds_edf.specs.declared.order.Due.{Due}
+use Rattle.yds_edf.specs.declared.due_order.Due.{Due}
 use Rattle.yds_oa.specs.declared.quotient.Quotient.{Quotient}
 use Rattle.yds_edf.specs.Blocks.{units_before}
-use Rattle.yds_edf.specs.Order.{no_due, due_at}
+use Rattle.yds_edf.specs.DueOrder.{no_due, due_at}
 use Rattle.yds_edf.proofs.PlacedSums.{one_place_more}
 use Rattle.yds_oa.proofs.Walked.{one_further}
 use Rattle.yds_oa.proofs.walk.greatest_until.Goals as goal

@@ -1,7 +1,7 @@
 use Rattle.yds_model.proofs.Common.{◌≡◌, ◌+◌, ◌-◌, ◌*◌, ◌≤◌, rules, ◌∙◌, subst, arith, get_or_default}
-use Rattle.yds_edf.specs.declared.order.Due.{Due}
+use Rattle.yds_edf.specs.declared.due_order.Due.{Due}
 use Rattle.yds_edf.specs.Blocks.{units_before}
-use Rattle.yds_edf.specs.Order.{no_due, due_at}
+use Rattle.yds_edf.specs.DueOrder.{no_due, due_at}
 use Rattle.yds_oa.proofs.Walked.{passed_over}
 use Rattle.yds_oa.proofs.walk.passed_over.Goals as goal
 

@@ -1,5 +1,5 @@
 use Rattle.yds_model.proofs.Common.{◌≡◌, ◌/◌, ap, arith, common_divisor}
-use Rattle.yds_search.proofs.Lowest.{lowest}
+use Rattle.yds_search.proofs.LowestSpeed.{lowest}
 use Rattle.yds_plan.proofs.layout_timetable.pace_of.Goals as goal
 use Rattle.yds_plan.proofs.layout_timetable.pace_of.Goals.{After-gcd-divisor}
 

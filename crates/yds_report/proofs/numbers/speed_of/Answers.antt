@@ -1,5 +1,5 @@
 use Rattle.yds_model.proofs.Common.{◌≡◌, subst, ◌∙◌, of_parts, IsSameQuotient}
-use Rattle.yds_fraction.proofs.Lowest.{speed_reduced}
+use Rattle.yds_fraction.proofs.OverDivisor.{speed_reduced}
 use Rattle.yds_report.proofs.numbers.speed_of.Goals as goal
 
 pub returns : goal.returns

@@ -1,7 +1,7 @@
 use Rattle.yds_model.proofs.Common.{◌≡◌, ◌+◌, ◌-◌, ◌*◌, ◌/◌, ◌≤◌, List, length, refl, ap, ◌∙◌, arith, sum_by, get_or_read, last_deadline, horizon, Point, no_point, point_at, hull_multiple, releases_from}
 use Rattle.yds_model.specs.declared.limits.TheConstants.{MAX_ENERGY, MAX_WHOLE}
-use Rattle.yds_fraction.proofs.Kept.{IsFraction-within, some_parts}
-use Rattle.yds_round.specs.declared.pace.Pace.{Pace}
+use Rattle.yds_fraction.proofs.WithinLimits.{IsFraction-within, some_parts}
+use Rattle.yds_round.specs.declared.level_pace.LevelPace.{LevelPace}
 use Rattle.yds_round.specs.Energy.{busy_length}
 use Rattle.yds_round.proofs.Paces.{spent_fits}
 use Rattle.yds_round.proofs.Energies.{total_small, spent_small, total_whole, reduced_parts, is_lowest}
@@ -61,7 +61,7 @@ returns-clause-value c =
     (omega (arith, c.points-points.ensures.kept.table.some, ap (λ (points : List Point). length points) c.points-points.ensures.value)) c.index-points-0.is no_point)
     ∙ ap (λ points. (point_at points 0).power) c.points-points.ensures.value in
     let parts : c.spent.result + c.from-2.result * c.from-3.result
-    ≡ sum_by (λ (pace : Pace). pace.energy) c.args.paces.now + c.first.inside.power * (horizon c.args.rows.now - busy_length c.args.levels.now) * c.gaps-multiple.result =
+    ≡ sum_by (λ (pace : LevelPace). pace.energy) c.args.paces.now + c.first.inside.power * (horizon c.args.rows.now - busy_length c.args.levels.now) * c.gaps-multiple.result =
     rw (c.spent.ensures, c.from-2.ensures, c.from-3.ensures, c.from.ensures, c.from-horizon.ensures, c.busy_length.ensures, c.last_deadline.ensures, c.first_release.ensures) refl in
     rw (← first, ← c.gaps-multiple.ensures.value)
     (reduced_parts (c.spent.result + c.from-2.result * c.from-3.result) c.gaps-multiple.result c.of_parts.result c.reduced.result c.of_parts.ensures.value c.reduced.ensures.same

@@ -1,6 +1,6 @@
 use Rattle.yds_model.proofs.Common.{◌++◌, ◌∷◌, [], List, refl, ap, ◌∙◌, append-nil, take_all, WrittenSlot}
 use Rattle.yds_slots.specs.Schedule.{WrittenSchedule}
-use Rattle.yds_round.proofs.Kept.{kept_known, kept_fits, kept_room, kept_more}
+use Rattle.yds_round.proofs.KeptSlots.{kept_known, kept_fits, kept_room, kept_more}
 use Rattle.yds_round.proofs.rounding.keep.Goals as goal
 
 pub push-requires-clause-known : goal.push-requires-clause-known

@@ -1,9 +1,9 @@
 use Rattle.yds_model.proofs.Common.{◌≡◌, ◌*◌, List, sym, ap, subst, All, AllZip, numerator, Level, hull_multiple, IsTooFast}
 use Rattle.yds_model.specs.declared.limits.TheConstants.{MAX_ENERGY}
-use Rattle.yds_fraction.proofs.Kept.{some_parts}
+use Rattle.yds_fraction.proofs.WithinLimits.{some_parts}
 use Rattle.yds_energy.proofs.LevelTimes.{levels_fit_the_horizon}
 use Rattle.yds_slots.specs.Schedule.{WrittenSchedule}
-use Rattle.yds_round.specs.Pace.{IsPaceOf}
+use Rattle.yds_round.specs.LevelPace.{IsLevelPaceOf}
 use Rattle.yds_round.specs.Energy.{energy_parts}
 use Rattle.yds_round.specs.Fault.{HasFastLevel}
 use Rattle.yds_round.proofs.Faults.{fast_first}
@@ -27,8 +27,8 @@ pub returns-clause-rounding : goal.returns-clause-rounding
 returns-clause-rounding c =
     let slow : (HasFastLevel c.args.plan.now.certificate c.args.table.now → ⊥) =
     subst (λ (levels : List Level). HasFastLevel levels c.args.table.now → ⊥) c.levels-levels.ensures.value c.in_default.ensures in
-    let are : AllZip (IsPaceOf c.args.table.now) c.args.plan.now.certificate c.in_ok-paces.paces.items =
-    subst (λ (levels : List Level). AllZip (IsPaceOf c.args.table.now) levels c.in_ok-paces.paces.items) c.levels-levels.ensures.value c.in_ok-paces.ensures in
+    let are : AllZip (IsLevelPaceOf c.args.table.now) c.args.plan.now.certificate c.in_ok-paces.paces.items =
+    subst (λ (levels : List Level). AllZip (IsLevelPaceOf c.args.table.now) levels c.in_ok-paces.paces.items) c.levels-levels.ensures.value c.in_ok-paces.ensures in
     let parts : numerator c.energy-energy.result * hull_multiple c.args.table.now
     ≡ energy_parts c.args.rows.now c.args.table.now c.args.plan.now.certificate c.in_ok-paces.paces.items * c.energy-energy.result.den =
     rw (c.levels-levels.ensures.value, c.deref-2.ensures.value) at c.energy-energy.ensures.value in

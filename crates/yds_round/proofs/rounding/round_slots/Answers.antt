@@ -4,7 +4,7 @@ use Rattle.yds_timetable.specs.Shares.{JobShare}
 use Rattle.yds_timetable.specs.Timetable.{Row, row_at, row_slots, slots_of, IsRow}
 use Rattle.yds_timetable.proofs.Lists.{length_zipped}
 use Rattle.yds_plan.specs.Timetabled.{RunsAtLevel}
-use Rattle.yds_round.specs.Pace.{pace_at}
+use Rattle.yds_round.specs.LevelPace.{pace_at}
 use Rattle.yds_round.specs.Rounded.{written_row, written_to, level_number_at}
 use Rattle.yds_round.specs.Written.{written_at}
 use Rattle.yds_round.proofs.AllStretches.{enough, next_slots, later_slots, few_rows, pace_known, can_round}

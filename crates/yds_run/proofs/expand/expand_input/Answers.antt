@@ -1,5 +1,5 @@
 use Rattle.yds_model.proofs.Common.{subst, inl, arith, AnswersTasks, task_reading}
-use Rattle.yds_run.specs.Run.{Writes}
+use Rattle.yds_run.specs.Endings.{Writes}
 use Rattle.yds_run.proofs.Complete.{short_answers}
 use Rattle.yds_run.proofs.expand.expand_input.Goals as goal
 

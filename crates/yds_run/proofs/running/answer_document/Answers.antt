@@ -2,7 +2,7 @@ use Rattle.yds_model.proofs.Common.{subst, sym, ap, ◌∙◌, AnswersQuestion}
 use Rattle.yds_document.specs.Documents.{document_view}
 use Rattle.yds_run.specs.declared.command.Question.TheVariants as questions
 use Rattle.yds_run.specs.Words.{question_view}
-use Rattle.yds_run.specs.Run.{Replies}
+use Rattle.yds_run.specs.Endings.{Replies}
 use Rattle.yds_run.proofs.Replied.{made_replies}
 use Rattle.yds_run.proofs.running.answer_document.Goals as goal
 

@@ -1,5 +1,5 @@
 use Rattle.yds_model.proofs.Common.{ℕ, List, ◌+◌, ◌-◌, ◌∙◌, length, take, drop, get_or, sym, ap, arith, ne_eqb}
-use Rattle.yds_text.specs.Parts.{fraction_of_parts}
+use Rattle.yds_text.specs.FractionParts.{fraction_of_parts}
 use Rattle.yds_text.proofs.Fractions.{whole_rest, slash_fraction, unslashed_fraction, ended_fraction}
 use Rattle.yds_text.proofs.fraction.fraction_after.Goals as goal
 

@@ -1,5 +1,5 @@
 use Rattle.yds_model.proofs.Common.{◌≡◌, ◌+◌, ◌∙◌, Err, take, get_or, sym, ap, subst, arith, ne_eqb, take_all, err_from_is_err_and, number_at}
-use Rattle.yds_text.specs.Parts.{fraction_after}
+use Rattle.yds_text.specs.FractionParts.{fraction_after}
 use Rattle.yds_text.proofs.Fractions.{whole_rest, plus_fraction, other_fraction, whole_fault}
 use Rattle.yds_text.proofs.fraction.mixed.Goals as goal
 

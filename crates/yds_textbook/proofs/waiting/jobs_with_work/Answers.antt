@@ -1,5 +1,5 @@
 use Rattle.yds_model.proofs.Common.{◌≡◌, ℕ, ◌≤◌, List, ◌∙◌, refl, sym, subst, ap, arith, filter, get_or_read, take_all, Job, IsJob, no_job}
-use Rattle.yds_intensity.specs.Order.{IsDeadlineOrder}
+use Rattle.yds_intensity.specs.DeadlineOrder.{IsDeadlineOrder}
 use Rattle.yds_intensity.proofs.Sweeps.{number_known}
 use Rattle.yds_textbook.specs.Waiting.{job_has_work}
 use Rattle.yds_textbook.proofs.Starting.{with_next, without_next, few_wait}

@@ -1,6 +1,6 @@
 use Rattle.yds_model.proofs.Common.{ℕ, ◌<◌, [], ◌∷◌, arith, All-nil, All-cons, WrittenSlot}
 use Rattle.yds_model.specs.Plan.{IsOver}
-use Rattle.yds_slots.proofs.Parts.{of_parts_over}
+use Rattle.yds_slots.proofs.WorkParts.{of_parts_over}
 use Rattle.yds_timetable.specs.Shares.{JobShare}
 use Rattle.yds_timetable.specs.Pace.{slot_of}
 use Rattle.yds_timetable.proofs.tests.lays_a_stretch.Goals as goal

@@ -1,6 +1,6 @@
 use Rattle.yds_model.proofs.Common.{subst, sym, arith}
 use Rattle.yds_contract.specs.Removed.{IsContraction}
-use Rattle.yds_contract.proofs.Kept.{few_removed}
+use Rattle.yds_contract.proofs.RemovedStretches.{few_removed}
 use Rattle.yds_contract.proofs.contraction.Contraction.place.Goals as goal
 
 pub overflow_sub-result : goal.overflow_sub-result

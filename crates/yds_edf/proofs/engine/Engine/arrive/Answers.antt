@@ -1,5 +1,5 @@
 use Rattle.yds_model.proofs.Common.{refl, ap, rules, arith, below_more}
-use Rattle.yds_edf.specs.declared.order.Due.{Due}
+use Rattle.yds_edf.specs.declared.due_order.Due.{Due}
 use Rattle.yds_edf.proofs.Arrivals.{within_later, due_read, job_known, place_read, now_within, arrived_read, all_come}
 use Rattle.yds_edf.proofs.engine.Engine.arrive.Goals as goal
 use Rattle.yds_edf.proofs.engine.Engine.arrive.Goals.{else-loop-self-test, then-loop-self-test+then-next-time}

@@ -1,5 +1,5 @@
 use Rattle.yds_model.proofs.Common.{◌≡◌, ℕ, ◌-◌, ◌<◌, ◌≤◌, length}
-use Rattle.yds_edf.specs.Order.{due_at}
+use Rattle.yds_edf.specs.DueOrder.{due_at}
 use Rattle.yds_edf.specs.Engine.{IsTiedQueue, AreArrived}
 use Rattle.yds_edf.proofs.engine.Engine.arrive.Given as goal
 

@@ -1,7 +1,7 @@
 use Rattle.yds_model.proofs.Common.{◌≡◌, ℕ, ◌<◌, List, length, slice_index, ◌∙◌, sym, subst, ap, arith, All, length-replicate, get_or_default, Each}
-use Rattle.yds_edf.specs.declared.order.Due.{Due}
-use Rattle.yds_edf.specs.Order.{due_at}
-use Rattle.yds_edf.proofs.Places.{all_placed, deadlines_rise, in_turn}
+use Rattle.yds_edf.specs.declared.due_order.Due.{Due}
+use Rattle.yds_edf.specs.DueOrder.{due_at}
+use Rattle.yds_edf.proofs.JobPlaces.{all_placed, deadlines_rise, in_turn}
 use Rattle.yds_edf.proofs.pending.PendingJobs.new.Goals as goal
 
 pub returns-clause-ranked : goal.returns-clause-ranked

@@ -1,7 +1,7 @@
 use Rattle.yds_model.proofs.Common.{◌≡◌, ◌∙◌, List, ap, arith, Job, event_points, neighbours}
 use Rattle.yds_events.specs.Keys.{ends_of, AreKeys}
 use Rattle.yds_events.proofs.Orders.{keys_order}
-use Rattle.yds_events.proofs.Places.{windows_placed}
+use Rattle.yds_events.proofs.WindowPlaces.{windows_placed}
 use Rattle.yds_events.proofs.Times.{times_rise, events_in_range, length_ends}
 use Rattle.yds_events.proofs.timeline.Timeline.new.Goals as goal
 

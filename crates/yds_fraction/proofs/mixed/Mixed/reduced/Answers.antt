@@ -1,5 +1,5 @@
-use Rattle.yds_fraction.proofs.Lowest.{IsGcd-positive, IsGcd-lowest, IsSame-lowest, IsMixed-lowest, parts_divide}
-use Rattle.yds_fraction.proofs.Kept.{some_parts}
+use Rattle.yds_fraction.proofs.OverDivisor.{IsGcd-positive, IsGcd-lowest, IsSame-lowest, IsMixed-lowest, parts_divide}
+use Rattle.yds_fraction.proofs.WithinLimits.{some_parts}
 use Rattle.yds_fraction.proofs.Values.{same_at_scales}
 use Rattle.yds_fraction.proofs.mixed.Mixed.reduced.Goals as goal
 

@@ -1,5 +1,5 @@
 use Rattle.yds_model.proofs.Common.{◌∙◌}
-use Rattle.yds_fraction.proofs.Lowest.{with_parts}
+use Rattle.yds_fraction.proofs.OverDivisor.{with_parts}
 use Rattle.yds_fraction.proofs.mixed.Mixed.with_parts.Goals as goal
 
 pub returns-clause-value : goal.returns-clause-value

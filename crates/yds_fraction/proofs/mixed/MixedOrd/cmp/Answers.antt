@@ -1,4 +1,4 @@
-use Rattle.yds_fraction.proofs.Kept.{some_parts}
+use Rattle.yds_fraction.proofs.WithinLimits.{some_parts}
 use Rattle.yds_fraction.proofs.WholeFirst.{compared, MatchOrdering-fractions, order_at_scales}
 use Rattle.yds_fraction.proofs.mixed.MixedOrd.cmp.Goals as goal
 

@@ -1,4 +1,4 @@
-use Rattle.yds_fraction.proofs.Lowest.{IsGcd-positive, IsGcd-lowest, same_lowest, IsRatio-lowest}
+use Rattle.yds_fraction.proofs.OverDivisor.{IsGcd-positive, IsGcd-lowest, same_lowest, IsRatio-lowest}
 use Rattle.yds_fraction.proofs.ratio.Ratio.reduced.Goals as goal
 
 pub nonzero_div-result : goal.nonzero_div-result

@@ -1,4 +1,4 @@
-use Rattle.yds_round.proofs.Parts.{part_is, some_divisor}
+use Rattle.yds_round.proofs.SplitParts.{part_is, some_divisor}
 use Rattle.yds_round.proofs.part.Part.of.Goals as goal
 
 pub nonzero_div-switch : goal.nonzero_div-switch

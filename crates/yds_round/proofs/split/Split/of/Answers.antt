@@ -1,5 +1,5 @@
 use Rattle.yds_model.proofs.Common.{◌≡◌, ◌<◌, ◌*◌, ◌∙◌, ap, arith, Point}
-use Rattle.yds_round.proofs.Parts.{some_divisor}
+use Rattle.yds_round.proofs.SplitParts.{some_divisor}
 use Rattle.yds_round.proofs.Splits.{some_den, above_in_terms, split_is}
 use Rattle.yds_round.proofs.split.Split.of.Goals as goal
 

@@ -1,4 +1,4 @@
-use Rattle.yds_slots.proofs.Order.{slots_scale, starts_rise, ends_rise, between_is}
+use Rattle.yds_slots.proofs.SlotOrder.{slots_scale, starts_rise, ends_rise, between_is}
 use Rattle.yds_slots.proofs.schedule.Schedule.between.Goals as goal
 
 pub first_from-start-requires : goal.first_from-start-requires

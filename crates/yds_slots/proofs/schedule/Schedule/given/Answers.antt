@@ -1,6 +1,6 @@
 use Rattle.yds_model.proofs.Common.{sym, subst}
 use Rattle.yds_slots.specs.Received.{Receipt}
-use Rattle.yds_slots.specs.Kept.{IsReceiptOf}
+use Rattle.yds_slots.specs.KeptSlots.{IsReceiptOf}
 use Rattle.yds_slots.proofs.schedule.Schedule.given.Goals as goal
 
 pub returns-clause-at_scales : goal.returns-clause-at_scales

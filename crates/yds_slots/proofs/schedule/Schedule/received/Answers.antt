@@ -1,6 +1,6 @@
 use Rattle.yds_model.proofs.Common.{◌<◌, ◌≤◌, length, ◌∙◌, arith, sym, subst, get_or_read, get_or_past}
 use Rattle.yds_slots.specs.Received.{Receipt}
-use Rattle.yds_slots.specs.Kept.{IsReceiptOf, nothing}
+use Rattle.yds_slots.specs.KeptSlots.{IsReceiptOf, nothing}
 use Rattle.yds_slots.proofs.schedule.Schedule.received.Goals as goal
 
 pub returns-then-job-len : goal.returns-then-job-len

@@ -1,4 +1,4 @@
-use Rattle.yds_slots.proofs.Order.{whole_before}
+use Rattle.yds_slots.proofs.SlotOrder.{whole_before}
 use Rattle.yds_slots.proofs.slot.Slot.begins_before.Goals as goal
 
 pub returns : goal.returns

@@ -1,5 +1,5 @@
 use Rattle.yds_model.proofs.Common.{◌≡◌, ◌++◌, ◌∷◌, [], List, ap, ◌∙◌, arith, Point, AreRising, hull_is_computed}
-use Rattle.yds_table.proofs.Lowest.{rising_pushed, kept_pushed}
+use Rattle.yds_table.proofs.PushedPoint.{rising_pushed, kept_pushed}
 use Rattle.yds_table.proofs.table.Table.push.Goals as goal
 
 pub hull-requires-clause-rising : goal.hull-requires-clause-rising

@@ -1,5 +1,5 @@
 use Rattle.yds_model.proofs.Common.{◌≡◌, ◌<◌, ◌≤◌, ◌∙◌, ap, sym, subst, arith, length, List, get_or, get_or-map, length-map, Task, TaskSet, horizon_of, nth_job}
-use Rattle.yds_tasks.specs.Kept.{IsTaskSet, task_at, no_task}
+use Rattle.yds_tasks.specs.KeptTasks.{IsTaskSet, task_at, no_task}
 use Rattle.yds_tasks.specs.Read.{task_read}
 use Rattle.yds_tasks.proofs.Counts.{due_fits, horizon_within}
 use Rattle.yds_tasks.proofs.task_set.TaskSet.row.Goals as goal

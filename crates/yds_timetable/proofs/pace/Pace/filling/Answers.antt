@@ -1,5 +1,5 @@
 use Rattle.yds_model.proofs.Common.{arith}
-use Rattle.yds_fraction.proofs.Lowest.{IsGcd-positive}
+use Rattle.yds_fraction.proofs.OverDivisor.{IsGcd-positive}
 use Rattle.yds_timetable.proofs.pace.Pace.filling.Goals as goal
 
 pub nonzero_div-result : goal.nonzero_div-result

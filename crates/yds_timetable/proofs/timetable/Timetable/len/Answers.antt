@@ -1,6 +1,6 @@
 use Rattle.yds_model.proofs.Common.{All-map}
 use Rattle.yds_timetable.specs.Timetable.{IsRow}
-use Rattle.yds_timetable.specs.Kept.{row_kept}
+use Rattle.yds_timetable.specs.KeptRows.{row_kept}
 use Rattle.yds_timetable.proofs.timetable.Timetable.len.Goals as goal
 
 pub returns-clause-kept : goal.returns-clause-kept

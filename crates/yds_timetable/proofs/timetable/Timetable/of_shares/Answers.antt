@@ -1,7 +1,7 @@
 use Rattle.yds_model.proofs.Common.{ℕ, List, length, ◌∙◌, sym, ap₂, subst}
 use Rattle.yds_timetable.specs.declared.pace.Pace.{Pace}
 use Rattle.yds_timetable.specs.declared.timetable.KeptRow.{KeptRow}
-use Rattle.yds_timetable.specs.Kept.{rows_kept, AreKept}
+use Rattle.yds_timetable.specs.KeptRows.{rows_kept, AreKept}
 use Rattle.yds_timetable.specs.Sorted.{AreSorted}
 use Rattle.yds_timetable.proofs.Made.{rows_read, rows_keep}
 use Rattle.yds_timetable.proofs.timetable.Timetable.of_shares.Goals as goal

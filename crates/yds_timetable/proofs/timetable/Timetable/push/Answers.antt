@@ -2,7 +2,7 @@ use Rattle.yds_model.proofs.Common.{◌≡◌, List, ◌++◌, ◌∷◌, [], ap
 use Rattle.yds_timetable.specs.declared.pace.Pace.{Pace}
 use Rattle.yds_timetable.specs.declared.timetable.KeptRow.{KeptRow}
 use Rattle.yds_timetable.specs.Shares.{JobShare}
-use Rattle.yds_timetable.specs.Kept.{rows_kept}
+use Rattle.yds_timetable.specs.KeptRows.{rows_kept}
 use Rattle.yds_timetable.proofs.Keeping.{rows_stay_beside, rows_stay_now, kept_stays_now, kept_more, rows_more, on_err}
 use Rattle.yds_timetable.proofs.timetable.Timetable.push.Goals as goal
 use Rattle.yds_timetable.proofs.timetable.Timetable.push.Goals.{In_ok-pace}

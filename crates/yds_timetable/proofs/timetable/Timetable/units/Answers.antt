@@ -1,7 +1,7 @@
 use Rattle.yds_model.proofs.Common.{arith, ◌∙◌, ap, sym}
 use Rattle.yds_events.specs.Stretch.{length_of}
 use Rattle.yds_timetable.specs.Timetable.{row_at}
-use Rattle.yds_timetable.proofs.Lowest.{units_read}
+use Rattle.yds_timetable.proofs.LowestPace.{units_read}
 use Rattle.yds_timetable.proofs.timetable.Timetable.units.Goals as goal
 
 pub overflow_mul-result : goal.overflow_mul-result

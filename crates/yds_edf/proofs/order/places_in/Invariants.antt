@@ -1,9 +1,0 @@
-use Rattle.yds_model.proofs.Common.{◌≡◌, length}
-use Rattle.yds_edf.proofs.Places.{ArePlacesTo}
-use Rattle.yds_edf.proofs.order.places_in.Given as goal
-
-abbrev pub invariant-loop-place : goal.invariant-loop-place
-invariant-loop-place l = record {
-  long : length l.places.items ≡ length l.rows;
-  places : ArePlacesTo l.order l.places.items l.place;
-}
