@@ -1,5 +1,5 @@
 -- Units that go on before gaps, one gap after another.
-use Rattle.yds_model.proofs.Common.{◌≡◌, ℕ, suc, ◌+◌, ◌-◌, ◌<◌, ◌≤◌, ◌⊎◌, min, List, length, get_or, set, ◌∙◌, sym, arith, inl, inr, ap, cond, ◌==◌, get_or-set_same, get_or-set_other, length-set, cases_eq, eq-eqb, ne_eqb}
+use Rattle.yds_model.proofs.Common.{◌≡◌, ℕ, suc, ◌+◌, ◌-◌, ◌<◌, ◌⊎◌, min, List, length, get_or, set, ◌∙◌, sym, arith, inl, inr, ap, cond, ◌==◌, get_or-set_same, get_or-set_other, length-set, cases_eq, eq-eqb, ne_eqb}
 use Rattle.yds_admit.specs.Chain.{IsChain, Takes}
 
 -- a number at one place alone
@@ -26,10 +26,6 @@ module _ (m : ℕ) (reach due_by before : ℕ → ℕ) (gaps : List ℕ) (at lef
 
   goes_on : IsChain m reach due_by gone_on (set gaps at (get_or gaps at 0 - taken)) at (left - taken)
   goes_on = grind (arith, cases_eq, elsewhere, here, length-set, next_gap, other_gap, set)
-
-none_stays : (at left q : ℕ) → (left ≡ 0) ⊎ (at ≡ 0) → 1 ≤ q → cond (q == at) left 0 ≡ 0
-none_stays at left q (inl none) some = ap {B = ℕ} (λ n. cond (q == at) n 0) none ∙ nothing_there q at
-none_stays at left q (inr first) some = elsewhere q at left (λ e. omega (arith, e, first, some))
 
 first_gets : (at left : ℕ) → (left ≡ 0) ⊎ (at ≡ 0) → cond (at == 0) left 0 ≡ left
 first_gets at left (inl none) = ap {B = ℕ} (λ n. cond (at == 0) n 0) none ∙ nothing_there at 0 ∙ sym none

@@ -1,10 +1,6 @@
 -- What a slot and the one before it, as they are read, say of their places.
-use Rattle.yds_model.proofs.Common.{◌≡◌, ℕ, ◌+◌, ◌-◌, ◌<◌, ◌≤◌, List, length, get_or, Bool, true, false, subst, arith, MatchBool, get_or_read, IsLess, IsAtMost, WrittenSlot, no_written_slot, written_slot_at, IsAfterOthers}
-
--- of two facts told by a test, each says more
-told_more : (b : Bool) (P Q R S : Type 0) → (P → R) → (Q → S) → MatchBool b P Q → MatchBool b R S
-told_more true P Q R S first second h = first h
-told_more false P Q R S first second h = second h
+use Rattle.yds_model.proofs.Common.{◌≡◌, ℕ, ◌+◌, ◌-◌, ◌<◌, ◌≤◌, List, length, get_or, Bool, subst, arith, MatchBool, get_or_read, IsLess, IsAtMost, WrittenSlot, no_written_slot, written_slot_at, IsAfterOthers}
+use Rattle.yds_model.proofs.TestFacts.{told_more}
 
 -- the two tell whether the slot overlaps the one before it
 pub overlap_told : (slots : List WrittenSlot) (i : ℕ) (slot before : WrittenSlot) (told : Bool) → 1 ≤ i → i < length slots →

@@ -6,7 +6,6 @@
 #![tactic(auto)]
 
 mod auditor;
-mod order;
 mod point_speed;
 mod slot_verdict;
 mod verdict;

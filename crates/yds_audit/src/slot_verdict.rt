@@ -7,10 +7,9 @@ ghost use Rattle.yds_model.specs.Slot.{written_slot_at};
 ghost use Rattle.yds_model.specs.Audit.{IsOnTable, IsAfterOthers, Stands, IsVerdict};
 ghost use Rattle.yds_audit.specs.Verdict.{verdict_view};
 
-use crate::order::is_before;
 use crate::point_speed::is_on_point;
 use crate::verdict::Verdict;
-use yds_fraction::Moment;
+use yds_fraction::{Moment, is_before};
 use yds_hull::Point;
 use yds_model::JobRow;
 use yds_slots::Slot;

@@ -1,10 +1,6 @@
 -- Fractions in parts of one tick.
-use Rattle.yds_model.proofs.Common.{◌≡◌, ℕ, ◌*◌, ◌/◌, ◌≤◌, ◌⊎◌, inl, inr, Bool, true, false, refl, arith, if◌then◌else◌, div-le_of_le-mul, Fraction, AreAlike, of_whole, of_parts}
+use Rattle.yds_model.proofs.Common.{◌≡◌, ℕ, ◌*◌, ◌/◌, ◌≤◌, arith, div-le_of_le-mul, Fraction, AreAlike, of_parts}
 use Rattle.yds_model.specs.declared.limits.TheConstants.{MAX_TIME}
-
-den_of : (whole : Bool) (a b c den : ℕ) → ((if whole then of_whole a else record { whole = b; num = c; den = den }).den ≡ 1) ⊎ ((if whole then of_whole a else record { whole = b; num = c; den = den }).den ≡ den)
-den_of true a b c den = inl refl
-den_of false a b c den = inr refl
 
 pub parts_alike : (x y : Fraction) (p q den : ℕ) → x ≡ of_parts p den → y ≡ of_parts q den → AreAlike x y
 parts_alike x y p q den is other = grind arith

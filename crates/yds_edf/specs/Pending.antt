@@ -1,5 +1,5 @@
 -- The units of jobs, and which of them are pending. With the grain G a unit is one part in G of a unit of work.
-use Rattle.std.specs.Prelude.{ℕ, zero, suc, ◌+◌, ◌-◌, ◌*◌, nat_le, Bool, false, if◌then◌else◌, List, Option, Some, None}
+use Rattle.std.specs.Prelude.{ℕ, ◌-◌, ◌*◌, nat_le, Bool, false, if◌then◌else◌, List, Option, Some, None}
 use Rattle.yds_model.specs.Job.{Job, job_at}
 
 -- the units that a job wants

@@ -1,5 +1,5 @@
 -- The exact values that the operators of `Mixed` give, over a common denominator.
-use Rattle.yds_model.proofs.Common.{◌≡◌, ℕ, zero, suc, Bool, true, false, eqb-true, ◌+◌, ◌-◌, ◌*◌, ◌/◌, ◌%◌, ◌<◌, ◌≤◌, ◌⊎◌, inl, inr, max, ap, subst, sym, ◌∙◌, refl, arith, ◌==◌, if◌then◌else◌, ◌∣◌, cases_lt, equality_of_values, sum_of_values, multiple_of_values, dvd_trans, one-dvd, div-le_of_le-mul, mul_comm, mul-le-mul_left, eq_of_mul-eq-mul_right, div-add-mod, le_of_mul-le-mul_right, mul-le-mul_right, lt_of_mul-lt-mul_right, mul-pos, Fraction, at_scale, numerator, AreAlike, IsSame, IsSum, IsMultiple}
+use Rattle.yds_model.proofs.Common.{◌≡◌, ℕ, Bool, true, false, eqb-true, ◌+◌, ◌-◌, ◌*◌, ◌/◌, ◌%◌, ◌<◌, ◌≤◌, ◌⊎◌, inl, inr, max, ap, subst, sym, ◌∙◌, refl, arith, ◌==◌, if◌then◌else◌, ◌∣◌, cases_lt, equality_of_values, sum_of_values, multiple_of_values, dvd_trans, one-dvd, div-le_of_le-mul, mul_comm, mul-le-mul_left, eq_of_mul-eq-mul_right, div-add-mod, le_of_mul-le-mul_right, mul-le-mul_right, lt_of_mul-lt-mul_right, mul-pos, Fraction, at_scale, numerator, AreAlike, IsSame, IsSum, IsMultiple}
 use Rattle.yds_fraction.proofs.WithinLimits.{some_parts}
 use Rattle.yds_fraction.specs.Mixed.{IsMixed, fraction_of, IsInParts, AtScalesWith, common_den, whole_of_sum, CanAdd, Adds, CanSubtract, Subtracts, whole_of_multiple, Multiplies, SumCarriesOne, MultipleCarriesFactor}
 
@@ -83,11 +83,6 @@ multiple_at_scales : (k : ℕ) (x z : Fraction) → IsInParts x.den z → IsMult
 multiple_at_scales k x z parts multiple scale positive dx _ =
     let dz : z.den ∣ scale = subst (λ (d : ℕ). d ∣ scale) (sym parts) (divides_by x.den scale (z.num == 0) dx) in
     (dz, (multiple_of_values k x z scale positive dx dz).0 multiple)
-
-small_quotient : (g q n : ℕ) → g * q ≤ n → n < 2 * g → q ≤ 1
-small_quotient g zero n low high = omega arith
-small_quotient g (suc zero) n low high = omega arith
-small_quotient g (suc (suc q)) n low high = omega arith
 
 -- each part is below one, so the parts of a sum carry one at most
 carry_small : (n m g : ℕ) → n < g → m < g → (n + m) / g ≤ 1

@@ -8,12 +8,14 @@ mod divisors;
 mod laws;
 mod lowest_terms;
 mod mixed;
+mod moments;
 mod ratio;
 
 pub use divisors::{gcd, lcm_within};
 pub use laws::{multiple_carries_factor, order_of_fractions, order_of_quotients, sum_carries_one};
 pub use lowest_terms::in_lowest_terms;
 pub use mixed::{Amount, Mixed, Moment};
+pub use moments::is_before;
 pub use ratio::{Ratio, Speed};
 
 #[cfg(test)]

@@ -14,6 +14,7 @@ pub mod Grain
 pub mod Runs
 pub mod Verdicts
 pub mod FirstFailure
+pub mod TestFacts
 pub mod OneVerdict
 pub mod Divisor
 pub mod LowestTerms

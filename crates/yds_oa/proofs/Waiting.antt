@@ -48,11 +48,6 @@ turned n true false = refl
 turned n false true = refl
 turned n false false = refl
 
-pub nothing_of : (one other : Bool) → ◌≡◌ {A = ℕ} (cond one (cond other 0 0) 0) 0
-nothing_of true true = refl
-nothing_of true false = refl
-nothing_of false other = refl
-
 one : (n : ℕ) (later soon : Bool) → ◌≡◌ {A = ℕ} (cond (nat_lt 0 n && later) (cond soon n 0) 0) (cond soon (cond later n 0) 0)
 one n later soon = grind arith
 

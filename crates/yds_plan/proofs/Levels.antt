@@ -21,10 +21,6 @@ cond_sum : {X : Type 0} (b : Bool) (f : X → ℕ) (xs : List X) → cond b (sum
 cond_sum true f xs = refl
 cond_sum false f xs = sym (sum_by_zero (λ x. 0) xs (λ k d within. refl))
 
-cond_none : (b : Bool) → cond {A = ℕ} b 0 0 ≡ 0
-cond_none true = refl
-cond_none false = refl
-
 level_of_its_group : (groups : List Group) (l g i v : ℕ) → cond (level_of groups i == l) (cond (g == i) v 0) 0 ≡ cond (g == i) (cond (level_of groups g == l) v 0) 0
 level_of_its_group groups l g i v = grind (arith, cases_eq, is_here, not_here)
 

@@ -1,12 +1,7 @@
 -- The line of a comment, field by field.
 use Rattle.yds_model.proofs.Common.{◌≡◌, ℕ, List, [], ◌∷◌, ◌++◌, ◌∙◌, sym, ap, append_assoc, append-nil, line}
 use Rattle.yds_run.specs.VerdictLine.{spaced}
-use Rattle.yds_run.proofs.SpacedLine.{spaced_line}
-
-spaced_more : (words : List (List ℕ)) (word : List ℕ) → spaced words ++ 32 ∷ word ≡ spaced (words ++ word ∷ [])
-spaced_more [] word = ap (λ l. 32 ∷ l) (sym (append-nil word))
-spaced_more (first ∷ words) word =
-    ap (λ l. 32 ∷ l) (append_assoc first (spaced words) (32 ∷ word) ∙ ap (λ l. first ++ l) (spaced_more words word))
+use Rattle.yds_run.proofs.SpacedLine.{spaced_line, spaced_more}
 
 -- one field more
 pub next_field : (first : List ℕ) (words : List (List ℕ)) (word text : List ℕ) → text ≡ first ++ spaced words → text ++ 32 ∷ word ≡ first ++ spaced (words ++ word ∷ [])

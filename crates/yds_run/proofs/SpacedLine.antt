@@ -8,3 +8,9 @@ joined word (next ∷ words) = ap (λ l. word ++ 32 ∷ l) (joined next words)
 
 pub spaced_line : (word : List ℕ) (words : List (List ℕ)) → (word ++ spaced words) ++ 10 ∷ [] ≡ line (word ∷ words)
 spaced_line word words = ap (λ l. l ++ 10 ∷ []) (sym (joined word words))
+
+-- one word more
+pub spaced_more : (words : List (List ℕ)) (word : List ℕ) → spaced words ++ 32 ∷ word ≡ spaced (words ++ word ∷ [])
+spaced_more [] word = ap (λ l. 32 ∷ l) (sym (append-nil word))
+spaced_more (first ∷ words) word =
+    ap (λ l. 32 ∷ l) (append_assoc first (spaced words) (32 ∷ word) ∙ ap (λ l. first ++ l) (spaced_more words word))

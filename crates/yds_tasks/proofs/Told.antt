@@ -88,11 +88,6 @@ same_parts (Ok n) (Ok o) (Err e) d w f g same = refl
 same_parts (Ok n) (Err e) p d w f g same = refl
 same_parts (Err e) o p d w f g same = refl
 
-few_same : (few : Bool) (column : ℕ) (task : Task) →
-    (demand few column reasons.TooManyJobs >>= (λ some. Ok (TaskEntryOf task))) ≡ entry_of (demand few column reasons.TooManyJobs >>= (λ some. Ok task))
-few_same true column task = refl
-few_same false column task = refl
-
 -- the entry, where its jobs have room
 abbrev entry_within : List TaskEntry → Field → Task → Result TaskEntry (Spot TaskReason)
 entry_within earlier period task =

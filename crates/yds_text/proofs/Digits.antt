@@ -1,6 +1,6 @@
 -- The digits at the front of a text, the byte after them, and the separators of a fraction.
-use Rattle.yds_model.proofs.Common.{◌≡◌, ℕ, ◌<◌, ◌≤◌, ◌⊎◌, Bool, true, false, cond, List, length, get_or, take, drop, All, nat_le, Ok, Err, refl, sym, ap, ◌∙◌, subst, inl, inr, arith, list_all, list_any, prefix_len, position_or_len, before_first, digits_value, cases_Bool, cases_order, false≢true, le-leb, leb-true, get_or-take, length-take, length-take-le, take_all, take-append-drop, take-append-le, prefix_len_passes, prefix_len_stops, prefix_len_is, position_or_len_is, passes_at_first, list_all-from_AllPass, is_digit, is_number, number_at, number_digits}
-use Rattle.yds_model.specs.declared.number_fault.NumberFault.TheVariants.{BadNumber, OutOfRange}
+use Rattle.yds_model.proofs.Common.{◌≡◌, ℕ, ◌<◌, ◌≤◌, ◌⊎◌, Bool, true, false, List, length, get_or, take, drop, All, nat_le, Ok, sym, ap, ◌∙◌, subst, inl, inr, arith, list_all, list_any, prefix_len, position_or_len, before_first, digits_value, cases_Bool, cases_order, false≢true, le-leb, leb-true, get_or-take, length-take, length-take-le, take_all, take-append-drop, take-append-le, prefix_len_passes, prefix_len_stops, prefix_len_is, position_or_len_is, passes_at_first, list_all-from_AllPass, is_digit, is_number, number_at, number_digits}
+
 
 -- a text with a byte that is no digit is no number
 pub not_number : (text : List ℕ) (i : ℕ) → i < length text → is_digit (get_or text i 0) ≡ false → is_number text ≡ false
@@ -37,12 +37,6 @@ digits_of_part text part len within is (inl less) =
     (λ here. ap is_digit (sym (get_or-take part text len 0 less)) ∙ subst (λ place. is_digit (get_or (take part text) place 0) ≡ false) (sym is) (prefix_len_stops is_digit (take part text) 0 (omega (arith, length-take-le part text within)))))
 
 -- # What a number says
-
-fits_told : (number fits : Bool) (said value : ℕ) → cond number (cond fits (Ok said) (Err OutOfRange)) (Err BadNumber) ≡ Ok value →
-    (number ≡ true) × ((fits ≡ true) × (said ≡ value))
-fits_told true true said value is = (refl, (refl, cc))
-fits_told true false said value is = cc
-fits_told false fits said value is = cc
 
 pub record Told (most : ℕ) (text : List ℕ) (value : ℕ) : Type 0 where
   pub number : is_number text ≡ true

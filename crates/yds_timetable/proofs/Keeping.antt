@@ -26,10 +26,6 @@ module _ (paces added : List Pace) (shares more : List JobShare) where
       slice_get-get_or (paces ++ added) place no_pace (omega (arith, is, length-append paces added))
       ∙ ap Some (get_or_append_left paces added no_pace place is) ∙ sym (slice_get-get_or paces place no_pace is)
 
-  place_stays : (place : Option ℕ) → IsPlaced paces place → IsPlaced (paces ++ added) place
-  place_stays None is = tt
-  place_stays (Some place) is = omega (arith, is, length-append paces added)
-
   row_stays : (kept : KeptRow) → IsKeptRow paces shares kept → row_kept (paces ++ added) (shares ++ more) kept ≡ row_kept paces shares kept
   row_stays kept is =
       ap₂ (λ (pace : Option Pace) (own : List JobShare). record { stretch = kept.stretch; pace = pace; shares = own }) (pace_stays kept.pace is.placed)
