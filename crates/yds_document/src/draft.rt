@@ -13,6 +13,7 @@ use yds_model::Memory;
 use yds_slots::Schedule;
 use yds_table::Table;
 
+/// What the lines that were read so far say.
 #[derive(Drop)]
 pub(crate) struct Draft<'a> {
     pub(crate) instance: Instance<'a>,

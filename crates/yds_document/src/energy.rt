@@ -48,6 +48,7 @@ fn energy_in(energy: Field<'_>) -> Result<Amount, LineFault>
     fraction_in(energy, MAX_ENERGY)
 }
 
+/// Keeps the energy that the line tells.
 fn add(draft: &mut Draft<'_>, energy: Amount)
     requires kept { IsDraft draft.old }
     requires first { draft.old.energy ≡ None }

@@ -69,6 +69,7 @@ fn grid_in(grid: Field<'_>, rounded: Field<'_>) -> Result<Grid, LineFault>
     Ok(Grid { grid, rounded })
 }
 
+/// Keeps the grid that the line tells.
 fn add(draft: &mut Draft<'_>, grid: Grid)
     requires kept { IsDraft draft.old }
     requires first { draft.old.grid ≡ None }

@@ -36,12 +36,14 @@ impl From<FieldCount> for LineFault {
 }
 
 impl LineFault {
+    /// A fault of the field at this column, from 1.
     pub(crate) fn at(column: u32, reason: Reason) -> LineFault
         ensures { result ≡ faults.At column reason }
     {
         LineFault::At { column, reason }
     }
 
+    /// What is wrong with the number at this column, from 1.
     pub(crate) fn of_number(column: u32, fault: NumberFault) -> LineFault
         ensures { result ≡ faults.At column (reason_of fault) }
     {

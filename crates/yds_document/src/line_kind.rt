@@ -4,6 +4,7 @@ ghost use Rattle.std.specs.Prelude.{◌≡◌};
 ghost use Rattle.yds_model.specs.Reading.{kind_of};
 ghost use Rattle.yds_document.specs.LineKinds.{kind_told};
 
+/// What a line is, by its first word.
 #[derive(Clone, Copy, Debug, PartialEq, Eq)]
 pub(crate) enum LineKind {
     Job,

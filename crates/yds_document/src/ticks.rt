@@ -40,6 +40,7 @@ fn ticks_in(ticks: Field<'_>) -> Result<u32, LineFault>
     small_in(ticks, 1, MAX_TICKS)
 }
 
+/// Keeps the ticks in a time unit that the line tells.
 fn add(draft: &mut Draft<'_>, ticks: u32)
     requires kept { IsDraft draft.old }
     requires first { draft.old.ticks ≡ None }

@@ -4,7 +4,7 @@
 //! spends least, and a point above the line between its neighbours is never worth running at.
 //!
 //! It stands on `yds_model`, whose `IsHullOf` says what the lower hull of a list of points is. That no
-//! line between two points runs below it is the law `hull_is_lowest` of `yds_laws`. With it this crate
+//! line between two points runs below it is the law `hull_is_lowest` of `yds_energy`. With it this crate
 //! carries the part of least energy that speaks of tables.
 #![tactic(auto)]
 

@@ -24,6 +24,7 @@ AdmittedRunsAreWithinTop = (jobs : List Job) (top : ℕ) (slots : List WrittenSl
 -- it tells, more than the top speed does there. So no schedule at or below the top speed serves them.
 pub record IsForced (jobs : List Job) (top : ℕ) (taken : List ℕ) (refusal : Refusal) : Type 0 where
   pub numbers : List ℕ
+  pub itself : Contains numbers refusal.job
   pub different : AreDifferent numbers
   pub own : All (λ number. (number ≡ refusal.job) ⊎ Contains taken number) numbers
   pub inside : All (λ number. (refusal.from ≤ (job_at jobs number).release) × ((job_at jobs number).deadline ≤ refusal.to)) numbers

@@ -1,4 +1,4 @@
--- The laws of the lower hull. Each is the contract of a public function of `yds_laws`.
+-- The laws of the lower hull. Each is the contract of a public function of `yds_energy`.
 use Rattle.std.specs.Prelude.{◌≡◌, ℕ, ◌+◌, ◌-◌, ◌*◌, ◌<◌, ◌≤◌, List, length}
 use Rattle.yds_model.specs.Table.{Point, point_at, AreRising, IsHullOf, IsAround, interpolated, hull_of}
 

@@ -3,8 +3,8 @@
 //!
 //! It stands on no other crate of this repository. Its definitions, in `specs/`, are what a reader of
 //! the proofs has to believe: what a feasible schedule is, what it means that one is least, and what a
-//! certificate shows. What follows from them, and the worked examples, stand in `yds_laws`. None of its
-//! calls takes memory.
+//! certificate shows. What follows from them stands in `yds_laws` and the crates of laws above it, and the
+//! worked examples in `yds_examples`. None of its calls takes memory.
 #![tactic(auto)]
 
 mod job_row;

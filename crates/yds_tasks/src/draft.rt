@@ -20,6 +20,7 @@ use yds_model::TaskReason;
 use yds_model::limits::{MAX_TASKS, MAX_TIME, MAX_WORK};
 use yds_text::{Field, Fields, FiveFields, five_fields, one_field};
 
+/// The horizon and the tasks of the lines that were read so far.
 #[derive(Drop)]
 pub(crate) struct Draft<'a> {
     pub(crate) set: TaskSet<'a>,
@@ -134,6 +135,7 @@ impl<'a> Draft<'a> {
         }
     }
 
+    /// Adds a task of a new name after the others; there is room for its jobs.
     fn add(&mut self, task: Task<'a>) -> Result<(), LineFault>
         requires kept { IsDraft self.old }
         requires horizon { IsTrue (is_some self.old.set.horizon) }

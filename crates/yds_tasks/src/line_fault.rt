@@ -47,12 +47,14 @@ impl From<FieldCount> for LineFault {
 }
 
 impl LineFault {
+    /// A fault of the field at this column, from 1.
     pub(crate) fn at(column: u32, reason: TaskReason) -> LineFault
         ensures { result ≡ faults.At column reason }
     {
         LineFault::At { column, reason }
     }
 
+    /// What is wrong with the number at this column, from 1.
     pub(crate) fn of_number(column: u32, fault: NumberFault) -> LineFault
         ensures { result ≡ faults.At column (task_reason_of fault) }
     {

@@ -48,6 +48,7 @@ impl<'a> Model for Fields<'a> {
 }
 
 impl<'a> Fields<'a> {
+    /// The fields of a line's text; `line` is its number, from 1.
     pub(crate) fn new(text: &'a [u8], line: u32) -> Fields<'a>
         requires { length text.now ≤ MAX_BYTES }
         ensures line { result.line ≡ line }

@@ -159,12 +159,14 @@ fn digit_len(text: &[u8]) -> usize
     text.len()
 }
 
+/// Whether the bytes spell a name.
 fn is_name(text: &[u8]) -> bool
     ensures { result ≡ is_name text.now }
 {
     !text.is_empty() && text.len() <= MAX_NAME && are_visible(text)
 }
 
+/// Whether each byte is a printed one, as those of a name are.
 fn are_visible(text: &[u8]) -> bool
     ensures { result ≡ list_all is_visible text.now }
 {
