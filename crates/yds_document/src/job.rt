@@ -127,6 +127,7 @@ fn add_new<'a>(draft: &mut Draft<'a>, name: &'a str, row: JobRow) -> Result<bool
     }
 }
 
+/// Puts a job of a new name last.
 fn add<'a>(draft: &mut Draft<'a>, name: &'a str, row: JobRow) -> Result<(), Memory>
     requires kept { IsDraft draft.old }
     requires named { IsTrue (is_name name.now) }
