@@ -1,7 +1,6 @@
 -- The digits at the front of a text, the byte after them, and the separators of a fraction.
 use Rattle.yds_model.proofs.Common.{◌≡◌, ℕ, ◌<◌, ◌≤◌, ◌⊎◌, Bool, true, false, List, length, get_or, take, drop, All, nat_le, Ok, sym, ap, ◌∙◌, subst, inl, inr, arith, list_all, list_any, prefix_len, position_or_len, before_first, digits_value, cases_Bool, cases_order, false≢true, le-leb, leb-true, get_or-take, length-take, length-take-le, take_all, take-append-drop, take-append-le, prefix_len_passes, prefix_len_stops, prefix_len_is, position_or_len_is, passes_at_first, list_all-from_AllPass, is_digit, is_number, number_at, number_digits}
 
-
 -- a text with a byte that is no digit is no number
 pub not_number : (text : List ℕ) (i : ℕ) → i < length text → is_digit (get_or text i 0) ≡ false → is_number text ≡ false
 not_number text i within other = grind (arith, cases_Bool, false≢true, number_digits)
