@@ -178,6 +178,8 @@ function draw_ratios(    i, k, greatest, plots, list) {
     print "set yrange [0:104]"
     print "set ytics 0,25,100"
     for (i = 1; i <= policies; i++) {
+        # A number from the start: gawk 5.2 stops where an element without a value is handed on.
+        ratios[i] += 0
         for (k = 1; k <= ratios[i]; k++) list[k] = ratio[i, k]
         sort_by(list, ratios[i])
         print "$P" i " << EOD"
