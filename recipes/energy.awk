@@ -14,7 +14,8 @@
 #
 # Options, each as NAME=VALUE (to awk itself as -v NAME=VALUE):
 #   name=NAME   the first word of each line (trace)
-#   at=SPEED    not the slots: all jobs at this point, earliest deadline first, idle for the rest; the name is then at-SPEED
+#   at=SPEED    not the slots: all jobs at this point, earliest deadline first, idle for the rest; the name is then at-SPEED,
+#               and what the document's own slots or runs missed is no miss of it
 #
 # Exit status: 0 done; 1 a deadline is missed, or a fault in the input; 2 usage.
 
@@ -107,7 +108,7 @@ $1 == "slot" || $1 == "run" {
         run_speed[n] = $5 + 0
         if (ticks != 1) in_ticks = 1
         given_in_ticks[runner[n]] += run_speed[n] * length_of[n]
-        if ($4 + 0 > deadline[runner[n]] * ticks) missed[runner[n]] = 1
+        if (at == "" && $4 + 0 > deadline[runner[n]] * ticks) missed[runner[n]] = 1
     } else {
         from_whole[n] = whole_part($3) + rest_part($3)
         to_whole[n] = whole_part($4) + rest_part($4)
@@ -117,7 +118,7 @@ $1 == "slot" || $1 == "run" {
         slots++
         given[runner[n]] += whole_part($5)
         given_parts[runner[n]] += rest_part($5)
-        if (whole_part($4) > deadline[runner[n]] || whole_part($4) == deadline[runner[n]] && rest_part($4) > 0) missed[runner[n]] = 1
+        if (at == "" && (whole_part($4) > deadline[runner[n]] || whole_part($4) == deadline[runner[n]] && rest_part($4) > 0)) missed[runner[n]] = 1
     }
     if (length_of[n] <= 0) fail_line("a " $1 " without length")
     if (n > 1 && from_whole[n] < to_whole[n - 1] - 0.000000001 * to_whole[n - 1])

@@ -113,6 +113,35 @@ at-10 time 20 0
 at-20 time 0 7+1/2
 at-20 time 10 0
 at-20 time 20 4+1/2" energy -v at=20 "$work/at"
+	# The run that the document has is late. At the speed 10 the job takes one unit of time of its ten: nothing is missed.
+	printf 'point 0 0\npoint 1 1\npoint 10 100\njob a 0 10 10\nticks 1\nrun a 5 15 1\n' >"$work/late-run"
+	text "energy: one speed doesn't miss what the trace missed" 0 "at-10 energy 100
+at-10 time 0 9
+at-10 time 1 0
+at-10 time 10 1" energy -v at=10 "$work/late-run"
+	text "energy: the trace itself missed it" 1 "trace energy 10
+trace time 0 5
+trace time 1 10
+trace time 10 0
+# trace misses 1 deadline, the first a" energy "$work/late-run"
+	sed 's/^ticks.*/slot a 5 15 10/; /^run/d' "$work/late-run" >"$work/late-slot"
+	text "energy: one speed doesn't miss what the slots missed" 0 "at-10 energy 100" eval "energy -v at=10 '$work/late-slot' | head -n 1"
+	energy -v at=10 "$work/late-slot" | grep '#' >"$work/told"
+	if [ -s "$work/told" ]; then fail "energy: the slots' miss is told of another speed"; else pass; fi
+	# At the speed 1 the job takes all of its ten units of time, and misses nothing either.
+	answers "energy: one speed meets the deadline just so" 0 "at-1 energy 10" energy -v at=1 "$work/late-run"
+	# What reads these lines gives that side its energy.
+	(printf 'plan energy 50\nplan time 0 5\nplan time 1 0\nplan time 10 5\n' && energy -v name=flat-out -v at=10 "$work/late-run" && energy "$work/late-run") >"$work/lines"
+	text "collect: one speed of a late trace has its energy" 0 "document	plan	avr	oa	flat-out	trace	rounded	answer
+lines	50.000000	-	-	100.000000	-	-	ok
+# lines: trace misses 1 deadline, the first a" recipe collect.awk "$work/lines"
+	recipe collect.awk "$work/lines" >"$work/lines.tsv"
+	text "summary: one speed of a late trace misses nothing" 0 "side	documents	too slow	misses	without	mean	median	greatest	in
+avr	0	1	0	0	-	-	-	-
+oa	0	1	0	0	-	-	-	-
+flat-out	1	0	0	0	2.00000	2.00000	2.00000	lines
+trace	0	0	1	0	-	-	-	-
+# 1 documents, 1 compared" recipe summary.awk "$work/lines.tsv"
 	seed=1
 	while [ $seed -le 40 ]; do
 		(printf 'point 0 1\npoint 3 9\n' && recipe draw.awk -v seed=$seed -v jobs=12 -v release=60 -v window=20 -v work=9) >"$work/drawn"

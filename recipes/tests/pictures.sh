@@ -114,6 +114,14 @@ test_misses_of_energy() {
 	holds "energy: deadlines that were missed" "$work/misses.svg" '>misses 1 deadline<' '>misses 3 deadlines<'
 	apart "energy: deadlines that were missed" "$work/misses.svg"
 	if plot energy -t dumb "$work/misses" | grep -q 'slower misses 3 deadlines'; then pass; else fail "energy: missed deadlines, as text"; fi
+	# The trace is late, and the point 10 isn't for that.
+	printf 'point 0 0\npoint 1 1\npoint 10 100\njob a 0 10 10\nticks 1\nrun a 5 15 1\n' >"$work/late"
+	(printf 'plan energy 10\n' && energy -v name=governor "$work/late"; energy -v name=flat-out -v at=10 "$work/late") >"$work/both-sides"
+	plot energy "$work/both-sides" >"$work/both-sides.svg"
+	counts "energy: one side of two misses" "$work/both-sides.svg" '>misses ' 1
+	recipe collect.awk "$work/both-sides" >"$work/both-sides.tsv"
+	plot ratios "$work/both-sides.tsv" >"$work/both-ratios.svg"
+	holds "ratios: one side of two misses" "$work/both-ratios.svg" '>governor (1 without)<' '>flat-out<'
 }
 
 test_slack() {
