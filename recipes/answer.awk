@@ -10,7 +10,8 @@
 #   report levels                                                         of report
 #   energies times roundings too_slow misses                              of compare and energy.awk, by side
 #   breaks, refused_jobs, one_level, trial                                of curve, admit, expand, trial
-#   missed, and verdicts of jobs that trace.awk left out                  of misses.sh, whose `# due at` is a column due
+#   missed, and verdicts of jobs that trace.awk left out                  of misses.sh, whose `# due at` is a column due, and by how much a
+#                                                                         job was late a column late, late_at_least, late_ms or not_ended_ms
 #   comments                                                              what else begins with #
 # Output: one object on one line, each table in it an array of objects; for several files a line for each, with its name as `file`.
 # With csv= the one table, its first line the columns; for several files the first column is the file.
@@ -156,7 +157,7 @@ function number_levels(kind) {
     if (kind == "level") put("level", ++level, "number")
     else if (kind == "piece" || kind == "member") put("level", level + 0, "number")
 }
-function take(line, number,    n, i, candidate, candidates) {
+function take(line, number,    n, i, candidate, candidates, all) {
     sub(/\r$/, "", line)
     text = line
     sub(/^[ \t]+/, "", text)
@@ -165,7 +166,9 @@ function take(line, number,    n, i, candidate, candidates) {
     if (text == "") return
     candidates = split(form_of[field[1], n] form_of["*", n], candidate, " ")
     for (i = 1; i <= candidates; i++) if (fits(candidate[i])) return keep(candidate[i])
+    all = text
     if (take_miss(n)) return
+    text = all
     if (text ~ /^#/) { new_row("comments"); put("text", text, "text"); return }
     if (text ~ /^usage: yds_cli /) { new_row("refusals"); put("reason", "usage", "text"); return }
     if (substr(text, 1, 1) == "{") complain((several ? file ": " : "") "line " number ": the answer is JSON already", 1)
@@ -173,24 +176,47 @@ function take(line, number,    n, i, candidate, candidates) {
     complain((several ? file ": " : "") "line " number ": \"" (length(text) > 60 ? substr(text, 1, 60) ".." : text) "\" is no line of an answer", 1)
 }
 
-# What misses.sh tells of a job, with the trace's clock behind it: 1 where the line is one.
-function take_miss(n,    due, i, candidates, candidate, word) {
+# What misses.sh tells of a job, with by how much it was late and with the trace's clock behind it: 1 where the line is one.
+function take_miss(n,    due, by, word) {
     if (match(text, / # due at [0-9]+\.[0-9]+ s$/)) {
         due = field[n - 1]
         text = substr(text, 1, RSTART - 1)
-        n -= 5
-        candidates = split(form_of[field[1], n], candidate, " ")
-        for (i = 1; i <= candidates && !fits(candidate[i]); i++) ;
-        if (i <= candidates) { keep(candidate[i]); put("due", due, "number"); return 1 }
     }
-    if (text !~ /^(left out|late by less than a unit of time): .* ms after its deadline/) return 0
-    split(text, word, ": ")
-    new_row("verdicts")
-    put("verdict", word[1], "text")
-    put("job", word[1] == "left out" ? field[3] : substr(field[9], 1, length(field[9]) - 1), "text")
-    put("reason", substr(text, length(word[1]) + 3), "text")
+    if (text ~ /^(left out|late by less than a unit of time): .* ms after its deadline/) {
+        split(text, word, ": ")
+        new_row("verdicts")
+        put("verdict", word[1], "text")
+        put("job", word[1] == "left out" ? field[3] : substr(field[9], 1, length(field[9]) - 1), "text")
+        put("reason", substr(text, length(word[1]) + 3), "text")
+    } else {
+        if (match(text, /, (by |not ended |[0-9.]+ ms ).*$/)) {
+            by = substr(text, RSTART + 2)
+            text = substr(text, 1, RSTART - 1)
+        }
+        if (due by == "" || !take_words(split(text, field, /[ \t]+/))) return 0
+        if (by != "") put_lateness(by)
+    }
     if (due != "") put("due", due, "number")
     return 1
+}
+# A verdict of the words in field[].
+function take_words(n,    i, candidates, candidate) {
+    candidates = split(form_of[field[1], n], candidate, " ")
+    for (i = 1; i <= candidates && !fits(candidate[i]); i++) ;
+    if (i <= candidates) keep(candidate[i])
+    return i <= candidates
+}
+# `by X`, `by at least X: given .. wanted ..`, `X ms after its deadline`, `not ended X ms after its deadline`.
+function put_lateness(by,    word) {
+    split(by, word, /:? /)
+    if (word[1] == "not") put("not_ended_ms", word[3], "number")
+    else if (word[2] == "ms") put("late_ms", word[1], "number")
+    else if (word[2] != "at") put_fraction("late", word[2])
+    else {
+        put_fraction("late_at_least", word[4])
+        put_fraction("given", word[6])
+        put("wanted", word[8], "number")
+    }
 }
 
 function quoted(text,    i, c, out) {

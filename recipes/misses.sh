@@ -10,6 +10,10 @@
 #     than a unit of time.
 # Each job is told once, in one line. Where audit says so of one job, this recipe reckons which others there are; then it changes
 # the document so that all of them are in time, and audit judges the rest.
+# A late job's line has its last slot and that slot's end: `late slot I JOB END deadline D, by X` says that the job was done at END, X after
+# its deadline. `by at least X: given .. wanted ..` says that it wasn't done even then. Where a comment of trace.awk tells a job's end, the line
+# ends with it: `15.004 ms after its deadline`, or `not ended 13.000 ms after its deadline`, where the trace or to= ends. END may be from
+# such a comment, too: of a job whose last run was shorter than a tick.
 # The last line is the number of missed deadlines, or `feasible`, or the verdict on another fault of the slots.
 # Numbers are in the document's units. Where its comments tell the trace's clock, `# due at` is the deadline on it.
 # YDS is the program (yds_cli).
@@ -40,6 +44,7 @@ clock='
 		return sprintf(" # due at %.0f.%06.0f s", zero[1] + second, micro - second * 1000000)
 	}'
 # meet: tells every job that ends late or gets less than its work, in audit's words, and changes the document so that it is in time.
+# The slot that is told is the job's last, and behind the words stands by how much the job was late.
 meet() {
 	${AWK:-awk} -v missed="$folder/missed" "$clock"'
 		# The ends and works of slots in whole numbers: whole part, numerator and denominator.
@@ -47,43 +52,77 @@ meet() {
 			if ($1 == "run") { denominator = ticks; whole = int(text / ticks); numerator = text - whole * ticks; return }
 			whole = text + 0
 			numerator = denominator = 0
-			if (split(text, part, /[+\/]/) == 3) { numerator = part[2] + 0; denominator = part[3] }
+			if (split(text, part, /[+\/]/) == 3) { numerator = part[2]; denominator = part[3] }
 		}
 		function written(whole, numerator, denominator) {
-			return sprintf("%.0f", whole) (numerator ? sprintf("+%.0f/%.0f", numerator, denominator) : "")
+			return sprintf("%.0f", whole) (numerator + 0 ? "+" (numerator "") "/" (denominator "") : "")
+		}
+		function take_end(job) {
+			if (job in end && (whole < end[job] || whole == end[job] && numerator * end_denominator[job] < end_numerator[job] * denominator)) return
+			end[job] = whole
+			end_numerator[job] = $1 == "run" ? sprintf("%.0f", numerator) : numerator
+			end_denominator[job] = $1 == "run" ? sprintf("%.0f", denominator) : denominator
+			end_slot[job] = slots
+			if (whole + (numerator > 0) > deadline[job] && !(job in late)) { late[job] = 1; late_job[++lates] = job }
+		}
+		# The end that a comment of the trace tells, of a job whose last run is so short that it is in no line.
+		function end_at_tick(job, tick,    whole) {
+			whole = int(tick / ticks)
+			if (whole < end[job] || whole == end[job] && (tick - whole * ticks) * end_denominator[job] <= end_numerator[job] * ticks) return
+			end[job] = whole
+			end_numerator[job] = sprintf("%.0f", tick - whole * ticks)
+			end_denominator[job] = sprintf("%.0f", ticks)
 		}
 		function take_work(    given) {
 			given = $1 == "run" ? sprintf("%.0f", $5 * ($4 - $3)) : $5
 			take(given)
 			work[$2] += whole
-			if (!numerator) return
+			if (!(numerator + 0)) return
 			parts[$2] += numerator
 			grain[$2] = denominator
 			if (parts[$2] >= grain[$2]) { parts[$2] -= grain[$2]; work[$2]++ }
 		}
+		function what_it_got(job) {
+			return "given " written(work[job] + 0, parts[job] + 0 ? sprintf("%.0f", parts[job]) : 0, grain[job]) " wanted " wanted[job]
+		}
+		# By how much the job was late: what a comment of the trace tells goes before what the slots say.
+		function lateness(job) {
+			if (job in told) return ", " told[job]
+			if (!(job in late)) return ""
+			return ", by " (job in undone ? "at least " : "") written(end[job] - deadline[job], end_numerator[job], end_denominator[job])
+		}
+		function tell(job) {
+			if (job in late)
+				print "late slot " end_slot[job] " " job " " written(end[job], end_numerator[job], end_denominator[job]) " deadline " deadline[job] \
+					lateness(job) (job in undone && !(job in told) ? ": " what_it_got(job) : "") due_at(deadline[job]) >> missed
+			else print "work " job " " what_it_got(job) lateness(job) due_at(deadline[job]) >> missed
+		}
+		FNR == NR && /^# (not ended|late in a run within one tick): [^ ]+, [0-9.]+ ms after its deadline/ {
+			text = $0
+			sub(/^# [a-z ]+: [^ ]+, /, "", text)
+			job = $0
+			sub(/^# [a-z ]+: /, "", job)
+			sub(/, .*/, "", job)
+			told[job] = ($2 == "not" ? "not ended " : "") text
+		}
+		FNR == NR && /^# ends: [^ ]+ [0-9]+$/ { last_tick[$3] = $4 }
 		FNR == NR && $1 == "ticks" { ticks = $2 }
 		FNR == NR && $1 == "job" { name[++jobs] = $2; deadline[$2] = $4; wanted[$2] = $5 }
 		FNR == NR && ($1 == "slot" || $1 == "run") {
 			slots++
 			take($4)
-			if (whole + (numerator > 0) > last[$2]) last[$2] = whole + (numerator > 0)
-			if (whole + (numerator > 0) > deadline[$2] && !($2 in late)) {
-				late[$2] = "late slot " slots " " $2 " " ($1 == "slot" && numerator ? $4 : written(whole, numerator, denominator)) " deadline " deadline[$2]
-				print late[$2] due_at(deadline[$2]) >> missed
-			}
+			take_end($2)
 			take_work()
 		}
 		FNR == NR { next }
 		FNR == 1 {
-			for (j = 1; j <= jobs; j++) {
-				if (work[name[j]] >= wanted[name[j]]) continue
-				undone[name[j]] = 1
-				if (name[j] in late) continue
-				print "work " name[j] " given " written(work[name[j]] + 0, parts[name[j]] + 0, grain[name[j]] + 0) " wanted " wanted[name[j]] due_at(deadline[name[j]]) >> missed
-			}
+			for (j = 1; j <= jobs; j++) if (work[name[j]] < wanted[name[j]]) undone[name[j]] = 1
+			for (j = 1; j <= lates; j++) if (late_job[j] in last_tick) end_at_tick(late_job[j], last_tick[late_job[j]])
+			for (j = 1; j <= lates; j++) tell(late_job[j])
+			for (j = 1; j <= jobs; j++) if (name[j] in undone && !(name[j] in late)) tell(name[j])
 		}
 		$2 in undone && parts[$2] > 0 && ($1 == "job" || $1 == "slot" || $1 == "run") { next }
-		$1 == "job" && $2 in late { $4 = sprintf("%.0f", last[$2]) }
+		$1 == "job" && $2 in late { $4 = sprintf("%.0f", end[$2] + (end_numerator[$2] + 0 > 0)) }
 		$1 == "job" && $2 in undone { $5 = sprintf("%.0f", work[$2]) }
 		{ print }' "$folder/document" "$folder/document" >"$folder/next" || exit 1
 	mv "$folder/next" "$folder/document"

@@ -467,8 +467,14 @@ answer() { recipe answer.awk "$@"; }
 tables() {
 	text "answer: a verdict" 0 '{"verdicts":[{"verdict":"late","slot":2,"job":"audio","to":21+1/2,"to_exact":"21+1/2","deadline":20}]}' \
 		eval "echo 'late slot 2 audio 21+1/2 deadline 20' | recipe answer.awk | sed 's/21.5/21+1\/2/'"
-	text "answer: misses of a trace" 0 '{"verdicts":[{"verdict":"late","slot":6,"job":"audio.1","to":1294,"to_exact":"1294","deadline":1200,"due":5123.412623},{"verdict":"late","slot":19,"job":"decode.2","to":5319,"to_exact":"5319","deadline":5150,"due":5123.452123}],"missed":[{"missed":2}]}' \
+	text "answer: misses of a trace" 0 '{"verdicts":[{"verdict":"late","slot":6,"job":"audio.1","to":1294,"to_exact":"1294","deadline":1200,"late":94,"late_exact":"94","due":5123.412623},{"verdict":"late","slot":19,"job":"decode.2","to":5319,"to_exact":"5319","deadline":5150,"late":169,"late_exact":"169","due":5123.452123}],"missed":[{"missed":2}]}' \
 		answer "$expected/misses.txt"
+	text "answer: misses whose end isn't known" 0 "verdict,job,given,given_exact,wanted,not_ended_ms,due
+work,render.0,20000,20000,20001,13.000,100.017000
+work,audio.1,0,0,1,15.000,100.015000" answer -v csv=verdicts "$expected/misses-starving.txt"
+	text "answer: a job that wasn't done even then" 0 '{"verdicts":[{"verdict":"late","slot":3,"job":"b","to":6,"to_exact":"6","deadline":5,"late_at_least":1.5,"late_at_least_exact":"1+1/2","given":4,"given_exact":"4","wanted":5}]}' \
+		eval "echo 'late slot 3 b 6 deadline 5, by at least 1+1/2: given 4 wanted 5' | recipe answer.awk"
+	refuses "answer: a miss in another form" 1 "" 'answer.awk: line 1: "late slot 2 a b deadline c, by 3" is no line of an answer' eval "echo 'late slot 2 a b deadline c, by 3' | recipe answer.awk"
 	text "answer: misses of jobs that were left out" 0 "verdict,job,reason,due
 left out,render.1,\"render.1 (ran on CPU 1), 25.000 ms after its deadline; window 5000 6600\",200.066000" answer -v csv=verdicts "$expected/misses-elsewhere.txt"
 	text "answer: misses by less than a unit" 0 "audio.0 work

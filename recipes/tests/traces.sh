@@ -124,14 +124,30 @@ traces_with_gaps() {
 # All at once, in fractions, and where another fault remains.
 misses_of_slots() {
 	printf 'job a 0 9 4\njob b 0 5 5\nslot a 1 2+1/3 3\nslot b 3 5+1/2 3+1/2\nslot b 5+1/2 6 0+1/2\n' >"$work/slots"
-	says "misses: in fractions" 1 "late slot 2 b 5+1/2 deadline 5
+	says "misses: in fractions" 1 "late slot 3 b 6 deadline 5, by at least 1: given 4 wanted 5
 work a given 3 wanted 4
 2 missed deadlines" misses "$work/slots"
-	says "misses: too much work remains" 1 "late slot 2 audio 21 deadline 20
+	says "misses: too much work remains" 1 "late slot 2 audio 21 deadline 20, by 1
 work audio given 4800 wanted 3000" misses "$here/../examples/governor-misses-a-deadline.txt"
 	$AWK 'BEGIN { for (j = 0; j < 1000; j++) print "job a." j, j * 10, j * 10 + 5, 100; print "ticks 1"; for (j = 0; j < 1000; j++) print "run a." j, j * 10, j * 10 + 8, 10 }' >"$work/slots"
-	says "misses: a thousand" 1 "late slot 1000 a.999 9998 deadline 9995
+	says "misses: a thousand" 1 "late slot 1000 a.999 9998 deadline 9995, by at least 3: given 80 wanted 100
 1000 missed deadlines" misses "$work/slots"
+	# The job's end, and not that of its first slot after the deadline.
+	printf 'job a 0 10 10\nticks 1\nrun a 5 11 1\nrun a 96 100 1\n' >"$work/slots"
+	says "misses: a late job that is interrupted" 1 "late slot 2 a 100 deadline 10, by 90
+1 missed deadline" misses "$work/slots"
+	printf 'job a 0 5 5\njob b 7 8 2\nticks 10\nrun a 0 49 1\nrun b 70 85 1\nrun a 90 91 1\nrun b 95 100 1\n' >"$work/slots"
+	says "misses: ticks" 1 "late slot 3 a 9+1/10 deadline 5, by 4+1/10
+late slot 4 b 10 deadline 8, by 2
+2 missed deadlines" misses "$work/slots"
+	# The job's last run is so short that it is in no line: a comment tells its tick.
+	printf 'job a 0 10 10\nticks 10\nrun a 50 110 1\nrun a 960 1000 1\n# ends: a 1234\n' >"$work/slots"
+	says "misses: an end that a comment tells" 1 "late slot 2 a 123+4/10 deadline 10, by 113+4/10
+1 missed deadline" misses "$work/slots"
+	# Denominators beyond what awk reckons exactly stay as they are.
+	printf 'job a 0 1 1\nslot a 0 2+1152921504606846973/1152921504606846976 1\n' >"$work/slots"
+	says "misses: long numbers" 1 "late slot 1 a 2+1152921504606846973/1152921504606846976 deadline 1, by 1+1152921504606846973/1152921504606846976
+1 missed deadline" misses "$work/slots"
 }
 
 # What is seen after events were lost may be of another job: only what was open before is known.
