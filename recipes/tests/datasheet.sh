@@ -73,6 +73,26 @@ point 48 900" points -v khz=1000 -v uw=10 "$work/three"
 	printf 'MHz,mA,mW\n48,138,9\n' >"$work/bad"
 	refuses "units: current and power" 1 failed "points.awk: line 1: the heading says the units MHz, mA, mW; $known" points -v volts=3 "$work/bad"
 	refuses "units: two voltages" 1 failed "points.awk: line 1: volts= and a column of volts; leave one of them out" points -v volts=3 "$work/three"
+	# A heading is read whole: a sign or a word that may change a unit is refused.
+	sign="write it in plain letters, micro as u"
+	word="which isn't known; give each column a name of letters and its unit, as Current (mA)"
+	printf 'MHz;\265W\r\n1;26\r\n2;96\r\n' >"$work/bad"
+	refuses "units: a micro of another encoding" 1 failed "points.awk: line 1: the heading has a sign that isn't known, written here as ?: MHz;?W; $sign" points -v khz=1000 "$work/bad"
+	printf 'MHz;I (\265A/MHz)\n1;26\n' >"$work/bad"
+	refuses "units: a micro of another encoding, for each MHz" 1 failed \
+		"points.awk: line 1: the heading has a sign that isn't known, written here as ?: MHz;I (?A/MHz); $sign" points -v khz=1000 -v volts=3 "$work/bad"
+	for try in "micro@MHz,micro W" "x@MHz,W x 10" "10^3@MHz,10^3 W" "100@MHz,100 mW" "thousandths@MHz,W (thousandths)" "u@MHz,u W"; do
+		printf '%s\n1,26\n' "${try#*@}" >"$work/bad"
+		refuses "units: ${try#*@}" 1 failed "points.awk: line 1: the heading says ${try%@*}, $word" points -v khz=1000 "$work/bad"
+	done
+	printf 'MHz,MW\n1,26\n' >"$work/bad"
+	refuses "units: megawatts" 1 failed "points.awk: line 1: the heading says MW; is that mW?" points -v khz=1000 "$work/bad"
+	printf 'mHz,mW\n1,26\n' >"$work/bad"
+	refuses "units: millihertz" 1 failed "points.awk: line 1: the heading says mHz; is that MHz?" points -v khz=1000 "$work/bad"
+	printf 'f [MHz]\tP_idle (\316\274W)\n0\t2000\n1\t26000\n' >"$work/each"
+	text "units: names of columns" 0 "# table: speed unit 1000 kHz, power unit 1000 uW
+point 0 2
+point 1 26" points -v khz=1000 "$work/each"
 	printf 'MHz,mA,V\n48,138\n' >"$work/bad"
 	refuses "units: a column is missing" 1 failed "points.awk: line 2: 2 columns, and the heading has the units of 3" points "$work/bad"
 	printf 'MHz,uA/MHz\n0,40\n48,100\n' >"$work/bad"
