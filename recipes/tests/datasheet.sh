@@ -14,6 +14,7 @@ text() {
 	head -n 5 "$work/out" "$work/err"
 }
 test_datasheet() {
+	units_of_a_datasheet
 	idle_power
 	units_of_a_heading
 	deadlines_missed
@@ -23,6 +24,55 @@ test_datasheet() {
 	schedules
 	what_check_found
 	tables
+}
+
+# 48 MHz isn't 50: a job of 490,000 cycles in 10 ms is late at 48.
+units_of_a_datasheet() {
+	printf 'MHz,mW\n0,1\n48,20.4\n' >"$work/part"
+	text "units: what divides all speeds" 0 "# table: speed unit 48000 kHz, power unit 1000 uW
+point 0 1
+point 1 20
+# rounded: 20.4 mW at 48 MHz to 20 mW" points "$work/part"
+	text "units: a speed that is moved is told" 0 "# table: speed unit 10000 kHz, power unit 100 uW
+point 0 10
+point 5 204
+# rounded: 48 MHz to 50 MHz" points -v khz=10000 -v uw=100 "$work/part"
+	text "units: an idle power that is moved is told" 0 "# table: speed unit 48000 kHz, power unit 50 uW
+point 0 11
+point 1 408
+# rounded: 0.528 mW idle to 0.55 mW" eval "grep -v '^0' '$work/part' | recipe points.awk -v idle=0.528 -v uw=50"
+	printf 'MHz,mW\n0,1\n2.67,10\n5.33,20\n16,60\n' >"$work/part"
+	text "units: decimals of a megahertz" 0 "# table: speed unit 10 kHz, power unit 1000 uW
+point 0 1
+point 267 10
+point 533 20
+point 1600 60" points "$work/part"
+	# 240,000 units of 1 kHz are too many, and no greater unit divides both.
+	printf 'kHz,mW\n0,1\n10001,10\n240000,20\n' >"$work/part"
+	text "units: no unit divides all speeds" 0 "# table: speed unit 10000 kHz, power unit 1000 uW
+point 0 1
+point 1 10
+point 24 20
+# rounded: 10.001 MHz to 10 MHz" points "$work/part"
+	# In units of 1 MHz the gaps of this table are too fine; in those of 10 MHz its speeds are moved.
+	printf 'MHz,mW\n0,1\n803,10\n1604,40\n2404,90\n3203,160\n4000,250\n' >"$work/part"
+	text "units: gaps too fine for what divides all speeds" 0 "# table: speed unit 10000 kHz, power unit 1000 uW
+point 0 1
+point 80 10
+point 160 40
+point 240 90
+point 320 160
+point 400 250
+# rounded: 803 MHz to 800 MHz
+# rounded: 1604 MHz to 1600 MHz
+# rounded: 2404 MHz to 2400 MHz
+# rounded: 3203 MHz to 3200 MHz" points "$work/part"
+	printf 'kHz,uW\n0,1\n32.768,30\n' >"$work/part"
+	refuses "units: a clock of a watch" 1 failed "points.awk: 32.768 kHz is speed 0; give a finer khz=" points -v uw=1 "$work/part"
+	text "units: a clock of a watch in units of 8 kHz" 0 "# table: speed unit 8 kHz, power unit 1 uW
+point 0 1
+point 4 30
+# rounded: 0.032768 MHz to 0.032 MHz" points -v uw=1 -v khz=8 "$work/part"
 }
 
 idle_power() {
@@ -53,9 +103,11 @@ units_of_a_heading() {
 	printf 'MHz,mA\n16,1.6\n48,4.6\n80,8.5\n' >"$work/mA"
 	points -v khz=1000 -v uw=10 -v volts=3.0 "$work/mA" >"$work/wanted"
 	printf 'MHz,uA/MHz\n16,100\n48,95.8333\n80,106.25\n' >"$work/each"
-	text "units: uA/MHz" 0 "$(cat "$work/wanted")" points -v khz=1000 -v uw=10 -v volts=3.0 "$work/each"
+	# 95.8333 uA for each MHz are 4599.9984 uA at 48 MHz, and 13.7999952 mW.
+	echo "# rounded: 13.7999952 mW at 48 MHz to 13.8 mW" | cat "$work/wanted" - >"$work/wanted-each"
+	text "units: uA/MHz" 0 "$(cat "$work/wanted-each")" points -v khz=1000 -v uw=10 -v volts=3.0 "$work/each"
 	printf 'Clock (MHz)\tI (\302\265A / MHz)\n16\t100\n48\t95.8333\n80\t106.25\n' >"$work/each"
-	text "units: with a mu and spaces" 0 "$(cat "$work/wanted")" points -v khz=1000 -v uw=10 -v volts=3.0 "$work/each"
+	text "units: with a mu and spaces" 0 "$(cat "$work/wanted-each")" points -v khz=1000 -v uw=10 -v volts=3.0 "$work/each"
 	printf 'MHz,W\n16,0.0048\n48,0.0138\n80,0.0255\n' >"$work/watts"
 	text "units: W" 0 "$(cat "$work/wanted")" points -v khz=1000 -v uw=10 "$work/watts"
 	printf 'uA,kHz\n1600,16000\n4600,48000\n8500,80000\n' >"$work/kHz"
