@@ -248,7 +248,7 @@ test_energy() {
 	refuses "energy: too much work for a point" 1 "" "energy.awk: the work of all jobs is more than the point 41 does in the whole time" energy -v at=41 "$work/both"
 	sed 's/speed unit 10000 kHz/speed unit 1000 kHz/' "$expected/points.txt" | cat - "$expected/trace.txt" >"$work/units"
 	refuses "energy: two units of speed" 1 "" \
-		"energy.awk: line 19: a unit of speed of 10000 kHz here and 1000 kHz before; give points and trace the same khz=" energy "$work/units"
+		"energy.awk: line 20: a unit of speed of 10000 kHz here and 1000 kHz before; give points and trace the same khz=" energy "$work/units"
 	refuses "energy: a refusal" 1 "" "energy.awk: line 1: the input is an answer of no: refused 1 9 EmptyWindow" energy "$expected/compare-refused.txt"
 	same "battery" 0 battery.tsv recipe battery.awk -v mah=220 -v volts=3.0 -v uw=10 "$expected/compare-sensor.txt"
 	same "battery: the points' unit of power" 0 battery.tsv recipe battery.awk -v mah=220 -v volts=3.0 "$expected/points-microcontroller.txt" "$expected/compare-sensor.txt"
@@ -342,7 +342,7 @@ test_plot() {
 	fi
 	refuses "plot: options after a file" 2 "" "plot.sh: the options come before the files: -t" plot speed "$work/both" -t png
 	sed 's/speed unit 10000 kHz/speed unit 1000 kHz/' "$expected/points.txt" | cat - "$expected/trace.txt" >"$work/units"
-	refuses "plot: two units of speed" 1 "" "plot.sh: line 19: a unit of speed of 10000 kHz here and 1000 kHz before; give points and trace the same khz=" plot speed "$work/units"
+	refuses "plot: two units of speed" 1 "" "plot.sh: line 20: a unit of speed of 10000 kHz here and 1000 kHz before; give points and trace the same khz=" plot speed "$work/units"
 	refuses "plot: no slot" 1 "" "plot.sh: no slot; give a trace's document or the answer of plan, round, avr or oa" plot speed frames.txt
 	refuses "plot: no break" 1 "" "plot.sh: no break line; is this the answer of curve?" plot curve "$work/both"
 	refuses "plot: no energy" 1 "" "plot.sh: no energy line; is this the answer of compare?" plot energy "$work/both"

@@ -41,18 +41,18 @@ point 5 204
 point 0 11
 point 1 408
 # rounded: 0.528 mW idle to 0.55 mW" eval "grep -v '^0' '$work/part' | recipe points.awk -v idle=0.528 -v uw=50"
-	printf 'MHz,mW\n0,1\n2.67,10\n5.33,20\n16,60\n' >"$work/part"
+	printf 'MHz,mW\n0,1\n2.67,10\n5.33,20\n16,90\n' >"$work/part"
 	text "units: decimals of a megahertz" 0 "# table: speed unit 10 kHz, power unit 1000 uW
 point 0 1
 point 267 10
 point 533 20
-point 1600 60" points "$work/part"
+point 1600 90" points "$work/part"
 	# 240,000 units of 1 kHz are too many, and no greater unit divides both.
-	printf 'kHz,mW\n0,1\n10001,10\n240000,20\n' >"$work/part"
+	printf 'kHz,mW\n0,1\n10001,10\n240000,290\n' >"$work/part"
 	text "units: no unit divides all speeds" 0 "# table: speed unit 10000 kHz, power unit 1000 uW
 point 0 1
 point 1 10
-point 24 20
+point 24 290
 # rounded: 10.001 MHz to 10 MHz" points "$work/part"
 	# In units of 1 MHz the gaps of this table are too fine; in those of 10 MHz its speeds are moved.
 	printf 'MHz,mW\n0,1\n803,10\n1604,40\n2404,90\n3203,160\n4000,250\n' >"$work/part"
@@ -84,6 +84,35 @@ idle_power() {
 	printf 'MHz,mA\n0,0.0003\n48,4.6\n' >"$work/sleep"
 	refuses "idle: a line of 0 MHz" 1 failed \
 		"points.awk: idle draws 0.0009 mW, and 0 units of 1000 uW are more than a twentieth off; give a finer uw=, as uw=0.1" points -v khz=1000 -v volts=3 "$work/sleep"
+	text "idle: none is given" 0 "# table: speed unit 48000 kHz, power unit 1000 uW
+point 0 0
+point 1 138
+# no idle power is given: idle draws 0" points "$work/one"
+	text "idle: 0 is given" 0 "# table: speed unit 48000 kHz, power unit 1000 uW
+point 0 0
+point 1 138" points -v idle=0 "$work/one"
+	# 2, 16 and 48 MHz lie above the lines 0 to 26 and 26 to 80; a plan spends no time there.
+	printf 'MHz,mW\n0,0\n2,30\n16,100\n26,110\n48,800\n80,900\n' >"$work/above"
+	text "points: what no plan uses" 0 "# table: speed unit 2000 kHz, power unit 1000 uW
+point 0 0
+point 1 30
+point 8 100
+point 13 110
+point 24 800
+point 40 900
+# never used: point 1, since 0 and 13 by turns do the same work in the same time for less energy
+# never used: point 8, since 0 and 13 by turns do the same work in the same time for less energy
+# never used: point 24, since 13 and 40 by turns do the same work in the same time for less energy" points "$work/above"
+	# A point on the line isn't above it.
+	printf 'MHz,mW\n0,0\n1,10\n2,20\n' | points -v khz=1000 >"$work/line"
+	if grep -q 'never used' "$work/line"; then fail "points: a point on the line is told as above it"; else pass; fi
+	if want compare; then
+		(points "$work/above" && printf 'job a 0 10 50\njob b 10 20 150\njob c 20 30 300\n') >"$work/drawn"
+		"$YDS" compare --grid 1 <"$work/drawn" | grep '^plan time' >"$work/times"
+		text "points: a plan uses all others" 0 "plan time 1 0
+plan time 8 0
+plan time 24 0" grep ' 0$' "$work/times"
+	fi
 	text "idle: below a microwatt" 0 "# table: speed unit 1000 kHz, power unit 0.1 uW
 point 0 9
 point 48 138000" points -v khz=1000 -v volts=3 -v uw=0.1 "$work/sleep"
@@ -104,7 +133,7 @@ units_of_a_heading() {
 	points -v khz=1000 -v uw=10 -v volts=3.0 "$work/mA" >"$work/wanted"
 	printf 'MHz,uA/MHz\n16,100\n48,95.8333\n80,106.25\n' >"$work/each"
 	# 95.8333 uA for each MHz are 4599.9984 uA at 48 MHz, and 13.7999952 mW.
-	echo "# rounded: 13.7999952 mW at 48 MHz to 13.8 mW" | cat "$work/wanted" - >"$work/wanted-each"
+	sed '/^point 80/a # rounded: 13.7999952 mW at 48 MHz to 13.8 mW' "$work/wanted" >"$work/wanted-each"
 	text "units: uA/MHz" 0 "$(cat "$work/wanted-each")" points -v khz=1000 -v uw=10 -v volts=3.0 "$work/each"
 	printf 'Clock (MHz)\tI (\302\265A / MHz)\n16\t100\n48\t95.8333\n80\t106.25\n' >"$work/each"
 	text "units: with a mu and spaces" 0 "$(cat "$work/wanted-each")" points -v khz=1000 -v uw=10 -v volts=3.0 "$work/each"
@@ -116,7 +145,8 @@ units_of_a_heading() {
 	text "units: three columns" 0 "# table: speed unit 1000 kHz, power unit 10 uW
 point 0 12
 point 16 480
-point 48 900" points -v khz=1000 -v uw=10 "$work/three"
+point 48 900
+# never used: point 16, since 0 and 48 by turns do the same work in the same time for less energy" points -v khz=1000 -v uw=10 "$work/three"
 	known="give each column one that is known, as MHz,mW or MHz,mA or MHz,uA/MHz or MHz,mA,V"
 	printf 'MHz,hp\n48,138\n' >"$work/bad"
 	refuses "units: not known" 1 failed "points.awk: line 1: the heading says the units MHz; $known" points "$work/bad"
