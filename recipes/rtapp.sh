@@ -9,7 +9,8 @@
 # Output: a `horizon` line and a `task` line for each instance of each task: offset (`delay`), period (of the
 # timer), deadline (`dl-deadline`, else `dl-period`, else the period) and work (run * MHz, rounded up). Time in
 # units of -u microseconds, work in units of u * k / 1000 cycles. With -j the phases, loops and ends are followed
-# and each period is a job; times are rounded down.
+# and each period is a job; times are rounded down. Jobs that begin within the duration and are due after it are left out, as a comment
+# tells: `# not due by 100000: audio, 1 of 100 jobs, work 12036`. In tasks it is yds-tasks that tells them.
 #
 # Options:
 #   -m MHZ       the frequency to which rt-app was calibrated; it has to be given
@@ -153,7 +154,7 @@ def task_line($name; $t; $horizon):
 def job_lines($name; $t; $horizon):
   ($t | phases($name)) as $phases
   | ($phases | map(select(.loop < 0)) | length) as $endless
-  | {time: ($t.delay // 0), round: 0, phase: 0, lap: 0, jobs: [], stop: false}
+  | {time: ($t.delay // 0), round: 0, phase: 0, lap: 0, jobs: [], lost: 0, work: 0, stop: false}
   | until(.stop;
       if .phase == ($phases | length) then
         .phase = 0 | .round += 1
@@ -169,12 +170,12 @@ def job_lines($name; $t; $horizon):
             ($p.phase | deadline($t | deadline($p.events.period))) as $deadline
             | (if $p.events.runs > 0 and .time + $deadline <= $horizon then
                 .jobs += ["\(.time / $us | floor) \((.time + $deadline) / $us | floor) \($p.events | work($p.where))"]
+              elif $p.events.runs > 0 then .lost += 1 | .work += ($p.events | work($p.where))
               else . end)
             | .time += $p.events.period | .lap += 1
             | if (.jobs | length) > 4000 then fail("\($name): more than 4000 jobs; give a shorter -H") else . end
           end
-      end)
-  | .jobs;
+      end);
 
 def instances:
   to_entries[]
@@ -196,10 +197,11 @@ def cpus: .task.cpus | if type == "number" then [.] elif type == "array" then . 
 | if ([$list[].name] | unique | length) < ($list | length) then fail("two tasks have one name") else . end
 | ($duration * 1000000) as $horizon
 | if $jobs then
-    [$list[] | .name as $name | job_lines($name; .task; $horizon) | to_entries[] | "job \($name).\(.key) \(.value)"]
+    [$list[] | .name as $name | job_lines($name; .task; $horizon) + {name: $name}] as $done
+    | [$done[] | .name as $name | .jobs | to_entries[] | "job \($name).\(.key) \(.value)"]
     | if length > 4000 then fail("\(length) jobs are more than 4000; give a shorter -H") else . end
     | if . == [] then fail("no job ends within \($duration) seconds") else . end
-    | .[]
+    | ($done[] | select(.lost > 0) | "# not due by \($horizon / $us | floor): \(.name), \(.lost) of \(.lost + (.jobs | length)) jobs, work \(.work)"), .[]
   else
     "horizon \($horizon / $us | floor)",
     ($list[] | .name as $name | "task \($name) \(task_line($name; .task; $horizon))")
