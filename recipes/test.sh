@@ -250,10 +250,12 @@ test_energy() {
 	refuses "energy: two units of speed" 1 "" \
 		"energy.awk: line 20: a unit of speed of 10000 kHz here and 1000 kHz before; give points and trace the same khz=" energy "$work/units"
 	refuses "energy: a refusal" 1 "" "energy.awk: line 1: the input is an answer of no: refused 1 9 EmptyWindow" energy "$expected/compare-refused.txt"
-	same "battery" 0 battery.tsv recipe battery.awk -v mah=220 -v volts=3.0 -v uw=10 "$expected/compare-sensor.txt"
-	same "battery: the points' unit of power" 0 battery.tsv recipe battery.awk -v mah=220 -v volts=3.0 "$expected/points-microcontroller.txt" "$expected/compare-sensor.txt"
+	same "battery" 0 battery.tsv recipe battery.awk -v mah=220 -v volts=3.0 -v uw=10 -v period=1000 "$expected/compare-sensor.txt"
+	same "battery: the points' unit of power" 0 battery.tsv recipe battery.awk -v mah=220 -v volts=3.0 -v period=1000 "$expected/points-microcontroller.txt" "$expected/compare-sensor.txt"
 	refuses "battery: no unit of power" 2 "" "battery.awk: no unit of power; give uw=, or the file of points with its comment before the lines" \
 		recipe battery.awk -v mah=220 -v volts=3.0 "$expected/compare-sensor.txt"
+	refuses "battery: no period" 2 "" "battery.awk: no period is told; give period=, after how many units of time all begins again, or the document of yds-tasks, which tells it, before the lines" \
+		recipe battery.awk -v mah=220 -v volts=3.0 -v uw=10 "$expected/compare-sensor.txt"
 	refuses "battery: a side twice" 1 "" "battery.awk: line 1: the side plan stands twice; write its lines into a new file" \
 		recipe battery.awk -v mah=220 -v volts=3.0 -v uw=10 "$expected/compare-sensor.txt" "$expected/compare-sensor.txt"
 	refuses "battery: a refusal" 1 "" "battery.awk: line 1: the input is an answer of no: refused 1 9 EmptyWindow" \

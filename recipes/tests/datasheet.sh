@@ -122,9 +122,9 @@ point 48 138000" points -v khz=1000 -v volts=3 -v uw=0.1 "$work/sleep"
 	printf '0,1\n48,138\n' >"$work/idle"
 	refuses "idle: said twice" 1 failed "points.awk: line 1: idle= and a line of 0 MHz; leave one of them out" points -v khz=1000 -v idle=1 "$work/idle"
 	points -v khz=1000 -v volts=3 -v uw=0.1 "$work/sleep" >"$work/fine"
-	printf 'plan energy 9\nplan time 0 1\n' | cat "$work/fine" - >"$work/hours"
+	printf 'plan energy 9\nplan time 0 1\nplan time 48 0\n' | cat "$work/fine" - >"$work/hours"
 	text "battery: a unit below a microwatt" 0 "side	milliwatts	hours	of plan (%)
-plan	0.001	666666.7	100.0" recipe battery.awk -v mah=200 -v volts=3 "$work/hours"
+plan	0.001	666666.7	100.0" recipe battery.awk -v mah=200 -v volts=3 -v period=1 "$work/hours"
 }
 
 units_of_a_heading() {
@@ -292,7 +292,7 @@ trace time 10 2
 	printf 'plan energy 100\nplan time 0 10\n' | cat - "$work/priced" >"$work/sides"
 	text "battery: a side that misses" 0 "side	milliwatts	hours	of plan (%)
 plan	0.100	6600.0	100.0
-governor	misses 1	-	-" recipe battery.awk -v mah=220 -v volts=3 -v uw=10 "$work/sides"
+governor	misses 1	-	-" recipe battery.awk -v mah=220 -v volts=3 -v uw=10 -v period=10 "$work/sides"
 	text "collect: a side that misses" 0 "document	plan	avr	oa	governor	rounded	answer
 sides	100.000000	-	-	-	-	ok
 # sides: governor misses 1 deadline, the first decode.2" recipe collect.awk "$work/sides"
