@@ -169,11 +169,30 @@ function take(line, number,    n, i, candidate, candidates, all) {
     all = text
     if (take_miss(n)) return
     text = all
-    if (text ~ /^#/) { new_row("comments"); put("text", text, "text"); return }
+    if (text ~ /^#/) {
+        if (text ~ / unit [0-9]/) units_told(number)
+        new_row("comments")
+        put("text", text, "text")
+        return
+    }
     if (text ~ /^usage: yds_cli /) { new_row("refusals"); put("reason", "usage", "text"); return }
     if (substr(text, 1, 1) == "{") complain((several ? file ": " : "") "line " number ": the answer is JSON already", 1)
     gsub(/[^ -~]/, "?", text)
     complain((several ? file ": " : "") "line " number ": \"" (length(text) > 60 ? substr(text, 1, 60) ".." : text) "\" is no line of an answer", 1)
+}
+
+# The units that comments tell have to be the same in all texts of a document.
+function unit_told(number, kind, word, hint,    n) {
+    if (over || !match(text, kind " unit [0-9.]+ " word)) return
+    n = substr(text, RSTART + length(kind) + 6) + 0
+    if (kind in unit_before && unit_before[kind] != n)
+        complain((several ? file ": " : "") "line " number ": a unit of " kind " of " n " " word " here and " unit_before[kind] " " word " before; " hint, 1)
+    unit_before[kind] = n
+}
+function units_told(number) {
+    unit_told(number, "time", "us", "give both the same us=")
+    unit_told(number, "speed", "kHz", "give points and trace the same khz=")
+    unit_told(number, "power", "uW", "give the points of one uw=")
 }
 
 # What misses.sh tells of a job, with by how much it was late and with the trace's clock behind it: 1 where the line is one.
@@ -277,6 +296,7 @@ function forget_tables() {
 function read_file(    line, number, status, t, before) {
     before = rows[csv] + 0
     level = 0
+    split("", unit_before)
     for (t = 1; t <= tables; t++) rows_before[table_name[t]] = rows[table_name[t]]
     while ((status = (getline line < file)) > 0) {
         take(line, ++number)

@@ -30,6 +30,19 @@ function complain(text, status) {
 }
 function fail(text) { complain(text, 1) }
 function fail_line(text) { complain("line " FNR ": " text, 1) }
+# The units that comments tell have to be the same in all texts of a document.
+function unit_told(kind, word, hint,    n) {
+    if (!match($0, kind " unit [0-9.]+ " word)) return
+    n = substr($0, RSTART + length(kind) + 6) + 0
+    if (kind in unit_before && unit_before[kind] != n)
+        fail_line("a unit of " kind " of " n " " word " here and " unit_before[kind] " " word " before; " hint)
+    unit_before[kind] = n
+}
+function units_told() {
+    unit_told("time", "us", "give both the same us=")
+    unit_told("speed", "kHz", "give points and trace the same khz=")
+    unit_told("power", "uW", "give the points of one uw=")
+}
 # Debian's awk reads and writes a comma for the decimal point where the locale has one: 16.667 would be 16.
 function has_decimal_comma() { return "1.5" * 2 != 3 || sprintf("%.1f", 1.5) != "1.5" }
 function is_decimal(text) { return text ~ /^([0-9]+\.?[0-9]*|\.[0-9]+)$/ }
@@ -63,11 +76,8 @@ function add_side() {
     side[++sides] = $1
 }
 function read_comment() {
-    if (match($0, /power unit [0-9.]+ uW/)) {
-        if (told != "" && told != substr($0, RSTART + 11) + 0)
-            fail_line("a unit of power of " substr($0, RSTART + 11) + 0 " uW here and " told " uW before; give the points of one device")
-        told = substr($0, RSTART + 11) + 0
-    }
+    units_told()
+    if ("power" in unit_before) told = unit_before["power"]
     if (/^# period [0-9]+$/) {
         if (told_period != "" && told_period != $3 + 0) fail_line("the period " $3 " here and " told_period " before; give one document")
         told_period = $3 + 0

@@ -15,6 +15,20 @@ function complain(text) {
     over = 1
     exit 1
 }
+function fail_line(text) { complain("line " NR ": " text) }
+# The units that comments tell have to be the same in all texts of a document.
+function unit_told(kind, word, hint,    n) {
+    if (!match($0, kind " unit [0-9.]+ " word)) return
+    n = substr($0, RSTART + length(kind) + 6) + 0
+    if (kind in unit_before && unit_before[kind] != n)
+        fail_line("a unit of " kind " of " n " " word " here and " unit_before[kind] " " word " before; " hint)
+    unit_before[kind] = n
+}
+function units_told() {
+    unit_told("time", "us", "give both the same us=")
+    unit_told("speed", "kHz", "give points and trace the same khz=")
+    unit_told("power", "uW", "give the points of one uw=")
+}
 # Debian's awk reads and writes a comma for the decimal point where the locale has one: 16.667 would be 16.
 function has_decimal_comma() { return "1.5" * 2 != 3 || sprintf("%.1f", 1.5) != "1.5" }
 function is_fraction(text) { return text ~ /^[0-9]+(\+[0-9]+\/[0-9]+)?$/ }
@@ -30,6 +44,7 @@ BEGIN {
 }
 { sub(/\r$/, "") }
 $1 ~ /^(refused|failed|too-slow|usage:)$/ { complain("line " NR ": the input is an answer of no: " $0) }
+/^#/ && / unit [0-9]/ { units_told() }
 $1 == "ticks" { ticks = $2 }
 $1 == "slot" || $1 == "run" {
     if (NF != 5 || !is_fraction($3) || !is_fraction($4) || !is_fraction($5)) complain("line " NR ": a " $1 " wants NAME FROM TO and a number")

@@ -28,6 +28,19 @@ function complain(text, status) {
 function fail(text) { complain(text, 1) }
 function fail_line(text) { complain("line " NR ": " text, 1) }
 
+# The units that comments tell have to be the same in all texts of a document.
+function unit_told(kind, word, hint,    n) {
+    if (!match($0, kind " unit [0-9.]+ " word)) return
+    n = substr($0, RSTART + length(kind) + 6) + 0
+    if (kind in unit_before && unit_before[kind] != n)
+        fail_line("a unit of " kind " of " n " " word " here and " unit_before[kind] " " word " before; " hint)
+    unit_before[kind] = n
+}
+function units_told() {
+    unit_told("time", "us", "give both the same us=")
+    unit_told("speed", "kHz", "give points and trace the same khz=")
+    unit_told("power", "uW", "give the points of one uw=")
+}
 # Debian's awk reads and writes a comma for the decimal point where the locale has one: 16.667 would be 16.
 function has_decimal_comma() { return "1.5" * 2 != 3 || sprintf("%.1f", 1.5) != "1.5" }
 # W+N/D in two parts, so that differences of great times stay exact enough.
@@ -65,11 +78,7 @@ BEGIN {
 }
 { sub(/\r$/, "") }
 $1 ~ /^(refused|failed|too-slow|usage:)$/ { fail_line("the input is an answer of no: " $0) }
-/^#/ && match($0, /speed unit [0-9]+ kHz/) {
-    khz = substr($0, RSTART + 11) + 0
-    if (told && told != khz) fail_line("a unit of speed of " khz " kHz here and " told " kHz before; give points and trace the same khz=")
-    told = khz
-}
+/^#/ && / unit [0-9]/ { units_told() }
 /^# (left out|late by less than a unit of time): [^ ]+.* ms after its deadline/ {
     known_late[++known_lates] = $2 == "left" ? $4 : $10
     sub(/,$/, "", known_late[known_lates])

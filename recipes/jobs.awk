@@ -33,6 +33,19 @@ function complain(text, status) {
 function fail(text) { complain(text, 1) }
 function fail_line(text) { complain("line " FNR ": " text, 1) }
 function usage(text) { complain(text "\nusage: yds-jobs [form=csv] [zero=trace|SECONDS] [us=N] [DOCUMENT ..]", 2) }
+# The units that comments tell have to be the same in all texts of a document.
+function unit_told(kind, word, hint,    n) {
+    if (!match($0, kind " unit [0-9.]+ " word)) return
+    n = substr($0, RSTART + length(kind) + 6) + 0
+    if (kind in unit_before && unit_before[kind] != n)
+        fail_line("a unit of " kind " of " n " " word " here and " unit_before[kind] " " word " before; " hint)
+    unit_before[kind] = n
+}
+function units_told() {
+    unit_told("time", "us", "give both the same us=")
+    unit_told("speed", "kHz", "give points and trace the same khz=")
+    unit_told("power", "uW", "give the points of one uw=")
+}
 # Debian's awk reads and writes a comma for the decimal point where the locale has one: 16.667 would be 16.
 function has_decimal_comma() { return "1.5" * 2 != 3 || sprintf("%.1f", 1.5) != "1.5" }
 # The first named file that can't be read. An awk would only warn of it, or end with nothing written.
@@ -130,11 +143,7 @@ function is_done(j) {
 function read_comment(    text, reason, how) {
     if (match($0, /time 0 is [0-9]+\.[0-9]+ s/)) told_zero = substr($0, RSTART + 10, RLENGTH - 12)
     if (match($0, /time unit [0-9]+ us/)) told_us = substr($0, RSTART + 10) + 0
-    if (match($0, /speed unit [0-9]+ kHz/)) {
-        if (khz && khz != substr($0, RSTART + 11) + 0)
-            fail_line("a unit of speed of " substr($0, RSTART + 11) + 0 " kHz here and " khz " kHz before; give points and trace the same khz=")
-        khz = substr($0, RSTART + 11) + 0
-    }
+    units_told()
     if (/^# refuse [^ ]+ from [0-9]+ to [0-9]+ work /) add_left_out($3, "refused by admit", "")
     if (!match($0, /^# (left out|not ended|late in a run within one tick|late by less than a unit of time): /)) return
     text = substr($0, RSTART + RLENGTH)

@@ -18,7 +18,8 @@
 # Numbers are in the document's units. Where its comments tell the trace's clock, `# due at` is the deadline on it.
 # YDS is the program (yds_cli).
 #
-# Exit status: 0 every deadline is met; 1 some aren't, the slots have another fault, or there is no job; 2 usage; 3 the document is refused.
+# Exit status: 0 every deadline is met; 1 some aren't, the slots have another fault, there is no job, or comments tell different units; 2 usage;
+# 3 the document is refused.
 
 if [ $# != 1 ] || [ ! -r "$1" ] || [ -d "$1" ]; then
 	echo "misses.sh: no document that can be read
@@ -31,6 +32,23 @@ LC_ALL=C
 export LC_ALL
 cat "$1" >"$folder/document"
 : >"$folder/missed"
+
+# The units that comments tell have to be the same in all texts of the document.
+fault=$(${AWK:-awk} '
+	function unit_told(kind, word,    n) {
+		if (over || !match($0, kind " unit [0-9.]+ " word)) return
+		n = substr($0, RSTART + length(kind) + 6) + 0
+		if (kind in unit && unit[kind] != n) {
+			print "line " NR ": a unit of " kind " of " n " " word " here and " unit[kind] " " word " before"
+			over = 1
+		}
+		unit[kind] = n
+	}
+	/^#/ && / unit [0-9]/ { unit_told("time", "us"); unit_told("speed", "kHz"); unit_told("power", "uW") }' "$folder/document") || exit 1
+if [ -n "$fault" ]; then
+	echo "misses.sh: $fault; give texts of the same us=, khz= and uw=" >&2
+	exit 1
+fi
 
 # An awk program: the seconds of the trace's clock at a time of the document, as a comment behind a line.
 clock='

@@ -19,6 +19,19 @@ function complain(text, status) {
     exit status
 }
 function fail_line(text) { complain("line " NR ": " text, 1) }
+# The units that comments tell have to be the same in all texts of a document.
+function unit_told(kind, word, hint,    n) {
+    if (!match($0, kind " unit [0-9.]+ " word)) return
+    n = substr($0, RSTART + length(kind) + 6) + 0
+    if (kind in unit_before && unit_before[kind] != n)
+        fail_line("a unit of " kind " of " n " " word " here and " unit_before[kind] " " word " before; " hint)
+    unit_before[kind] = n
+}
+function units_told() {
+    unit_told("time", "us", "give both the same us=")
+    unit_told("speed", "kHz", "give points and trace the same khz=")
+    unit_told("power", "uW", "give the points of one uw=")
+}
 # Debian's awk reads and writes a comma for the decimal point where the locale has one: 16.667 would be 16.
 function has_decimal_comma() { return "1.5" * 2 != 3 || sprintf("%.1f", 1.5) != "1.5" }
 
@@ -41,6 +54,7 @@ BEGIN {
     if (over) exit
 }
 { sub(/\r$/, "") }
+/^#/ && / unit [0-9]/ { units_told() }
 $1 == "job" || $1 == "task" {
     if (NF != ($1 == "job" ? 5 : 6) || $NF !~ /^[0-9]+$/) fail_line("a " $1 " wants " ($1 == "job" ? "NAME RELEASE DEADLINE WORK" : "NAME OFFSET PERIOD DEADLINE WORK"))
     scaled = int(($NF * numerator + denominator - 1) / denominator)

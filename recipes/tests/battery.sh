@@ -79,7 +79,7 @@ points_of_another_device() {
 	grep -v '^point 48' "$work/points" >"$work/other"
 	refuses "battery: fewer points" 1 "" "battery.awk: the points differ: 4 of them and then 3; give the points of one device" battery "$work/device" "$work/other" "$work/energies"
 	sed 's/power unit 1 uW/power unit 10 uW/' "$work/points" >"$work/other"
-	refuses "battery: two units of power" 1 "" "battery.awk: line 1: a unit of power of 10 uW here and 1 uW before; give the points of one device" \
+	refuses "battery: two units of power" 1 "" "battery.awk: line 1: a unit of power of 10 uW here and 1 uW before; give the points of one uw=" \
 		battery "$work/device" "$work/other" "$work/energies"
 	refuses "battery: uw= beside the points" 2 "" "battery.awk: uw=10, and the points' unit of power is 1 uW; leave the option out" battery -v uw=10 "$work/device" "$work/energies"
 	(cat "$work/device" && echo "# period 5000") >"$work/other"

@@ -1,0 +1,89 @@
+# units.sh: read by test.sh. Texts of one document have the same units: yds-join puts them together, and each tool that reads them looks.
+
+join() { recipe join.awk "$@"; }
+
+test_units() {
+	texts_together
+	for try in "time@a unit of time of 100 us here and 10 us before; give both the same us=" \
+		"speed@a unit of speed of 1000 kHz here and 10000 kHz before; give points and trace the same khz=" \
+		"power@a unit of power of 10 uW here and 1000 uW before; give the points of one uw="; do
+		reads_together "${try%%@*}" "${try#*@}"
+	done
+}
+
+texts_together() {
+	cat "$expected/points.txt" "$expected/trace.txt" >"$work/both"
+	same "join: points and a trace" 0 trace.txt eval "recipe join.awk '$expected/points.txt' '$expected/trace.txt' | tail -n +$(($(wc -l <"$expected/points.txt") + 1))"
+	join "$expected/points.txt" "$expected/trace.txt" >"$work/joined"
+	if cmp -s "$work/both" "$work/joined"; then pass; else fail "join: the texts one after the other"; fi
+	if [ -n "$("$YDS" audit --points <"$work/joined" | grep feasible)" ]; then pass; else fail "join: the program reads it"; fi
+	sed 's/speed unit 10000 kHz/speed unit 1000 kHz/' "$expected/points.txt" >"$work/points"
+	answers "join: a speed in two units" 1 failed eval "(recipe join.awk '$work/points' '$expected/trace.txt' | tail -n 1; exit 1)"
+	faulty "join: a speed in two units, the message" "join.awk: trace.txt, line 2: a unit of speed of 10000 kHz here, and 1000 kHz in points; give both the same khz=" points "$expected/trace.txt"
+	answers "join: what is refused isn't read" 3 "refused 36 1 UnknownKind" eval "(recipe join.awk '$work/points' '$expected/trace.txt' 2>/dev/null | '$YDS' audit | sed 's/ [0-9]* / 36 /'; exit 3)"
+	sed 's/time unit 10 us/time unit 100 us/' "$expected/trace.txt" >"$work/trace"
+	faulty "join: a time in two units" "join.awk: trace, line 2: a unit of time of 100 us here, and 10 us in trace.txt; give both the same us=" "$expected/trace.txt" trace
+	faulty "join: points twice" "join.awk: points-tree.txt has points, and points.txt too; give the points of one device" "$expected/points.txt" "$expected/points-tree.txt"
+	sed 's/power unit 1000 uW/power unit 100 uW/' "$expected/points.txt" >"$work/points"
+	faulty "join: a power in two units" "join.awk: points.txt, line 1: a unit of power of 1000 uW here, and 100 uW in points; give the points of one uw=" points "$expected/points.txt"
+	faulty "join: two traces" "join.awk: trace-starving.txt, line 1: time 0 at 100.000000000 s here, and 5123.400623456 s in trace.txt; give one trace" \
+		"$expected/trace.txt" "$expected/trace-starving.txt"
+	printf '# period 10\njob a 0 10 1\n' >"$work/ten"
+	printf '# period 20\njob b 0 10 1\n' >"$work/twenty"
+	faulty "join: two periods" "join.awk: twenty, line 1: the period 20 here, and 10 in ten; give the jobs of one horizon" ten twenty
+	faulty "join: an empty text" "join.awk: empty has no line of a document; look at what wrote it" ten empty
+	faulty "join: an answer of no" "join.awk: failed.txt, line 1: the input is an answer of no: failed" ten "$here/samples/bad/failed.txt"
+	faulty "join: another text" 'join.awk: microcontroller.csv, line 1: "MHz,mA" is no line of a document' ten "$here/samples/microcontroller.csv"
+	faulty "join: no such file" "join.awk: nowhere can't be read" ten nowhere
+	faulty "join: a folder" "join.awk: folder can't be read" ten "$here/samples/folder"
+	refuses "join: one text" 2 failed "join.awk: fewer than two texts" join "$expected/trace.txt"
+	answers "join: a text that tells no units" 0 "# ten tells no units: they are taken to be those of points.txt" \
+		eval "recipe join.awk '$expected/points.txt' '$work/ten' | tail -n 1"
+	printf '# period 10\r\njob c 0 10 1' >"$work/last"
+	join "$work/last" "$work/ten" >"$work/joined"
+	if [ "$(cat "$work/joined")" = "# period 10
+job c 0 10 1
+# period 10
+job a 0 10 1" ]; then pass; else fail "join: a last line without its end, and ends of Windows"; fi
+}
+# faulty NAME ERROR TEXT TEXT: the first line of the errors, with the files' bare names; the status is 1, and the last line of the output failed.
+faulty() {
+	: >"$work/empty"
+	(cd "$work" && recipe join.awk "$3" "$4" >"$work/out" 2>"$work/err")
+	got=$?
+	if [ $got = 1 ] && [ "$(tail -n 1 "$work/out")" = failed ] && [ "$(head -n 1 "$work/err" | sed "s|$expected/||g; s|$here/samples/bad/||; s|$here/samples/||")" = "$2" ]; then pass; return; fi
+	fail "$1 (status $got)"
+	echo "wanted: $2"
+	head -n 3 "$work/err"
+}
+
+# Each tool that reads a document refuses two units in it.
+reads_together() {
+	kind=$1 text=$2
+	printf '%s\n' '# table: speed unit 10000 kHz, power unit 1000 uW' 'point 0 0' 'point 10 20' '# time unit 10 us' 'job a 0 10 10' 'slot a 0 1 10' >"$work/one"
+	{
+		cat "$work/one"
+		echo "# told again: time unit 10 us, speed unit 10000 kHz, power unit 1000 uW" | case $kind in
+		time) sed 's/10 us/100 us/' ;;
+		speed) sed 's/10000 kHz/1000 kHz/' ;;
+		power) sed 's/1000 uW/10 uW/' ;;
+		esac
+	} >"$work/two"
+	grep -v '^slot' "$work/two" >"$work/two-jobs"
+	refuses "units: energy, $kind" 1 "" "energy.awk: line 7: $text" energy "$work/two"
+	refuses "units: jobs, $kind" 1 "" "jobs.awk: line 7: $text" recipe jobs.awk "$work/two"
+	refuses "units: changes, $kind" 1 "" "changes.awk: line 7: $text" recipe changes.awk "$work/two"
+	refuses "units: slots, $kind" 1 failed "slots.awk: line 7: $text" recipe slots.awk "$work/two"
+	refuses "units: scale, $kind" 1 failed "scale.awk: line 6: $text" recipe scale.awk -v work=2 "$work/two-jobs"
+	refuses "units: battery, $kind" 1 "" "battery.awk: line 7: $text" recipe battery.awk -v mah=1 -v volts=1 -v period=1 "$work/two"
+	refuses "units: answer, $kind" 1 "" "answer.awk: line 7: $text" from "$work/two" recipe answer.awk
+	refuses "units: misses, $kind" 1 "" "misses.sh: line 7: ${text%%;*}; give texts of the same us=, khz= and uw=" env YDS="$YDS" AWK="$AWK" sh "$here/misses.sh" "$work/two"
+	refuses "units: parts, $kind" 1 "" "parts.awk: line 7: $text" recipe parts.awk -v folder="$work/parts" "$work/two"
+	text_of_part=$(cat "$work/parts/part-00001.txt" 2>/dev/null)
+	if [ "$text_of_part" = failed ]; then pass; else fail "units: parts, $kind: $text_of_part"; fi
+	if want gnuplot; then
+		refuses "units: plot, $kind" 1 "" "plot.sh: line 7: $text" sh "$here/plot.sh" gantt "$work/two"
+		refuses "units: plot with units of its own, $kind" 1 "" "plot.sh: line 7: $text" sh "$here/plot.sh" gantt -u 10us,10MHz,1mW "$work/two"
+	fi
+	if energy "$work/one" >"$work/out" 2>&1 && YDS=$YDS AWK=$AWK sh "$here/misses.sh" "$work/one" >"$work/out" 2>&1; then pass; else fail "units: one unit of $kind"; cat "$work/out"; fi
+}
