@@ -75,7 +75,7 @@ function add_side() {
     known[$1] = 1
     side[++sides] = $1
 }
-function read_comment() {
+function read_comment(    text) {
     units_told()
     if ("power" in unit_before) told = unit_before["power"]
     if (/^# period [0-9]+$/) {
@@ -84,10 +84,24 @@ function read_comment() {
     }
     if (/^# no period: /) no_period = substr($0, 3)
     if (/^# [^ ]+ misses [0-9]+ deadlines?, /) misses[$2] = $3 " " $4
-    if (/^# not due by [0-9]+: /) not_due[++not_dues] = $0
-    if (/^# [0-9]+ jobs? written, [0-9]+ left out/) missing += $5
-    if (/^# late, without its runs: /) missing++
-    if (/^# not ended: /) unended++
+    # What the document and the lines of energy.awk tell of energy that is in no line.
+    if (/^# not due by [0-9]+: /) caveat($0 ~ /: this energy is in no line$/ ? $0 : $0 ": this energy is in no line")
+    if (/^# [0-9]+ jobs? written, [0-9]+ left out/ && $5 > 0)
+        caveat("# " counted($5, "job was left out of the document, with its energy", "jobs were left out of the document, with their energy"))
+    if (/^# ([0-9]+ jobs? (was|were) |the work of )/) caveat($0)
+    if (/^# (late, without its runs|not ended): [^ ]+/ && !($0 in said)) {
+        said[$0] = 1
+        if ($2 == "late,") without_runs++
+        text = $0
+        sub(/^# [a-z, ]+: /, "", text)
+        sub(/,? .*/, "", text)
+        if (!unknown_works++) first_unknown = text
+    }
+}
+function caveat(text) {
+    if (text in said) return
+    said[text] = 1
+    caveats[++number_of_caveats] = text
 }
 # Points that stand twice, as in their file and in the document, have to be the same.
 function read_point() {
@@ -135,7 +149,7 @@ function find_unit() {
     if (uw == "") uw = told
     if (uw == "" || uw <= 0) return complain("no unit of power; give uw=, or the file of points with its comment before the lines", 2)
 }
-function plural(n, one, more) { return sprintf("%.0f %s", n, n == 1 ? one : more) }
+function counted(n, one, more) { return sprintf("%.0f %s", n, n == 1 ? one : more) }
 
 END {
     if (over) exit
@@ -155,7 +169,9 @@ END {
         else if (mean[i] > 0) printf "%s\t%.3f\t%.1f\t%.1f\n", side[i], mean[i], mah * volts / mean[i], plan / mean[i] * 100
         else print side[i] "\t0.000\t-\t-"
     }
-    for (i = 1; i <= not_dues; i++) print not_due[i] ": this energy is in no line"
-    if (missing) print "# " plural(missing, "job isn't in the document, and its", "jobs aren't in the document, and their") " energy is in no line"
-    if (unended) print "# " plural(unended, "job never ended, and its", "jobs never ended, and their") " work isn't known: each side may spend more"
+    if (without_runs) caveat("# " counted(without_runs, "job was late and stands in the document without its runs and their energy", "jobs were late and stand in the document without their runs and their energy"))
+    if (unknown_works)
+        caveat("# the work of " counted(unknown_works, "job isn't known, since it never ended or has no runs", "jobs isn't known, since they never ended or have no runs") \
+            ": what serves them whole may spend more and be later, the first " first_unknown)
+    for (i = 1; i <= number_of_caveats; i++) print caveats[i]
 }

@@ -6,7 +6,8 @@
 # Output: a table parted by tabs, a row for each file in order: its name, the energy of plan, avr, oa and of what
 # other sides there are (with six decimals, - where there is none), the event points at which the policies were
 # rounded to the grid, and the answer: ok, or the line that says no. Energies are in the document's units. A side that misses
-# deadlines, as energy.awk tells, has no energy here, and a comment at the end of the table for each such row says so.
+# deadlines, as energy.awk tells, has no energy here, and a comment at the end of the table for each such row says so. Others tell what
+# energy.awk says of jobs whose energy is in no line, or whose work isn't known.
 #
 # Exit status: 0 done; 1 a file can't be read or has a line that is of no such answer; 2 usage.
 
@@ -33,6 +34,10 @@ function read_file(i,    line, field, status, n) {
         sub(/\r$/, "", line)
         n = split(line, field, /[ \t]+/)
         if (line ~ /^# [^ ]+ misses [0-9]+ deadlines?, /) late[i, field[2]] = substr(line, 3)
+        if (line ~ /^# (not due by [0-9]+: |[0-9]+ jobs? (was|were) |the work of [0-9]+ jobs? isn't known, since )/ && !((i, line) in told)) {
+            told[i, line] = 1
+            caveats[i] = caveats[i] substr(line, 3) "\n"
+        }
         if (n == 0 || field[1] ~ /^#/) continue
         if (field[1] ~ /^(refused|too-slow|usage:|failed)$/) { answer[i] = line; gsub(/\t/, " ", answer[i]) }
         else if (field[2] == "energy") {
@@ -72,6 +77,8 @@ BEGIN {
             line = line "\t" ((i, side[s]) in energy && !is_late ? sprintf("%.6f", energy[i, side[s]]) : "-")
             if (is_late) notes = notes "# " name ": " late[i, side[s]] "\n"
         }
+        n = split(caveats[i], caveat, "\n")
+        for (s = 1; s < n; s++) notes = notes "# " name ": " caveat[s] "\n"
         print line "\t" rounded[i] "\t" answer[i]
     }
     printf "%s", notes

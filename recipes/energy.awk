@@ -9,8 +9,10 @@
 # Exact where every slot is on a point and the times are whole or in ticks; else rounded to thousandths, as a comment says.
 # A deadline is missed where a job runs past it, or has less work by then than it wants (of fractions to one part in 10^9;
 # yds_cli audit is exact), or where a comment of trace.awk says so: of a job that was left out and was late, or one late by less than a unit
-# of time. The last line tells how many are missed: `# NAME misses 3 deadlines, the first JOB`. A comment above it tells how many jobs
-# trace.awk left out: their energy is in no line.
+# of time. The last line tells how many are missed: `# NAME misses 3 deadlines, the first JOB`. Comments above it tell how many jobs aren't
+# in the document, or not with their runs: their energy is in no line; how many have no work, as where all runs of a job are shorter than a
+# unit: these need nothing and are in time; and of how many the work isn't known, since they never ended or stand without their runs: another
+# speed, or a plan, that serves them whole may spend more and be later.
 #
 # Options, each as NAME=VALUE (to awk itself as -v NAME=VALUE):
 #   name=NAME   the first word of each line (trace)
@@ -85,6 +87,14 @@ $1 ~ /^(refused|failed|too-slow|usage:)$/ { fail_line("the input is an answer of
     known_deadline[known_lates] = /; window -?[0-9]+ -?[0-9]+$/ ? $NF + 0 : ""
 }
 /^# [0-9]+ jobs? written, [0-9]+ left out/ { left_out += $5 }
+/^# late, without its runs: / { without_runs++ }
+/^# not due by [0-9]+: / { not_due[++not_dues] = $0 }
+/^# (not ended|late, without its runs): [^ ]+/ {
+    text = $0
+    sub(/^# [a-z, ]+: /, "", text)
+    sub(/,? .*/, "", text)
+    if (!unknown_works++) first_unknown = text
+}
 $1 == "job" {
     if ($3 !~ /^[0-9]+$/ || $4 !~ /^[0-9]+$/ || $5 !~ /^[0-9]+$/) fail_line("a job wants whole times and work")
     if (jobs == 0 || $3 + 0 < first) first = $3 + 0
@@ -96,6 +106,7 @@ $1 == "job" {
     deadline[jobs] = $4 + 0
     wanted[jobs] = $5 + 0
     all_work += $5
+    if ($5 + 0 == 0 && !workless++) first_workless = $2
 }
 $1 == "point" {
     if ($2 !~ /^[0-9]+$/ || $3 !~ /^[0-9]+$/) fail_line("a point wants whole numbers")
@@ -211,11 +222,18 @@ function falls_short(i,    lacks) {
 }
 function tell_misses(    i) {
     for (i = 1; i <= jobs; i++) if (i in missed) count_miss(job_name[i], deadline[i])
-    if (left_out) print "# " left_out (left_out > 1 ? " jobs were" : " job was") " left out of the document, with " (left_out > 1 ? "their" : "its") " energy"
+    if (workless) print "# " counted(workless, "job has no work: it needs nothing and is in time", "jobs have no work: they need nothing and are in time") ", the first " first_workless
+    for (i = 1; i <= not_dues; i++) print not_due[i] ": this energy is in no line"
+    if (left_out) print "# " counted(left_out, "job was left out of the document, with its energy", "jobs were left out of the document, with their energy")
+    if (without_runs) print "# " counted(without_runs, "job was late and stands in the document without its runs and their energy", "jobs were late and stand in the document without their runs and their energy")
+    if (unknown_works)
+        print "# the work of " counted(unknown_works, "job isn't known, since it never ended or has no runs", "jobs isn't known, since they never ended or have no runs") \
+            ": what serves them whole may spend more and be later, the first " first_unknown
     if (!misses) return
     print "# " name " misses " misses (misses > 1 ? " deadlines" : " deadline") ", the first " first_miss
     over = 1
 }
+function counted(n, one, more) { return n " " (n == 1 ? one : more) }
 # The first miss is that of the earliest deadline; one whose deadline isn't known is the first only where there is no other.
 function count_miss(job, due) {
     if (!misses++ || due != "" && (earliest_miss == "" || due < earliest_miss)) { first_miss = job; earliest_miss = due }

@@ -290,6 +290,8 @@ function write_text(    j, k, width, line, heading) {
     }
     if (zero != "") print "# release, deadline, begin and end in seconds of the trace's clock; response, slack and late in milliseconds"
     else if (us != "") print "# times in units of " us " us"
+    for (j = k = 0; j <= jobs; j++) if (j && !(j in left_out) && wanted[j] == 0 && !k++) line = name[j]
+    if (k) print "# " k (k > 1 ? " jobs have no work: they need nothing and are in time" : " job has no work: it needs nothing and is in time") ", the first " line
     for (j = 0; j <= jobs; j++) {
         line = sprintf("%-" width[1] "s", table[j, 1])
         for (k = 2; k <= 9; k++) line = line sprintf(" %" (width[k] + 1) "s", table[j, k])

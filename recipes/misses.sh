@@ -15,6 +15,7 @@
 # ends with it: `15.004 ms after its deadline`, or `not ended 13.000 ms after its deadline`, where the trace or to= ends. END may be from
 # such a comment, too: of a job whose last run was shorter than a tick.
 # The last line is the number of missed deadlines, or `feasible`, or the verdict on another fault of the slots.
+# Above it a comment tells how many jobs have no work, as where all runs of a job are shorter than a unit: these need nothing and are in time.
 # Numbers are in the document's units. Where its comments tell the trace's clock, `# due at` is the deadline on it.
 # YDS is the program (yds_cli).
 #
@@ -178,6 +179,8 @@ ${AWK:-awk} "$clock"'
 		}
 	}' "$1" >>"$folder/missed" || exit 1
 cat "$folder/missed"
+${AWK:-awk} '$1 == "job" && $5 == 0 && !n++ { first = $2 }
+	END { if (n) print "# " n (n > 1 ? " jobs have no work: they need nothing and are in time" : " job has no work: it needs nothing and is in time") ", the first " first }' "$1" || exit 1
 if [ $status = 0 ] && ! grep -q '^[[:blank:]]*job[[:blank:]]' "$folder/document"; then
 	echo "misses.sh: $1 has no job, so no deadline was met; look at what wrote it" >&2
 	exit 1

@@ -90,6 +90,7 @@ function draw_energy(    y, i, greatest, stacked, labels, y_label, missing) {
     y_label = axis
     picture_size(150 * sides + 260, 440 + (missing ? 18 : 0))
     if (dumb) for (i = 1; i <= sides; i++) if (side[i] in misses) note(side[i] " " miss_text(i))
+    for (i = 1; i <= caveats; i++) note(caveat[i])
     terminal_line()
     axes_at(92, stacked && !dumb ? 160 : 24, 54, 38 + (missing ? 18 : 0))
     frame("Energy", "", y_label)

@@ -56,9 +56,9 @@ jobs_that_are_missing() {
 		eval "recipe battery.awk -v mah=220 -v volts=3 -v period=1000 '$work/cut' '$work/cut-energies' | tail -n 1"
 	cat "$expected/points.txt" "$expected/trace-starving.txt" >"$work/starving"
 	printf 'plan energy 10\nplan time 0 10\n' >"$work/plan"
-	answers "battery: jobs that a trace's document hasn't" 0 "# 3 jobs aren't in the document, and their energy is in no line" \
+	answers "battery: jobs that a trace's document hasn't" 0 "# 3 jobs were left out of the document, with their energy" \
 		eval "recipe battery.awk -v mah=220 -v volts=3 -v uw=1 -v period=10 '$expected/trace-lost.txt' '$work/plan' | tail -n 1"
-	answers "battery: jobs that never ended" 0 "# 2 jobs never ended, and their work isn't known: each side may spend more" \
+	answers "battery: jobs that never ended" 0 "# the work of 2 jobs isn't known, since they never ended or have no runs: what serves them whole may spend more and be later, the first render.0" \
 		eval "recipe battery.awk -v mah=220 -v volts=3 -v uw=1 -v period=10 '$expected/trace-starving.txt' '$work/plan' | tail -n 1"
 }
 
