@@ -86,6 +86,7 @@ function draw_energy(    y, i, greatest, stacked, labels, y_label, missing) {
     }
     stacked = columns && points && columns == points
     for (i = 1; i <= sides; i++) if ((side[i] in energy) && !(side[i] in with_times)) stacked = 0
+    for (i = 1; i <= sides; i++) if (stacked && !is_of_points(side[i])) return fail("the energy of " side[i] " isn't power times time on these points; give the points with which the energies were made")
     y = energy_axis(greatest)
     y_label = axis
     picture_size(150 * sides + 260, 440 + (missing ? 18 : 0))
@@ -102,6 +103,17 @@ function draw_energy(    y, i, greatest, stacked, labels, y_label, missing) {
     for (i = 1; i <= sides; i++) energy_labels(i, y)
     if (stacked && !dumb) energy_by_point(y)
     else energy_bars(y)
+}
+# Energy is power times time on the points, but for times that are rounded to thousandths.
+function is_of_points(name,    c, sum, rounding) {
+    if (!(name in energy)) return 1
+    for (c = 1; c <= columns; c++) {
+        if (column_speed[c] != point[c]) return 0
+        sum += power[c] * spent[name, c]
+        rounding += power[c] * 0.0005
+    }
+    sum -= energy[name]
+    return (sum < 0 ? -sum : sum) <= rounding + 0.0005 + 0.000000001 * energy[name]
 }
 function miss_text(i) { return "misses " plural(misses[side[i]], "deadline") }
 # Above a side's bar its energy, and how much it is above the plan's; below its name how many deadlines it missed.

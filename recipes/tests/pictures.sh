@@ -114,6 +114,15 @@ test_misses_of_energy() {
 	holds "energy: deadlines that were missed" "$work/misses.svg" '>misses 1 deadline<' '>misses 3 deadlines<'
 	apart "energy: deadlines that were missed" "$work/misses.svg"
 	if plot energy -t dumb "$work/misses" | grep -q 'slower misses 3 deadlines'; then pass; else fail "energy: missed deadlines, as text"; fi
+	# The bars are power times time on the points that stand before them.
+	printf 'plan energy 60\nplan time 0 7\nplan time 10 3\n' >"$work/bars"
+	printf 'point 0 0\npoint 10 20\n' | cat - "$work/bars" | plot energy >"$work/bars.svg"
+	holds "energy: by point" "$work/bars.svg" '>60<' '>10<'
+	for other in 'point 0 0\npoint 10 30\n' 'point 0 0\npoint 11 20\n' 'point 0 1\npoint 10 20\n'; do
+		# shellcheck disable=SC2059
+		printf "$other" | cat - "$work/bars" >"$work/wrong"
+		refuses "energy: points of another device" 1 "" "plot.sh: the energy of plan isn't power times time on these points; give the points with which the energies were made" plot energy "$work/wrong"
+	done
 	# The trace is late, and the point 10 isn't for that.
 	printf 'point 0 0\npoint 1 1\npoint 10 100\njob a 0 10 10\nticks 1\nrun a 5 15 1\n' >"$work/late"
 	(printf 'plan energy 10\n' && energy -v name=governor "$work/late"; energy -v name=flat-out -v at=10 "$work/late") >"$work/both-sides"
