@@ -88,7 +88,7 @@ function read_comment(    text) {
     if (/^# not due by [0-9]+: /) caveat($0 ~ /: this energy is in no line$/ ? $0 : $0 ": this energy is in no line")
     if (/^# [0-9]+ jobs? written, [0-9]+ left out/ && $5 > 0)
         caveat("# " counted($5, "job was left out of the document, with its energy", "jobs were left out of the document, with their energy"))
-    if (/^# ([0-9]+ jobs? (was|were) |the work of )/) caveat($0)
+    if (/^# (part [0-9]+: )?([0-9]+ jobs? (was|were) |the work of )/ || /^# part [0-9]+: not due by /) caveat($0)
     if (/^# (late, without its runs|not ended): [^ ]+/ && !($0 in said)) {
         said[$0] = 1
         if ($2 == "late,") without_runs++

@@ -34,7 +34,7 @@ function read_file(i,    line, field, status, n) {
         sub(/\r$/, "", line)
         n = split(line, field, /[ \t]+/)
         if (line ~ /^# [^ ]+ misses [0-9]+ deadlines?, /) late[i, field[2]] = substr(line, 3)
-        if (line ~ /^# (not due by [0-9]+: |[0-9]+ jobs? (was|were) |the work of [0-9]+ jobs? isn't known, since )/ && !((i, line) in told)) {
+        if (line ~ /^# (part [0-9]+: )?(not due by [0-9]+: |[0-9]+ jobs? (was|were) |the work of [0-9]+ jobs? isn't known, since )/ && !((i, line) in told)) {
             told[i, line] = 1
             caveats[i] = caveats[i] substr(line, 3) "\n"
         }

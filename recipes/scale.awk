@@ -66,6 +66,8 @@ $1 == "job" || $1 == "task" {
     kept[NR] = $0
     next
 }
+# Work that isn't in the document doesn't grow with it: the comment keeps its jobs and loses their work.
+/^# not due by [0-9]+: / { sub(/, work [0-9]+$/, "") }
 $1 == "point" || $1 == "horizon" || /^[ \t]*(#|$)/ { kept[NR] = $0; next }
 { fail_line("\"" $1 "\" doesn't grow with the work; give jobs or tasks alone") }
 END {
