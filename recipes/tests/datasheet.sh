@@ -47,6 +47,12 @@ point 0 1
 point 267 10
 point 533 20
 point 1600 90" points "$work/part"
+	# 1.005 * 1000 is a little less than 1005 where decimals are rounded to binary places.
+	printf 'MHz,mW\n0,1\n1.005,10\n2.01,30\n' >"$work/part"
+	text "units: a decimal that is no binary fraction" 0 "# table: speed unit 1005 kHz, power unit 1000 uW
+point 0 1
+point 1 10
+point 2 30" points "$work/part"
 	# 240,000 units of 1 kHz are too many, and no greater unit divides both.
 	printf 'kHz,mW\n0,1\n10001,10\n240000,290\n' >"$work/part"
 	text "units: no unit divides all speeds" 0 "# table: speed unit 10000 kHz, power unit 1000 uW
