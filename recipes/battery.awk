@@ -66,9 +66,9 @@ NF == 3 && $2 == "energy" && is_fraction($3) { add_side(); energy[$1] = value($3
 NF > 2 && $2 == "too-slow" { add_side() }
 NF == 4 && $2 == "time" && is_fraction($4) {
     time[$1] += value($4)
-    times++
-    if (points && !($3 in powers_at)) fail_line("no point has the speed " $3 " of " $1 "; give the points with which the energies were made")
-    if (points) { spent[$1] += powers_at[$3] * value($4); rounding[$1] += powers_at[$3] * 0.0005; speeds_of[$1]++ }
+    time_side[++times] = $1
+    time_speed[times] = $3 + 0
+    time_spent[times] = value($4)
 }
 function add_side() {
     if ($1 in known) fail_line("the side " $1 " stands twice; write its lines into a new file")
@@ -114,9 +114,19 @@ function read_point() {
     points++
     speed[points] = $2 + 0
     power[points] = $3 + 0
-    powers_at[$2] = $3 + 0
+    powers_at[speed[points]] = power[points]
 }
 # Energy is power times time on these points, but for times that are rounded to thousandths.
+function take_times(    k, name) {
+    for (k = 1; k <= times; k++) {
+        name = time_side[k]
+        if (!(time_speed[k] in powers_at))
+            return fail("no point has the speed " time_speed[k] " of " name "; give the points with which the energies were made")
+        spent[name] += powers_at[time_speed[k]] * time_spent[k]
+        rounding[name] += powers_at[time_speed[k]] * 0.0005
+        speeds_of[name]++
+    }
+}
 function is_of_points(name,    off) {
     if (!(name in energy)) return 1
     off = energy[name] - spent[name]
@@ -125,7 +135,8 @@ function is_of_points(name,    off) {
 }
 function check_sides(    i, name) {
     if (lists > 1 && place < points) return fail("the points differ: " points " of them and then " place "; give the points of one device")
-    for (i = 1; i <= sides; i++) {
+    if (points) take_times()
+    for (i = 1; i <= sides && !over; i++) {
         name = side[i]
         if (!(name in energy)) continue
         if (time[name] <= 0) return fail("the side " name " has no time; give its time lines too")

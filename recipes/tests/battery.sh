@@ -70,7 +70,7 @@ points_of_another_device() {
 		"battery.awk: the energy of at-16 isn't power times time on these points; give the points with which the energies were made" \
 		battery -v period=10000 "$work/other" "$work/energies"
 	grep -v '^point 4 ' "$work/points" >"$work/other"
-	refuses "battery: a speed that the points haven't" 1 "" "battery.awk: line 3: no point has the speed 4 of plan; give the points with which the energies were made" \
+	refuses "battery: a speed that the points haven't" 1 "" "battery.awk: no point has the speed 4 of plan; give the points with which the energies were made" \
 		battery -v period=10000 "$work/other" "$work/energies"
 	echo 'point 64 20000' | cat "$work/points" - >"$work/other"
 	refuses "battery: a speed that the energies haven't" 1 "" \
@@ -84,5 +84,6 @@ points_of_another_device() {
 	refuses "battery: uw= beside the points" 2 "" "battery.awk: uw=10, and the points' unit of power is 1 uW; leave the option out" battery -v uw=10 "$work/device" "$work/energies"
 	(cat "$work/device" && echo "# period 5000") >"$work/other"
 	refuses "battery: two periods" 1 "" "battery.awk: line 19: the period 5000 here and 10000 before; give one document" battery "$work/other" "$work/energies"
+	hours "battery: the points behind the energies" at-16 0.216 3059.3 battery "$work/energies" "$work/device"
 	hours "battery: the points twice" at-16 0.216 3059.3 battery "$work/points" "$work/device" "$work/energies"
 }
