@@ -1,6 +1,6 @@
 # energy.awk: what the slots or runs of a document spend on its points, in the lines of `yds_cli compare`.
 #
-#   cat points.txt trace.txt | yds-energy name=governor
+#   yds-join points.txt trace.txt | yds-energy name=governor
 #
 # Input: a document with `point` lines and `slot` or `run` lines, as of trace.awk, `yds_cli plan` or `oa`.
 # Output: `NAME energy X` and for each point `NAME time SPEED X`, in the document's units: power times time, time.
@@ -248,7 +248,7 @@ function add_known_misses(    i) {
 
 END {
     if (over) exit
-    if (!points) fail("no point line; put the points before the document, as cat points.txt trace.txt")
+    if (!points) fail("no point line; put the points before the document, as yds-join points.txt trace.txt")
     else if (!jobs) fail("no job line")
     else if (at == "" && !n) fail("no slot and no run line; the input is a trace's document, or the answer of plan, round, avr or oa")
     if (over) exit 1

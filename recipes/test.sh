@@ -241,7 +241,7 @@ test_energy() {
 	cat "$expected/points.txt" "$expected/trace.txt" >"$work/both"
 	same "energy: of a trace" 0 energy.txt energy -v name=governor "$work/both"
 	same "energy: flat out" 0 energy-at.txt energy -v at=142 "$work/both"
-	refuses "energy: no points" 1 "" "energy.awk: no point line; put the points before the document, as cat points.txt trace.txt" energy "$expected/trace.txt"
+	refuses "energy: no points" 1 "" "energy.awk: no point line; put the points before the document, as yds-join points.txt trace.txt" energy "$expected/trace.txt"
 	refuses "energy: above the top" 1 "" "energy.awk: the speed 60 from 0 to 200 is above the top point 41" energy bad/slow.txt
 	refuses "energy: a name of two words" 2 "" "energy.awk: name=my policy isn't one word" energy -v "name=my policy" "$work/both"
 	refuses "energy: no such point" 1 "" "energy.awk: no point has the speed 50" energy -v at=50 "$work/both"
