@@ -190,33 +190,50 @@ BEGIN {
     if (over) exit
     first_time = ""
     stamped = "\\[[0-9]+\\][ \t]+([^ \t]+[ \t]+)?[0-9]+\\.[0-9]+:[ \t]+"
-    event = stamped "(sched:|power:)?(sched_switch|sched_waking|sched_wakeup|sched_wakeup_new|cpu_frequency):"
+    stamped_name = stamped "[A-Za-z0-9_:]*:([ \t\r]|$)"
+    event = "(sched:|power:)?(sched_switch|sched_waking|sched_wakeup|sched_wakeup_new|cpu_frequency):"
+    event_alone = "^" event "$"
+    event_behind = stamped event "[ \t]"
 }
 
 # ---- The lines of the trace. Those that matter become events 1 to n: kind, at, who and so on.
 
 /EVENTS|PERF_RECORD_LOST|buffer started/ && read_loss() { next }
-!/sched_|cpu_frequency/ || !match($0, event) { skipped = $0; next }
+!/sched_|cpu_frequency|tracing_mark_write|print/ || !match($0, stamped_name) { skipped = $0; next }
 {
-    head = substr($0, RSTART, RLENGTH)
     rest = substr($0, RSTART + RLENGTH)
+    stamp = read_stamp()
+    if (word !~ event_alone) { read_other_event(); next }
     sub(/\r$/, "", rest)
     sub(/^[ \t]+/, "", rest)
     sub(/[ \t]+$/, "", rest)
-    on = leading_number(substr(head, 2))
-    read_time()
-    if (head ~ /cpu_frequency:$/) read_frequency()
-    else if (head ~ /sched_switch:$/) read_switch()
+    read_time(stamp)
+    if (word ~ /cpu_frequency:$/) read_frequency()
+    else if (word ~ /sched_switch:$/) read_switch()
     else read_wake_up()
     last_on[on] = time
 }
 
-function stamp_of(head) {
-    match(head, /[0-9]+\.[0-9]+:[ \t]/)
-    return substr(head, RSTART, RLENGTH - 2)
+# A line's stamp is the first place at which a CPU, perhaps flags, a time and the name of an event stand. What is before it is a
+# task's name. Only the name that stands there says which event it is: an application may write anything into a marker.
+function read_stamp(    part, parts) {
+    parts = fields_of(substr($0, RSTART, RLENGTH), part)
+    word = part[parts]
+    on = leading_number(substr(part[1], 2))
+    return without_colon(part[parts - 1])
 }
-function read_time(    stamp, before) {
-    stamp = stamp_of(head)
+function fields_of(text, part,    parts) {
+    parts = split(text, part, /[ \t\r]+/)
+    return part[parts] == "" ? parts - 1 : parts
+}
+function without_colon(text) { return substr(text, 1, length(text) - 1) }
+# An event of another kind. Those of an application are counted, and so are those that hold the words of an event that matters.
+function read_other_event() {
+    skipped = $0
+    if (word ~ /^(.*:)?(tracing_mark_write|print|bprint):$/) markers++
+    if ($0 ~ event_behind) hidden++
+}
+function read_time(stamp,    before) {
     if (first_time == "") { second0 = stamp; sub(/\..*/, "", second0); second0 += 0 }
     before = time
     time = nanoseconds(stamp)
@@ -225,9 +242,10 @@ function read_time(    stamp, before) {
     for (; losses_settled < losses; losses_settled++) lost_until[losses_settled + 1] = time
 }
 # The time of the last line, also where it is none of those that matter.
-function end_of_trace(    last) {
-    if (!match(skipped, stamped)) return time
-    last = nanoseconds(stamp_of(substr(skipped, RSTART, RLENGTH)))
+function end_of_trace(    part, parts, last) {
+    if (!match(skipped, stamped_name) && !match(skipped, stamped)) return time
+    parts = fields_of(substr(skipped, RSTART, RLENGTH), part)
+    last = nanoseconds(without_colon(part[parts] ~ /^[0-9]+\./ ? part[parts] : part[parts - 1]))
     return last > time ? last : time
 }
 # A line that says that events of a CPU were lost: all since its last one or, where its buffer starts here, all before.
@@ -752,6 +770,8 @@ function write_comments(    i, j, t) {
     if (high != "" && high > trace_end) print "# the trace ends at " clock(trace_end) " s, before to="
     if (left_out_time) printf "# left-out jobs ran on this CPU for %.3f ms\n", left_out_time / 1000000
     printf "# other tasks ran for %.3f ms of %.3f ms\n", others_time / 1000000, (last_time - start_time) / 1000000
+    if (markers) print "# " counted(markers, "line") " of tracing_mark_write, print or bprint, in which an application writes what it likes"
+    if (hidden) print "# " counted(hidden, "line") " of other events with the words of a switch, a wake-up or a change of frequency in the text; none was read as one"
     if (changes) print "# " counted(changes, "change") " of frequency, " (changes_from_elsewhere + 0) " of them from another CPU"
     print "# " counted(jobs_written, "job") " written, " (left_out ? left_out " left out, " (left_out_late + 0) " of them late" : "none left out")
 }

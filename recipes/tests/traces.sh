@@ -23,6 +23,7 @@ test_traces() {
 	traces_with_gaps
 	traces_of_unsure_ends
 	traces_cut_at_the_ends
+	traces_of_markers
 	other_traces
 }
 
@@ -190,6 +191,38 @@ run audio.3 30029 30877 1416
 	says "traces: long" 0 "job a.4099 4099000 4100000 20000
 # 4100 jobs written, none left out" tail -n 4110 "$work/long"
 	if [ "$(grep -c '^run' "$work/long")" = 4100 ]; then pass; else fail "traces: the runs of a long trace"; fi
+}
+
+# A line is what its first stamp says. An application may write the words of a switch into a marker, and a name may have any of them.
+traces_of_markers() {
+	t="-v tasks=t:10 -v start=1000000"
+	# shellcheck disable=SC2086
+	trace $t marker.txt >"$work/marked"
+	same "traces: a marker with the words of a switch" 0 trace-marker.txt cat "$work/marked"
+	answers "traces: a job behind such a marker is late" 1 "late slot 1 t.0 4150 deadline 1000" from "$work/marked" "$YDS" audit
+	grep -v tracing_mark_write marker.txt >"$work/plain"
+	# shellcheck disable=SC2086
+	trace $t "$work/plain" >"$work/unmarked"
+	if grep -v '^# 2 lines of' "$work/marked" | cmp -s - "$work/unmarked"; then pass; else fail "traces: the same without the markers"; fi
+	for word in print: bprint: ftrace:print: tracing_mark_write:; do
+		sed "s/tracing_mark_write:/$word/" marker.txt >"$work/words"
+		# shellcheck disable=SC2086
+		same "traces: a marker as $word" 0 trace-marker.txt trace $t "$work/words"
+	done
+	# The name of a thread that has nearly a stamp, an arrow or a word of the events.
+	for thread in 'Web [1] Content' '[0] 1.5: a:' '==> next_comm=q' 'pid=1 prio=2' sched_switch: 'EVENTS LOST' 'a [003] d..2.'; do
+		for file in report raw file perf perfetto; do
+			stored=trace.txt on=0 pids=1201:1202
+			case $file in perf) stored=trace-perf.txt on=3 pids=16127:16128 ;; file | perfetto) stored=trace-file.txt ;; esac
+			sed "s/decode/$thread/g" trace-$file.txt >"$work/named"
+			same "traces: a thread named $thread, $file" 0 $stored trace -v cpu=$on -v start=2000000 -v "tasks=${pids%:*}=decode:16.667,${pids#*:}=audio:10" "$work/named"
+		done
+	done
+	# A whole stamp in a name hides its lines, and that isn't passed over.
+	sed 's/decode/[0] 1.5: a: b/g' trace-report.txt >"$work/named"
+	refuses "traces: a thread named as a stamp" 1 failed \
+		"trace.awk: line 14: a switch is missing: kworker/0:1 leaves CPU 0, and the last to come was [0] 1.5: a: b; record again, perhaps with trace-cmd" \
+		trace -v tasks=1201=decode:16.667,audio:10 "$work/named"
 }
 
 other_traces() {
