@@ -10,7 +10,7 @@
 #   report levels                                                         of report
 #   energies times roundings too_slow misses                              of compare and energy.awk, by side
 #   breaks, refused_jobs, one_level, trial                                of curve, admit, expand, trial
-#   missed, and verdicts of jobs that trace.awk left out                  of misses.sh, whose `# due at` is a column due, and by how much a
+#   missed, and verdicts of jobs whose runs aren't in the document       of misses.sh, whose `# due at` is a column due, and by how much a
 #                                                                         job was late a column late, late_at_least, late_ms or not_ended_ms
 #   comments                                                              what else begins with #
 # Output: one object on one line, each table in it an array of objects; for several files a line for each, with its name as `file`.
@@ -201,11 +201,13 @@ function take_miss(n,    due, by, word) {
         due = field[n - 1]
         text = substr(text, 1, RSTART - 1)
     }
-    if (text ~ /^(left out|late by less than a unit of time): .* ms after its deadline/) {
+    if (text ~ /^(left out|late, without its runs|late by less than a unit of time|not ended|late in a run within one tick): .* ms after its deadline/) {
         split(text, word, ": ")
         new_row("verdicts")
         put("verdict", word[1], "text")
-        put("job", word[1] == "left out" ? field[3] : substr(field[9], 1, length(field[9]) - 1), "text")
+        split(word[2], field, / /)
+        sub(/,$/, "", field[1])
+        put("job", field[1], "text")
         put("reason", substr(text, length(word[1]) + 3), "text")
     } else {
         if (match(text, /, (by |not ended |[0-9.]+ ms ).*$/)) {

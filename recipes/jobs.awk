@@ -12,6 +12,7 @@
 # on the points' lower hull, by time. All in the document's units, fractions as decimals with at most six places; what isn't 0
 # is never rounded to 0.
 #   A job whose slots give less than its work hasn't ended: its end is `never` (in CSV inf), its response and its lateness inf.
+#   A late job that trace.awk has without its runs has the end and the lateness that the comment below its line tells.
 #   Jobs that trace.awk left out, and that admit refused, follow, with the reason in brackets after the name and what is known of them.
 # What isn't known, and the energy without points, is `-`, in CSV nothing. A job of no work needs no slot: it ends at its release.
 #
@@ -145,9 +146,9 @@ function read_comment(    text, reason, how) {
     if (match($0, /time unit [0-9]+ us/)) told_us = substr($0, RSTART + 10) + 0
     units_told()
     if (/^# refuse [^ ]+ from [0-9]+ to [0-9]+ work /) add_left_out($3, "refused by admit", "")
-    if (!match($0, /^# (left out|not ended|late in a run within one tick|late by less than a unit of time): /)) return
+    if (!match($0, /^# (left out|late, without its runs|not ended|late in a run within one tick|late by less than a unit of time): /)) return
     text = substr($0, RSTART + RLENGTH)
-    if ($2 == "left") {
+    if ($2 == "left" || $2 == "late,") {
         if (text !~ /^[^ ]+ \(.*\)/) return
         reason = text
         sub(/^[^ ]+ \(/, "", reason)
@@ -155,7 +156,8 @@ function read_comment(    text, reason, how) {
         how = substr(reason, RSTART + 1)
         reason = substr(reason, 1, RSTART - 1)
         sub(/ .*/, "", text)
-        add_left_out(text, reason, how)
+        if ($2 == "left") add_left_out(text, reason, how)
+        else if (text in number) take_without_runs(number[text], how)
     } else {
         if ($2 == "not" || !match(text, /, [0-9.]+ ms after its deadline$/)) return
         late_ms_of[substr(text, 1, RSTART - 1)] = substr(text, RSTART + 2) + 0
@@ -170,12 +172,29 @@ function add_left_out(text, reason, how,    part) {
         release[jobs] = part[1] + 0
         deadline[jobs] = part[2] + 0
     }
-    if (how ~ /^, not ended /) never[jobs] = 1
-    if (how ~ /^, at least /) at_least[jobs] = 1
+    take_lateness(jobs, how)
+}
+function take_lateness(j, how) {
+    if (how ~ /^, not ended /) never[j] = 1
+    if (how ~ /^, at least /) at_least[j] = 1
     if (how ~ / ms after its deadline/) {
         sub(/^, (at least )?/, "", how)
-        late_ms[jobs] = how + 0
+        late_ms[j] = how + 0
     }
+}
+# A late job that is in the document, and its runs aren't. Its line hasn't its window where that is unknown, or begins before time 0.
+function take_without_runs(j, how,    part) {
+    without_runs[j] = 1
+    take_lateness(j, how)
+    if (!match(how, /; window -?[0-9]+ -?[0-9]+$/)) {
+        delete release[j]
+        delete deadline[j]
+        return
+    }
+    split(substr(how, RSTART + 9), part, " ")
+    if (part[1] >= 0) return
+    release[j] = part[1] + 0
+    deadline[j] = part[2] + 0
 }
 
 function lower_hull(    i) {
@@ -245,7 +264,7 @@ function read_zero(    part) {
 # What a row says: begin, end, slack and the rest, each as text.
 function fill_row(j,    finish, late) {
     finish = late = ""
-    if (j in left_out) {
+    if ((j in left_out) || (j in without_runs)) {
         if (j in never) finish = late = infinite
         else if (j in late_ms) late = late_ms[j] * 1000 / us
         if (late != "" && late != infinite && (j in deadline) && !(j in at_least)) finish = deadline[j] + late
@@ -259,12 +278,12 @@ function fill_row(j,    finish, late) {
     cell[1] = name[j] ((j in left_out) ? " (left out: " left_out[j] ")" : "")
     cell[2] = (j in release) ? moment(release[j]) : ""
     cell[3] = (j in deadline) ? moment(deadline[j]) : ""
-    cell[4] = (j in begin) ? moment(begin[j]) : (j in left_out) ? "" : is_done(j) ? moment(release[j]) : never_word
+    cell[4] = (j in begin) ? moment(begin[j]) : (j in left_out) || (j in without_runs) ? "" : is_done(j) ? moment(release[j]) : never_word
     cell[5] = finish == "" ? "" : moment(finish)
     cell[6] = finish == "" || !(j in release) ? "" : duration(finish == infinite ? infinite : finish - release[j])
     cell[7] = late == "" ? "" : late == infinite ? duration(-infinite) : late > 0 ? duration(-late) : duration(deadline[j] - finish)
     cell[8] = late == "" ? "" : ((j in at_least) && form != "csv" ? ">=" : "") duration(late)
-    cell[9] = (j in energy) ? decimal(energy[j]) : points && !(j in left_out) ? "0" : ""
+    cell[9] = (j in energy) ? decimal(energy[j]) : points && !(j in left_out) && !(j in without_runs) ? "0" : ""
 }
 function write_csv(    j, k, line) {
     print "job,release,deadline,begin,end,response,slack,late,energy"

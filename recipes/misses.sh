@@ -6,8 +6,8 @@
 # Input: a document with jobs and slots or runs, as trace.awk writes it. A job has missed its deadline where
 #   - a slot ends after it: `late slot ..`, the verdict of audit;
 #   - its work isn't done: `work NAME given .. wanted ..`, the verdict of audit; trace.awk writes jobs so that never ended;
-#   - a comment of trace.awk tells it: jobs that were left out and are known to be late, and jobs that were late by less
-#     than a unit of time.
+#   - a comment of trace.awk tells it: jobs that are there without their runs, of which the comment says by how much they were late,
+#     and jobs that were late by less than a unit of time.
 # Each job is told once, in one line. Where audit says so of one job, this recipe reckons which others there are; then it changes
 # the document so that all of them are in time, and audit judges the rest.
 # A late job's line has its last slot and that slot's end: `late slot I JOB END deadline D, by X` says that the job was done at END, X after
@@ -160,24 +160,35 @@ while verdict=$("${YDS:-yds_cli}" audit <"$folder/document"); status=$?; [ $stat
 	told=$verdict
 	meet
 done
-${AWK:-awk} "$clock"'
-	/^# (left out|late by less than a unit of time): / && /, (at least |not ended )?[0-9.]+ ms after its deadline(; window -?[0-9]+ -?[0-9]+)?$/ {
-		sub(/^# /, "")
-		told_here[++n] = $0
-		if (!/; window/) next
-		window[n] = $NF
+# What the comments of trace.awk tell. Of a job that is in the document without its runs they stand in place of what audit says; that one
+# wasn't ended, or was late in a short run, is told where audit found nothing, as its work was done.
+${AWK:-awk} -v missed="$folder/missed" "$clock"'
+	/^# (left out|late by less than a unit of time|late, without its runs|not ended|late in a run within one tick): / && /, (at least |not ended )?[0-9.]+ ms after its deadline(; window -?[0-9]+ -?[0-9]+)?$/ {
+		comment[++n] = substr($0, 3)
+		match(comment[n], /: [^ ]+/)
+		kind[n] = substr(comment[n], 1, RSTART - 1)
+		name[n] = substr(comment[n], RSTART + 2, RLENGTH - 2)
+		sub(/,$/, "", name[n])
+		if (/; window/) window[n] = $NF
+		if (kind[n] == "late, without its runs") without_runs[name[n]] = 1
 	}
 	$1 == "job" { deadline[$2] = $4 }
 	END {
-		for (i = 1; i <= n; i++) {
-			if (i in window) behind = due_at(window[i])
-			else {
-				split(told_here[i], word, /, |: /)
-				behind = word[2] in deadline ? due_at(deadline[word[2]]) : ""
-			}
-			print told_here[i] behind
+		while ((getline line < missed) > 0) {
+			split(line, word, " ")
+			job = word[1] == "late" ? word[4] : word[2]
+			if (job in without_runs) continue
+			told[job] = 1
+			print line
 		}
-	}' "$1" >>"$folder/missed" || exit 1
+		for (i = 1; i <= n; i++) {
+			if (kind[i] ~ /^(late, without|not ended|late in a run)/ && (name[i] in told || !(name[i] in deadline))) continue
+			if (i in window) behind = due_at(window[i])
+			else behind = name[i] in deadline && !(name[i] in without_runs) ? due_at(deadline[name[i]]) : ""
+			print comment[i] behind
+		}
+	}' "$1" >"$folder/all" || exit 1
+mv "$folder/all" "$folder/missed"
 cat "$folder/missed"
 ${AWK:-awk} '$1 == "job" && $5 == 0 && !n++ { first = $2 }
 	END { if (n) print "# " n (n > 1 ? " jobs have no work: they need nothing and are in time" : " job has no work: it needs nothing and is in time") ", the first " first }' "$1" || exit 1

@@ -14,17 +14,19 @@
 # waiting for a disk (states R, R+, D) go on with it. Its deadline is the given milliseconds after its begin.
 # A job that hasn't ended when its deadline is over and the trace, or `to`, ends has missed it. It is written with a
 # work one unit above what its runs gave, so that `yds_cli audit` says no; so is a job that ended late in a run within one tick.
+# A job whose runs can't all be written is left out. Where it is known to be late, it is written all the same, with a work of 1 and
+# without a run, so that `audit` says no: released at its begin, or at 0 where it began before time 0 or that isn't known.
 #
-# Comments at the end tell what the document hasn't. Those on jobs, where N is how late a job is known to be:
+# Comments tell what the document hasn't. Those on jobs, where N is how late a job is known to be:
 #   # left out: NAME (REASON)                             its lateness isn't known, or it is in time
-#   # left out: NAME (REASON), N ms after its deadline    it ended so late
-#   # left out: NAME (REASON), at least N ms after ..     so late or later: when it began isn't known
-#   # left out: NAME (REASON), not ended N ms after ..    and not ended then
+#   # late, without its runs: NAME (REASON), N ms after its deadline    below the job's line: it ended so late
+#   # late, without its runs: NAME (REASON), at least N ms after ..     so late or later: when it began isn't known
+#   # late, without its runs: NAME (REASON), not ended N ms after ..    and not ended then
 #       these with `; window RELEASE DEADLINE` behind, in units of time, where the begin is known
 #   # not ended: NAME, N ms after its deadline            written, its work one unit above what it got
 #   # late in a run within one tick: NAME, N ms ..        the same
 #   # late by less than a unit of time: NAME, N ms ..     written; `audit` can't see it
-#   # 8 jobs written, 3 left out, 2 of them late          the last line
+#   # 8 jobs written, 3 left out, 2 late without their runs    the last line; the 2 are among the 8
 #
 # Options, each as NAME=VALUE (to awk itself as -v NAME=VALUE):
 #   tasks=LIST   NAME:DEADLINE[:APART] or PID=NAME:DEADLINE[:APART], parted by commas, in milliseconds.
@@ -604,8 +606,8 @@ function choose_job(j) {
         kept++
         if (zero == "" || begin[j] < zero) zero = begin[j]
     } else {
-        left_out++
-        if (j in late_by) left_out_late++
+        if (j in late_by) { without_runs[j] = 1; jobs_without_runs++ }
+        else left_out++
         if ((j in late_by) || (why[j] != "before from" && why[j] != "after to")) {
             if (!first_unasked) first_unasked = j
             left_out_unasked++
@@ -631,6 +633,13 @@ function reason_of(j) {
         (still_open[j] ? ", not ended " : (j in begin_unknown) ? ", at least " : ", ") milliseconds(late_by[j]) " ms after its deadline")
 }
 # Its release and deadline, where they are known.
+# When a late job without its runs is due here: where it began before time 0, or that isn't known, a unit after that at least.
+function release_without_runs(j) { return (j in begin_unknown) || begin[j] < zero ? 0 : floor_div(begin[j] - zero, tick) }
+function deadline_without_runs(j,    a, d) {
+    a = release_without_runs(j)
+    d = floor_div(due(j) - zero, tick)
+    return d > a ? d : a + 1
+}
 function window(j) {
     if (jobs != "") return (written[j] in file_deadline) ? sprintf("; window %.0f %.0f", file_release[written[j]], file_deadline[written[j]]) : ""
     return (j in begin_unknown) ? "" : sprintf("; window %.0f %.0f", floor_div(begin[j] - zero, tick), floor_div(due(j) - zero, tick))
@@ -699,11 +708,11 @@ function mark_late_jobs(    j, d, ended) {
 
 function check_limits(    j, a, d, name) {
     for (j = 1; j <= number_of_jobs && !over; j++) {
-        if (why[j] != "" || jobs != "") continue
+        if ((why[j] != "" && !(j in without_runs)) || jobs != "") continue
         name = written[j]
         a = floor_div(begin[j] - zero, tick)
         d = floor_div(due(j) - zero, tick)
-        if (d <= a) return fail(name " has its deadline within one unit of time; give a finer us=")
+        if (d <= a && why[j] == "") return fail(name " has its deadline within one unit of time; give a finer us=")
         if (d > 1000000000 && !long) return fail(name " has a time above 1000000000; give from= and to=, or a coarser us=")
         if (work[name] > 1000000)
             return fail(name sprintf(" has a work of %.0f, above 1000000", work[name]) \
@@ -712,8 +721,8 @@ function check_limits(    j, a, d, name) {
     for (j = 1; j <= number_of_others; j++)
         if (work[other[j]] > 1000000) return fail(other[j] " has a work above 1000000; give a shorter others=, or a coarser us= or khz=")
     if (long) return
-    if (kept + number_of_others > 4000 && jobs == "")
-        return fail(sprintf("%.0f jobs are more than 4000; give from= and to=, or long=1 for parts.awk", kept + number_of_others))
+    if (kept + jobs_without_runs + number_of_others > 4000 && jobs == "")
+        return fail(sprintf("%.0f jobs are more than 4000; give from= and to=, or long=1 for parts.awk", kept + jobs_without_runs + number_of_others))
     if (out > 100000) return fail(sprintf("%.0f runs are more than 100000; give from= and to=, or long=1 for parts.awk", out))
 }
 
@@ -725,21 +734,29 @@ function write_head() {
 }
 function write_jobs(    i, j, width) {
     for (i = 1; i <= file_lines; i++) print file_line[i]
-    jobs_written = file_jobs + 0
-    if (jobs == "")
-        for (j = 1; j <= number_of_jobs; j++)
-            if (why[j] == "") {
-                printf "job %s %.0f %.0f %.0f\n", written[j], floor_div(begin[j] - zero, tick), floor_div(due(j) - zero, tick), work[written[j]]
-                jobs_written++
-            }
+    jobs_written = jobs != "" ? file_jobs + 0 : kept + jobs_without_runs
+    if (jobs == "") {
+        # In order of release; those without their runs that began before time 0, or at an unknown time, are released at 0.
+        for (j = 1; j <= number_of_jobs; j++) if ((j in without_runs) && ((j in begin_unknown) || begin[j] < zero)) write_without_runs(j)
+        for (j = 1; j <= number_of_jobs; j++) {
+            if (why[j] == "") write_job(written[j], floor_div(begin[j] - zero, tick), floor_div(due(j) - zero, tick), work[written[j]])
+            else if ((j in without_runs) && !(j in begin_unknown) && begin[j] >= zero) write_without_runs(j)
+        }
+    }
     if (others != "") width = int(others * 1000 / us + 0.5)
     for (i = 1; i <= number_of_others; i++) {
         if (other[i] in unknown) { left_out++; continue }
         j = substr(other[i], 8)
-        printf "job %s %.0f %.0f %.0f\n", other[i], j * width, (j + 1) * width, work[other[i]]
+        write_job(other[i], j * width, (j + 1) * width, work[other[i]])
         jobs_written++
     }
 }
+function write_job(name, release, due_here, wanted) { printf "job %s %.0f %.0f %.0f\n", name, release, due_here, wanted }
+function write_without_runs(j) {
+    write_job(name_of_job[j], release_without_runs(j), deadline_without_runs(j), 1)
+    tell_without_runs(j)
+}
+function tell_without_runs(j) { print "# late, without its runs: " (jobs == "" ? name_of_job[j] : written[j]) reason_of(j) window(j) }
 function write_runs(    i) {
     print "ticks " ticks
     for (i = 1; i <= out; i++)
@@ -759,7 +776,9 @@ function is_uneven(t,    j, first, before, n, least) {
 }
 function write_comments(    i, j, t) {
     for (j = 1; j <= number_of_jobs; j++) if (j in note) print "# " note[j] ": " written[j] ", " milliseconds(late_by[j]) " ms after its deadline"
-    for (j = 1; j <= number_of_jobs; j++) if (why[j] != "") print "# left out: " name_of_job[j] reason_of(j) window(j)
+    for (j = 1; j <= number_of_jobs; j++)
+        if (!(j in without_runs) && why[j] != "") print "# left out: " name_of_job[j] reason_of(j) window(j)
+        else if ((j in without_runs) && jobs != "") tell_without_runs(j)
     for (i = 1; i <= number_of_others; i++) if (other[i] in unknown) print "# left out: " other[i] " (frequency not known)"
     if (short_runs) print "# left out: " counted(short_runs, "run") " within one tick"
     if (lost_places) print "# places where events were lost: " lost_places
@@ -768,12 +787,13 @@ function write_comments(    i, j, t) {
     if (!wakes) print "# no wake-up of these tasks in the trace: each job begins at its first run, and what it waited before isn't seen"
     if (low != "" && low < first_time) print "# the trace begins at " clock(first_time) " s, after from="
     if (high != "" && high > trace_end) print "# the trace ends at " clock(trace_end) " s, before to="
-    if (left_out_time) printf "# left-out jobs ran on this CPU for %.3f ms\n", left_out_time / 1000000
+    if (left_out_time) printf "# %s ran on this CPU for %.3f ms\n", (jobs_without_runs ? "jobs that are left out, or without their runs," : "left-out jobs"), left_out_time / 1000000
     printf "# other tasks ran for %.3f ms of %.3f ms\n", others_time / 1000000, (last_time - start_time) / 1000000
     if (markers) print "# " counted(markers, "line") " of tracing_mark_write, print or bprint, in which an application writes what it likes"
     if (hidden) print "# " counted(hidden, "line") " of other events with the words of a switch, a wake-up or a change of frequency in the text; none was read as one"
     if (changes) print "# " counted(changes, "change") " of frequency, " (changes_from_elsewhere + 0) " of them from another CPU"
-    print "# " counted(jobs_written, "job") " written, " (left_out ? left_out " left out, " (left_out_late + 0) " of them late" : "none left out")
+    print "# " counted(jobs_written, "job") " written, " (left_out ? left_out " left out" : "none left out") \
+        (jobs_without_runs ? ", " jobs_without_runs " late without " (jobs_without_runs == 1 ? "its" : "their") " runs" : "")
 }
 
 END {

@@ -583,8 +583,13 @@ work,audio.1,0,0,1,15.000,100.015000" answer -v csv=verdicts "$expected/misses-s
 	text "answer: a job that wasn't done even then" 0 '{"verdicts":[{"verdict":"late","slot":3,"job":"b","to":6,"to_exact":"6","deadline":5,"late_at_least":1.5,"late_at_least_exact":"1+1/2","given":4,"given_exact":"4","wanted":5}]}' \
 		eval "echo 'late slot 3 b 6 deadline 5, by at least 1+1/2: given 4 wanted 5' | recipe answer.awk"
 	refuses "answer: a miss in another form" 1 "" 'answer.awk: line 1: "late slot 2 a b deadline c, by 3" is no line of an answer' eval "echo 'late slot 2 a b deadline c, by 3' | recipe answer.awk"
+	text "answer: misses of jobs that are there without their runs" 0 "verdict,job,reason,due
+\"late, without its runs\",render.1,\"render.1 (ran on CPU 1), 25.000 ms after its deadline; window 5000 6600\",200.066000" answer -v csv=verdicts "$expected/misses-elsewhere.txt"
 	text "answer: misses of jobs that were left out" 0 "verdict,job,reason,due
-left out,render.1,\"render.1 (ran on CPU 1), 25.000 ms after its deadline; window 5000 6600\",200.066000" answer -v csv=verdicts "$expected/misses-elsewhere.txt"
+left out,render.1,\"render.1 (ran on CPU 1), 25.000 ms after its deadline; window 5000 6600\",200.066000" \
+		eval "sed 's/late, without its runs/left out/' '$expected/misses-elsewhere.txt' | recipe answer.awk -v csv=verdicts"
+	text "answer: a miss that a comment alone tells" 0 '{"verdicts":[{"verdict":"late in a run within one tick","job":"render.0","reason":"render.0, 1.001 ms after its deadline","due":200.002000}]}' \
+		eval "echo 'late in a run within one tick: render.0, 1.001 ms after its deadline # due at 200.002000 s' | recipe answer.awk"
 	text "answer: misses by less than a unit" 0 "audio.0 work
 audio.1 late by less than a unit of time" eval "recipe answer.awk '$expected/misses-short-late.txt' | jq -r '.verdicts[] | .job + \" \" + .verdict'"
 	text "answer: a refusal" 0 '{"refusals":[{"line":1,"column":9,"reason":"EmptyWindow"}]}' answer "$expected/compare-refused.txt"

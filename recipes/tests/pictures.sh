@@ -106,6 +106,21 @@ test_gantt() {
 	cat "$work/gantt" "$work/told" | plot gantt >"$work/told.svg"
 	holds "gantt: late as a comment tells" "$work/told.svg" '>late: render.5 by 900 us, render.0 by 4 us<' '>not done: render.1, render.2, audio.1<'
 	if plot gantt -t dumb "$work/left" | grep -q 'left out |.*x.*x.*x'; then pass; else fail "gantt: left out, as text"; fi
+	# Late jobs that are there without their runs; the last one's window isn't known.
+	(
+		cat "$work/gantt"
+		echo 'job render.3 3000 4000 1'
+		echo '# late, without its runs: render.3 (ran on CPU 1), 25.000 ms after its deadline; window 3000 4000'
+		echo 'job audio.2 12000 13000 1'
+		echo '# late, without its runs: audio.2 (ran on CPU 1), not ended 10.000 ms after its deadline; window 12000 13000'
+		echo 'job render.7 0 9000 1'
+		echo '# late, without its runs: render.7 (no wake-up), at least 2.000 ms after its deadline'
+	) >"$work/elsewhere"
+	plot gantt "$work/elsewhere" >"$work/elsewhere.svg"
+	holds "gantt: late without its runs" "$work/elsewhere.svg" '>late: render.3 by 25 ms, render.7 by 2 ms, render.5 by 900 us<' '>not done: render.2, audio.1, audio.2<'
+	counts "gantt: a triangle for each of these" "$work/elsewhere.svg" "xlink:href='#gpPt10'" 7
+	counts "gantt: no window where it isn't known" "$work/elsewhere.svg" "<polygon fill = 'rgb(233, 233, 233)'" 9
+	counts "gantt: none of these was left out" "$work/elsewhere.svg" 'left out' 0
 }
 
 test_misses_of_energy() {

@@ -14,7 +14,24 @@ said='
 		sub(/ .*/, "", text)
 		return " " kind " " text
 	}
-	$1 == "job" { print "written", task($2), $3, $4, $5; deadline[$2] = $4 }
+	function out(name) {
+		if (match($0, /; window .*/)) print "out " task(name) " " substr($0, RSTART + 9) how($0)
+		else print "unseen " task(name) how($0)
+	}
+	# A job stands as the comment below its line says: without its runs its work is 1, in its window from time 0 on.
+	function tell_job() { if (name_here != "") print "written", task(name_here), release_here, deadline[name_here], work_here; name_here = "" }
+	function is_so(    part, release, due) {
+		if (work_here != 1) return 0
+		if (!match($0, /; window .*/)) return release_here == 0 && deadline[name_here] > 0
+		split(substr($0, RSTART + 9), part, " ")
+		release = part[1] < 0 ? 0 : part[1] + 0
+		due = part[2] + 0 > release ? part[2] + 0 : release + 1
+		return release_here == release && deadline[name_here] == due
+	}
+	/^# late, without its runs: [^ ]+ \(/ && $6 == name_here { print is_so() ? "" : "wrong line of " name_here; out(name_here); name_here = "" }
+	{ tell_job() }
+	END { tell_job() }
+	$1 == "job" { name_here = $2; release_here = $3; work_here = $5; deadline[$2] = $4 }
 	/^# (not ended|late in a run within one tick|late by less than a unit of time): / {
 		kind = $2 == "not" ? "open" : $3 == "in" ? "tick" : "less"
 		name = $0
@@ -24,10 +41,7 @@ said='
 		sub(/^ [a-z]+ /, "", late)
 		print "note", kind, task(name), deadline[name], late
 	}
-	/^# left out: [^ ]+ \(/ {
-		if (match($0, /; window .*/)) print "out " task($4) " " substr($0, RSTART + 9) how($0)
-		else print "unseen " task($4) how($0)
-	}'
+	/^# left out: [^ ]+ \(/ { out($4); if (how($0) != "") print "left out and late: " $4 }'
 # No claim on a job whose begin was lost says more than how late some job of the task was.
 true_claims='
 	FNR == NR { if ($1 == "real") { n++; task[n] = $2; ms[n] = $3 } next }
@@ -52,7 +66,7 @@ simulated_trace() {
 		return
 	fi
 	if [ $status != 0 ]; then cp "$work/err" "$work/reason"; return 1; fi
-	$AWK "$said" "$work/document" | sort >"$work/said"
+	$AWK "$said" "$work/document" | grep . | sort >"$work/said"
 	unseen='|unseen'
 	if grep -qx lossy "$work/truth"; then
 		$AWK "$true_claims" "$work/truth" "$work/said" || { echo "a claim that isn't true" >"$work/reason"; return 1; }
@@ -63,12 +77,13 @@ simulated_trace() {
 		mv "$work/sure" "$work/said"
 	fi
 	grep -E "^(written|note|out$unseen) " "$work/truth" | sort | diff - "$work/said" >"$work/reason" || return 1
-	left_late=$(grep -c '^# left out: .* ms after its deadline' "$work/document")
+	left_late=$(grep -c '^# late, without its runs: .* ms after its deadline' "$work/document")
 	missed=$(($(sed -n 's/^misses //p' "$work/truth") + left_late))
 	written=$(grep -c '^job' "$work/document")
 	left=$(grep -c '^# left out: [^ ]* (' "$work/document")
-	line="# $written job$([ "$written" = 1 ] || echo s) written, none left out"
-	[ "$left" = 0 ] || line="# $written job$([ "$written" = 1 ] || echo s) written, $left left out, $left_late of them late"
+	[ "$left" != 0 ] || left=none
+	line="# $written job$([ "$written" = 1 ] || echo s) written, $left left out"
+	[ "$left_late" = 0 ] || line="$line, $left_late late without $([ "$left_late" = 1 ] && echo its || echo their) runs"
 	echo "not the last line $line" >"$work/reason"
 	[ "$(tail -n 1 "$work/document")" = "$line" ] || return 1
 	YDS=$YDS AWK=$AWK sh "$here/misses.sh" "$work/document" >"$work/missed"
@@ -77,6 +92,12 @@ simulated_trace() {
 	[ $missed = 0 ] && last=feasible
 	echo "misses.sh ends with $(tail -n 1 "$work/missed") and status $status, and $missed are missed" >"$work/reason"
 	[ "$(tail -n 1 "$work/missed")" = "$last" ] && [ $status = $((missed > 0)) ] || return 1
+	# What is late by a unit or more, or has no runs here, audit sees.
+	seen=$((missed > $(grep -c '^note less ' "$work/truth")))
+	"$YDS" audit <"$work/document" >"$work/verdict"
+	status=$?
+	echo "audit ends with $(cat "$work/verdict") and status $status" >"$work/reason"
+	[ $status = $seen ] || return 1
 	late=$(recipe jobs.awk -v form=csv "$work/document" | $AWK -F , '$8 == "inf" || $8 + 0 > 0' | wc -l)
 	echo "jobs.awk has $((late)) late jobs, and $missed are missed" >"$work/reason"
 	[ $((late)) = $missed ]

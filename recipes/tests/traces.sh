@@ -18,6 +18,7 @@ misses() { YDS=$YDS AWK=$AWK sh "$here/misses.sh" "$1"; }
 test_traces() {
 	starving_traces
 	traces_of_two_processors
+	late_without_runs
 	traces_of_short_runs
 	misses_of_slots
 	traces_with_gaps
@@ -37,7 +38,7 @@ starving_traces() {
 	says "traces: starving at to=" 0 "job audio.1 1000 1500 1
 # not ended: audio.1, 1.000 ms after its deadline
 # left out: render.0 (after to); window 100 1700
-# 2 jobs written, 1 left out, 0 of them late" cat "$work/cut"
+# 2 jobs written, 1 left out" cat "$work/cut"
 	answers "traces: starving at to= isn't feasible" 1 "work audio.1 given 0 wanted 1" from "$work/cut" "$YDS" audit
 	trace -v $t -v to=100.0149 starving.txt >"$work/cut"
 	answers "traces: no deadline is over at to=" 0 feasible from "$work/cut" "$YDS" audit
@@ -52,18 +53,26 @@ starving_traces() {
 # not ended: audio.0, 25.000 ms after its deadline" trace -v tasks=audio:5:5,render:16 "$work/apart"
 	# Jobs that began before the trace: at its first line at the latest. One that sleeps only once has no number of its own.
 	sed 1,3d starving.txt | sed '2s/audio:12 \[120\] S/audio:12 [120] R/' >"$work/before"
-	says "traces: preempted before, and starving" 0 "# left out: audio.0 (began before the trace), not ended 24.000 ms after its deadline" \
+	says "traces: preempted before, and starving" 0 "job audio.0 0 500 1
+# late, without its runs: audio.0 (began before the trace), not ended 24.000 ms after its deadline" \
 		trace -v $t -v start=1000000 "$work/before"
 	sed -n '1p; 7,9p' starving.txt | sed '2s/render:11 \[120\] R/render:11 [120] S/; $s/$/\n          <idle>-0     [000]   100.040000: sched_waking:         comm=audio pid=12 prio=120 target_cpu=000/' >"$work/tail"
-	says "traces: only the end is seen" 0 "# left out: render.-1 (began before the trace), at least 1.000 ms after its deadline
-# 1 job written, 1 left out, 1 of them late" trace -v tasks=audio:5,render:2 "$work/tail"
+	says "traces: only the end is seen" 0 "job render.-1 0 1 1
+# late, without its runs: render.-1 (began before the trace), at least 1.000 ms after its deadline
+# 2 jobs written, none left out, 1 late without its runs" trace -v tasks=audio:5,render:2 "$work/tail"
 }
 
-# Jobs that ran on another CPU are left out; one of them is known to be late.
+# Jobs that ran on another CPU are left out; one of them is known to be late, and so it is written without its runs.
 traces_of_two_processors() {
 	t=tasks=render:16
 	same "traces: on another CPU" 0 trace-elsewhere.txt trace -v $t elsewhere.txt
 	same "misses: on another CPU" 1 misses-elsewhere.txt misses "$expected/trace-elsewhere.txt"
+	answers "traces: late on another CPU isn't feasible" 1 "work render.1 given 0 wanted 1" from "$expected/trace-elsewhere.txt" "$YDS" audit
+	# A recording of a kernel: four of six jobs are moved or begin before it, and one of these is late.
+	same "traces: recorded, with a job that moved and was late" 0 trace-migrated-late.txt trace -v cpu=1 -v start=2000000 -v tasks=t5:15.5 migrated-late.txt
+	answers "traces: recorded, and not feasible" 1 "work t5.4 given 0 wanted 1" from "$expected/trace-migrated-late.txt" "$YDS" audit
+	says "misses: recorded" 1 "late, without its runs: t5.4 (ran on CPU 2), 5.678 ms after its deadline; window 4650 6200 # due at 2632.864115 s
+1 missed deadline" misses "$expected/trace-migrated-late.txt"
 	refuses "traces: strict" 1 failed "trace.awk: strict=1: 2 jobs are left out, the first is render.1 (ran on CPU 1), 25.000 ms after its deadline" \
 		trace -v $t -v strict=1 elsewhere.txt
 	says "traces: strict, where to= leaves out" 0 "# left out: render.1 (after to); window 5000 6600" trace -v $t -v strict=1 -v to=200.06 elsewhere.txt
@@ -80,10 +89,73 @@ run render.1 5000 6500 100
           <idle>-0     [001]   200.070000: sched_switch:         swapper\/1:0 [120] R ==> render:11 [120]/' elsewhere.txt >"$work/moved"
 	says "traces: late at to=, and elsewhere afterwards" 0 "job render.1 5000 6000 50001
 # not ended: render.1, 5.000 ms after its deadline" trace -v tasks=render:10 -v to=200.065 "$work/moved"
-	says "traces: late, and elsewhere" 0 "# left out: render.1 (ran on CPU 1), 31.000 ms after its deadline; window 5000 6000" trace -v tasks=render:10 "$work/moved"
+	says "traces: late, and elsewhere" 0 "job render.1 5000 6000 1
+# late, without its runs: render.1 (ran on CPU 1), 31.000 ms after its deadline; window 5000 6000" trace -v tasks=render:10 "$work/moved"
 	sed '1s/200.000000: \(.*\)cpu_id=0/200.000000: \1cpu_id=1/; 6s/$/\n          <idle>-0     [001]   200.050000: cpu_frequency:        state=1000000 cpu_id=0/' "$work/here" >"$work/unknown"
-	says "traces: late, and the frequency isn't known" 0 "# left out: render.0 (frequency not known), 2.000 ms after its deadline; window -5000 -4800
+	says "traces: late, and the frequency isn't known" 0 "job render.0 0 1 1
+# late, without its runs: render.0 (frequency not known), 2.000 ms after its deadline; window -5000 -4800
+job render.1 0 200 410000
 late slot 1 render.1 4100 deadline 200" audited trace -v tasks=render:2 "$work/unknown"
+}
+# Every reason for which a job is left out: where it is late, audit says no, and each reader tells it once.
+late_without_runs() {
+	sed 's/\[001\]\(.*render\)/[000]\1/; s/swapper\/1/swapper\/0/' elsewhere.txt >"$work/here"
+	t=tasks=render:16
+	told_once "begun before from=" render.1 "render.1 (before from), 25.000 ms after its deadline; window -1000 600" trace -v $t -v from=200.06 "$work/here"
+	# render.1 is late by less than a unit, and ran elsewhere.
+	sed '8s/200.091000/200.066004/' elsewhere.txt >"$work/less"
+	told_once "late by less than a unit" render.1 "render.1 (ran on CPU 1), 0.004 ms after its deadline; window 5000 6600" trace -v $t "$work/less"
+	# It is still running on the other CPU where the trace ends.
+	sed '8,$d' elsewhere.txt >"$work/open"
+	echo '          <idle>-0     [000]   200.090000: hrtimer_expire_entry: hrtimer=0 now=1' >>"$work/open"
+	told_once "not ended" render.1 "render.1 (ran on CPU 1), not ended 24.000 ms after its deadline; window 5000 6600" trace -v $t "$work/open"
+	# Without its wake-up its begin isn't known; it was there when it came.
+	sed 6d elsewhere.txt >"$work/unwoken"
+	told_once "no wake-up" render.1 "render.1 (no wake-up), at least 25.000 ms after its deadline" trace -v $t "$work/unwoken"
+	# Events are lost after it came, and it was late by then.
+	sed '7s/$/\n          <idle>-0     [000]   200.080000: cpu_frequency:        state=1000000 cpu_id=1\nCPU:0 [LOST 3 EVENTS]/' elsewhere.txt >"$work/gap"
+	told_once "lost events" render.1 "render.1 (ran on CPU 1), not ended 14.000 ms after its deadline; window 5000 6600" trace -v $t -v lost=cut "$work/gap"
+	sed '7s/$/\n          <idle>-0     [000]   200.080000: cpu_frequency:        state=1000000 cpu_id=1\nCPU:0 [LOST 3 EVENTS]/' "$work/here" >"$work/gap"
+	told_once "lost events, on this CPU" render.1 "render.1 (events lost), not ended 14.000 ms after its deadline; window 5000 6600" trace -v $t -v lost=cut "$work/gap"
+	# In a part the comment stays with its job.
+	trace -v $t -v long=1 elsewhere.txt | recipe parts.awk -v folder="$work/parts" -v jobs=1
+	says "misses: a part of a long trace" 1 "late, without its runs: render.1 (ran on CPU 1), 25.000 ms after its deadline; window 5000 6600
+1 missed deadline" misses "$work/parts/part-00002.txt"
+	# With job lines of a file the line is the file's.
+	printf 'job render.0 0 16 4000\njob render.1 50 66 41000\njob render.2 100 116 2000\n' >"$work/lines"
+	trace -v tasks=render -v from=200 -v "jobs=$work/lines" -v us=1000 -v khz=1000 -v ticks=1000 elsewhere.txt >"$work/document"
+	says "misses: a job of a file that ran elsewhere" 1 "late, without its runs: render.1 (ran on CPU 1), 25.000 ms after its deadline; window 50 66 # due at 200.066000 s
+work render.2 given 0 wanted 2000 # due at 200.116000 s
+2 missed deadlines" misses "$work/document"
+	# Its work was done in time, and it went on for 0.4 us.
+	printf 'job render.0 0 2 2000\n' >"$work/lines"
+	cat >"$work/short" <<-END
+	<idle>-0 [000] 200.000000000: cpu_frequency: state=1000000 cpu_id=0
+	<idle>-0 [000] 200.000000000: sched_waking: comm=render pid=11 prio=120 target_cpu=000
+	<idle>-0 [000] 200.000000000: sched_switch: swapper/0:0 [120] R ==> render:11 [120]
+	render-11 [000] 200.002000000: sched_switch: render:11 [120] R ==> hog:13 [98]
+	hog-13 [000] 200.003000000: sched_switch: hog:13 [98] S ==> render:11 [120]
+	render-11 [000] 200.003000400: sched_switch: render:11 [120] S ==> swapper/0:0 [120]
+	END
+	trace -v tasks=render -v from=200 -v "jobs=$work/lines" -v us=1000 -v khz=1000 -v ticks=1000 "$work/short" >"$work/document"
+	says "misses: a job of a file whose work was done in time" 1 "late in a run within one tick: render.0, 1.001 ms after its deadline # due at 200.002000 s
+1 missed deadline" misses "$work/document"
+}
+# told_once NAME JOB COMMENT COMMAND ..: the document has the job's line with work 1 and the comment below it; audit says no, misses.sh tells
+# the job in one line, jobs.awk has it late, and energy.awk counts it once.
+told_once() {
+	told=$1 job=$2 comment=$3
+	shift 3
+	"$@" >"$work/document" 2>"$work/err"
+	grep -A 1 "^job $job [0-9]* [0-9]* 1\$" "$work/document" | tail -n 1 >"$work/below"
+	if [ "$(cat "$work/below")" = "# late, without its runs: $comment" ]; then pass; else fail "traces: $told"; cat "$work/err" "$work/document"; fi
+	answers "traces: $told, and not feasible" 1 "$(grep -v '^job' "$work/document" | "$YDS" audit >/dev/null; "$YDS" audit <"$work/document")" from "$work/document" "$YDS" audit
+	misses "$work/document" >"$work/missed"
+	if [ "$(grep -cF " $job " "$work/missed")" = 1 ] && grep -qF "late, without its runs: $comment" "$work/missed"; then pass; else fail "misses: $told"; cat "$work/missed"; fi
+	if recipe jobs.awk -v form=csv "$work/document" | grep -qE "^$job,.*,(inf|[0-9.]+),\$"; then pass; else fail "jobs: $told"; fi
+	misses=$(tail -n 1 "$work/missed")
+	cat "$expected/points.txt" "$work/document" | recipe energy.awk 2>/dev/null | grep 'misses' >"$work/told"
+	if grep -q "misses ${misses%% *} deadline" "$work/told"; then pass; else fail "energy: $told"; cat "$work/told"; fi
 }
 audited() { "$@" >"$work/audited" && cat "$work/audited" && { "$YDS" audit <"$work/audited" || :; }; }
 
