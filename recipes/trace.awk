@@ -27,6 +27,8 @@
 #   # late in a run within one tick: NAME, N ms ..        the same
 #   # late by less than a unit of time: NAME, N ms ..     written; `audit` can't see it
 #   # 8 jobs written, 3 left out, 2 late without their runs    the last line; the 2 are among the 8
+# A deadline that is more than 100 times the mean distance of its task's begins, or less than a hundredth, is told there and on
+# standard error: it is likely in another unit.
 #
 # Options, each as NAME=VALUE (to awk itself as -v NAME=VALUE):
 #   tasks=LIST   NAME:DEADLINE[:APART] or PID=NAME:DEADLINE[:APART], parted by commas, in milliseconds.
@@ -726,6 +728,28 @@ function check_limits(    j, a, d, name) {
     if (out > 100000) return fail(sprintf("%.0f runs are more than 100000; give from= and to=, or long=1 for parts.awk", out))
 }
 
+# A deadline that is more than 100 times the mean distance of a task's begins, or less than a hundredth of it, is likely in another unit.
+function wrong_unit(t,    j, first, before, n, mean, ratio) {
+    for (j = 1; j <= number_of_jobs; j++) {
+        if (task_of_job[j] != t || (j in begin_unknown)) continue
+        if (!n++) first = begin[j]
+        before = begin[j]
+    }
+    if (n < 2 || before == first || jobs != "") return ""
+    mean = (before - first) / (n - 1)
+    ratio = deadline[t] / mean
+    if (ratio <= 100 && ratio >= 0.01) return ""
+    return sprintf("the deadline of %s is %.9g ms, and its jobs begin %.6g ms apart; deadlines are in milliseconds, and this looks like %s", label[t], \
+        deadline[t] / 1000000, mean / 1000000, ratio < 1 ? "seconds" : ratio < 31623 ? "microseconds" : "nanoseconds")
+}
+function find_wrong_units(    t) {
+    for (t = 1; t <= number_of_tasks; t++) {
+        told_unit[t] = wrong_unit(t)
+        if (told_unit[t] != "") print "trace.awk: " told_unit[t] | "cat 1>&2"
+    }
+    close("cat 1>&2")
+}
+
 # ---- The document
 
 function write_head() {
@@ -784,6 +808,7 @@ function write_comments(    i, j, t) {
     if (lost_places) print "# places where events were lost: " lost_places
     for (t = 1; t <= number_of_tasks; t++)
         if (is_uneven(t)) print "# " label[t] " may sleep within a job: some of its wake-ups are less than two thirds of their mean distance apart; see APART"
+    for (t = 1; t <= number_of_tasks; t++) if (told_unit[t] != "") print "# " told_unit[t]
     if (!wakes) print "# no wake-up of these tasks in the trace: each job begins at its first run, and what it waited before isn't seen"
     if (low != "" && low < first_time) print "# the trace begins at " clock(first_time) " s, after from="
     if (high != "" && high > trace_end) print "# the trace ends at " clock(trace_end) " s, before to="
@@ -811,6 +836,7 @@ END {
     last_time = (high != "" && high < trace_end) ? high : trace_end
     go_through_events()
     if (!over) choose_jobs()
+    if (!over) find_wrong_units()
     if (!over) make_runs()
     if (!over) mark_late_jobs()
     if (!over) check_limits()

@@ -25,6 +25,7 @@ test_traces() {
 	traces_of_unsure_ends
 	traces_cut_at_the_ends
 	traces_of_markers
+	traces_of_wrong_units
 	other_traces
 }
 
@@ -295,6 +296,28 @@ traces_of_markers() {
 	refuses "traces: a thread named as a stamp" 1 failed \
 		"trace.awk: line 14: a switch is missing: kworker/0:1 leaves CPU 0, and the last to come was [0] 1.5: a: b; record again, perhaps with trace-cmd" \
 		trace -v tasks=1201=decode:16.667,audio:10 "$work/named"
+}
+
+# A deadline of more than 100 times the mean distance of a task's begins, which is 16.667 ms, or of less than a hundredth of it.
+traces_of_wrong_units() {
+	for try in 16667:microseconds 1670:microseconds 0.016667:seconds 0.16:seconds 1666.7: 0.16667:; do
+		text="the deadline of decode is ${try%:*} ms, and its jobs begin 16.667 ms apart; deadlines are in milliseconds, and this looks like ${try#*:}"
+		trace -v "tasks=decode:${try%:*},audio:10" trace-late.txt >"$work/document" 2>"$work/errors"
+		status=$?
+		grep '^# the deadline of' "$work/document" >"$work/told"
+		if [ -z "${try#*:}" ]; then wanted= error=; else wanted="# $text" error="trace.awk: $text"; fi
+		if [ $status = 0 ] && [ "$(cat "$work/told")" = "$wanted" ] && [ "$(cat "$work/errors")" = "$error" ]; then pass; else
+			fail "traces: a deadline of ${try%:*} ms (status $status)"
+			cat "$work/told" "$work/errors"
+		fi
+	done
+	# The wrong unit is told before what fails for it.
+	refuses "traces: a deadline in nanoseconds" 1 failed \
+		"trace.awk: the deadline of decode is 16667000 ms, and its jobs begin 16.667 ms apart; deadlines are in milliseconds, and this looks like nanoseconds" \
+		trace -v tasks=decode:16667000,audio:10 trace-late.txt
+	refuses "traces: a deadline in seconds, within a unit" 1 failed \
+		"trace.awk: the deadline of audio is 0.0099 ms, and its jobs begin 10 ms apart; deadlines are in milliseconds, and this looks like seconds" \
+		trace -v tasks=decode:16.667,audio:0.0099 trace-late.txt
 }
 
 other_traces() {
