@@ -116,9 +116,9 @@ test_trace() {
 		"trace.awk: no task audoi runs or wakes up in this trace; those that do are audio, Web Content, decode, kworker/0:1; tasks=? lists them" \
 		trace -v tasks=decode:16.667,audoi:10 trace-report.txt
 	same "trace: a space after the comma" 0 trace.txt trace -v "tasks=decode:16.667, audio:10" trace-report.txt
-	refuses "trace: no frequency" 1 failed "trace.awk: no whole job: decode.0 is left out (frequency not known); give start=KHZ" \
+	refuses "trace: no frequency" 1 failed "trace.awk: no whole job: 5 are left out, 4 (frequency not known), 1 (not ended); give start=KHZ" \
 		trace -v tasks=decode:10 -v cpu=3 trace-perf.txt
-	refuses "trace: runs on another CPU" 1 failed "trace.awk: no whole job: Web_Content.0 is left out (ran on CPU 1); give cpu=1" \
+	refuses "trace: runs on another CPU" 1 failed "trace.awk: no whole job: all 6 are left out (ran on CPU 1); give cpu=1" \
 		trace -v "tasks=Web Content:10" -v cpu=0 trace-report.txt
 	sed '20,$s/ 5123/ 5122/' trace-report.txt >"$work/back"
 	refuses "trace: time goes back" 1 failed "trace.awk: line 20: the time goes back; sort the trace by time, or give one recording" trace -v $t "$work/back"

@@ -626,8 +626,21 @@ function choose_jobs(    j, t) {
     if (strict != "" && first_unasked)
         return fail("strict=1: " counted(left_out_unasked, "job") (left_out_unasked == 1 ? " is" : " are") \
             " left out, the first is " name_of_job[first_unasked] reason_of(first_unasked))
-    if (!kept) fail("no whole job: " name_of_job[1] " is left out" reason_of(1) (why[1] == "frequency not known" ? "; give start=KHZ" : \
-        why[1] ~ /^ran on CPU/ ? "; give cpu=" substr(why[1], 12) : ""))
+    if (!kept) fail(no_whole_job())
+}
+# Each reason with its number of jobs, the most frequent first; the hint goes with that one.
+function no_whole_job(    j, n, i, k, text, reason, jobs_of) {
+    for (j = 1; j <= number_of_jobs; j++) if (!jobs_of[why[j]]++) reason[++n] = why[j]
+    for (i = 2; i <= n; i++) {
+        text = reason[i]
+        for (k = i - 1; k && jobs_of[reason[k]] < jobs_of[text]; k--) reason[k + 1] = reason[k]
+        reason[k + 1] = text
+    }
+    text = "no whole job: "
+    if (number_of_jobs == 1) text = text name_of_job[1] " is left out" reason_of(1)
+    else text = text (n == 1 ? "all " : "") number_of_jobs " are left out" (n == 1 ? " (" reason[1] ")" : "")
+    for (i = 1; i <= n && n > 1; i++) text = text ", " jobs_of[reason[i]] " (" reason[i] ")"
+    return text (reason[1] == "frequency not known" ? "; give start=KHZ" : reason[1] ~ /^ran on CPU/ ? "; give cpu=" substr(reason[1], 12) : "")
 }
 # Why a job is left out, and how late it is known to be.
 function reason_of(j) {

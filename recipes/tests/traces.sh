@@ -26,6 +26,7 @@ test_traces() {
 	traces_cut_at_the_ends
 	traces_of_markers
 	traces_of_wrong_units
+	traces_without_a_whole_job
 	other_traces
 }
 
@@ -318,6 +319,22 @@ traces_of_wrong_units() {
 	refuses "traces: a deadline in seconds, within a unit" 1 failed \
 		"trace.awk: the deadline of audio is 0.0099 ms, and its jobs begin 10 ms apart; deadlines are in milliseconds, and this looks like seconds" \
 		trace -v tasks=decode:16.667,audio:0.0099 trace-late.txt
+}
+
+# The hint is that of the most frequent reason, whatever left out the first job.
+traces_without_a_whole_job() {
+	refuses "traces: no frequency, and a first job that began before" 1 failed \
+		"trace.awk: no whole job: 3 are left out, 2 (frequency not known), 1 (began before the trace); give start=KHZ" trace -v tasks=render:10 -v cpu=1 first-reason.txt
+	refuses "traces: another CPU, and a first job that began before" 1 failed \
+		"trace.awk: no whole job: 3 are left out, 2 (ran on CPU 1), 1 (began before the trace); give cpu=1" trace -v tasks=render:10 first-reason.txt
+	sed 1d first-reason.txt >"$work/one"
+	refuses "traces: no frequency alone" 1 failed "trace.awk: no whole job: all 2 are left out (frequency not known); give start=KHZ" trace -v tasks=render:10 -v cpu=1 "$work/one"
+	head -n 4 "$work/one" >"$work/three"
+	sed -n 4,6p "$work/one" | sed 's/\[001\]/[002]/' >>"$work/three"
+	refuses "traces: two reasons as frequent" 1 failed "trace.awk: no whole job: 2 are left out, 1 (ran on CPU 1), 1 (ran on CPU 2); give cpu=1" \
+		trace -v tasks=render:10 "$work/three"
+	head -n 3 "$work/one" >"$work/single"
+	refuses "traces: one job on another CPU" 1 failed "trace.awk: no whole job: render.0 is left out (ran on CPU 1); give cpu=1" trace -v tasks=render:10 "$work/single"
 }
 
 other_traces() {
