@@ -121,7 +121,7 @@ test_trace() {
 	refuses "trace: runs on another CPU" 1 failed "trace.awk: no whole job: all 6 are left out (ran on CPU 1); give cpu=1" \
 		trace -v "tasks=Web Content:10" -v cpu=0 trace-report.txt
 	sed '20,$s/ 5123/ 5122/' trace-report.txt >"$work/back"
-	refuses "trace: time goes back" 1 failed "trace.awk: line 20: the time goes back; sort the trace by time, or give one recording" trace -v $t "$work/back"
+	refuses "trace: time goes back" 1 failed "trace.awk: line 21: the time goes back; sort the trace by time, or give one recording" trace -v $t "$work/back"
 	sed '13s/ ==>.*//' trace-report.txt >"$work/cut"
 	refuses "trace: a line cut short" 1 failed "trace.awk: line 13: a switch in an unknown form, or cut short" trace -v $t "$work/cut"
 	sed 13d trace-report.txt >"$work/missing"

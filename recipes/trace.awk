@@ -202,8 +202,10 @@ BEGIN {
 
 # ---- The lines of the trace. Those that matter become events 1 to n: kind, at, who and so on.
 
+# Most lines are of other CPUs and of other tasks. Once each listed task was seen, nothing of these is needed but the time of the last one.
+passes_over && $0 !~ wanted { if (index($0, "[")) passed = $0; next }
 /EVENTS|PERF_RECORD_LOST|buffer started/ && read_loss() { next }
-!/sched_|cpu_frequency|tracing_mark_write|print/ || !match($0, stamped_name) { skipped = $0; next }
+!/sched_|cpu_frequency|tracing_mark_write|print/ || !match($0, stamped_name) { if (index($0, "[")) skipped = $0; next }
 {
     rest = substr($0, RSTART + RLENGTH)
     stamp = read_stamp()
@@ -246,11 +248,32 @@ function read_time(stamp,    before) {
     for (; losses_settled < losses; losses_settled++) lost_until[losses_settled + 1] = time
 }
 # The time of the last line, also where it is none of those that matter.
-function end_of_trace(    part, parts, last) {
-    if (!match(skipped, stamped_name) && !match(skipped, stamped)) return time
-    parts = fields_of(substr(skipped, RSTART, RLENGTH), part)
-    last = nanoseconds(without_colon(part[parts] ~ /^[0-9]+\./ ? part[parts] : part[parts - 1]))
-    return last > time ? last : time
+function end_of_trace(    a, b) {
+    a = time_of(skipped)
+    b = time_of(passed)
+    if (a < b) a = b
+    return a > time ? a : time
+}
+function time_of(line,    part, parts) {
+    if (!match(line, stamped_name) && !match(line, stamped)) return time
+    parts = fields_of(substr(line, RSTART, RLENGTH), part)
+    return nanoseconds(without_colon(part[parts] ~ /^[0-9]+\./ ? part[parts] : part[parts - 1]))
+}
+# The lines that may matter are those of this CPU, with a listed task, on this CPU's frequency, on losses, and of applications. Lost events
+# want the last line of each CPU, and with lost=cut no line is passed over.
+function pass_over(    k) {
+    wanted = "\\[0*" leading_number(cpu) "\\]|cpu_id=0*" leading_number(cpu) "|EVENTS|PERF_RECORD_LOST|buffer started|tracing_mark_write|print"
+    for (k in number_of_pid) wanted = wanted "|" k
+    for (k in number_of_name) wanted = wanted "|" escaped(k)
+    passes_over = lost == ""
+}
+# The text as a regular expression.
+function escaped(text,    i, c, out) {
+    for (i = 1; i <= length(text); i++) {
+        c = substr(text, i, 1)
+        out = out (index("\\^$.[]|()*+?{}", c) ? "\\" : "") c
+    }
+    return out
 }
 # A line that says that events of a CPU were lost: all since its last one or, where its buffer starts here, all before.
 function read_loss(    text, since) {
@@ -352,16 +375,21 @@ function stays_awake(state) {
 # The number of the listed task of this name and process, or 0.
 function task_of(name, id,    t) {
     if (id in number_of_pid) {
-        thread[number_of_pid[id]] = id
+        if (!(number_of_pid[id] in thread)) note_thread(number_of_pid[id], id)
         return number_of_pid[id]
     }
     name = substr(name, 1, 15)
     if (!(name in number_of_name)) return 0
     t = number_of_name[name]
-    if (!(t in thread)) thread[t] = id
+    if (!(t in thread)) note_thread(t, id)
     else if (thread[t] != id)
         fail_line("two threads are named " name ", " thread[t] " and " id "; give the one that is meant, as tasks=" id "=" name ":..")
     return t
+}
+
+function note_thread(t, id) {
+    thread[t] = id
+    if (++number_of_threads == number_of_tasks) pass_over()
 }
 
 # ---- All tasks of the trace, for tasks=? and for whoever names one that isn't there
@@ -427,11 +455,11 @@ function new_job(t, since, reason) {
     open[t] = last[t] = latest[t] = number_of_jobs
 }
 # A listed task without a job comes to a CPU or leaves it. Its job began by then; by the beginning of the trace, or of what
-# follows lost events, where the task leaves as the first on this CPU, since it has been there all the time.
+# follows lost events, where the task is seen for the first time and leaves as the first on this CPU, since it has been there all the time.
 function new_job_of_unseen(t, i, leaves,    reason, since) {
     reason = unseen(t)
     since = at[i]
-    if (leaves && first_on_cpu[i]) {
+    if (leaves && first_on_cpu[i] && !seen[t]) {
         if (reason == "") reason = "began before the trace"
         since = lost_places ? last_loss_until : first_time
     } else if (leaves)

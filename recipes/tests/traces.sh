@@ -27,6 +27,7 @@ test_traces() {
 	traces_of_markers
 	traces_of_wrong_units
 	traces_without_a_whole_job
+	lines_that_are_passed_over
 	other_traces
 }
 
@@ -335,6 +336,44 @@ traces_without_a_whole_job() {
 		trace -v tasks=render:10 "$work/three"
 	head -n 3 "$work/one" >"$work/single"
 	refuses "traces: one job on another CPU" 1 failed "trace.awk: no whole job: render.0 is left out (ran on CPU 1); give cpu=1" trace -v tasks=render:10 "$work/single"
+}
+
+# Lines of other CPUs without a listed task don't matter, but the last line ends the trace, whatever it is and whatever follows it.
+lines_that_are_passed_over() {
+	head -n 8 starving.txt >"$work/short"
+	t=tasks=audio:5,render:16
+	for line in '<idle>-0 [001] 100.015000: sched_switch: swapper/1:0 [120] R ==> web:77 [120]' 'web-77 [001] d..2. 100.015000: hrtimer_expire_entry: hrtimer=0 now=1'; do
+		(cat "$work/short" && printf '%s\n' "$line" '' '# end') >"$work/ended"
+		says "traces: the last line is of another CPU" 0 "job audio.1 1000 1500 1
+# not ended: audio.1, 0.000 ms after its deadline" trace -v $t "$work/ended"
+	done
+	# A name of which each character means something else in a regular expression.
+	sed 's/render/r.[*]+(a)^$|?{/g' elsewhere.txt >"$work/named"
+	trace -v 'tasks=r.[*]+(a)^$|?{:16' "$work/named" >"$work/document"
+	if sed 's/render/r.[*]+(a)^$|?{/g' "$expected/trace-elsewhere.txt" | cmp -s - "$work/document"; then pass; else
+		fail "traces: a name with the characters of regular expressions"
+		cat "$work/document"
+	fi
+	same "traces: a thread on another CPU, by its number" 0 trace-elsewhere.txt trace -v tasks=11=render:16 elsewhere.txt
+	# 400 ms of 8 CPUs, of which the seventh runs the task; all lines of the others are passed over, and with lost=cut none is.
+	$AWK 'BEGIN {
+		for (i = 0; i < 400; i++) for (cpu = 0; cpu < 8; cpu++) {
+			t = 1 + i / 1000 + cpu / 100000
+			if (i == 0) printf "<idle>-0 [%03d] %.6f: cpu_frequency: state=%d cpu_id=%d\n", cpu, t, 1000000 + cpu * 10000, cpu
+			busy = i % 10 < 3
+			task = cpu == 6 ? "a:5" : "other:" 50 + cpu
+			if (i % 10 == 0 && cpu == 6) printf "<idle>-0 [%03d] %.6f: sched_waking: comm=a pid=5 prio=120 target_cpu=006\n", (i / 10) % 8, t
+			if (i % 10 == 0) printf "<idle>-0 [%03d] %.6f: sched_switch: swapper/%d:0 [120] R ==> %s [120]\n", cpu, t, cpu, task
+			if (i % 10 == 3) printf "%s [%03d] %.6f: sched_switch: %s [120] S ==> swapper/%d:0 [120]\n", cpu == 6 ? "a-5" : "other-5" cpu, cpu, t, task, cpu
+		}
+	}' >"$work/eight"
+	trace -v cpu=6 -v tasks=a:9 "$work/eight" >"$work/document"
+	says "traces: one CPU of eight" 0 "job a.39 39000 39900 31800
+run a.39 39000 39300 106
+# other tasks ran for 0.000 ms of 393.070 ms
+# 40 jobs written, none left out" cat "$work/document"
+	trace -v cpu=6 -v tasks=a:9 -v lost=cut "$work/eight" >"$work/slow"
+	if cmp -s "$work/document" "$work/slow"; then pass; else fail "traces: one CPU of eight, with lost=cut"; diff "$work/document" "$work/slow"; fi
 }
 
 other_traces() {
