@@ -116,7 +116,7 @@ function read_units() {
     if (ticks > 1 && jobs == "") return usage("ticks=" ticks " wants jobs=FILE: only with ticks=1 is the work of each run whole")
     tick = us * 1000 / ticks
     if (tick != int(tick)) return usage("ticks=" ticks " are no whole nanoseconds each")
-    if (start != "" && !is_number(start)) return usage("start=" start " is no number of kilohertz")
+    if (start != "" && (!is_number(start) || start + 0 == 0)) return usage("start=" start " is no number of kilohertz above 0")
 }
 function read_choices() {
     if (from != "" && !is_number(from)) return usage("from=" from " is no number of seconds")
@@ -725,6 +725,8 @@ function is_coarse(khz_of_run, rounded) {
     return (rounded - khz_of_run) * 20 > khz_of_run || (khz_of_run - rounded) * 20 > khz_of_run
 }
 function put(name, a, b, khz_of_run,    s) {
+    if (khz_of_run != "" && khz_of_run + 0 == 0)
+        return fail(name " runs at 0 kHz, " clock(zero + a * tick) " s, where nothing can be done; look at the cpu_frequency lines before, or give a time without them by from= and to=")
     s = int(khz_of_run / khz + 0.5)
     if (is_coarse(khz_of_run, s * khz))
         return fail(khz_of_run " kHz is speed " s " in units of " khz " kHz, more than a twentieth off; give a finer khz=")

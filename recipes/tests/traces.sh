@@ -171,6 +171,14 @@ traces_of_short_runs() {
 	says "traces: late in a short run, after a run until the deadline" 0 "job audio.0 0 500 50001
 # late in a run within one tick: audio.0, 15.004 ms after its deadline" trace -v tasks=audio:5 "$work/until"
 	sed 's/state=1000000/state=14000/' short-late.txt >"$work/slow"
+	sed 's/state=1000000/state=0/' short-late.txt >"$work/still"
+	refuses "traces: a run at no speed" 1 failed \
+		"trace.awk: audio.0 runs at 0 kHz, 300.000000000 s, where nothing can be done; look at the cpu_frequency lines before, or give a time without them by from= and to=" \
+		trace -v tasks=audio:5 "$work/still"
+	refuses "traces: a first speed of none" 2 failed "trace.awk: start=0 is no number of kilohertz above 0" trace -v tasks=audio:5 -v start=0 short-late.txt
+	# At no speed for a time in which no listed task runs.
+	sed '1s/$/\n          <idle>-0     [000]   300.000000: cpu_frequency:        state=0 cpu_id=0\n          <idle>-0     [000]   300.000000: cpu_frequency:        state=1000000 cpu_id=0/' short-late.txt >"$work/still"
+	says "traces: no speed while nothing runs" 0 "# late in a run within one tick: audio.0, 15.004 ms after its deadline" trace -v tasks=audio:5 "$work/still"
 	refuses "traces: a speed between units" 1 failed "trace.awk: 14000 kHz is speed 1 in units of 10000 kHz, more than a twentieth off; give a finer khz=" \
 		trace -v tasks=audio:5 "$work/slow"
 }
