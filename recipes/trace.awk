@@ -100,7 +100,7 @@ function floor_div(a, b,    q) {
 }
 # A length in milliseconds, rounded up to a microsecond, so that nothing late is 0.
 function milliseconds(ns) { return sprintf("%.3f", floor_div(ns + 999, 1000) / 1000) }
-function counted(n, noun) { return sprintf("%.0f %s%s", n, noun, n == 1 ? "" : "s") }
+function counted(n, noun) { return sprintf("%.0f %s%s", n, noun, n == 1 ? "" : noun ~ /ch$/ ? "es" : "s") }
 
 # ---- Options
 
@@ -510,14 +510,26 @@ function add_run(j, a, b) {
 function switch_here(i,    p, q) {
     p = who[i]
     q = then[i]
-    if (current != "" && current != who_id[i] && (p || current_task))
-        fail("line " line_of[i] ": a switch is missing: " name_of[who_id[i]] " leaves CPU " cpu \
-            ", and the last to come was " name_of[current] "; record again, perhaps with trace-cmd")
+    if (current != "" && current != who_id[i]) {
+        if (p || current_task)
+            fail("line " line_of[i] ": a switch is missing: " told_name(who_id[i]) " leaves CPU " cpu \
+                ", and the last to come was " told_name(current) "; record again, perhaps with trace-cmd")
+        else miss_switch(i)
+    }
     close_run(at[i])
     if (p) leave(p, i)
     if (q) come(q, i)
     current = then_id[i]
     current_task = q
+}
+function told_name(id) { return id ? name_of[id] : "the idle task" }
+# A switch of other tasks is missing: somebody had the CPU for a time, but from when on isn't known.
+function miss_switch(i) {
+    if (at[i] < start_time || since > last_time) return
+    missing_switches++
+    if (others != "")
+        fail("line " line_of[i] ": a switch of other tasks is missing: " told_name(who_id[i]) " leaves CPU " cpu \
+            ", and the last to come was " told_name(current) "; leave others= out, since their time isn't known")
 }
 function switch_there(i,    p, q, reason) {
     reason = "ran on CPU " cpu_of[i]
@@ -857,6 +869,7 @@ function write_comments(    i, j, t) {
     if (high != "" && high > trace_end) print "# the trace ends at " clock(trace_end) " s, before to="
     if (left_out_time) printf "# %s ran on this CPU for %.3f ms\n", (jobs_without_runs ? "jobs that are left out, or without their runs," : "left-out jobs"), left_out_time / 1000000
     printf "# other tasks ran for %.3f ms of %.3f ms\n", others_time / 1000000, (last_time - start_time) / 1000000
+    if (missing_switches) print "# " counted(missing_switches, "switch") " of other tasks " (missing_switches == 1 ? "is" : "are") " missing: they may have run for another time than this"
     if (markers) print "# " counted(markers, "line") " of tracing_mark_write, print or bprint, in which an application writes what it likes"
     if (hidden) print "# " counted(hidden, "line") " of other events with the words of a switch, a wake-up or a change of frequency in the text; none was read as one"
     if (changes) print "# " counted(changes, "change") " of frequency, " (changes_from_elsewhere + 0) " of them from another CPU"

@@ -28,6 +28,7 @@ test_traces() {
 	traces_of_wrong_units
 	traces_without_a_whole_job
 	lines_that_are_passed_over
+	switches_that_are_missing
 	other_traces
 }
 
@@ -382,6 +383,25 @@ run a.39 39000 39300 106
 # 40 jobs written, none left out" cat "$work/document"
 	trace -v cpu=6 -v tasks=a:9 -v lost=cut "$work/eight" >"$work/slow"
 	if cmp -s "$work/document" "$work/slow"; then pass; else fail "traces: one CPU of eight, with lost=cut"; diff "$work/document" "$work/slow"; fi
+}
+
+# The recorder has left out a switch of tasks that aren't listed: nobody's deadline hangs on it, but the time of those tasks does.
+switches_that_are_missing() {
+	t=tasks=render:9
+	says "traces: a switch of another task is missing" 0 "job render.1 1000 1900 20000
+# other tasks ran for 0.000 ms of 50.000 ms
+# 1 switch of other tasks is missing: they may have run for another time than this
+# 2 jobs written, none left out" trace -v $t others-missing-switch.txt
+	refuses "traces: a switch of another task is missing, with others=" 1 failed \
+		"trace.awk: line 5: a switch of other tasks is missing: kworker/0:1 leaves CPU 0, and the last to come was the idle task; leave others= out, since their time isn't known" \
+		trace -v $t -v others=10 others-missing-switch.txt
+	trace -v $t -v to=100.0035 others-missing-switch.txt >"$work/document"
+	if grep -q 'missing' "$work/document"; then pass; else fail "traces: a switch is missing until after to="; fi
+	trace -v $t -v from=100.0105 others-missing-switch.txt >"$work/document"
+	if grep -q 'missing' "$work/document"; then fail "traces: a switch is missing before from="; else pass; fi
+	sed 4,5d others-missing-switch.txt >"$work/listed"
+	refuses "traces: a switch of a listed task is missing" 1 failed \
+		"trace.awk: line 5: a switch is missing: the idle task leaves CPU 0, and the last to come was render; record again, perhaps with trace-cmd" trace -v $t "$work/listed"
 }
 
 other_traces() {
