@@ -12,6 +12,7 @@
 # on the points' lower hull, by time. All in the document's units, fractions as decimals with at most six places; what isn't 0
 # is never rounded to 0.
 #   A job whose slots give less than its work hasn't ended: its end is `never` (in CSV inf), its response and its lateness inf.
+#   Where the first or last run is too short to be in the document, begin and end are those that a comment of trace.awk tells.
 #   A late job that trace.awk has without its runs has the end and the lateness that the comment below its line tells.
 #   Jobs that trace.awk left out, and that admit refused, follow, with the reason in brackets after the name and what is known of them.
 # What isn't known, and the energy without points, is `-`, in CSV nothing. A job of no work needs no slot: it ends at its release.
@@ -145,6 +146,11 @@ function read_comment(    text, reason, how) {
     if (match($0, /time 0 is [0-9]+\.[0-9]+ s/)) told_zero = substr($0, RSTART + 10, RLENGTH - 12)
     if (match($0, /time unit [0-9]+ us/)) told_us = substr($0, RSTART + 10) + 0
     units_told()
+    if (/^# (begins|ends): [^ ]+ [0-9]+$/) {
+        if ($2 == "ends:") told_end[$3] = $4
+        else told_begin[$3] = $4
+        return
+    }
     if (/^# refuse [^ ]+ from [0-9]+ to [0-9]+ work /) add_left_out($3, "refused by admit", "")
     if (!match($0, /^# (left out|late, without its runs|not ended|late in a run within one tick|late by less than a unit of time): /)) return
     text = substr($0, RSTART + RLENGTH)
@@ -272,12 +278,13 @@ function fill_row(j,    finish, late) {
         late = late_ms_of[name[j]] * 1000 / us
         finish = deadline[j] + late
     } else {
-        finish = !is_done(j) ? infinite : (j in end) ? end[j] : release[j]
+        finish = !is_done(j) ? infinite : (name[j] in told_end) ? told_end[name[j]] / ticks : (j in end) ? end[j] : release[j]
         late = finish == infinite ? infinite : finish > deadline[j] ? finish - deadline[j] : 0
     }
     cell[1] = name[j] ((j in left_out) ? " (left out: " left_out[j] ")" : "")
     cell[2] = (j in release) ? moment(release[j]) : ""
     cell[3] = (j in deadline) ? moment(deadline[j]) : ""
+    if (name[j] in told_begin) begin[j] = told_begin[name[j]] / ticks
     cell[4] = (j in begin) ? moment(begin[j]) : (j in left_out) || (j in without_runs) ? "" : is_done(j) ? moment(release[j]) : never_word
     cell[5] = finish == "" ? "" : moment(finish)
     cell[6] = finish == "" || !(j in release) ? "" : duration(finish == infinite ? infinite : finish - release[j])

@@ -187,10 +187,11 @@ function miss_of(j) {
     return late_by(j) > 0 ? "late" : ""
 }
 # By how much, in the document's units: as its slots show, or as a comment tells.
-function late_by(j) {
+function late_by(j,    end_here) {
     if ((job[j] in told_kind) && time_unit) return told_ms[job[j]] / 1000 / time_unit
-    if (deadline[j] == "" || latest[j] <= deadline[j] + deadline[j] * 1e-12) return 0
-    return latest[j] - deadline[j]
+    end_here = (job[j] in told_end) && told_end[job[j]] / ticks > latest[j] ? told_end[job[j]] / ticks : latest[j]
+    if (deadline[j] == "" || end_here <= deadline[j] + deadline[j] * 1e-12) return 0
+    return end_here - deadline[j]
 }
 # How many jobs of each row missed their deadline, and notes that name them, the latest first.
 function find_misses(    j, kind, text) {

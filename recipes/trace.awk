@@ -26,6 +26,8 @@
 #   # not ended: NAME, N ms after its deadline            written, its work one unit above what it got
 #   # late in a run within one tick: NAME, N ms ..        the same
 #   # late by less than a unit of time: NAME, N ms ..     written; `audit` can't see it
+#   # begins: NAME TICK, # ends: NAME TICK               its true begin or end, where its first or last run is within one tick and so
+#                                                         in no line, and no other comment tells it
 #   # 8 jobs written, 3 left out, 2 late without their runs    the last line; the 2 are among the 8
 # A deadline that is more than 100 times the mean distance of its task's begins, or less than a hundredth, is told there and on
 # standard error: it is likely in another unit.
@@ -709,11 +711,19 @@ function make_runs(    i, j, a, b) {
         b = floor_div((high != "" && run_to[i] > high ? high : run_to[i]) - zero, tick)
         if (!j) put_others(a, b, run_speed[i])
         else if (b > a) {
-            last_tick[j] = b
+            note_ends(j, a, b)
             put(written[j], a, b, run_speed[i])
-        } else if (b == a)
+        } else if (b == a) {
             short_runs++
+            short_time += run_to[i] - run_from[i]
+            if (!(written[j] in true_begin)) true_begin[written[j]] = a
+        }
     }
+}
+function note_ends(j, a, b) {
+    if (!(written[j] in true_begin)) true_begin[written[j]] = a
+    if (!(written[j] in first_tick)) first_tick[written[j]] = a
+    last_tick[j] = shown_end[written[j]] = b
 }
 function add_left_out_time(a, b) {
     if (a < start_time) a = start_time
@@ -761,6 +771,21 @@ function mark_late_jobs(    j, d, ended) {
         else if (last_tick[j] <= d) note[j] = "late in a run within one tick"
         if (jobs == "" && ended > d && (j in note)) work[written[j]]++
     }
+}
+# The true begin and end of a job, in ticks, where its first or last run is within one tick and so in no line.
+function find_ends(    j, name) {
+    for (j = 1; j <= number_of_jobs; j++) {
+        if (why[j] != "") continue
+        name = written[j]
+        last_job[name] = j
+        if (!still_open[j]) true_end[name] = floor_div(end[j] - zero, tick)
+    }
+}
+function tell_ends(j,    name) {
+    name = written[j]
+    if (last_job[name] != j) return
+    if ((name in true_begin) && (!(name in first_tick) || true_begin[name] < first_tick[name])) printf "# begins: %s %.0f\n", name, true_begin[name]
+    if (!(j in note) && (name in true_end) && (!(name in shown_end) || true_end[name] > shown_end[name])) printf "# ends: %s %.0f\n", name, true_end[name]
 }
 
 function check_limits(    j, a, d, name) {
@@ -818,8 +843,10 @@ function write_jobs(    i, j, width) {
         # In order of release; those without their runs that began before time 0, or at an unknown time, are released at 0.
         for (j = 1; j <= number_of_jobs; j++) if ((j in without_runs) && ((j in begin_unknown) || begin[j] < zero)) write_without_runs(j)
         for (j = 1; j <= number_of_jobs; j++) {
-            if (why[j] == "") write_job(written[j], floor_div(begin[j] - zero, tick), floor_div(due(j) - zero, tick), work[written[j]])
-            else if ((j in without_runs) && !(j in begin_unknown) && begin[j] >= zero) write_without_runs(j)
+            if (why[j] == "") {
+                write_job(written[j], floor_div(begin[j] - zero, tick), floor_div(due(j) - zero, tick), work[written[j]])
+                tell_ends(j)
+            } else if ((j in without_runs) && !(j in begin_unknown) && begin[j] >= zero) write_without_runs(j)
         }
     }
     if (others != "") width = int(others * 1000 / us + 0.5)
@@ -855,11 +882,12 @@ function is_uneven(t,    j, first, before, n, least) {
 }
 function write_comments(    i, j, t) {
     for (j = 1; j <= number_of_jobs; j++) if (j in note) print "# " note[j] ": " written[j] ", " milliseconds(late_by[j]) " ms after its deadline"
+    if (jobs != "") for (j = 1; j <= number_of_jobs; j++) if (why[j] == "") tell_ends(j)
     for (j = 1; j <= number_of_jobs; j++)
         if (!(j in without_runs) && why[j] != "") print "# left out: " name_of_job[j] reason_of(j) window(j)
         else if ((j in without_runs) && jobs != "") tell_without_runs(j)
     for (i = 1; i <= number_of_others; i++) if (other[i] in unknown) print "# left out: " other[i] " (frequency not known)"
-    if (short_runs) print "# left out: " counted(short_runs, "run") " within one tick"
+    if (short_runs) printf "# left out: %s within one tick, %.3f ms\n", counted(short_runs, "run"), short_time / 1000000
     if (lost_places) print "# places where events were lost: " lost_places
     for (t = 1; t <= number_of_tasks; t++)
         if (is_uneven(t)) print "# " label[t] " may sleep within a job: some of its wake-ups are less than two thirds of their mean distance apart; see APART"
@@ -895,6 +923,7 @@ END {
     if (!over) find_wrong_units()
     if (!over) make_runs()
     if (!over) mark_late_jobs()
+    if (!over) find_ends()
     if (!over) check_limits()
     if (over) exit 1
     write_head()

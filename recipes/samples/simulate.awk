@@ -10,6 +10,7 @@
 # `truth` is written from the simulator's own account of its jobs, times in units of 10 us from time 0 or in ms:
 #   options WORDS              of trace.awk
 #   written TASK RELEASE DEADLINE WORK    a job that is to be written
+#   ran TASK DEADLINE BEGIN END           when one without a note ran for the first time, and ended
 #   note KIND TASK DEADLINE MS            what its runs don't show: open, tick or less
 #   out TASK RELEASE DEADLINE [late|open MS]   one that is to be left out, and how late it is known to be
 #   maybe TASK RELEASE DEADLINE           the same, but the end of the task's last job may be lost, so that no line tells the begin
@@ -335,6 +336,7 @@ function write_job(j,    k, a, b, sum, shown, d, e) {
         misses++
     } else k = ""
     print "written " name[task[j]], floor_ticks(release[j] - zero), d, sum + 0 > truth
+    if (k == "" && pieces[j]) print "ran " name[task[j]], d, floor_ticks(piece_from[j, 1] - zero), floor_ticks(ended[j] - zero) > truth
     if (k != "") { sub(/^ [a-z]* /, "", verdict[j]); print "note " k " " name[task[j]] " " d " " verdict[j] > truth }
 }
 

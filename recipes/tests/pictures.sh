@@ -121,6 +121,9 @@ test_gantt() {
 	counts "gantt: a triangle for each of these" "$work/elsewhere.svg" "xlink:href='#gpPt10'" 7
 	counts "gantt: no window where it isn't known" "$work/elsewhere.svg" "<polygon fill = 'rgb(233, 233, 233)'" 9
 	counts "gantt: none of these was left out" "$work/elsewhere.svg" 'left out' 0
+	(cat "$work/gantt" && echo '# ends: render.5 6500' && echo '# ends: audio.0 2300') >"$work/ends"
+	plot gantt "$work/ends" >"$work/ends.svg"
+	holds "gantt: late until the end that a comment tells" "$work/ends.svg" '>late: render.5 by 5 ms<'
 }
 
 test_misses_of_energy() {

@@ -42,6 +42,17 @@ said='
 		print "note", kind, task(name), deadline[name], late
 	}
 	/^# left out: [^ ]+ \(/ { out($4); if (how($0) != "") print "left out and late: " $4 }'
+# When the jobs of which no comment tells the end began to run and ended, from the document and its table of jobs.
+ran='
+	FNR == NR {
+		if (!/^# (not ended|late[^:]*): /) next
+		name = $0
+		sub(/^[^:]*: /, "", name)
+		sub(/[, ].*/, "", name)
+		told[name] = 1
+		next
+	}
+	FNR > 1 && $1 !~ / / && !($1 in told) { name = $1; sub(/\.[^.]*$/, "", name); print "ran", name, $3, $4, $5 }'
 # No claim on a job whose begin was lost says more than how late some job of the task was.
 true_claims='
 	FNR == NR { if ($1 == "real") { n++; task[n] = $2; ms[n] = $3 } next }
@@ -98,7 +109,10 @@ simulated_trace() {
 	status=$?
 	echo "audit ends with $(cat "$work/verdict") and status $status" >"$work/reason"
 	[ $status = $seen ] || return 1
-	late=$(recipe jobs.awk -v form=csv "$work/document" | $AWK -F , '$8 == "inf" || $8 + 0 > 0' | wc -l)
+	recipe jobs.awk -v form=csv "$work/document" >"$work/table"
+	$AWK "$ran" "$work/document" FS=, "$work/table" | sort >"$work/said"
+	grep '^ran ' "$work/truth" | sort | diff - "$work/said" >"$work/reason" || return 1
+	late=$($AWK -F , '$8 == "inf" || $8 + 0 > 0' "$work/table" | wc -l)
 	echo "jobs.awk has $((late)) late jobs, and $missed are missed" >"$work/reason"
 	[ $((late)) = $missed ]
 }

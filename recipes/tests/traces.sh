@@ -20,6 +20,7 @@ test_traces() {
 	traces_of_two_processors
 	late_without_runs
 	traces_of_short_runs
+	ends_in_short_runs
 	misses_of_slots
 	traces_with_gaps
 	traces_of_unsure_ends
@@ -182,6 +183,40 @@ traces_of_short_runs() {
 	says "traces: no speed while nothing runs" 0 "# late in a run within one tick: audio.0, 15.004 ms after its deadline" trace -v tasks=audio:5 "$work/still"
 	refuses "traces: a speed between units" 1 failed "trace.awk: 14000 kHz is speed 1 in units of 10000 kHz, more than a twentieth off; give a finer khz=" \
 		trace -v tasks=audio:5 "$work/slow"
+}
+
+# A job that ends, or begins, in a run within one tick: a comment tells when, and the tools go by it.
+ends_in_short_runs() {
+	same "traces: ends in short runs" 0 trace-tick.txt trace -v tasks=render:9 tick.txt
+	says "jobs: ends in short runs" 0 "render.0        0       900      0   800       800    100     0       -
+render.1     1000      1900   1000  3800      2800  -1900  1900       -" recipe jobs.awk "$expected/trace-tick.txt"
+	says "misses: an end in a short run" 1 "late slot 2 render.1 3800 deadline 1900, by 1900 # due at 100.020000 s
+1 missed deadline" misses "$expected/trace-tick.txt"
+	# A recording of a kernel: the job ends in a run of 3 us.
+	trace -v cpu=1 -v start=2000000 -v tasks=audio:10 recorded-tick.txt >"$work/document"
+	says "traces: recorded, and ends in a short run" 0 "# ends: audio.1 2881
+# left out: 1 run within one tick, 0.003 ms" cat "$work/document"
+	says "jobs: recorded, and ends in a short run" 0 "audio.1     1000      2000   1541  2881      1881   -881   881       -" recipe jobs.awk "$work/document"
+	# Its first run is short, too.
+	sed '4s/100.003000/100.001003/' tick.txt >"$work/begins"
+	trace -v tasks=render:9 "$work/begins" >"$work/document"
+	says "traces: all runs are short" 0 "job render.0 0 900 0
+# begins: render.0 0
+# ends: render.0 800
+# left out: 3 runs within one tick, 0.019 ms" cat "$work/document"
+	says "jobs: all runs are short" 0 "render.0        0       900      0   800       800    100     0       -" recipe jobs.awk "$work/document"
+	sed '4s/100.003000/100.001003/; 6s/100.009008/100.009500/' tick.txt >"$work/begins"
+	trace -v tasks=render:9 "$work/begins" >"$work/document"
+	says "traces: the first run is short" 0 "job render.0 0 900 5000
+# begins: render.0 0
+run render.0 800 850 100" cat "$work/document"
+	says "jobs: the first run is short" 0 "render.0        0       900      0   850       850     50     0       -" recipe jobs.awk "$work/document"
+	# In ticks of a microsecond and with a file's lines.
+	printf 'job render.0 0 9 2000\njob render.1 10 19 9500\n' >"$work/lines"
+	sed 's/100.039008/100.0390004/' tick.txt >"$work/fine"
+	trace -v tasks=render -v from=100.001 -v "jobs=$work/lines" -v us=1000 -v khz=1000 -v ticks=1000 "$work/fine" >"$work/document"
+	says "traces: ends in a short run, with job lines of a file" 0 "# ends: render.1 38000" cat "$work/document"
+	says "jobs: ends in a short run, with job lines of a file" 0 "render.1       10        19     10     38        28    -19    19       -" recipe jobs.awk "$work/document"
 }
 
 # Events that were lost, in each form in which that is told.
