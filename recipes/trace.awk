@@ -261,6 +261,12 @@ function time_of(line,    part, parts) {
     parts = fields_of(substr(line, RSTART, RLENGTH), part)
     return nanoseconds(without_colon(part[parts] ~ /^[0-9]+\./ ? part[parts] : part[parts - 1]))
 }
+# Whether a line is cut within its time or its event's name, so that what it was to say isn't known.
+function is_cut_short(line) {
+    sub(/[ \t\r]+$/, "", line)
+    if (match(line, stamped_name)) return line ~ /:[ \t]+(sched|power):$/
+    return line ~ /\[[0-9]+\][ \t]+([^ \t]+[ \t]+)?[0-9]+(\.[0-9]*(:[ \t]*[A-Za-z0-9_:]*)?)?$/
+}
 # The lines that may matter are those of this CPU, with a listed task, on this CPU's frequency, on losses, and of applications. Lost events
 # want the last line of each CPU, and with lost=cut no line is passed over.
 function pass_over(    k) {
@@ -907,6 +913,8 @@ function write_comments(    i, j, t) {
 
 END {
     if (over) exit
+    if (first_time != "" && !listing && is_cut_short($0)) fail_line("the last line is cut short; take it out, or record again")
+    if (over) exit 1
     if (first_time == "") fail("no line of a trace was read; the input is the text of trace-cmd report, perf script or the trace file")
     if (over) exit 1
     if (listing) {

@@ -30,6 +30,7 @@ test_traces() {
 	traces_without_a_whole_job
 	lines_that_are_passed_over
 	switches_that_are_missing
+	traces_that_are_cut_short
 	other_traces
 }
 
@@ -418,6 +419,29 @@ run a.39 39000 39300 106
 # 40 jobs written, none left out" cat "$work/document"
 	trace -v cpu=6 -v tasks=a:9 -v lost=cut "$work/eight" >"$work/slow"
 	if cmp -s "$work/document" "$work/slow"; then pass; else fail "traces: one CPU of eight, with lost=cut"; diff "$work/document" "$work/slow"; fi
+}
+
+# The last line is cut at each place from its time to the end of what matters in it, in two forms.
+traces_that_are_cut_short() {
+	for file in short-late.txt marker.txt; do
+		case $file in short-late.txt) t=audio:5 from=39 to=100 ;; *) t=t:10 from=43 to=156 ;; esac
+		$AWK -v n="$(wc -l <$file)" 'NR < n' $file >"$work/lines"
+		length=$from
+		while [ $length -lt $to ]; do
+			(cat "$work/lines" && tail -n 1 $file | cut -c1-$length | tr -d '\n') >"$work/cut"
+			trace -v tasks=$t -v start=1000000 "$work/cut" >"$work/out" 2>"$work/err"
+			status=$?
+			if [ $status != 1 ] || [ "$(cat "$work/out")" != failed ] || ! grep -q 'cut short' "$work/err"; then
+				fail "traces: the last line of $file is cut after $length (status $status)"
+				cat "$work/err"
+				break
+			fi
+			length=$((length + 1))
+		done
+		[ $length != $to ] || pass
+	done
+	refuses "traces: the last line has no name" 1 failed "trace.awk: line 9: the last line is cut short; take it out, or record again" \
+		eval "sed '9s/sched_.*/sched_sw/' short-late.txt | recipe trace.awk -v tasks=audio:5"
 }
 
 # The recorder has left out a switch of tasks that aren't listed: nobody's deadline hangs on it, but the time of those tasks does.
