@@ -5,6 +5,7 @@ import pickle
 import unittest
 from decimal import Decimal
 from fractions import Fraction
+from typing import Any, Callable, List
 
 import yds
 
@@ -497,6 +498,93 @@ class Answered(unittest.TestCase):
             self.assertEqual((as_document, hash(as_document)), (answer, hash(answer)))
         self.assertEqual(pickle.loads(pickle.dumps(admission)).refused, admission.refused)
         self.assertEqual(copy.copy(expansion).one_level, yds.OneLevel(4, 8))
+
+
+class Rows(unittest.TestCase):
+    """What is wrong with a row names the row and its field."""
+
+    def refused(self, kind: type, message: str, call: Callable[[], object]) -> None:
+        with self.subTest(message), self.assertRaisesRegex(kind, message):  # type: ignore[arg-type]
+            call()
+
+    def test_one_of_many_jobs(self) -> None:
+        rows: List[Any] = [(f"j{place}", 0, 4, 1) for place in range(1000)]
+        rows[500] = ("j500", 0, 4.5, 1)
+        self.refused(TypeError, r"^jobs\[500\]\.deadline: 4\.5 is neither an int", lambda: yds.Document(rows))
+        table = dict(zip(yds.Job._fields, zip(*rows)))
+        self.refused(TypeError, r"^jobs\[500\]\.deadline: 4\.5 is neither", lambda: yds.Document.from_pandas(table))
+        rows[500] = ("j500", 0, 4, Fraction(1, 2))
+        self.refused(ValueError, r"^jobs\[500\]\.work: Fraction\(1, 2\) isn't whole", lambda: yds.Document(rows))
+
+    def test_names(self) -> None:
+        for name in (7, None, b"a", ("a",)):
+            self.refused(TypeError, r"^jobs\[0\]\.name: a name is a string", lambda: yds.Document([(name, 0, 4, 1)]))
+        jobs = [("a", 0, 4, 1), ("b c", 0, 4, 1)]
+        self.refused(ValueError, r"^jobs\[1\]\.name: 'b c' is no name", lambda: yds.Document(jobs))
+        slots = [("a", 0, 4, 1), (1, 0, 4, 1)]
+        self.refused(TypeError, r"^slots\[1\]\.job: a name is a string", lambda: yds.Document(slots=slots))
+        judged = yds.Document(jobs[:1])
+        self.refused(TypeError, r"^slots\[1\]\.job: a name", lambda: yds.schedule.judge(judged, slots))
+
+    def test_how_many_fields(self) -> None:
+        for row in (("a", 0, 4), ("a", 0, 4, 1, 1), ()):
+            message = rf"^jobs\[0\] has {len(row)} fields, and a row has 4: name, release, deadline, work$"
+            self.refused(ValueError, message, lambda: yds.Document([row]))
+        self.refused(ValueError, r"^points\[1\] has 3 fields", lambda: yds.Document(points=[(0, 0), (1, 2, 3)]))
+        self.refused(ValueError, r"^slots\[0\] has 3 fields", lambda: yds.Document(slots=[("a", 0, 1)]))
+        self.refused(ValueError, r"^levels\[0\] has 2 fields", lambda: yds.Document(levels=[(1, 2)]))
+        self.refused(ValueError, r"^tasks\[0\] has 4 fields", lambda: yds.expand([("a", 0, 4, 4)], horizon=8))
+        self.refused(ValueError, r"^jobs\[0\] has 3 ", lambda: yds.Document.from_decimal([("a", 0, 1)], denominator=1))
+
+    def test_what_is_no_row(self) -> None:
+        for rows in (["abcd"], {"name": ["a"]}, [7], [None]):
+            self.refused(TypeError, r"^jobs\[0\] is a row of name, release, deadline, work", lambda: yds.Document(rows))
+        self.refused(TypeError, r"^jobs is a list of rows, and not 7", lambda: yds.Document(7))
+        self.refused(TypeError, r"^points is a list of rows, and not 7", lambda: yds.Document(points=7))
+        self.assertEqual(yds.Document([["a", 0, 4, 8]]).text, b"job a 0 4 8\n")
+        self.assertEqual(yds.Document([iter(["a", 0, 4, 8])]).text, b"job a 0 4 8\n")
+
+    def test_levels(self) -> None:
+        levels = [yds.Level(4, 4, (yds.Piece(0, 4),), ("a",))]
+
+        def given(level: Any) -> Callable[[], object]:
+            return lambda: yds.Document(levels=[*levels, level])
+
+        self.refused(TypeError, r"^levels\[1\]\.length: 0\.5 is neither", given(yds.Level(1, 0.5)))
+        self.refused(TypeError, r"^levels\[1\]\.pieces\[0\]\.end: 4\.5", given(yds.Level(1, 4, ((0, 4.5),))))
+        self.refused(ValueError, r"^levels\[1\]\.pieces\[0\] has 1 fields", given(yds.Level(1, 4, ((0,),))))
+        self.refused(TypeError, r"^levels\[1\]\.members\[1\]\.name: a name", given(yds.Level(1, 4, (), ("a", 1))))
+
+    def test_advice_leads_somewhere(self) -> None:
+        """from_decimal is told only where it takes the number: not of points, tasks and slots that are judged."""
+        jobs = [("a", 0, 4.5, 1)]
+        self.refused(TypeError, r"from_decimal\(\.\., denominator", lambda: yds.Document(jobs))
+        self.refused(TypeError, r"from_decimal\(\.\., denominator", lambda: yds.Document(slots=jobs))
+        for message, call in (
+            (r"^points\[0\]\.power: 0\.5 .* Speeds and powers are whole", lambda: yds.Document(points=[(0, 0.5)])),
+            (
+                r"^points\[0\]\.power: 0\.5 .* Speeds and powers are whole",
+                lambda: yds.Document.from_decimal([], [(0, 0.5)], denominator=10),
+            ),
+            (
+                r"^slots\[0\]\.end: 4\.5 .* Fraction takes its text, as in Fraction\('0\.1'\)$",
+                lambda: yds.schedule.judge(yds.Document([("a", 0, 5, 1)]), jobs),
+            ),
+            (r"^tasks\[0\]\.work: 0\.5 .*count in finer units$", lambda: yds.expand([("a", 0, 4, 4, 0.5)], horizon=8)),
+        ):
+            with self.subTest(message), self.assertRaisesRegex(TypeError, message) as raised:
+                call()
+            self.assertNotIn("from_decimal", str(raised.exception))
+
+    def test_decimals(self) -> None:
+        def given(*row: Any, **named: Any) -> Callable[[], object]:
+            return lambda: yds.Document.from_decimal([("z", 0, 1, 1), ("a", *row)], denominator=10, **named)
+
+        self.refused(ValueError, r"^jobs\[1\]\.deadline: nan is no number|NaN", given(0, float("nan"), 1))
+        self.refused(ValueError, r"^jobs\[1\]\.work: '1/0' is no number", given(0, 4, "1/0"))
+        self.refused(ValueError, r"^jobs\[1\]\.work: 0\.04 is a work above 0", given(0, 4, 0.04))
+        self.refused(ValueError, r"^jobs\[1\]\.release: -1 is below 0", given(-1, 4, 1))
+        self.refused(ValueError, r"^slots\[0\]\.end: ", given(0, 4, 1, slots=[("a", 0, "x", 1)]))
 
 
 class Numbers(unittest.TestCase):

@@ -109,8 +109,8 @@ class Refused(unittest.TestCase):
         self.refused(TypeError, "a power is an exponent, or a table's rows", SLOTS, None)
         self.refused(ValueError, "begins with the power at speed 0", SLOTS, [])
         self.refused(ValueError, "begins with the power at speed 0", SLOTS, [(1, 2), (2, 5)])
-        self.refused(ValueError, "row 2 of the table has the speed 1 after 2", SLOTS, [(0, 0), (2, 5), (1, 2)])
-        self.refused(ValueError, "row 1 of the table has the speed 0 after 0", SLOTS, [(0, 0), (0, 5)])
+        self.refused(ValueError, r"table\[2\].speed: 1 stands after 2; sort the rows", SLOTS, [(0, 0), (2, 5), (1, 2)])
+        self.refused(ValueError, r"table\[1\].speed: 0 stands after 0; sort the rows", SLOTS, [(0, 0), (0, 5)])
         self.refused(ValueError, "a power is at least 0", SLOTS, [(0, 0), (2, -1)])
         self.refused(TypeError, "0.5 is neither an int nor a Fraction", SLOTS, [(0, 0.5), (2, 5)])
 

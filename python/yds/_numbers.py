@@ -9,7 +9,6 @@ from typing import Any, Dict, Iterable, Optional, Union
 
 Decimalish = Union[int, float, str, Decimal, Fraction]
 
-
 DECIMALS = ". Document.from_decimal(.., denominator=..) takes decimals, and counts in units of 1/denominator"
 """What is told beside a float in a document's rows."""
 
@@ -25,13 +24,13 @@ def exact(value: Any, advice: str = ". Fraction takes its text, as in Fraction('
     raise TypeError(f"{value!r} is neither an int nor a Fraction, and what is counted is exact{advice}")
 
 
-def whole(value: Any) -> int:
+def whole(value: Any, advice: str = ". Numbers are whole here: count in finer units") -> int:
     """The value of a number that has to be whole."""
     if type(value) is int:
         return value
-    number = exact(value, DECIMALS)
+    number = exact(value, advice)
     if number.denominator != 1:
-        raise ValueError(f"{value!r} isn't whole, as it has to be here: count in finer units{DECIMALS}")
+        raise ValueError(f"{value!r} isn't whole, as it has to be here{advice}")
     return number.numerator
 
 
@@ -85,7 +84,7 @@ def decimal(value: Decimalish) -> Fraction:
         raise TypeError(f"{value!r} is a truth value, and no number")
     try:
         return Fraction(value)
-    except OverflowError:
+    except (OverflowError, ZeroDivisionError):
         raise ValueError(f"{value!r} is no number") from None
 
 

@@ -3,15 +3,13 @@
 from __future__ import annotations
 
 import math
-import re
 from fractions import Fraction
 from functools import lru_cache
 from typing import Any, Dict, Iterable, Iterator, List, Sequence, Tuple
 
-from yds._numbers import DECIMALS, exact, whole
+from yds._forms import LEVELS, SLOTS, Form, name, read
+from yds._numbers import whole
 from yds.rows import Job, Level, Piece, Point, Slot
-
-_NAME = re.compile(r"[!-~]{1,64}")
 
 
 def fraction(value: Fraction, denominator: int) -> str:
@@ -19,13 +17,6 @@ def fraction(value: Fraction, denominator: int) -> str:
     parts = value.numerator * (denominator // value.denominator)
     above, rest = divmod(parts, denominator)
     return f"{above}+{rest}/{denominator}" if rest else str(above)
-
-
-def name(value: str) -> str:
-    """The name, if it is one: otherwise it would be several fields, or lines, of the document."""
-    if not _NAME.fullmatch(value):
-        raise ValueError(f"{value!r} is no name: one has 1 to 64 visible ASCII characters, and no space")
-    return value
 
 
 def common(denominators: Iterable[int]) -> int:
@@ -36,12 +27,9 @@ def common(denominators: Iterable[int]) -> int:
     return least
 
 
-def slot_lines(slots: Iterable[Sequence[Any]]) -> Iterator[str]:
+def slot_lines(slots: Iterable[Any]) -> Iterator[str]:
     """The slots, each with its ends over one denominator, and the works of each job over one denominator."""
-    given = [
-        (name(job), exact(start, DECIMALS), exact(end, DECIMALS), exact(work, DECIMALS))
-        for job, start, end, work in slots
-    ]
+    given = list(read(SLOTS, slots))
     grains: Dict[str, int] = {}
     for job, _, _, work in given:
         grains[job] = common([grains.get(job, 1), work.denominator])
@@ -50,20 +38,20 @@ def slot_lines(slots: Iterable[Sequence[Any]]) -> Iterator[str]:
         yield f"slot {job} {fraction(start, ends)} {fraction(end, ends)} {fraction(work, grains[job])}"
 
 
-def level_lines(levels: Iterable[Level]) -> Iterator[str]:
+def level_lines(levels: Iterable[Any]) -> Iterator[str]:
     """The levels, each followed by its pieces and its members."""
-    for work, length, pieces, members in levels:
-        yield f"level {whole(work)} {whole(length)}"
-        for start, end in pieces:
-            yield f"piece {whole(start)} {whole(end)}"
-        for member in members:
-            yield f"member {name(member)}"
+    for place, (work, length, pieces, members) in enumerate(read(LEVELS, levels)):
+        yield f"level {work} {length}"
+        for start, end in read(Form(f"levels[{place}].pieces", ("start", "end"), (whole, whole)), pieces):
+            yield f"piece {start} {end}"
+        for (member,) in read(Form(f"levels[{place}].members", ("name",), (name,)), ((job,) for job in members)):
+            yield f"member {member}"
 
 
-def row_lines(kind: str, rows: Iterable[Sequence[Any]]) -> Iterator[str]:
-    """A line for each row of a name and whole numbers."""
-    for named, *numbers in rows:
-        yield " ".join([kind, name(named), *(str(whole(number)) for number in numbers)])
+def lines(kind: str, form: Form, rows: Iterable[Any]) -> Iterator[str]:
+    """A line for each row."""
+    for row in read(form, rows):
+        yield " ".join([kind, *map(str, row)])
 
 
 def rows_of(table: Any, kind: str, columns: Sequence[str]) -> List[Any]:
@@ -75,15 +63,9 @@ def rows_of(table: Any, kind: str, columns: Sequence[str]) -> List[Any]:
     return list(zip(*found))
 
 
-def point_lines(points: Iterable[Sequence[Any]]) -> Iterator[str]:
-    """A line for each operating point."""
-    for speed, power in points:
-        yield f"point {whole(speed)} {whole(power)}"
-
-
-def joined(lines: Iterable[str]) -> bytes:
-    """The lines as a text, each with its line feed."""
-    return "".join(line + "\n" for line in lines).encode("ascii")
+def joined(*parts: Iterable[str]) -> bytes:
+    """The lines of all parts as a text, each with its line feed."""
+    return "".join(line + "\n" for part in parts for line in part).encode("ascii")
 
 
 def read_fraction(word: bytes) -> Fraction:

@@ -5,6 +5,7 @@ from __future__ import annotations
 from fractions import Fraction
 from typing import Iterable, List, NamedTuple, Optional
 
+from yds._forms import FOREIGN_SLOTS, read
 from yds._numbers import exact
 from yds.rows import Exact, SlotLike
 
@@ -31,10 +32,7 @@ class Turn(NamedTuple):
 
 def turns_of(slots: Iterable[SlotLike], start: Optional[Exact] = None, end: Optional[Exact] = None) -> List[Turn]:
     """The slots in the given order; ValueError where one doesn't end after its start, or lies outside start and end."""
-    turns = [
-        Turn(place, job, exact(begin), exact(until), exact(work))
-        for place, (job, begin, until, work) in enumerate(slots)
-    ]
+    turns = [Turn(place, *row) for place, row in enumerate(read(FOREIGN_SLOTS, slots))]
     first = None if start is None else exact(start)
     last = None if end is None else exact(end)
     for turn in turns:

@@ -4,10 +4,11 @@ from __future__ import annotations
 
 from fractions import Fraction
 from functools import cached_property
-from itertools import chain, zip_longest
+from itertools import zip_longest
 from typing import Any, ClassVar, Iterable, List, NamedTuple, Optional, Sequence, Tuple, Type, TypeVar, Union
 
 from yds import _shown, _spelling
+from yds._forms import JOBS, POINTS, SLOTS, TASKS, name, read
 from yds._library import Answer, Status, answer, as_bytes
 from yds._measured import Measured
 from yds._numbers import Decimalish, Units, integer, whole
@@ -67,9 +68,11 @@ class Document(Measured):
         slots: Iterable[SlotLike] = (),
         levels: Iterable[Level] = (),
     ) -> None:
-        head = chain(_spelling.row_lines("job", jobs), _spelling.point_lines(points))
         self.__dict__["_text"] = _spelling.joined(
-            chain(head, _spelling.slot_lines(slots), _spelling.level_lines(levels))
+            _spelling.lines("job", JOBS, jobs),
+            _spelling.lines("point", POINTS, points),
+            _spelling.slot_lines(slots),
+            _spelling.level_lines(levels),
         )
 
     @classmethod
@@ -103,12 +106,8 @@ class Document(Measured):
         (Job(name='frame', release=0, deadline=16667, work=3250),)
         """
         units = Units(denominator, most)
-        time, done = units.time, units.work
-        return cls(
-            ((name, time(release), time(deadline), done(work)) for name, release, deadline, work in jobs),
-            points,
-            ((job, time(start), time(end), done(work)) for job, start, end, work in slots),
-        )
+        takes = (name, units.time, units.time, units.work)
+        return cls(read(JOBS._replace(takes=takes), jobs), points, read(SLOTS._replace(takes=takes), slots))
 
     @classmethod
     def from_pandas(cls: Type[D], jobs: Any, points: Any = None) -> D:
@@ -517,8 +516,7 @@ def expand(tasks: Union[bytes, str, Iterable[TaskLike]], horizon: Optional[int] 
     else:
         if horizon is None:
             raise TypeError("rows of tasks want a horizon")
-        head = [f"horizon {whole(horizon)}"]
-        text = _spelling.joined(chain(head, _spelling.row_lines("task", tasks)))
+        text = _spelling.joined([f"horizon {whole(horizon)}"], _spelling.lines("task", TASKS, tasks))
     return Expansion._of(_ask(["expand"], text))
 
 

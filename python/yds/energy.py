@@ -21,6 +21,7 @@ from fractions import Fraction
 from numbers import Rational
 from typing import Any, Dict, Iterable, List, Literal, NamedTuple, Optional, Sequence, Tuple, Union, overload
 
+from yds._forms import Form, read
 from yds._numbers import exact, total
 from yds._turns import in_turn
 from yds.rows import Exact, PointLike, SlotLike
@@ -110,16 +111,19 @@ def hull(table: Table) -> List[Tuple[Fraction, Fraction]]:
     return kept
 
 
+_ROWS = Form("table", ("speed", "power"), (exact, exact))
+
+
 def checked(table: Table) -> List[Tuple[Fraction, Fraction]]:
     """The table's rows in exact numbers; ValueError where the first isn't of speed 0, or speeds don't rise."""
     if not isinstance(table, IterableType):
         raise TypeError(f"a power is an exponent, or a table's rows of speed and power, and not {table!r}")
-    rows = [(exact(speed), exact(power)) for speed, power in table]
+    rows = [(speed, power) for speed, power in read(_ROWS, table)]
     if not rows or rows[0][0] != 0:
         raise ValueError("a table of powers begins with the power at speed 0, as the row (0, 30)")
     for place, (before, after) in enumerate(zip(rows, rows[1:])):
         if after[0] <= before[0]:
-            raise ValueError(f"row {place + 1} of the table has the speed {after[0]} after {before[0]}: sort the rows")
+            raise ValueError(f"table[{place + 1}].speed: {after[0]} stands after {before[0]}; sort the rows by speed")
     if min(power for _, power in rows) < 0:
         raise ValueError("a power is at least 0")
     return rows

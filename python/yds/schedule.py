@@ -11,7 +11,7 @@ from dataclasses import replace
 from fractions import Fraction
 from typing import Any, Iterable, List, Optional, Sequence, Tuple, TypeVar
 
-from yds._numbers import exact
+from yds._forms import FOREIGN_SLOTS, read
 from yds._tables import Profile, columns, profile, to_pandas
 from yds.document import Document
 from yds.results import Judgement, Verdict
@@ -63,7 +63,7 @@ def check(document: Document, slots: Iterable[SlotLike], levels: Optional[Sequen
 
 def _in_time(slots: Iterable[SlotLike]) -> Tuple[List[int], List[Slot]]:
     """The slots in the order of their times, and the place of each in the given list."""
-    given = [Slot(job, exact(start), exact(end), exact(work)) for job, start, end, work in slots]
+    given = [Slot(*row) for row in read(FOREIGN_SLOTS, slots)]
     order = sorted(range(len(given)), key=lambda place: (given[place].start, given[place].end))
     return order, [given[place] for place in order]
 

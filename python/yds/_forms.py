@@ -1,0 +1,89 @@
+"""Rows that are given, read field by field. What is wrong with one names its row and its field, as jobs[5].deadline."""
+
+from __future__ import annotations
+
+import re
+from collections.abc import Iterable as IterableType
+from fractions import Fraction
+from reprlib import repr as short
+from typing import Any, Callable, Iterable, Iterator, NamedTuple, Tuple
+
+from yds._numbers import DECIMALS, exact, whole
+
+_NAME = re.compile(r"[!-~]{1,64}")
+
+
+class Form(NamedTuple):
+    """What the rows of a table are called, their fields, and what each field's value is taken for."""
+
+    table: str
+    fields: Tuple[str, ...]
+    takes: Tuple[Callable[[Any], Any], ...]
+
+
+def read(form: Form, rows: Iterable[Any]) -> Iterator[Any]:
+    """The rows with their values taken. TypeError or ValueError says which field of which row isn't one."""
+    if not isinstance(rows, IterableType):
+        raise TypeError(f"{form.table} is a list of rows, and not {short(rows)}")
+    takes, count = form.takes, len(form.fields)
+    for place, row in enumerate(rows):
+        values = row if isinstance(row, tuple) else _values(form, place, row)
+        try:
+            taken = [take(value) for take, value in zip(takes, values)]
+        except (TypeError, ValueError):
+            raise _fault(form, place, values) from None
+        if len(values) != count:
+            fields = ", ".join(form.fields)
+            raise ValueError(f"{form.table}[{place}] has {len(values)} fields, and a row has {count}: {fields}")
+        yield taken
+
+
+def _values(form: Form, place: int, row: Any) -> Tuple[Any, ...]:
+    """The row's values."""
+    if isinstance(row, (str, bytes)) or not isinstance(row, IterableType):
+        fields = ", ".join(form.fields)
+        raise TypeError(f"{form.table}[{place}] is a row of {fields}, and not {short(row)}; from_pandas takes columns")
+    return tuple(row)
+
+
+def _fault(form: Form, place: int, values: Tuple[Any, ...]) -> Exception:
+    """What is wrong with the first field that isn't taken."""
+    for field, take, value in zip(form.fields, form.takes, values):
+        try:
+            take(value)
+        except (TypeError, ValueError) as fault:
+            kind = TypeError if isinstance(fault, TypeError) else ValueError
+            return kind(f"{form.table}[{place}].{field}: {fault}")
+    raise AssertionError(f"every field of {form.table}[{place}] is taken")
+
+
+def name(value: Any) -> str:
+    """The name, if it is one: otherwise it would be several fields, or lines, of the document."""
+    if not isinstance(value, str):
+        raise TypeError(f"a name is a string, and not {short(value)}; str(..) of a number is one")
+    if not _NAME.fullmatch(value):
+        raise ValueError(f"{value!r} is no name: one has 1 to 64 visible ASCII characters, and no space")
+    return value
+
+
+def counted(value: Any) -> int:
+    """A whole number of units of time or of work."""
+    return value if type(value) is int else whole(value, DECIMALS)
+
+
+def measured(value: Any) -> Any:
+    """An exact number of units of time or of work, in a document's rows."""
+    return value if type(value) is Fraction else exact(value, DECIMALS)
+
+
+def speed(value: Any) -> int:
+    """A whole number of units of speed or of power."""
+    return whole(value, ". Speeds and powers are whole: count them in finer units")
+
+
+JOBS = Form("jobs", ("name", "release", "deadline", "work"), (name, counted, counted, counted))
+POINTS = Form("points", ("speed", "power"), (speed, speed))
+SLOTS = Form("slots", ("job", "start", "end", "work"), (name, measured, measured, measured))
+LEVELS = Form("levels", ("work", "length", "pieces", "members"), (whole, whole, tuple, tuple))
+TASKS = Form("tasks", ("name", "offset", "period", "deadline", "work"), (name, whole, whole, whole, whole))
+FOREIGN_SLOTS = Form("slots", ("job", "start", "end", "work"), (name, exact, exact, exact))
