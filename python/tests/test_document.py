@@ -7,6 +7,7 @@ from decimal import Decimal
 from fractions import Fraction
 from typing import Any, Callable, List
 
+import stored
 import yds
 
 THREE = [("a", 0, 12, 4), ("b", 2, 10, 8), ("c", 4, 6, 6)]
@@ -646,10 +647,73 @@ class Refusals(unittest.TestCase):
         self.assertEqual(
             (fault.line, fault.column, fault.reason, fault.text), (2, 9, "EmptyWindow", b"refused 2 9 EmptyWindow\n")
         )
-        self.assertEqual(str(fault), "line 2, column 9: EmptyWindow, in 'job b 4 4 1'")
+        self.assertEqual(
+            str(fault),
+            "line 2, column 9: EmptyWindow, in 'job b 4 4 1' (jobs[1].deadline: it must be after the release)",
+        )
+        self.assertEqual((fault.table, fault.index, fault.field), ("jobs", 1, "deadline"))
         self.assertIsInstance(fault, ValueError)
         again = pickle.loads(pickle.dumps(fault))
-        self.assertEqual((str(again), again.line), (str(fault), 2))
+        self.assertEqual((str(again), again.line, again.index), (str(fault), 2, 1))
+
+    def test_a_fault_names_its_row_and_the_rule(self) -> None:
+        """Of rows the place in the list that was given, of a text the place among the rows of a table."""
+        many = [(f"j{place}", 0, 4, 1) for place in range(4001)]
+        level = yds.Level(4, 4, (yds.Piece(0, 2), yds.Piece(2, 10**10)), ("a",))
+        other = yds.Level(4, 4, (yds.Piece(0, 4),), ("a", "b"))
+        one, two = [("a", 0, 4, 8)], [("a", 0, 4, 8), ("b", 0, 4, 8)]
+        for document, told in (
+            (yds.Document([("a", -1, 4, 8)]), "jobs[0].release: a number has no sign, no leading zero"),
+            (yds.Document([*one, ("b", 0, 10**10, 8)]), "jobs[1].deadline: a time is at most 1,000,000,000"),
+            (yds.Document([*one, ("b", 0, 4, 1_000_001)]), "jobs[1].work: a work is at most 1,000,000"),
+            (yds.Document([*one, *one]), "jobs[1].name: another has this name"),
+            (yds.Document(many), "jobs[4000]: a document has at most 4,000 jobs"),
+            (yds.Document(one, [(1, 1)]), "points[0].speed: the first point has the speed 0"),
+            (yds.Document(one, [(0, 0), (2, 1), (2, 3)]), "points[2].speed: each point is faster than the one before"),
+            (yds.Document(one, [(0, 0), (4001, 1)]), "points[1].speed: a point's speed is at most 4,000"),
+            (yds.Document(one, (), [*one, ("c", 0, 1, 1)]), "slots[1].job: no job of this name stands before"),
+            (
+                yds.Document(two, (), [*one, ("b", 0, Fraction(1, 2**60 + 1), 1)]),
+                "slots[1].end: a time is at most 1,000,000,000, and the denominator of a fraction at most 2^60 = ",
+            ),
+            (yds.Document(two, (), (), [other, level]), "levels[1].pieces[1].end: a time is at most 1,000,000,000"),
+            (yds.Document(one, (), (), [level._replace(pieces=()), other]), "levels[1].members[1].name: no job of"),
+            (yds.Document(one, (), (), [yds.Level(0, 4)]), "levels[0].work: the work of a level is from 1 to"),
+            (yds.Document.from_text(b"# two\njob a 0 4 8\n\n job  b 0 4\n"), "jobs[1]: the line has more or fewer"),
+            (yds.Document.from_text(b"job a 0 4 8\nslot a 0 1 1\nticks 1\nrun a 0 1 01\n"), "slots[1].speed: a number"),
+            (yds.Document.from_text(b"grid 1 0\ngrid 1 0\n"), "grid: this line has to stand before"),
+            (yds.Document.from_text(b"piece 0 4\n"), "pieces[0]: this line has to stand before"),
+        ):
+            with self.subTest(told), self.assertRaises(yds.Refused) as raised:
+                document.audit()
+            self.assertIn(f" ({told}", str(raised.exception))
+        with self.assertRaisesRegex(yds.Refused, r"\(tasks\[1\]\.period: a period is from 1 to 1,000,000,000\)"):
+            yds.expand([("s", 0, 4, 4, 1), ("t", 0, 0, 4, 1)], horizon=8)
+        with self.assertRaisesRegex(yds.Refused, r"\(tasks\[0\]\.period: all tasks together have at most 4,000 jobs"):
+            yds.expand([("s", 0, 1, 1, 1)], horizon=4001)
+        with self.assertRaisesRegex(yds.Refused, r"\(horizon: a horizon is from 1 to 1,000,000,000\)"):
+            yds.expand([], horizon=0)
+        with self.assertRaisesRegex(yds.Refused, r"line 1, column 1: UnknownKind, in 'x'$") as raised:
+            yds.Document.from_text("x").plan()
+        self.assertEqual((raised.exception.table, raised.exception.index, raised.exception.field), (None, None, None))
+
+    def test_every_stored_refusal_has_its_place(self) -> None:
+        """The row at a place, read anew from the text, is the line that is told."""
+        for row in stored.rows():
+            if row.wanted.status is yds.Status.REFUSED and row.wanted.text.count(b" ") == 3:
+                with self.subTest(row.name):
+                    fault = yds.Refused(row.wanted.text, row.document)
+                    lines = row.document.split(b"\n")
+                    kind = lines[fault.line - 1].split()[0]
+                    tables = {b"job": "jobs", b"point": "points", b"slot": "slots", b"run": "slots", b"task": "tasks"}
+                    if kind not in tables:
+                        continue
+                    self.assertEqual(fault.table, tables[kind])
+                    kinds = [other for other, table in tables.items() if table == fault.table]
+                    places = [
+                        place for place, line in enumerate(lines, 1) if line.split()[:1] and line.split()[0] in kinds
+                    ]
+                    self.assertEqual(places[fault.index], fault.line)
 
     def test_fields_of_a_faulty_text(self) -> None:
         document = yds.Document.from_text(b"jobs a 0 4 8\n")

@@ -1,5 +1,6 @@
 """Foreign schedules are judged, whatever their fractions and their order."""
 
+import pickle
 import random
 import unittest
 from fractions import Fraction
@@ -44,6 +45,19 @@ class Judging(unittest.TestCase):
             schedule.judge(JOBS, [("c", 0, 1, 1)])
         with self.assertRaises(TypeError):
             schedule.judge(JOBS, [("a", 0, 1.5, 1)])
+
+    def test_a_fault_names_the_slot_of_the_given_list(self) -> None:
+        slots = [("a", 2, 4, 1), ("c", 0, 1, 1), ("b", 1, 2, 1)]
+        for call in (schedule.judge, schedule.check):
+            with self.assertRaises(yds.Refused) as raised:
+                call(JOBS, slots)
+            fault = raised.exception
+            self.assertEqual((fault.table, fault.index, fault.field), ("slots", 1, "job"))
+            self.assertRegex(str(fault), r"\(slots\[1\]\.job: no job of this name stands before\)$")
+            again = pickle.loads(pickle.dumps(fault))
+            self.assertEqual((again.index, str(again)), (1, str(fault)))
+        with self.assertRaisesRegex(yds.Refused, r"\(levels\[0\]\.members\[0\]\.name: no job"):
+            schedule.check(JOBS, [("a", 2, 4, 1)], [yds.Level(4, 4, (), ("c",))])
 
     def test_plans_cut_anywhere_are_least(self) -> None:
         """A plan's slots, each cut at a drawn fraction of its time and shuffled, are feasible and accepted still."""

@@ -9,11 +9,12 @@ from __future__ import annotations
 
 from dataclasses import replace
 from fractions import Fraction
-from typing import Any, Iterable, List, Optional, Sequence, Tuple, TypeVar
+from typing import Callable, Iterable, List, Optional, Sequence, Tuple, TypeVar
 
 from yds._forms import FOREIGN_SLOTS, read
 from yds._tables import Profile, columns, profile, to_pandas
 from yds.document import Document
+from yds.errors import Refused
 from yds.results import Judgement, Verdict
 from yds.rows import Level, Slot, SlotLike
 
@@ -39,7 +40,8 @@ def judge(document: Document, slots: Iterable[SlotLike], points: bool = False) -
     ('late', 'b', 0, Fraction(1, 3))
     """
     order, sorted_slots = _in_time(slots)
-    return _placed(Document(document.jobs, document.points, sorted_slots).audit(points), order)
+    judged = Document(document.jobs, document.points, sorted_slots)
+    return _placed(_told(lambda: judged.audit(points), judged, order), order)
 
 
 def check(document: Document, slots: Iterable[SlotLike], levels: Optional[Sequence[Level]] = None) -> Judgement:
@@ -55,7 +57,8 @@ def check(document: Document, slots: Iterable[SlotLike], levels: Optional[Sequen
     """
     order, sorted_slots = _in_time(slots)
     chosen = document.plan().levels if levels is None else levels
-    judgement = _placed(Document(document.jobs, document.points, sorted_slots, chosen).check(), order)
+    judged = Document(document.jobs, document.points, sorted_slots, chosen)
+    judgement = _placed(_told(judged.check, judged, order), order)
     if judgement.verdict is None:
         return judgement
     return replace(judgement, verdict=_placed(judgement.verdict, order))
@@ -66,6 +69,14 @@ def _in_time(slots: Iterable[SlotLike]) -> Tuple[List[int], List[Slot]]:
     given = [Slot(*row) for row in read(FOREIGN_SLOTS, slots)]
     order = sorted(range(len(given)), key=lambda place: (given[place].start, given[place].end))
     return order, [given[place] for place in order]
+
+
+def _told(call: Callable[[], Told], judged: Document, order: Sequence[int]) -> Told:
+    """What the call answers; a fault of a slot names its place in the given list."""
+    try:
+        return call()
+    except Refused as fault:
+        raise Refused(fault.text, judged.text, order) from None
 
 
 def _placed(told: Told, order: Sequence[int]) -> Told:
