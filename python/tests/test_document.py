@@ -735,8 +735,13 @@ class Refusals(unittest.TestCase):
             yds.Document([("a", 0, 4, 8)], slots=[("a", Fraction(-1, 2), 4, 8)]).audit()
 
     def test_usage(self) -> None:
-        with self.assertRaisesRegex(yds.UsageError, "'avr --grid 0' isn't a command"):
+        with self.assertRaisesRegex(yds.UsageError, "'avr --grid 0' isn't a command; a grid is from 1 to 1,000,000$"):
             yds.Document().avr(0)
+        with self.assertRaisesRegex(yds.UsageError, "'admit 0' isn't a command; a top speed is from 1 to 1,000,000$"):
+            yds.Document().admit(0)
+        with self.assertRaisesRegex(yds.UsageError, "a seed is from 0 to 4,294,967,295, and a trial has at most 1,000"):
+            yds.trial(1 << 32, 2)
+        self.assertRegex(str(yds.UsageError(["x"])), "is a number out of its range")
         for call in (lambda: yds.Document().admit(1000001), lambda: yds.trial(-1, 2), lambda: yds.trial(0, 1001)):
             with self.assertRaises(yds.UsageError) as raised:
                 call()

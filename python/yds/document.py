@@ -20,20 +20,23 @@ from yds.rows import Job, JobLike, Level, Point, PointLike, Rows, Slot, SlotLike
 FINE_GRID = 720720
 """So many parts of a unit of work do the policies count in, where nothing is said: it has all divisors up to 16."""
 
+GRIDS = "a grid is from 1 to 1,000,000"
+TOPS = "a top speed is from 1 to 1,000,000"
+
 DecimalRow = Tuple[str, Decimalish, Decimalish, Decimalish]
 D = TypeVar("D", bound="Document")
 A = TypeVar("A", bound="_Answered")
 
 
-def _ask(words: Sequence[str], text: bytes) -> Answer:
-    """The library's answer, which is a yes or a no; what is neither is raised."""
+def _ask(words: Sequence[str], text: bytes, limit: Optional[str] = None) -> Answer:
+    """The library's answer, which is a yes or a no; what is neither is raised, with the limit of a number in words."""
     answered = answer(words, text)
     if answered.status is Status.REFUSED:
         raise Refused(answered.text, text)
     if answered.status is Status.MEMORY:
         raise OutOfMemory
     if answered.status not in (Status.DONE, Status.NO):
-        raise UsageError(words)
+        raise UsageError(words, limit)
     return answered
 
 
@@ -215,7 +218,7 @@ class Document(Measured):
         What the policy does between two event points is rounded up to such parts. Look at the run's `exact` or
         `rounded` before its energy is called the policy's: on a coarse grid it is another's.
         """
-        return Run._of(_ask(["avr", "--grid", str(integer(grid, "the grid"))], self.text))
+        return Run._of(_ask(["avr", "--grid", str(integer(grid, "the grid"))], self.text, GRIDS))
 
     def oa(self, grid: int = FINE_GRID) -> Run:
         """The run of the online policy Optimal Available, on works of one part in grid (1 to 1,000,000).
@@ -229,7 +232,7 @@ class Document(Measured):
         >>> coarse.slots[1].speed, coarse.rounded
         (Fraction(1, 1), 1)
         """
-        return Run._of(_ask(["oa", "--grid", str(integer(grid, "the grid"))], self.text))
+        return Run._of(_ask(["oa", "--grid", str(integer(grid, "the grid"))], self.text, GRIDS))
 
     def compare(self, grid: int = FINE_GRID) -> Union[Comparison, TooSlow]:
         """What the plan and the runs of both policies spend on the points; TooSlow as for round.
@@ -241,7 +244,7 @@ class Document(Measured):
         >>> compared.plan.energy, compared.avr.energy, compared.oa.energy
         (Fraction(3, 1), Fraction(11, 3), Fraction(10, 3))
         """
-        answered = _ask(["compare", "--grid", str(integer(grid, "the grid"))], self.text)
+        answered = _ask(["compare", "--grid", str(integer(grid, "the grid"))], self.text, GRIDS)
         return Comparison.read(answered.text) if answered.status is Status.DONE else TooSlow.read(answered.text)
 
     def audit(self, points: bool = False) -> Verdict:
@@ -280,7 +283,7 @@ class Document(Measured):
 
         Each is admitted, in the document's order, where it can be served beside those admitted before it.
         """
-        return Admission._of(_ask(["admit", str(integer(top, "the top speed"))], self.text))
+        return Admission._of(_ask(["admit", str(integer(top, "the top speed"))], self.text, TOPS))
 
     @classmethod
     def _made(cls: Type[D], text: bytes, written: bool = False) -> D:
@@ -527,4 +530,5 @@ def trial(seed: int, jobs: int) -> Trial:
     (53709, 18257)
     """
     words = ["trial", str(integer(seed, "the seed")), str(integer(jobs, "the number of jobs"))]
-    return Trial.read(_ask(words, b"").text)
+    limit = "a seed is from 0 to 4,294,967,295, and a trial has at most 1,000 jobs"
+    return Trial.read(_ask(words, b"", limit).text)

@@ -72,12 +72,14 @@ _OF_THE_WHOLE = {
 class UsageError(YdsError, ValueError):
     """The words name no command, as where a grid or a top speed is out of its range."""
 
-    def __init__(self, words: Sequence[str]) -> None:
-        super().__init__(words)
+    def __init__(self, words: Sequence[str], limit: Optional[str] = None) -> None:
+        """limit: what the call's numbers are at least and at most."""
+        super().__init__(words, limit)
         self.words = words
+        self.limit = limit
 
     def __str__(self) -> str:
-        return f"{' '.join(self.words)!r} isn't a command; is a number out of its range?"
+        return f"{' '.join(self.words)!r} isn't a command; {self.limit or 'is a number out of its range?'}"
 
 
 class OutOfMemory(YdsError, MemoryError):
