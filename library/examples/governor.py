@@ -3,7 +3,7 @@
     python3 governor.py [SEED]
 
 It tells whether the governor meets the deadlines of drawn jobs, and what it spends beside the least, with a power of
-speed * speed * speed.
+speed * speed * speed, in floats.
 """
 
 import math
@@ -66,17 +66,12 @@ def cut(slot: yds.Slot, until: int) -> yds.Slot:
     return slot._replace(end=end, work=slot.speed * (end - slot.start))
 
 
-def energy(slots: Iterable[yds.Slot]) -> float:
-    """What the slots spend with a power of speed * speed * speed."""
-    return math.fsum(float(slot.speed) ** 3 * float(slot.end - slot.start) for slot in slots)
-
-
 def main(seed: int) -> None:
     document = yds.Document(drawn(seed))
     for period in (1, 5, 10, 20):
         slots = govern(document.jobs, period)
         verdict = yds.schedule.judge(document, slots)
-        ratio = energy(slots) / energy(document.plan().slots)
+        ratio = yds.energy.of_slots(slots, 3.0) / document.plan().energy_for(3.0)
         print(f"each {period:2} units: {len(slots):3} slots, {ratio:.4f} of the least energy, {verdict}", end="")
 
 

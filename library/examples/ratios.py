@@ -11,7 +11,7 @@ import sys
 from typing import Dict, List
 
 import yds
-from governor import drawn, energy, govern
+from governor import drawn, govern
 
 COUNT = 200
 POLICIES = {
@@ -25,13 +25,13 @@ late: Dict[str, int] = {policy: 0 for policy in POLICIES}
 rounded = 0
 for seed in range(COUNT):
     document = yds.Document(drawn(seed))
-    least = energy(document.plan().slots)
+    least = document.plan().energy_for(3.0)
     for policy, call in POLICIES.items():
         run = call(document)
         slots = run.slots if isinstance(run, yds.Run) else run
         rounded += isinstance(run, yds.Run) and not run.exact
         if yds.schedule.judge(document, slots):
-            ratios[policy].append(energy(slots) / least)
+            ratios[policy].append(yds.energy.of_slots(slots, 3.0) / least)
         else:
             late[policy] += 1
 
