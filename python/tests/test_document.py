@@ -2,6 +2,7 @@
 
 import copy
 import pickle
+import re
 import unittest
 from decimal import Decimal
 from fractions import Fraction
@@ -9,6 +10,7 @@ from typing import Any, Callable, List
 
 import stored
 import yds
+from yds import _places
 
 THREE = [("a", 0, 12, 4), ("b", 2, 10, 8), ("c", 4, 6, 6)]
 POLICIES = [("a", 0, 3, 2), ("b", 1, 2, 1)]
@@ -696,6 +698,16 @@ class Refusals(unittest.TestCase):
         with self.assertRaisesRegex(yds.Refused, r"line 1, column 1: UnknownKind, in 'x'$") as raised:
             yds.Document.from_text("x").plan()
         self.assertEqual((raised.exception.table, raised.exception.index, raised.exception.field), (None, None, None))
+
+    def test_every_reason_has_its_rule(self) -> None:
+        """Those that docs/format.md names, but for a word that begins no line: there its own text says enough."""
+        page = (stored.ROOT / "docs" / "format.md").read_text(encoding="utf-8")
+        reasons = set(re.findall(r"^\| `([A-Z][A-Za-z]+)` \|", page, re.MULTILINE)) - {"UnknownKind"}
+        self.assertGreater(len(reasons), 12)
+        for reason in reasons:
+            with self.subTest(reason):
+                place = _places.Place("jobs", 0, None, "work")
+                self.assertTrue(_places.rule(reason, place))
 
     def test_every_stored_refusal_has_its_place(self) -> None:
         """The row at a place, read anew from the text, is the line that is told."""
