@@ -699,6 +699,39 @@ class Refusals(unittest.TestCase):
             yds.Document.from_text("x").plan()
         self.assertEqual((raised.exception.table, raised.exception.index, raised.exception.field), (None, None, None))
 
+    def test_limits_are_those_that_are_told(self) -> None:
+        """What is told as the greatest number is taken, and one more isn't."""
+        for text, greatest, told in (
+            ("job a 0 {} 1", 10**9, "1,000,000,000"),
+            ("job a 0 4 {}", 10**6, "1,000,000"),
+            ("point 0 0\npoint {} 1", 4000, "4,000"),
+            ("point 0 {}", 10**6, "1,000,000"),
+            ("job a 0 4 1\nslot a 0 {} 1", 10**9, "1,000,000,000"),
+            ("job a 0 4 1\nslot a 0 0+1/{} 1", 2**60, "2^60 = 1,152,921,504,606,846,976"),
+            ("job a 0 4 1\nslot a 0 1 {}", 10**12, "10^12"),
+            ("job a 0 4 1\nticks 1\nrun a 0 1 {}", 10**6, "1,000,000"),
+            ("level {} 1", 4 * 10**9, "4,000,000,000"),
+            ("level 1 {}", 10**9, "1,000,000,000"),
+            ("level 1 1\npiece 0 {}", 10**9, "1,000,000,000"),
+            ("ticks {}", 10**9, "1,000,000,000"),
+            ("grid {} 0", 10**6, "1,000,000"),
+            ("grid 1 {}", 10**6, "1,000,000"),
+            ("energy {}", 10**18, "10^18"),
+        ):
+            with self.subTest(text):
+                yds.Document.from_text(text.format(greatest)).audit()
+                with self.assertRaisesRegex(yds.Refused, f": OutOfRange, .*{re.escape(told)}"):
+                    yds.Document.from_text(text.format(greatest + 1)).audit()
+        for field, greatest in ((1, 10**9), (2, 10**9), (3, 10**9), (4, 10**6)):
+            for number in (greatest, greatest + 1):
+                task = ["s", 0, 4, 4, 1]
+                task[field] = number
+                if number == greatest:
+                    yds.expand([task], horizon=4)
+                    continue
+                with self.assertRaisesRegex(yds.Refused, f": OutOfRange, .*{greatest:,}"):
+                    yds.expand([task], horizon=4)
+
     def test_every_reason_has_its_rule(self) -> None:
         """Those that docs/format.md names, but for a word that begins no line: there its own text says enough."""
         page = (stored.ROOT / "docs" / "format.md").read_text(encoding="utf-8")
