@@ -7,7 +7,7 @@ from fractions import Fraction
 from typing import Any, List, Sequence, Tuple
 
 import yds
-from yds import energy
+from yds import _powers, energy
 
 THREE = [("a", 0, 12, 4), ("b", 2, 10, 8), ("c", 4, 6, 6)]
 SLOTS = [("b", 2, 4, Fraction(8, 3)), ("a", 0, 2, 2)]
@@ -75,10 +75,10 @@ class ByHand(unittest.TestCase):
             energy.of_slots(on_the_hull, BENT, 0, 4, by="points")
 
     def test_hulls(self) -> None:
-        self.assertEqual(energy.hull(BENT), [(0, 1), (2, 4), (4, 10)])
-        self.assertEqual(energy.hull([(0, 0), (1, 1), (2, 2)]), [(0, 0), (1, 1), (2, 2)])
-        self.assertEqual(energy.hull([(0, 9), (1, 5), (2, 4), (3, 5)]), [(0, 9), (1, 5), (2, 4), (3, 5)])
-        self.assertEqual(energy.hull([(0, 4)]), [(0, 4)])
+        self.assertEqual(_powers.hull(BENT), [(0, 1), (2, 4), (4, 10)])
+        self.assertEqual(_powers.hull([(0, 0), (1, 1), (2, 2)]), [(0, 0), (1, 1), (2, 2)])
+        self.assertEqual(_powers.hull([(0, 9), (1, 5), (2, 4), (3, 5)]), [(0, 9), (1, 5), (2, 4), (3, 5)])
+        self.assertEqual(_powers.hull([(0, 4)]), [(0, 4)])
 
     def test_answers(self) -> None:
         document = yds.Document(THREE, [(0, 1), (1, 2), (2, 5), (4, 17)])

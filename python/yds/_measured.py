@@ -5,9 +5,9 @@ from __future__ import annotations
 from fractions import Fraction
 from typing import Any, ClassVar, Dict, List, Optional, Tuple, overload
 
+from yds._powers import By, Energy, Power, Span, Table, checked, is_exponent, of_spans
 from yds._tables import Profile, columns, profile, to_pandas
 from yds._turns import in_turn
-from yds.energy import By, Energy, Power, Span, Table, checked, is_exponent, of_spans
 from yds.rows import Job, Point, Slot
 
 

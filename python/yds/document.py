@@ -12,7 +12,7 @@ from yds._forms import JOBS, POINTS, SLOTS, TASKS, name, read
 from yds._library import Answer, Status, answer, as_bytes
 from yds._measured import Measured
 from yds._numbers import Decimalish, Units, integer, whole
-from yds.energy import Span
+from yds._powers import Span
 from yds.errors import OutOfMemory, Refused, UsageError
 from yds.results import Comparison, Curve, Judgement, Refusal, Report, TooSlow, Trial, Verdict
 from yds.rows import Job, JobLike, Level, Point, PointLike, Rows, Slot, SlotLike, TaskLike
