@@ -42,7 +42,7 @@ installed() {
 	tests env -i PATH="$work/venv/bin:/usr/bin:/bin" PYTHONDONTWRITEBYTECODE=1 YDS="$YDS" DOCUMENTS=200 python || return 1
 	env -i PATH="$work/venv/bin:/usr/bin:/bin" python -c 'import yds; print("from", yds.__path__[0].split("/venv/")[1])'
 }
-types() { MYPYPATH=python mypy --strict --no-incremental python/yds library/examples/governor.py; }
+types() { MYPYPATH=python mypy --strict --no-incremental python/yds python/tests/seen_by_mypy.py library/examples/governor.py; }
 
 # The picture of docs/library.md has the texts of the one that is drawn here.
 texts() { grep -o '>[^<]*</text>' "$1"; }

@@ -631,6 +631,22 @@ class Numbers(unittest.TestCase):
                 call(Fraction(1, 2))  # type: ignore[arg-type]
             self.assertEqual(call(Fraction(6)), call(6))  # type: ignore[arg-type]
 
+    def test_integers_of_other_packages(self) -> None:
+        class Index:
+            def __index__(self) -> int:
+                return 4
+
+        self.assertEqual(yds.Document([("a", 0, Index(), 8)], [(0, Index())]).text, b"job a 0 4 8\npoint 0 4\n")
+        try:
+            import numpy
+        except ImportError:
+            self.skipTest("numpy isn't here")
+        for kind in (numpy.int8, numpy.int64, numpy.uint16):
+            self.assertEqual(yds.Document([("a", 0, kind(4), kind(8))]).text, b"job a 0 4 8\n")
+        for value in (numpy.float64(4), numpy.bool_(True), numpy.float32(4)):
+            with self.assertRaises(TypeError):
+                yds.Document([("a", 0, value, 8)])
+
     def test_points_of_an_audit(self) -> None:
         document = yds.Document([("a", 0, 4, 8)], [(0, 0), (2, 9)], [("a", 0, 4, 8)])
         self.assertTrue(document.audit(points=True))

@@ -5,6 +5,7 @@ from __future__ import annotations
 from decimal import Decimal
 from fractions import Fraction
 from numbers import Rational
+from operator import index
 from typing import Any, Dict, Iterable, Optional, Union
 
 Decimalish = Union[int, float, str, Decimal, Fraction]
@@ -14,14 +15,21 @@ DECIMALS = ". Document.from_decimal(.., denominator=..) takes decimals, and coun
 
 
 def exact(value: Any, advice: str = ". Fraction takes its text, as in Fraction('0.1')") -> Fraction:
-    """The value of an int or a Fraction, also of numpy's ints. Neither a float nor a truth value is taken."""
+    """The value of an int or a Fraction, also of other packages' ints. Neither a float nor a truth value is taken."""
     if isinstance(value, Fraction):
         return value
-    if isinstance(value, bool):
+    if is_truth(value):
         raise TypeError(f"{value!r} is a truth value, and no number")
     if isinstance(value, Rational):
         return Fraction(int(value.numerator), int(value.denominator))
+    if hasattr(value, "__index__"):
+        return Fraction(index(value))
     raise TypeError(f"{value!r} is neither an int nor a Fraction, and what is counted is exact{advice}")
+
+
+def is_truth(value: Any) -> bool:
+    """Whether the value is True or False, also numpy's, which are no bools."""
+    return type(value).__name__ in ("bool", "bool_")
 
 
 def whole(value: Any, advice: str = ". Numbers are whole here: count in finer units") -> int:
@@ -80,7 +88,7 @@ class Units:
 
 def decimal(value: Decimalish) -> Fraction:
     """The exact value of a decimal: of a float, a Decimal or a text too."""
-    if isinstance(value, bool):
+    if is_truth(value):
         raise TypeError(f"{value!r} is a truth value, and no number")
     try:
         return Fraction(value)

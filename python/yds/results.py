@@ -7,7 +7,7 @@ from __future__ import annotations
 
 from dataclasses import dataclass
 from fractions import Fraction
-from typing import Dict, List, NamedTuple, Optional, Sequence, Tuple, Union
+from typing import Dict, List, Literal, NamedTuple, Optional, Sequence, Tuple, Union
 
 from yds import _shown
 from yds._numbers import exact
@@ -150,7 +150,7 @@ class TooSlow(Result):
         """The least top speed at which these jobs can be served: work per unit of time."""
         return Fraction(self.work, self.length)
 
-    def __bool__(self) -> bool:
+    def __bool__(self) -> Literal[False]:
         return False
 
     def __repr__(self) -> str:

@@ -3,7 +3,7 @@
 from __future__ import annotations
 
 from fractions import Fraction
-from typing import NamedTuple, Tuple, Union
+from typing import NamedTuple, SupportsIndex, Tuple, Union
 
 from yds._numbers import exact
 
@@ -85,7 +85,9 @@ class Task(NamedTuple):
     work: int
 
 
-JobLike = Tuple[str, Exact, Exact, Exact]
-PointLike = Tuple[Exact, Exact]
-SlotLike = Tuple[str, Exact, Exact, Exact]
-TaskLike = Tuple[str, Exact, Exact, Exact, Exact]
+Given = Union[SupportsIndex, Fraction]
+"""What is taken for an exact number: an int, one of numpy's, or a Fraction."""
+JobLike = Tuple[str, Given, Given, Given]
+PointLike = Tuple[Given, Given]
+SlotLike = Tuple[str, Given, Given, Given]
+TaskLike = Tuple[str, Given, Given, Given, Given]
