@@ -7,6 +7,7 @@ import unittest
 from decimal import Decimal
 from fractions import Fraction
 from typing import Any, Callable, List
+from unittest import mock
 
 import stored
 import yds
@@ -151,6 +152,19 @@ class Making(unittest.TestCase):
         self.assertIsInstance(again, yds.Plan)
         self.assertEqual(again.slots, plan.slots)
         self.assertEqual(pickle.loads(pickle.dumps(plan.report())), plan.report())
+
+    def test_only_the_text_crosses(self) -> None:
+        """Rows that were read aren't sent along: they are read again where they are asked for."""
+        plan = yds.Document(THREE).plan()
+        before = len(pickle.dumps(plan))
+        rows = plan.rows
+        self.assertEqual(len(pickle.dumps(plan)), before)
+        self.assertLess(before, len(plan.text) + 150)
+        self.assertEqual(pickle.loads(pickle.dumps(plan)).rows, rows)
+        with mock.patch("yds.document.answer", side_effect=AssertionError("what the library wrote isn't read anew")):
+            self.assertEqual(pickle.loads(pickle.dumps(plan)).rows, rows)
+        self.assertEqual(plan.__dask_tokenize__(), pickle.loads(pickle.dumps(plan)).__dask_tokenize__())
+        self.assertNotEqual(plan.__dask_tokenize__(), yds.Document.from_text(plan.text).__dask_tokenize__())
 
     def test_equal_texts_and_equal_rows(self) -> None:
         """The library writes 1+800/1200 where rows are written as 1+2/3: other texts, the same rows."""

@@ -5,7 +5,7 @@ from __future__ import annotations
 from fractions import Fraction
 from functools import cached_property
 from itertools import zip_longest
-from typing import Any, ClassVar, Iterable, List, NamedTuple, Optional, Sequence, Tuple, Type, TypeVar, Union
+from typing import Any, ClassVar, Dict, Iterable, List, NamedTuple, Optional, Sequence, Tuple, Type, TypeVar, Union
 
 from yds import _shown, _spelling
 from yds._forms import JOBS, POINTS, SLOTS, TASKS, name, read
@@ -304,6 +304,14 @@ class Document(Measured):
     def _of(cls: Type[D], answered: Answer) -> D:
         """The document that the library wrote."""
         return cls._made(answered.text, written=True)
+
+    def __getstate__(self) -> Dict[str, object]:
+        """What is pickled and copied: the text, and not the rows that were read of it."""
+        return {"_text": self._text, "_written": self._written}
+
+    def __dask_tokenize__(self) -> Tuple[str, bytes]:
+        """What dask keeps results by: equal for equal documents."""
+        return type(self).__name__, self._text
 
     def __str__(self) -> str:
         return self.text.decode("utf-8", "replace")
