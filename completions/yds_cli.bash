@@ -19,7 +19,8 @@ _yds_recipe() {
 	[[ ${COMPREPLY[0]} != *= ]] || compopt -o nospace
 }
 complete -o default -F _yds_cli yds_cli
-# The recipes' commands are those on the PATH that lead to the recipes: links to command.sh, or the files of recipes/bin.
+# The recipes' commands are those on the PATH that lead to the recipes: links to command.sh, or the files of
+# recipes/bin.
 _yds_complete_recipes() {
 	local command
 	for command in $(compgen -c yds- | sort -u); do
