@@ -10,7 +10,7 @@
 #   report levels                                                         of report
 #   energies times roundings too_slow misses                              of compare and energy.awk, by side
 #   breaks, refused_jobs, one_level, trial                                of curve, admit, expand, trial
-#   missed, and verdicts of jobs whose runs aren't in the document       of misses.sh, whose `# due at` is a column due, and by how much a
+#   missed, and verdicts of jobs whose runs aren't in the document        of misses.sh, whose `# due at` is a column due, and by how much a
 #                                                                         job was late a column late, late_at_least, late_ms or not_ended_ms
 #   comments                                                              what else begins with #
 # Output: one object on one line, each table in it an array of objects; for several files a line for each, with its name as `file`.

@@ -163,7 +163,8 @@ done
 # What the comments of trace.awk tell. Of a job that is in the document without its runs they stand in place of what audit says; that one
 # wasn't ended, or was late in a short run, is told where audit found nothing, as its work was done.
 ${AWK:-awk} -v missed="$folder/missed" "$clock"'
-	/^# (left out|late by less than a unit of time|late, without its runs|not ended|late in a run within one tick): / && /, (at least |not ended )?[0-9.]+ ms after its deadline(; window -?[0-9]+ -?[0-9]+)?$/ {
+	/^# (left out|late by less than a unit of time|late, without its runs|not ended|late in a run within one tick): / &&
+	/, (at least |not ended )?[0-9.]+ ms after its deadline(; window -?[0-9]+ -?[0-9]+)?$/ {
 		comment[++n] = substr($0, 3)
 		match(comment[n], /: [^ ]+/)
 		kind[n] = substr(comment[n], 1, RSTART - 1)

@@ -5,7 +5,7 @@
 #
 # Input: sched_switch, sched_waking (or sched_wakeup) and cpu_frequency as text: `trace-cmd report` (also with -t, -N,
 # -R), the kernel's `trace` file, `perf script --ns --show-lost-events`, or Perfetto's export (`traceconv systrace`).
-# Other lines are skipped.
+# A line is the event whose name stands behind its first stamp, whatever else it holds; lines of other events are skipped.
 #
 # Output: `job`, `ticks` and `run` lines. Time in units of `us` microseconds, speed in units of `khz`
 # kilohertz, work in units of us * khz / 1000 cycles. Times are rounded down, speeds to the nearest unit.
@@ -754,7 +754,8 @@ function is_coarse(khz_of_run, rounded) {
 }
 function put(name, a, b, khz_of_run,    s) {
     if (khz_of_run != "" && khz_of_run + 0 == 0)
-        return fail(name " runs at 0 kHz, " clock(zero + a * tick) " s, where nothing can be done; look at the cpu_frequency lines before, or give a time without them by from= and to=")
+        return fail(name " runs at 0 kHz, " clock(zero + a * tick) " s, where nothing can be done; look at the cpu_frequency lines before, " \
+            "or give a time without them by from= and to=")
     s = int(khz_of_run / khz + 0.5)
     if (is_coarse(khz_of_run, s * khz))
         return fail(khz_of_run " kHz is speed " s " in units of " khz " kHz, more than a twentieth off; give a finer khz=")
@@ -790,8 +791,10 @@ function find_ends(    j, name) {
 function tell_ends(j,    name) {
     name = written[j]
     if (last_job[name] != j) return
-    if ((name in true_begin) && (!(name in first_tick) || true_begin[name] < first_tick[name])) printf "# begins: %s %.0f\n", name, true_begin[name]
-    if (!(j in note) && (name in true_end) && (!(name in shown_end) || true_end[name] > shown_end[name])) printf "# ends: %s %.0f\n", name, true_end[name]
+    if ((name in true_begin) && (!(name in first_tick) || true_begin[name] < first_tick[name]))
+        printf "# begins: %s %.0f\n", name, true_begin[name]
+    if (!(j in note) && (name in true_end) && (!(name in shown_end) || true_end[name] > shown_end[name]))
+        printf "# ends: %s %.0f\n", name, true_end[name]
 }
 
 function check_limits(    j, a, d, name) {
@@ -901,11 +904,14 @@ function write_comments(    i, j, t) {
     if (!wakes) print "# no wake-up of these tasks in the trace: each job begins at its first run, and what it waited before isn't seen"
     if (low != "" && low < first_time) print "# the trace begins at " clock(first_time) " s, after from="
     if (high != "" && high > trace_end) print "# the trace ends at " clock(trace_end) " s, before to="
-    if (left_out_time) printf "# %s ran on this CPU for %.3f ms\n", (jobs_without_runs ? "jobs that are left out, or without their runs," : "left-out jobs"), left_out_time / 1000000
+    if (left_out_time) printf "# %s ran on this CPU for %.3f ms\n", \
+        (jobs_without_runs ? "jobs that are left out, or without their runs," : "left-out jobs"), left_out_time / 1000000
     printf "# other tasks ran for %.3f ms of %.3f ms\n", others_time / 1000000, (last_time - start_time) / 1000000
-    if (missing_switches) print "# " counted(missing_switches, "switch") " of other tasks " (missing_switches == 1 ? "is" : "are") " missing: they may have run for another time than this"
+    if (missing_switches) print "# " counted(missing_switches, "switch") " of other tasks " (missing_switches == 1 ? "is" : "are") \
+        " missing: they may have run for another time than this"
     if (markers) print "# " counted(markers, "line") " of tracing_mark_write, print or bprint, in which an application writes what it likes"
-    if (hidden) print "# " counted(hidden, "line") " of other events with the words of a switch, a wake-up or a change of frequency in the text; none was read as one"
+    if (hidden) print "# " counted(hidden, "line") " of other events with the words of a switch, a wake-up or a change of frequency in the text; " \
+        "none was read as one"
     if (changes) print "# " counted(changes, "change") " of frequency, " (changes_from_elsewhere + 0) " of them from another CPU"
     print "# " counted(jobs_written, "job") " written, " (left_out ? left_out " left out" : "none left out") \
         (jobs_without_runs ? ", " jobs_without_runs " late without " (jobs_without_runs == 1 ? "its" : "their") " runs" : "")
