@@ -35,12 +35,37 @@ test_battery() {
 	refuses "battery: without the power of the rest" 1 "" \
 		"battery.awk: the side plan takes 9050 of the 10000 units of time of the period; give the points before the lines, whose first has the power of the rest" \
 		battery -v uw=1 -v period=10000 "$work/energies"
+	one_period_and_three
 	jobs_that_are_missing
 	points_of_another_device
 	refuses "battery: no energy" 1 "" "battery.awk: no energy line; is this the answer of compare?" battery -v period=1000 "$work/device"
 	refuses "battery: no number of the period" 2 "" "battery.awk: mah= and volts= of the battery are numbers above 0" battery -v period=0 "$work/device"
 	printf 'job energy 0 5 3\njob time 0 5 3\n' | cat "$work/device" - >"$work/named"
 	hours "battery: jobs with the names of lines" plan 0.207 3185.9 battery "$work/named" "$work/energies"
+}
+
+# What is least in one period is least for ever: drawn tasks have the same hours with one period as with three, for each side.
+one_period_and_three() {
+	seed=1
+	while [ $seed -le 10 ]; do
+		for horizon in 120 360; do
+			$AWK -v seed=$seed -v horizon=$horizon 'function draw(n) { state = (1664525 * state + 1013904223) % 4294967296; return int(state / 65536) % n }
+				BEGIN { state = seed; print "horizon " horizon
+					for (t = 0; t < 3; t++) { period = 10 * (1 + draw(4)); if (120 % period) period = 60; offset = draw(period / 2); print "task t" t, offset, period, 1 + draw(period - offset), 1 + draw(40) } }' >"$work/drawn"
+			YDS=$YDS AWK=$AWK sh "$here/tasks.sh" "$work/drawn" >"$work/jobs"
+			printf '# table: speed unit 1000 kHz, power unit 10 uW\npoint 0 7\npoint 40 900\npoint 200 9000\n' | cat - "$work/jobs" >"$work/drawn-device"
+			"$YDS" compare --grid 720720 <"$work/drawn-device" >"$work/drawn-energies"
+			energy -v at=200 "$work/drawn-device" >>"$work/drawn-energies"
+			battery "$work/drawn-device" "$work/drawn-energies" >"$work/hours-$horizon" 2>&1
+		done
+		if ! cmp -s "$work/hours-120" "$work/hours-360" || [ "$(wc -l <"$work/hours-120")" != 5 ]; then
+			fail "battery: one period and three, seed $seed"
+			head -n 3 "$work/hours-120" "$work/hours-360"
+			return
+		fi
+		seed=$((seed + 1))
+	done
+	pass
 }
 
 # fast and slow: in 16 periods of fast, slow is due once, and with a horizon of 1000 never.
