@@ -57,7 +57,18 @@ ${AWK:-awk} '
 		while (b) { r = a % b; a = b; b = r }
 		return a
 	}
+	# The units that comments tell have to be the same in all texts of the tasks.
+	function unit_told(kind, word,    n) {
+		if (fault || !match($0, kind " unit [0-9.]+ " word)) return
+		n = substr($0, RSTART + length(kind) + 6) + 0
+		if (kind in unit && unit[kind] != n) {
+			print "line " NR ": a unit of " kind " of " n " " word " here and " unit[kind] " " word " before; give tasks of one unit" > "/dev/stderr"
+			fault = 1
+		}
+		unit[kind] = n
+	}
 	{ sub(/\r$/, "") }
+	/^[ \t]*#/ && / unit [0-9]/ { unit_told("time", "us"); unit_told("speed", "kHz"); unit_told("power", "uW") }
 	/^[ \t]*#/ { if ($0 !~ /^# (period|no period|not due by) /) print; next }
 	$1 == "horizon" { horizon = $2 + 0 }
 	$1 == "task" {
@@ -77,6 +88,7 @@ ${AWK:-awk} '
 		if (common <= 1000000000) common = common ? common / divisor(common, period) * period : period
 	}
 	END {
+		if (fault) exit 1
 		if (!tasks) { print (horizon == "" ? "no horizon and no task line" : "no task line") > "/dev/stderr"; exit 1 }
 		if (lines) {
 			text = lines > 1 ? lines " tasks have jobs" : "a task has jobs"

@@ -25,6 +25,8 @@ job sense.0 0 50 700" tasks "$work/sense"
 	written "tasks: units stay, and a period of before doesn't" 0 "# rt-app workload: time unit 10 us, speed unit 10000 kHz, work unit 100 cycles, run at 1416 MHz
 # period 1000
 job sense.0 0 50 700" from "$work/units" tasks
+	(cat "$work/units" && sed -n '1s/10 us/100 us/p' "$work/units" && echo "task other 0 1000 50 700") >"$work/two"
+	refuses "tasks: two units" 1 failed "tasks.sh: line 5: a unit of time of 100 us here and 10 us before; give tasks of one unit" tasks "$work/two"
 	refuses "tasks: what expand refuses" 1 failed "tasks.sh: yds_cli expand ended with status 3: refused 1 1 UnknownKind" tasks bad/failed.txt
 	refuses "tasks: nothing" 1 failed "tasks.sh: no horizon and no task line" tasks /dev/null
 	echo "horizon 9" >"$work/none"
