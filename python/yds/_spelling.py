@@ -7,7 +7,7 @@ from fractions import Fraction
 from functools import lru_cache
 from typing import Any, Dict, Iterable, Iterator, List, Sequence, Tuple
 
-from yds._forms import LEVELS, SLOTS, Form, name, read
+from yds._forms import LEVELS, Form, name, read
 from yds._numbers import whole
 from yds.rows import Job, Level, Piece, Point, Slot
 
@@ -27,14 +27,18 @@ def common(denominators: Iterable[int]) -> int:
     return least
 
 
-def slot_lines(slots: Iterable[Any]) -> Iterator[str]:
+def slot_lines(given: Sequence[Tuple[str, Fraction, Fraction, Fraction]]) -> Iterator[str]:
     """The slots, each with its ends over one denominator, and the works of each job over one denominator."""
-    given = list(read(SLOTS, slots))
     grains: Dict[str, int] = {}
     for job, _, _, work in given:
-        grains[job] = common([grains.get(job, 1), work.denominator])
+        grain = work.denominator
+        before = grains.setdefault(job, grain)
+        if before != grain:
+            grains[job] = common([before, grain])
     for job, start, end, work in given:
-        ends = common([start.denominator, end.denominator])
+        ends = start.denominator
+        if end.denominator != ends:
+            ends = common([ends, end.denominator])
         yield f"slot {job} {fraction(start, ends)} {fraction(end, ends)} {fraction(work, grains[job])}"
 
 

@@ -74,7 +74,7 @@ class Document(Measured):
         self.__dict__["_text"] = _spelling.joined(
             _spelling.lines("job", JOBS, jobs),
             _spelling.lines("point", POINTS, points),
-            _spelling.slot_lines(slots),
+            _spelling.slot_lines(list(read(SLOTS, slots))),
             _spelling.level_lines(levels),
         )
 
@@ -131,6 +131,11 @@ class Document(Measured):
     def text(self) -> bytes:
         """The document as the library reads it, or as it wrote it."""
         return self._text
+
+    @cached_property
+    def _head(self) -> bytes:
+        """The text of the jobs and points alone."""
+        return Document(self.jobs, self.points).text
 
     @cached_property
     def _readable(self) -> bytes:

@@ -7,7 +7,7 @@ from __future__ import annotations
 
 from dataclasses import dataclass
 from fractions import Fraction
-from typing import Dict, List, Literal, NamedTuple, Optional, Sequence, Tuple, Union
+from typing import Dict, List, Literal, NamedTuple, Optional, Sequence, Tuple
 
 from yds import _shown
 from yds._numbers import exact

@@ -12,14 +12,16 @@ from fractions import Fraction
 from typing import Callable, Iterable, List, Optional, Sequence, Tuple, TypeVar
 
 from yds._forms import FOREIGN_SLOTS, read
+from yds._spelling import joined, level_lines, slot_lines
 from yds._tables import Profile, columns, profile, to_pandas
 from yds.document import Document
 from yds.errors import Refused
 from yds.results import Judgement, Verdict
-from yds.rows import Level, Slot, SlotLike
+from yds.rows import Level, SlotLike
 
 __all__ = ["Profile", "check", "columns", "judge", "profile", "to_pandas"]
 
+ExactSlot = Tuple[str, Fraction, Fraction, Fraction]
 Told = TypeVar("Told", Verdict, Judgement)
 
 
@@ -39,8 +41,8 @@ def judge(document: Document, slots: Iterable[SlotLike], points: bool = False) -
     >>> verdict.cause, verdict.job, verdict.index, verdict.slot.end - verdict.deadline
     ('late', 'b', 0, Fraction(1, 3))
     """
-    order, sorted_slots = _in_time(slots)
-    judged = Document(document.jobs, document.points, sorted_slots)
+    order, given = _in_time(slots)
+    judged = _with(document, given)
     return _placed(_told(lambda: judged.audit(points), judged, order), order)
 
 
@@ -55,20 +57,26 @@ def check(document: Document, slots: Iterable[SlotLike], levels: Optional[Sequen
     >>> check(document, [("a", 0, 1, 2), ("a", 1, 4, 2)]).condition
     'K7'
     """
-    order, sorted_slots = _in_time(slots)
-    chosen = document.plan().levels if levels is None else levels
-    judged = Document(document.jobs, document.points, sorted_slots, chosen)
+    order, given = _in_time(slots)
+    judged = _with(document, given, document.plan().levels if levels is None else levels)
     judgement = _placed(_told(judged.check, judged, order), order)
     if judgement.verdict is None:
         return judgement
     return replace(judgement, verdict=_placed(judgement.verdict, order))
 
 
-def _in_time(slots: Iterable[SlotLike]) -> Tuple[List[int], List[Slot]]:
+def _in_time(slots: Iterable[SlotLike]) -> Tuple[Sequence[int], List[ExactSlot]]:
     """The slots in the order of their times, and the place of each in the given list."""
-    given = [Slot(*row) for row in read(FOREIGN_SLOTS, slots)]
-    order = sorted(range(len(given)), key=lambda place: (given[place].start, given[place].end))
+    given: List[ExactSlot] = list(read(FOREIGN_SLOTS, slots))
+    if all(one[1] < other[1] for one, other in zip(given, given[1:])):
+        return range(len(given)), given
+    order = sorted(range(len(given)), key=lambda place: (given[place][1], given[place][2]))
     return order, [given[place] for place in order]
+
+
+def _with(document: Document, slots: Sequence[ExactSlot], levels: Iterable[Level] = ()) -> Document:
+    """The document's jobs and points, with these slots and levels in place of its own."""
+    return Document.from_text(document._head + joined(slot_lines(slots), level_lines(levels)))
 
 
 def _told(call: Callable[[], Told], judged: Document, order: Sequence[int]) -> Told:
