@@ -554,7 +554,9 @@ class Rows(unittest.TestCase):
         self.refused(ValueError, r"^jobs\[0\] has 3 ", lambda: yds.Document.from_decimal([("a", 0, 1)], denominator=1))
 
     def test_what_is_no_row(self) -> None:
-        for rows in (["abcd"], {"name": ["a"]}, [7], [None]):
+        for rows in ({"name": ["a"]}, {("a", 0, 4, 8)}, frozenset([("a", 0, 4, 8)])):
+            self.refused(TypeError, r"^jobs is a list of rows, and not .*from_pandas takes", lambda: yds.Document(rows))
+        for rows in (["abcd"], [7], [None], [{"a", 0, 4, 8}], [{"a": 1, "b": 2, "c": 3, "d": 4}]):
             self.refused(TypeError, r"^jobs\[0\] is a row of name, release, deadline, work", lambda: yds.Document(rows))
         self.refused(TypeError, r"^jobs is a list of rows, and not 7", lambda: yds.Document(7))
         self.refused(TypeError, r"^points is a list of rows, and not 7", lambda: yds.Document(points=7))

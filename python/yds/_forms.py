@@ -10,6 +10,7 @@ from typing import Any, Callable, Iterable, Iterator, NamedTuple, Tuple
 
 from yds._numbers import DECIMALS, exact, whole
 
+_NO_ORDER = (set, frozenset, dict)
 _NAME = re.compile(r"[!-~]{1,64}")
 
 
@@ -23,8 +24,8 @@ class Form(NamedTuple):
 
 def read(form: Form, rows: Iterable[Any]) -> Iterator[Any]:
     """The rows with their values taken. TypeError or ValueError says which field of which row isn't one."""
-    if not isinstance(rows, IterableType):
-        raise TypeError(f"{form.table} is a list of rows, and not {short(rows)}")
+    if not isinstance(rows, IterableType) or isinstance(rows, _NO_ORDER):
+        raise TypeError(f"{form.table} is a list of rows, and not {short(rows)}; from_pandas takes columns")
     takes, count = form.takes, len(form.fields)
     for place, row in enumerate(rows):
         values = row if isinstance(row, tuple) else _values(form, place, row)
@@ -40,7 +41,7 @@ def read(form: Form, rows: Iterable[Any]) -> Iterator[Any]:
 
 def _values(form: Form, place: int, row: Any) -> Tuple[Any, ...]:
     """The row's values."""
-    if isinstance(row, (str, bytes)) or not isinstance(row, IterableType):
+    if not isinstance(row, IterableType) or isinstance(row, (str, bytes, *_NO_ORDER)):
         fields = ", ".join(form.fields)
         raise TypeError(f"{form.table}[{place}] is a row of {fields}, and not {short(row)}; from_pandas takes columns")
     return tuple(row)
