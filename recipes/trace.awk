@@ -205,9 +205,9 @@ BEGIN {
 # ---- The lines of the trace. Those that matter become events 1 to n: kind, at, who and so on.
 
 # Most lines are of other CPUs and of other tasks. Once each listed task was seen, nothing of these is needed but the time of the last one.
-passes_over && $0 !~ wanted { if (index($0, "[")) passed = $0; next }
+passes_over && $0 !~ wanted { if (/\[[0-9]+\]/) passed = $0; next }
 /EVENTS|PERF_RECORD_LOST|buffer started/ && read_loss() { next }
-!/sched_|cpu_frequency|tracing_mark_write|print/ || !match($0, stamped_name) { if (index($0, "[")) skipped = $0; next }
+!/sched_|cpu_frequency|tracing_mark_write|print/ || !match($0, stamped_name) { if (/\[[0-9]+\]/) skipped = $0; next }
 {
     rest = substr($0, RSTART + RLENGTH)
     stamp = read_stamp()

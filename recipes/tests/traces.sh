@@ -387,8 +387,9 @@ traces_without_a_whole_job() {
 lines_that_are_passed_over() {
 	head -n 8 starving.txt >"$work/short"
 	t=tasks=audio:5,render:16
-	for line in '<idle>-0 [001] 100.015000: sched_switch: swapper/1:0 [120] R ==> web:77 [120]' 'web-77 [001] d..2. 100.015000: hrtimer_expire_entry: hrtimer=0 now=1'; do
-		(cat "$work/short" && printf '%s\n' "$line" '' '# end') >"$work/ended"
+	for line in '<idle>-0 [001] 100.015000: sched_switch: swapper/1:0 [120] R ==> web:77 [120]' 'web-77 [001] d..2. 100.015000: hrtimer_expire_entry: hrtimer=0 now=1' \
+		'web-77 [000] 100.015000: hrtimer_expire_entry: hrtimer=0 now=1'; do
+		(cat "$work/short" && printf '%s\n' "$line" '' '# end' '[ perf record: Captured and wrote 1.234 MB perf.data (1200 samples) ]') >"$work/ended"
 		says "traces: the last line is of another CPU" 0 "job audio.1 1000 1500 1
 # not ended: audio.1, 0.000 ms after its deadline" trace -v $t "$work/ended"
 	done
