@@ -1,5 +1,5 @@
 -- The lines of verdicts and judgements: their first word, and the other words each after a space.
-use Rattle.yds_model.proofs.Common.{◌≡◌, ℕ, List, [], ◌∷◌, ◌++◌, sym, ap, join_with_byte, append-nil, line}
+use Rattle.yds_model.proofs.Common.{◌≡◌, ℕ, List, [], ◌∷◌, ◌++◌, ◌∙◌, sym, ap, append_assoc, join_with_byte, append-nil, line}
 use Rattle.yds_run.specs.VerdictLine.{spaced}
 
 joined : (word : List ℕ) (words : List (List ℕ)) → join_with_byte 32 (word ∷ words) ≡ word ++ spaced words
