@@ -1,5 +1,6 @@
--- A power as a sum of layers: the n-th power of a whole speed S is the sum, over the whole speeds y below it, of a weight of y times S - y.
-use Rattle.yds_model.proofs.Common.{◌≡◌, ℕ, zero, suc, ◌+◌, ◌-◌, ◌*◌, ◌^◌, ◌<◌, ◌≤◌, refl, sym, ap, arith, pow-suc, mul-le-mul_left, mul-le-mul_right}
+-- A power as a sum of layers: a power of a whole speed S is the sum, over the whole speeds y below S, of a weight of y times S - y.
+-- So what runs spend is the sum of the weights times what they do above each whole speed.
+use Rattle.yds_model.proofs.Common.{◌≡◌, ℕ, zero, suc, ◌+◌, ◌-◌, ◌*◌, ◌^◌, ◌<◌, ◌≤◌, List, [], ◌∷◌, min, cond, nat_lt, refl, sym, ap, arith, inl, inr, All, sum_by, sum_by-cons, cases_lt, cond-true, cond-false, lt-ltb, le-ltb, pow-suc, mul-sub, mul-le-mul_left, mul-le-mul_right, sum_by-add, sum_by-mul, sum_by_zero}
 use Rattle.std.proofs.Math.Nat.{pow-zero}
 
 -- # Steps of a power
@@ -9,6 +10,162 @@ abbrev pub rise : ℕ → ℕ → ℕ
 rise zero z = 1
 rise (suc n) z = suc z ^ suc n + z * rise n z
 
+one_power : (z : ℕ) → z ^ 1 ≡ z
+one_power z = omega (arith, pow-suc z 0, ap (λ x. x * z) (pow-zero z))
+
 pub power_step : (n z : ℕ) → suc z ^ suc n ≡ z ^ suc n + rise n z
-power_step zero z = omega (arith, pow-suc (suc z) 0, pow-suc z 0, pow-zero z, pow-zero (suc z))
+power_step zero z = omega (arith, one_power z, one_power (suc z))
 power_step (suc n) z = omega (arith, pow-suc (suc z) (suc n), pow-suc z (suc n), ap (λ x. z * x) (power_step n z))
+
+one_to : (n : ℕ) → 1 ^ n ≡ 1
+one_to zero = pow-zero 1
+one_to (suc n) = omega (arith, pow-suc 1 n, one_to n)
+
+zero_to : (n : ℕ) → 0 ^ suc n ≡ 0
+zero_to n = omega (arith, pow-suc 0 n)
+
+-- the first step is 1, and the steps grow
+rise_first : (n : ℕ) → rise n 0 ≡ 1
+rise_first zero = refl
+rise_first (suc n) = omega (arith, one_to (suc n))
+
+power_grows : (n z : ℕ) → suc z ^ n ≤ suc (suc z) ^ n
+power_grows zero z = omega (arith, pow-zero (suc z), pow-zero (suc (suc z)))
+power_grows (suc n) z = omega (arith, power_step n (suc z))
+
+rise_grows : (n z : ℕ) → rise n z ≤ rise n (suc z)
+rise_grows zero z = omega arith
+rise_grows (suc n) z = omega (arith, power_grows (suc n) z, mul-le-mul_left z (rise_grows n z))
+
+-- a step is at most the exponent times the greater end's power of one less
+rise_most : (n z : ℕ) → rise n z ≤ suc n * suc z ^ n
+rise_most zero z = omega (arith, pow-zero (suc z))
+rise_most (suc n) z =
+    omega (arith, mul-le-mul_left z (rise_most n z), ap (λ x. suc (suc n) * x) (pow-suc (suc z) n), pow-suc (suc z) n)
+
+-- # Weights of whole speeds
+
+-- the sum of what a function has below a number
+abbrev pub below : (ℕ → ℕ) → ℕ → ℕ
+below f zero = 0
+below f (suc y) = below f y + f y
+
+abbrev pub weight : ℕ → ℕ → ℕ
+weight n zero = 1
+weight n (suc y) = rise n (suc y) - rise n y
+
+-- together they are a step
+weights : (n y : ℕ) → below (weight n) (suc y) ≡ rise n y
+weights n zero = omega (arith, rise_first n)
+weights n (suc y) = omega (arith, weights n y, rise_grows n y)
+
+-- one speed more adds a layer
+layer_more : (n S N : ℕ) → below (λ y. weight n y * (suc S - y)) N ≡ below (λ y. weight n y * (S - y)) N + below (weight n) (min N (suc S))
+layer_more n S zero = let none : min 0 (suc S) ≡ 0 = omega arith in omega (arith, ap (below (weight n)) none)
+layer_more n S (suc N) = elim (cases_lt N (suc S)) [
+  | inl in_it ↦
+      let one : suc S - N ≡ (S - N) + 1 = omega (arith, in_it) in
+      let here : min (suc N) (suc S) ≡ suc N = omega (arith, in_it) in
+      let before : min N (suc S) ≡ N = omega (arith, in_it) in
+      omega (
+        arith,
+        layer_more n S N,
+        ap (λ x. weight n N * x) one,
+        ap (below (weight n)) here,
+        ap (below (weight n)) before,
+      )
+  | inr past ↦
+      let none : suc S - N ≡ 0 = omega (arith, past) in
+      let nothing : S - N ≡ 0 = omega (arith, past) in
+      let same : min (suc N) (suc S) ≡ min N (suc S) = omega (arith, past) in
+      omega (
+        arith,
+        layer_more n S N,
+        ap (λ x. weight n N * x) none,
+        ap (λ x. weight n N * x) nothing,
+        ap (below (weight n)) same,
+      )
+]
+
+-- the layers of a speed are its power
+pub layers : (n S N : ℕ) → S ≤ N → below (λ y. weight n y * (S - y)) N ≡ S ^ suc n
+layers n zero zero within = omega (arith, zero_to n)
+layers n zero (suc N) within =
+    let none : 0 - N ≡ 0 = omega arith in
+    omega (arith, layers n zero N (omega arith), ap (λ x. weight n N * x) none)
+layers n (suc S) N within =
+    let least : min N (suc S) ≡ suc S = omega (arith, within) in
+    omega (arith, layer_more n S N, layers n S N (omega (arith, within)), ap (below (weight n)) least, weights n S, power_step n S)
+
+-- the speed y, where it is below S
+abbrev pub speed_below : ℕ → ℕ → ℕ
+speed_below S y = cond (nat_lt y S) y 0
+
+-- weighed speeds below S and layers of S are S times the weights
+both_sums : (n S N : ℕ) → below (λ y. weight n y * speed_below S y) N + below (λ y. weight n y * (S - y)) N ≡ S * below (weight n) (min N S)
+both_sums n S zero = let none : min 0 S ≡ 0 = omega arith in omega (arith, ap (λ x. S * below (weight n) x) none)
+both_sums n S (suc N) = elim (cases_lt N S) [
+  | inl in_it ↦
+      let is : speed_below S N ≡ N = cond-true {A = ℕ} (nat_lt N S) N 0 (lt-ltb N S in_it) in
+      let rest : S ≡ (S - N) + N = omega (arith, in_it) in
+      let here : min (suc N) S ≡ suc N = omega (arith, in_it) in
+      let before : min N S ≡ N = omega (arith, in_it) in
+      omega (
+        arith,
+        both_sums n S N,
+        ap (λ x. weight n N * x) is,
+        ap (λ x. weight n N * x) rest,
+        ap (λ x. S * below (weight n) x) here,
+        ap (λ x. S * below (weight n) x) before,
+      )
+  | inr past ↦
+      let is : speed_below S N ≡ 0 = cond-false {A = ℕ} (nat_lt N S) N 0 (le-ltb N S past) in
+      let none : S - N ≡ 0 = omega (arith, past) in
+      let same : min (suc N) S ≡ min N S = omega (arith, past) in
+      omega (
+        arith,
+        both_sums n S N,
+        ap (λ x. weight n N * x) is,
+        ap (λ x. weight n N * x) none,
+        ap (λ x. S * below (weight n) x) same,
+      )
+]
+
+-- So the weighed speeds below S are at most the exponent less one times the power.
+pub speeds_below : (n S N : ℕ) → S ≤ N → below (λ y. weight n y * speed_below S y) N ≤ n * S ^ suc n
+speeds_below n zero N within = omega (arith, both_sums n 0 N)
+speeds_below n (suc S) N within =
+    let least : min N (suc S) ≡ suc S = omega (arith, within) in
+    omega (
+      arith,
+      both_sums n (suc S) N,
+      layers n (suc S) N within,
+      ap (λ x. suc S * below (weight n) x) least,
+      ap (λ x. suc S * x) (weights n S),
+      mul-le-mul_left (suc S) (rise_most n S),
+      ap (λ x. suc n * x) (pow-suc (suc S) n),
+    )
+
+-- # Sums below a number
+
+pub below_at_most : (f g : ℕ → ℕ) (N : ℕ) → ((y : ℕ) → f y ≤ g y) → below f N ≤ below g N
+below_at_most f g zero most = omega arith
+below_at_most f g (suc N) most = omega (arith, below_at_most f g N most, most N)
+
+below_add : (f g : ℕ → ℕ) (N : ℕ) → below (λ y. f y + g y) N ≡ below f N + below g N
+below_add f g zero = refl
+below_add f g (suc N) = omega (arith, below_add f g N)
+
+below_mul : (k : ℕ) (f : ℕ → ℕ) (N : ℕ) → below (λ y. k * f y) N ≡ k * below f N
+below_mul k f zero = omega arith
+below_mul k f (suc N) = omega (arith, below_mul k f N)
+
+below_nothing : (N : ℕ) → below (λ y. 0) N ≡ 0
+below_nothing zero = refl
+below_nothing (suc N) = omega (arith, below_nothing N)
+
+-- a sum over a list of sums below a number is one below it of sums over the list
+pub below_sums : {X : Type 0} (g : X → ℕ → ℕ) (N : ℕ) (xs : List X) → below (λ y. sum_by (λ x. g x y) xs) N ≡ sum_by (λ x. below (g x) N) xs
+below_sums g N [] = below_nothing N
+below_sums g N (x ∷ xs) =
+    simp sum_by-cons (omega (arith, below_sums g N xs, below_add (g x) (λ y. sum_by (λ z. g z y) xs) N))
