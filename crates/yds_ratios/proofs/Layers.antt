@@ -1,6 +1,6 @@
 -- A power as a sum of layers: a power of a whole speed S is the sum, over the whole speeds y below S, of a weight of y times S - y.
 -- So what runs spend is the sum of the weights times what they do above each whole speed.
-use Rattle.yds_model.proofs.Common.{◌≡◌, ℕ, zero, suc, ◌+◌, ◌-◌, ◌*◌, ◌^◌, ◌<◌, ◌≤◌, List, [], ◌∷◌, min, cond, nat_lt, refl, sym, ap, arith, inl, inr, All, sum_by, sum_by-cons, cases_lt, cond-true, cond-false, lt-ltb, le-ltb, pow-suc, mul-sub, mul-le-mul_left, mul-le-mul_right, sum_by-add, sum_by-mul, sum_by_zero}
+use Rattle.yds_model.proofs.Common.{◌≡◌, ℕ, zero, suc, ◌+◌, ◌-◌, ◌*◌, ◌^◌, ◌≤◌, min, cond, nat_lt, refl, ap, arith, inl, inr, cases_lt, cond-true, cond-false, lt-ltb, le-ltb, pow-suc, mul-le-mul_left}
 use Rattle.std.proofs.Math.Nat.{pow-zero}
 
 -- # Steps of a power
@@ -17,7 +17,7 @@ pub power_step : (n z : ℕ) → suc z ^ suc n ≡ z ^ suc n + rise n z
 power_step zero z = omega (arith, one_power z, one_power (suc z))
 power_step (suc n) z = omega (arith, pow-suc (suc z) (suc n), pow-suc z (suc n), ap (λ x. z * x) (power_step n z))
 
-one_to : (n : ℕ) → 1 ^ n ≡ 1
+pub one_to : (n : ℕ) → 1 ^ n ≡ 1
 one_to zero = pow-zero 1
 one_to (suc n) = omega (arith, pow-suc 1 n, one_to n)
 
@@ -152,20 +152,18 @@ pub below_at_most : (f g : ℕ → ℕ) (N : ℕ) → ((y : ℕ) → f y ≤ g y
 below_at_most f g zero most = omega arith
 below_at_most f g (suc N) most = omega (arith, below_at_most f g N most, most N)
 
-below_add : (f g : ℕ → ℕ) (N : ℕ) → below (λ y. f y + g y) N ≡ below f N + below g N
+pub below_same : (f g : ℕ → ℕ) (N : ℕ) → ((y : ℕ) → f y ≡ g y) → below f N ≡ below g N
+below_same f g zero same = refl
+below_same f g (suc N) same = omega (arith, below_same f g N same, same N)
+
+pub below_add : (f g : ℕ → ℕ) (N : ℕ) → below (λ y. f y + g y) N ≡ below f N + below g N
 below_add f g zero = refl
 below_add f g (suc N) = omega (arith, below_add f g N)
 
-below_mul : (k : ℕ) (f : ℕ → ℕ) (N : ℕ) → below (λ y. k * f y) N ≡ k * below f N
+pub below_mul : (k : ℕ) (f : ℕ → ℕ) (N : ℕ) → below (λ y. k * f y) N ≡ k * below f N
 below_mul k f zero = omega arith
 below_mul k f (suc N) = omega (arith, below_mul k f N)
 
-below_nothing : (N : ℕ) → below (λ y. 0) N ≡ 0
-below_nothing zero = refl
-below_nothing (suc N) = omega (arith, below_nothing N)
-
--- a sum over a list of sums below a number is one below it of sums over the list
-pub below_sums : {X : Type 0} (g : X → ℕ → ℕ) (N : ℕ) (xs : List X) → below (λ y. sum_by (λ x. g x y) xs) N ≡ sum_by (λ x. below (g x) N) xs
-below_sums g N [] = below_nothing N
-below_sums g N (x ∷ xs) =
-    simp sum_by-cons (omega (arith, below_sums g N xs, below_add (g x) (λ y. sum_by (λ z. g z y) xs) N))
+pub below_nothing : (f : ℕ → ℕ) (N : ℕ) → ((y : ℕ) → f y ≡ 0) → below f N ≡ 0
+below_nothing f zero none = refl
+below_nothing f (suc N) none = omega (arith, below_nothing f N none, none N)

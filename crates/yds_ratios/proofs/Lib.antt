@@ -1,1 +1,4 @@
 pub mod Layers
+pub mod WholeSpeeds
+pub mod PlansByPower
+pub mod SpendingScale

@@ -1,6 +1,6 @@
 -- What slots spend where power is speed to a whole exponent, and when one schedule spends at most so many times what another does.
 -- Power as speed to an exponent: Yao, Demers and Shenker (FOCS 1995).
-use Rattle.std.specs.Prelude.{ℕ, ◌+◌, ◌-◌, ◌*◌, ◌^◌, ◌<◌, ◌≤◌, List, [], ◌∷◌, ◌++◌, sum_by, Bool, nat_lt, if◌then◌else◌}
+use Rattle.std.specs.Prelude.{ℕ, ◌+◌, ◌-◌, ◌*◌, ◌^◌, ◌≤◌, List, [], ◌∷◌, ◌++◌, sum_by, Bool, nat_lt, if◌then◌else◌}
 use Rattle.std.specs.List.{All, filter, list_all}
 use Rattle.yds_model.specs.Job.{Job, job_at}
 use Rattle.yds_model.specs.Scale.{Quotient}

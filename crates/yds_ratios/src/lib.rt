@@ -4,3 +4,16 @@
 //! It stands on `yds_model`, whose definitions the laws speak of; on `yds_events` for stretches; on `yds_laws` for the confinement bound
 //! and for runs that never rounded; and on `yds_energy` for slots by stretches. No limit of a document stands in it.
 #![tactic(auto)]
+
+ghost use Rattle.yds_ratios.specs.RatioLaws.{OneScaleDecidesSpending, PlansSpendLeast};
+
+/// What slots spend at most of what others do, at one common scale, they do at each: a spending needs no scale.
+pub fn one_scale_decides_spending()
+    ensures { OneScaleDecidesSpending }
+{}
+
+/// A plan spends no more than any feasible schedule, where power is speed to any whole exponent of at least 1 (Yao, Demers, Shenker,
+/// FOCS 1995).
+pub fn plans_spend_least()
+    ensures { PlansSpendLeast }
+{}
