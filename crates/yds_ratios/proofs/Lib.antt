@@ -4,4 +4,6 @@ pub mod Layers
 pub mod WholeSpeeds
 pub mod PlansByPower
 pub mod SpendingScale
+pub mod Borrowed
 pub mod Telescoped
+pub mod Balanced

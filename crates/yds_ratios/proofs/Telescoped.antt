@@ -55,11 +55,11 @@ few_between : (from to n : ℕ) → sum_below (is_between from to) n ≤ to - fr
 few_between from to n = omega (arith, count_between from to n)
 
 -- what is nothing comes to nothing, however often it counts
-no_more : (often n : ℕ) → n ≡ 0 → often * n ≡ 0
+pub no_more : (often n : ℕ) → n ≡ 0 → often * n ≡ 0
 no_more often n none = omega (arith, ap (λ m. often * m) none)
 
 -- and its powers are nothing
-no_power : (n : ℕ) → 0 ^ suc n ≡ 0
+pub no_power : (n : ℕ) → 0 ^ suc n ≡ 0
 no_power n = omega (arith, pow-suc 0 n)
 
 module _ (rate first last : WholeSlot → ℕ) (slots : List WholeSlot) where

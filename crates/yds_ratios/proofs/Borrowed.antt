@@ -1,0 +1,26 @@
+-- What stands in a crate below and isn't handed out there.
+use Rattle.yds_model.proofs.Common.{◌≡◌, ℕ, suc, ◌+◌, ◌*◌, ◌<◌, ◌≤◌, List, [], ◌∷◌, refl, arith, ap, inl, inr, sum_by, All, cases_lt, All-tail, sum_by-cons, WholeSlot, RunFrom}
+use Rattle.yds_model.proofs.Time.{here}
+
+-- slots that begin later don't run now (`none_running` of yds_model/proofs/Time)
+none_running : (weight : WholeSlot → ℕ) (start now : ℕ) (slots : List WholeSlot) → RunFrom start slots → now < start →
+    sum_by (λ slot. weight slot * here slot.from slot.to now) slots ≡ 0
+none_running weight start now [] run early = refl
+none_running weight start now (slot ∷ slots) run early =
+    let none : here slot.from slot.to now ≡ 0 = omega (arith, run.0) in
+    simp sum_by-cons (omega (arith, none_running weight slot.to now slots run.2 (omega (arith, run.0, run.1)), ap (λ n. weight slot * n) none))
+
+-- at most one slot runs at a time (`one_running` of yds_model/proofs/Time)
+pub one_running : (weight : WholeSlot → ℕ) (start now most : ℕ) (slots : List WholeSlot) → RunFrom start slots →
+    All (λ slot. weight slot * here slot.from slot.to now ≤ most) slots → sum_by (λ slot. weight slot * here slot.from slot.to now) slots ≤ most
+one_running weight start now most [] run each = omega arith
+one_running weight start now most (slot ∷ slots) run each = elim (cases_lt now slot.to) [
+  | inl early ↦ simp sum_by-cons (omega (arith, each 0 slot (omega arith), none_running weight slot.to now slots run.2 early))
+  | inr late ↦
+      let none : here slot.from slot.to now ≡ 0 = omega (arith, late) in
+      simp sum_by-cons (omega (
+        arith,
+        ap (λ n. weight slot * n) none,
+        one_running weight slot.to now most slots run.2 (All-tail (λ slot. weight slot * here slot.from slot.to now ≤ most) slot slots each),
+      ))
+]
