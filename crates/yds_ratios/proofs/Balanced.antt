@@ -1,10 +1,10 @@
 -- What is to come and what has come, together: their powers, over all units, are at most those of the slots' own speeds.
-use Rattle.yds_model.proofs.Common.{◌≡◌, ℕ, zero, suc, ◌+◌, ◌-◌, ◌*◌, ◌^◌, ◌<◌, ◌≤◌, ◌∙◌, List, get_or, refl, sym, ap, ap₂, arith, inl, inr, cond, nat_le, nat_lt, sum_by, All, All-weaker, nat_tests, cases_lt, mul-le-mul_left, mul-le-mul_right, le_of_mul-le-mul_left, mul_assoc, mul-add, pow-suc, WholeSlot, RunFrom, sum_by-add, sum_by-mul, sum_by_same, sum_by_at_most, sum_by_zero}
+use Rattle.yds_model.proofs.Common.{◌≡◌, ℕ, zero, suc, ◌+◌, ◌-◌, ◌*◌, ◌^◌, ◌<◌, ◌≤◌, ◌∙◌, List, get_or, ap, ap₂, arith, sum_by, All, All-weaker, nat_tests, mul-le-mul_left, mul-le-mul_right, le_of_mul-le-mul_left, WholeSlot, RunFrom, sum_by-add, sum_by-mul, sum_by_at_most, sum_by_zero}
 use Rattle.yds_model.proofs.Time.{before, here}
-use Rattle.yds_ratios.proofs.Powers.{power_means}
+use Rattle.yds_ratios.proofs.Powers.{no_power, power_means}
 use Rattle.yds_ratios.proofs.Borrowed.{one_running}
-use Rattle.yds_ratios.proofs.Below.{sum_below, below_at_most, below_add, below_mul, below_list, below_next, count_here}
-use Rattle.yds_ratios.proofs.Telescoped.{left, right, back, ahead, no_more, no_power, is_until, left_powers, right_powers}
+use Rattle.yds_ratios.proofs.Below.{below, below_at_most, below_add, below_mul, below_list, below_next, count_here}
+use Rattle.yds_ratios.proofs.Telescoped.{left, right, back, ahead, is_until, left_powers, right_powers}
 
 -- the means of a speed with two numbers, weighed by the two parts of a window
 means_apart : (n rate past rest one other : ℕ) → 1 ≤ past + rest →
@@ -34,7 +34,7 @@ here_told : (from to now : ℕ) → here from to now ≡ 1 → (from ≤ now) ×
 here_told from to now is = (omega (arith, is), omega (arith, is))
 
 -- units of an interval are no more than it is long
-few_here : (from to end : ℕ) → sum_below (here from to) end ≤ to - from
+few_here : (from to end : ℕ) → below (here from to) end ≤ to - from
 few_here from to end = omega (arith, count_here from to end)
 
 -- a window that has ended by the end isn't open there
@@ -53,7 +53,7 @@ right_last rate first last slots end ended =
 
 -- sums over units, of two terms, times n + 1 and again
 below_together : (n : ℕ) (f g : ℕ → ℕ) (end : ℕ) →
-    sum_below (λ k. (n + 1) * ((n + 1) * (f k + g k))) end ≡ (n + 1) * ((n + 1) * (sum_below f end + sum_below g end))
+    below (λ k. (n + 1) * ((n + 1) * (f k + g k))) end ≡ (n + 1) * ((n + 1) * (below f end + below g end))
 below_together n f g end =
     below_mul (n + 1) (λ k. (n + 1) * (f k + g k)) end
     ∙ ap (λ m. (n + 1) * m) (below_mul (n + 1) (λ k. f k + g k) end ∙ ap (λ m. (n + 1) * m) (below_add f g end))
@@ -64,8 +64,8 @@ together : {X : Type 0} (n one other : ℕ) (f g : X → ℕ) (xs : List X) →
 together n one other f g xs =
     sum_by-mul (n + 1) (λ x. (n + 1) * (one * f x + other * g x)) xs
     ∙ ap (λ m. (n + 1) * m) (
-      sum_by-mul (n + 1) (λ x. one * f x + other * g x) xs
-      ∙ ap (λ m. (n + 1) * m) (sum_by-add (λ x. one * f x) (λ x. other * g x) xs ∙ ap₂ (λ a b. a + b) (sum_by-mul one f xs) (sum_by-mul other g xs))
+    sum_by-mul (n + 1) (λ x. one * f x + other * g x) xs
+    ∙ ap (λ m. (n + 1) * m) (sum_by-add (λ x. one * f x) (λ x. other * g x) xs ∙ ap₂ (λ a b. a + b) (sum_by-mul one f xs) (sum_by-mul other g xs))
     )
 
 module _ (rate first last : WholeSlot → ℕ) (slots : List WholeSlot) (run : RunFrom 0 slots)
@@ -110,7 +110,7 @@ module _ (rate first last : WholeSlot → ℕ) (slots : List WholeSlot) (run : R
 
   -- Over all units: where all slots and all windows have ended, the powers are at most those of n + 1 times the slots' speeds, in their time.
   pub balanced : (n end : ℕ) → All (λ slot. (slot.to ≤ end) × (last slot ≤ end)) slots →
-      sum_below (λ unit. left rate first last slots unit unit ^ suc n + right rate first last slots unit unit ^ suc n) end
+      below (λ unit. left rate first last slots unit unit ^ suc n + right rate first last slots unit unit ^ suc n) end
       ≤ sum_by (λ slot. (slot.to - slot.from) * speed n slot ^ suc n) slots
   balanced n end ended =
       let come = λ (unit : ℕ). left rate first last slots unit unit ^ suc n in
@@ -132,7 +132,7 @@ module _ (rate first last : WholeSlot → ℕ) (slots : List WholeSlot) (run : R
         ap (λ m. n * m) (below_next gone end),
         ap (λ m. n * m) (ap (λ m. m ^ suc n) (right_last rate first last slots end ended) ∙ no_power n),
         below_list (λ now slot. here slot.from slot.to now) (λ slot. speed n slot ^ suc n) slots end,
-        sum_by_at_most (λ slot. sum_below (here slot.from slot.to) end * speed n slot ^ suc n) (λ slot. (slot.to - slot.from) * speed n slot ^ suc n) slots
+        sum_by_at_most (λ slot. below (here slot.from slot.to) end * speed n slot ^ suc n) (λ slot. (slot.to - slot.from) * speed n slot ^ suc n) slots
             (λ k d within. let slot = get_or slots k d in mul-le-mul_right (speed n slot ^ suc n) (few_here slot.from slot.to end)),
         below_add come gone end,
       )

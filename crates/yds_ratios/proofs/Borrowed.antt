@@ -1,5 +1,5 @@
 -- What stands in a crate below and isn't handed out there.
-use Rattle.yds_model.proofs.Common.{◌≡◌, ℕ, suc, ◌+◌, ◌*◌, ◌<◌, ◌≤◌, List, [], ◌∷◌, refl, arith, ap, inl, inr, sum_by, All, cases_lt, All-tail, sum_by-cons, WholeSlot, RunFrom}
+use Rattle.yds_model.proofs.Common.{◌≡◌, ℕ, ◌*◌, ◌<◌, ◌≤◌, List, [], ◌∷◌, refl, arith, ap, inl, inr, sum_by, All, cases_lt, All-tail, sum_by-cons, WholeSlot, RunFrom}
 use Rattle.yds_model.proofs.Time.{here}
 
 -- slots that begin later don't run now (`none_running` of yds_model/proofs/Time)

@@ -2,6 +2,8 @@
 -- So what runs spend is the sum of the weights times what they do above each whole speed.
 use Rattle.yds_model.proofs.Common.{◌≡◌, ℕ, zero, suc, ◌+◌, ◌-◌, ◌*◌, ◌^◌, ◌≤◌, min, cond, nat_lt, refl, ap, arith, inl, inr, cases_lt, cond-true, cond-false, lt-ltb, le-ltb, pow-suc, mul-le-mul_left}
 use Rattle.std.proofs.Math.Nat.{pow-zero}
+use Rattle.yds_ratios.proofs.Powers.{first_power, no_power}
+use Rattle.yds_ratios.proofs.Below.{below}
 
 -- # Steps of a power
 
@@ -10,19 +12,13 @@ abbrev pub rise : ℕ → ℕ → ℕ
 rise zero z = 1
 rise (suc n) z = suc z ^ suc n + z * rise n z
 
-one_power : (z : ℕ) → z ^ 1 ≡ z
-one_power z = omega (arith, pow-suc z 0, ap (λ x. x * z) (pow-zero z))
-
 pub power_step : (n z : ℕ) → suc z ^ suc n ≡ z ^ suc n + rise n z
-power_step zero z = omega (arith, one_power z, one_power (suc z))
+power_step zero z = omega (arith, first_power z, first_power (suc z))
 power_step (suc n) z = omega (arith, pow-suc (suc z) (suc n), pow-suc z (suc n), ap (λ x. z * x) (power_step n z))
 
 pub one_to : (n : ℕ) → 1 ^ n ≡ 1
 one_to zero = pow-zero 1
 one_to (suc n) = omega (arith, pow-suc 1 n, one_to n)
-
-zero_to : (n : ℕ) → 0 ^ suc n ≡ 0
-zero_to n = omega (arith, pow-suc 0 n)
 
 -- the first step is 1, and the steps grow
 rise_first : (n : ℕ) → rise n 0 ≡ 1
@@ -45,11 +41,7 @@ rise_most (suc n) z =
 
 -- # Weights of whole speeds
 
--- the sum of what a function has below a number
-abbrev pub below : (ℕ → ℕ) → ℕ → ℕ
-below f zero = 0
-below f (suc y) = below f y + f y
-
+-- how much more a layer counts than the one below it
 abbrev pub weight : ℕ → ℕ → ℕ
 weight n zero = 1
 weight n (suc y) = rise n (suc y) - rise n y
@@ -89,7 +81,7 @@ layer_more n S (suc N) = elim (cases_lt N (suc S)) [
 
 -- the layers of a speed are its power
 pub layers : (n S N : ℕ) → S ≤ N → below (λ y. weight n y * (S - y)) N ≡ S ^ suc n
-layers n zero zero within = omega (arith, zero_to n)
+layers n zero zero within = omega (arith, no_power n)
 layers n zero (suc N) within =
     let none : 0 - N ≡ 0 = omega arith in
     omega (arith, layers n zero N (omega arith), ap (λ x. weight n N * x) none)
@@ -145,25 +137,3 @@ speeds_below n (suc S) N within =
       mul-le-mul_left (suc S) (rise_most n S),
       ap (λ x. suc n * x) (pow-suc (suc S) n),
     )
-
--- # Sums below a number
-
-pub below_at_most : (f g : ℕ → ℕ) (N : ℕ) → ((y : ℕ) → f y ≤ g y) → below f N ≤ below g N
-below_at_most f g zero most = omega arith
-below_at_most f g (suc N) most = omega (arith, below_at_most f g N most, most N)
-
-pub below_same : (f g : ℕ → ℕ) (N : ℕ) → ((y : ℕ) → f y ≡ g y) → below f N ≡ below g N
-below_same f g zero same = refl
-below_same f g (suc N) same = omega (arith, below_same f g N same, same N)
-
-pub below_add : (f g : ℕ → ℕ) (N : ℕ) → below (λ y. f y + g y) N ≡ below f N + below g N
-below_add f g zero = refl
-below_add f g (suc N) = omega (arith, below_add f g N)
-
-pub below_mul : (k : ℕ) (f : ℕ → ℕ) (N : ℕ) → below (λ y. k * f y) N ≡ k * below f N
-below_mul k f zero = omega arith
-below_mul k f (suc N) = omega (arith, below_mul k f N)
-
-pub below_nothing : (f : ℕ → ℕ) (N : ℕ) → ((y : ℕ) → f y ≡ 0) → below f N ≡ 0
-below_nothing f zero none = refl
-below_nothing f (suc N) none = omega (arith, below_nothing f N none, none N)

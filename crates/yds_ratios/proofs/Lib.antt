@@ -1,5 +1,6 @@
 pub mod Powers
 pub mod Below
+pub mod Products
 pub mod Layers
 pub mod WholeSpeeds
 pub mod PlansByPower

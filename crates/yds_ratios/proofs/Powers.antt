@@ -4,8 +4,12 @@ use Rattle.std.proofs.Math.Nat.{one-mul, pow-suc, pow-zero, pow-le-pow_left}
 use Rattle.std.proofs.lemmas.Bool.{cases_lt}
 
 -- a number to the power of 1 is itself
-first_power : (x : ℕ) → x ^ 1 ≡ x
+pub first_power : (x : ℕ) → x ^ 1 ≡ x
 first_power x = pow-suc x 0 ∙ rw (pow-zero x) (one-mul x)
+
+-- and 0 to such a power is 0
+pub no_power : (n : ℕ) → 0 ^ suc n ≡ 0
+no_power n = omega (arith, pow-suc 0 n)
 
 -- of two pairs, the second the greater by so much, the lesser numbers and the greater ones have the greater products together
 rearranged_by : (a more c d : ℕ) → c ≤ d → a * d + (a + more) * c ≤ a * c + (a + more) * d

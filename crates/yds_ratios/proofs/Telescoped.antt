@@ -1,10 +1,10 @@
 -- Two potentials by units of time. Each slot's rate stands in a window around it: in each of the window's units stands what of the slot
 -- comes at that unit or later, and what comes before. The powers of what stands fall, or rise, in steps as time goes on.
-use Rattle.yds_model.proofs.Common.{◌≡◌, ℕ, zero, suc, ◌+◌, ◌-◌, ◌*◌, ◌^◌, ◌<◌, ◌≤◌, ◌∙◌, min, max, List, get_or, refl, sym, ap, subst, arith, inl, inr, cond, nat_le, nat_lt, sum_by, All, nat_tests, cases_lt, mul-le-mul_left, mul-le-mul_right, mul_assoc, mul-add, pow-suc, WholeSlot, sum_by-add, sum_by-mul, sum_by_same, sum_by_at_most, sum_by_zero}
+use Rattle.yds_model.proofs.Common.{◌≡◌, ℕ, suc, ◌+◌, ◌-◌, ◌*◌, ◌^◌, ◌≤◌, ◌∙◌, min, max, List, get_or, sym, ap, arith, inl, inr, cond, nat_le, nat_lt, sum_by, All, nat_tests, cases_lt, mul-le-mul_left, mul-le-mul_right, mul_assoc, mul-add, WholeSlot, sum_by-add, sum_by_same, sum_by_at_most, sum_by_zero}
 use Rattle.std.proofs.Math.Nat.{pow-le-pow_left}
 use Rattle.yds_model.proofs.Time.{before, here}
-use Rattle.yds_ratios.proofs.Powers.{power_step}
-use Rattle.yds_ratios.proofs.Below.{sum_below, below_at_most, below_mul, below_times, below_zero, below_list, is_between, count_between, all_steps, all_rises}
+use Rattle.yds_ratios.proofs.Powers.{no_power, power_step}
+use Rattle.yds_ratios.proofs.Below.{below, below_at_most, below_mul, below_times, below_nothing, below_list, is_between, count_between, all_steps, all_rises}
 
 -- how much of an interval lies at `now` or later
 abbrev pub after : ℕ → ℕ → ℕ → ℕ
@@ -51,16 +51,12 @@ until_more : (last unit now : ℕ) → now ≤ unit → is_until last unit ≤ i
 until_more last unit now later = grind (arith, nat_tests)
 
 -- there are as many units between
-few_between : (from to n : ℕ) → sum_below (is_between from to) n ≤ to - from
+few_between : (from to n : ℕ) → below (is_between from to) n ≤ to - from
 few_between from to n = omega (arith, count_between from to n)
 
 -- what is nothing comes to nothing, however often it counts
 pub no_more : (often n : ℕ) → n ≡ 0 → often * n ≡ 0
 no_more often n none = omega (arith, ap (λ m. often * m) none)
-
--- and its powers are nothing
-pub no_power : (n : ℕ) → 0 ^ suc n ≡ 0
-no_power n = omega (arith, pow-suc 0 n)
 
 module _ (rate first last : WholeSlot → ℕ) (slots : List WholeSlot) where
   -- what stands in a unit of what comes at `now` or later: of the slots whose window has begun
@@ -85,22 +81,22 @@ module _ (rate first last : WholeSlot → ℕ) (slots : List WholeSlot) where
   abbrev ahead_in : ℕ → ℕ → ℕ
   ahead_in unit now = sum_by (λ slot. is_between (suc now) (last slot) unit * (rate slot * here slot.from slot.to now)) slots
 
-  back_all : (now n : ℕ) → sum_below (λ unit. back_in unit now) n ≤ back now
+  back_all : (now n : ℕ) → below (λ unit. back_in unit now) n ≤ back now
   back_all now n =
       omega (
         arith,
         below_list (λ unit slot. is_between (first slot) (suc now) unit) (λ slot. rate slot * here slot.from slot.to now) slots n,
-        sum_by_at_most (λ slot. sum_below (λ unit. is_between (first slot) (suc now) unit) n * (rate slot * here slot.from slot.to now))
+        sum_by_at_most (λ slot. below (λ unit. is_between (first slot) (suc now) unit) n * (rate slot * here slot.from slot.to now))
             (λ slot. (suc now - first slot) * (rate slot * here slot.from slot.to now)) slots
             (λ k d within. mul-le-mul_right _ (few_between (first (get_or slots k d)) (suc now) n)),
       )
 
-  ahead_all : (now n : ℕ) → sum_below (λ unit. ahead_in unit now) n ≤ ahead now
+  ahead_all : (now n : ℕ) → below (λ unit. ahead_in unit now) n ≤ ahead now
   ahead_all now n =
       omega (
         arith,
         below_list (λ unit slot. is_between (suc now) (last slot) unit) (λ slot. rate slot * here slot.from slot.to now) slots n,
-        sum_by_at_most (λ slot. sum_below (λ unit. is_between (suc now) (last slot) unit) n * (rate slot * here slot.from slot.to now))
+        sum_by_at_most (λ slot. below (λ unit. is_between (suc now) (last slot) unit) n * (rate slot * here slot.from slot.to now))
             (λ slot. (last slot - suc now) * (rate slot * here slot.from slot.to now)) slots
             (λ k d within. mul-le-mul_right _ (few_between (suc now) (last (get_or slots k d)) n)),
       )
@@ -203,7 +199,7 @@ module _ (rate first last : WholeSlot → ℕ) (slots : List WholeSlot) where
 
   -- Together: the powers of what is to come are at most n + 1 times the rates, each as often as its window has units up to then.
   pub left_powers : (n end : ℕ) → All (λ slot. slot.to ≤ end) slots →
-      sum_below (λ unit. left unit unit ^ suc n) end ≤ (n + 1) * sum_below (λ now. back now * left now now ^ n) end
+      below (λ unit. left unit unit ^ suc n) end ≤ (n + 1) * below (λ now. back now * left now now ^ n) end
   left_powers n end ended =
       omega (
         arith,
@@ -212,10 +208,10 @@ module _ (rate first last : WholeSlot → ℕ) (slots : List WholeSlot) where
             let it = ap (λ time. left unit time ^ suc n) same in omega (arith, it)),
         all_steps (λ unit now. left unit (max unit now) ^ suc n) (λ unit now. (n + 1) * (back_in unit now * left now now ^ n)) end end
             (λ unit now within. left_power n unit now),
-        below_zero (λ unit. left unit (max unit end) ^ suc n) end (λ unit within.
+        below_nothing (λ unit. left unit (max unit end) ^ suc n) end (λ unit within.
             let same : max unit end ≡ end = omega (arith, within) in
             ap (λ m. m ^ suc n) (ap (λ time. left unit time) same ∙ left_last unit end ended) ∙ no_power n),
-        below_at_most (λ now. sum_below (λ unit. (n + 1) * (back_in unit now * left now now ^ n)) end) (λ now. (n + 1) * (back now * left now now ^ n)) end
+        below_at_most (λ now. below (λ unit. (n + 1) * (back_in unit now * left now now ^ n)) end) (λ now. (n + 1) * (back now * left now now ^ n)) end
             (λ now within. omega (
               arith,
               below_mul (n + 1) (λ unit. back_in unit now * left now now ^ n) end,
@@ -226,7 +222,7 @@ module _ (rate first last : WholeSlot → ℕ) (slots : List WholeSlot) where
       )
 
   -- And those of what has come are at most so with the units after, and with what has come by the end of the unit.
-  pub right_powers : (n end : ℕ) → sum_below (λ unit. right unit unit ^ suc n) end ≤ (n + 1) * sum_below (λ now. ahead now * right (suc now) (suc now) ^ n) end
+  pub right_powers : (n end : ℕ) → below (λ unit. right unit unit ^ suc n) end ≤ (n + 1) * below (λ now. ahead now * right (suc now) (suc now) ^ n) end
   right_powers n end =
       omega (
         arith,
@@ -235,10 +231,10 @@ module _ (rate first last : WholeSlot → ℕ) (slots : List WholeSlot) where
             let it = ap (λ time. right unit time ^ suc n) same in omega (arith, it)),
         all_rises (λ unit now. right unit (min unit now) ^ suc n) (λ unit now. (n + 1) * (ahead_in unit now * right (suc now) (suc now) ^ n)) end end
             (λ unit now within. right_power n unit now),
-        below_zero (λ unit. right unit (min unit 0) ^ suc n) end (λ unit within.
+        below_nothing (λ unit. right unit (min unit 0) ^ suc n) end (λ unit within.
             let same : min unit 0 ≡ 0 = omega arith in
             ap (λ m. m ^ suc n) (ap (λ time. right unit time) same ∙ right_first unit) ∙ no_power n),
-        below_at_most (λ now. sum_below (λ unit. (n + 1) * (ahead_in unit now * right (suc now) (suc now) ^ n)) end)
+        below_at_most (λ now. below (λ unit. (n + 1) * (ahead_in unit now * right (suc now) (suc now) ^ n)) end)
             (λ now. (n + 1) * (ahead now * right (suc now) (suc now) ^ n)) end
             (λ now within. omega (
               arith,

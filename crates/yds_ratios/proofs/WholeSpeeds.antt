@@ -1,10 +1,12 @@
 -- Speeds made whole. At a common multiple of the slots' lengths each slot has a whole speed, its excess above a whole speed is its length
 -- times what its speed is more, and its spending is its length times a power of its speed.
-use Rattle.yds_model.proofs.Common.{◌≡◌, ℕ, suc, ◌+◌, ◌-◌, ◌*◌, ◌/◌, ◌^◌, ◌<◌, ◌≤◌, ◌∣◌, List, [], ◌∷◌, cond, nat_lt, get_or, sym, ap, subst, ◌∙◌, arith, inl, inr, All, sum_by, sum_by-cons, cases_lt, cond-true, cond-false, lt-ltb, le-ltb, pow-suc, mul-pos, mul-sub, mul-le-mul_left, mul-le-mul_right, le_of_mul-le-mul_left, div-mul_cancel, dvd-mul_right, All-nil, All-cons, All-tail, All-weaker, get_or-le-sum_by, excess, WholeSlot, sum_by_same}
-use Rattle.std.proofs.Math.Nat.{one-le-pow, dvd-mul_right_of_dvd}
+use Rattle.yds_model.proofs.Common.{◌≡◌, ℕ, suc, ◌+◌, ◌-◌, ◌*◌, ◌/◌, ◌^◌, ◌<◌, ◌≤◌, ◌∣◌, List, [], ◌∷◌, cond, nat_lt, get_or, sym, ap, subst, ◌∙◌, arith, inl, inr, All, sum_by, sum_by-cons, cases_lt, cond-true, cond-false, lt-ltb, le-ltb, pow-suc, mul-pos, mul-sub, mul-le-mul_left, mul-le-mul_right, le_of_mul-le-mul_left, div-mul_cancel, All-tail, All-weaker, get_or-le-sum_by, excess, WholeSlot, sum_by_same}
+use Rattle.std.proofs.Math.Nat.{one-le-pow}
 use Rattle.std.proofs.lemmas.Nat.{mul-pow}
 use Rattle.yds_ratios.specs.Spending.{spending, IsAtMostTimes, is_faster, time_above}
-use Rattle.yds_ratios.proofs.Layers.{below, weight, layers, speeds_below, speed_below, below_same, below_at_most, below_add, below_mul, below_nothing, one_to}
+use Rattle.yds_ratios.proofs.Products.{product_of, product_some, product_divided}
+use Rattle.yds_ratios.proofs.Below.{below, below_at_most, below_same, below_add, below_mul, below_nothing}
+use Rattle.yds_ratios.proofs.Layers.{weight, layers, speeds_below, speed_below, one_to}
 
 -- # A common multiple of lengths
 
@@ -13,24 +15,11 @@ takes slot = slot.to - slot.from
 
 -- the product of the slots' lengths
 abbrev pub lengths : List WholeSlot → ℕ
-lengths [] = 1
-lengths (slot ∷ slots) = takes slot * lengths slots
+lengths slots = product_of takes slots
 
+-- slots that take time have one
 pub lengths_some : (slots : List WholeSlot) → All (λ slot. slot.from < slot.to) slots → 1 ≤ lengths slots
-lengths_some [] forward = omega arith
-lengths_some (slot ∷ slots) forward =
-    mul-pos (let some : 1 ≤ takes slot = omega (arith, forward 0 slot (omega arith)) in some)
-    (lengths_some slots (All-tail (λ one. one.from < one.to) slot slots forward))
-
--- each length divides a multiple of the product
-lengths_divide : (slots : List WholeSlot) (more : ℕ) → All (λ slot. takes slot ∣ lengths slots * more) slots
-lengths_divide [] more = All-nil (λ slot. takes slot ∣ 1 * more)
-lengths_divide (slot ∷ slots) more =
-    All-cons (λ one. takes one ∣ takes slot * lengths slots * more) slot slots
-    (dvd-mul_right_of_dvd _ (dvd-mul_right (takes slot) (lengths slots)) more)
-    (let here : lengths slots * (takes slot * more) ≡ takes slot * lengths slots * more = omega arith in
-    All-weaker (λ one. takes one ∣ lengths slots * (takes slot * more)) (λ one. takes one ∣ takes slot * lengths slots * more)
-    (λ one divides. subst (λ (n : ℕ). takes one ∣ n) here divides) slots (lengths_divide slots (takes slot * more)))
+lengths_some slots forward = product_some takes slots (All-weaker (λ slot. slot.from < slot.to) (λ slot. 1 ≤ takes slot) (λ slot ahead. omega (arith, ahead)) slots forward)
 
 -- # Whole speeds
 
@@ -49,18 +38,19 @@ has_speed K slot forward divides = record {
   is = omega (arith, ap (λ n. slot.work * n) (div-mul_cancel (takes slot) divides));
 }
 
-have_speeds : (K : ℕ) (slots : List WholeSlot) → All (λ slot. slot.from < slot.to) slots → All (λ slot. takes slot ∣ K) slots → All (HasSpeed K) slots
+-- so have all slots, where the multiple is one of each length
+pub have_speeds : (K : ℕ) (slots : List WholeSlot) → All (λ slot. slot.from < slot.to) slots → All (λ slot. takes slot ∣ K) slots → All (HasSpeed K) slots
 have_speeds K slots forward divided k d within = has_speed K (get_or slots k d) (forward k d within) (divided k d within)
 
 -- the slots of two schedules have whole speeds at the product of all their lengths
 pub first_speeds : (slots others : List WholeSlot) → All (λ slot. slot.from < slot.to) slots → All (HasSpeed (lengths slots * lengths others)) slots
-first_speeds slots others forward = have_speeds (lengths slots * lengths others) slots forward (lengths_divide slots (lengths others))
+first_speeds slots others forward = have_speeds (lengths slots * lengths others) slots forward (product_divided takes slots (lengths others))
 
 pub other_speeds : (slots others : List WholeSlot) → All (λ slot. slot.from < slot.to) others → All (HasSpeed (lengths slots * lengths others)) others
 other_speeds slots others forward =
     have_speeds (lengths slots * lengths others) others forward
     (let turned : lengths others * lengths slots ≡ lengths slots * lengths others = omega arith in
-    subst (λ (n : ℕ). All (λ slot. takes slot ∣ n) others) turned (lengths_divide others (lengths slots)))
+    subst (λ (n : ℕ). All (λ slot. takes slot ∣ n) others) turned (product_divided takes others (lengths slots)))
 
 -- # What slots do above a whole speed
 
@@ -148,19 +138,19 @@ at_most_times n K factor slots others some have also most =
 
 layer_of : (n K a N : ℕ) (slot : WholeSlot) → a * speed K slot ≤ N → below (λ y. weight n y * above K a y slot) N ≡ a ^ suc n * slot_spent n K slot
 layer_of n K a N slot most =
-    below_same (λ y. weight n y * above K a y slot) (λ y. takes slot * (weight n y * (a * speed K slot - y))) N (λ y. omega arith)
+    below_same (λ y. weight n y * above K a y slot) (λ y. takes slot * (weight n y * (a * speed K slot - y))) N (λ y within. omega arith)
     ∙ below_mul (takes slot) (λ y. weight n y * (a * speed K slot - y)) N
     ∙ omega (arith, ap (λ x. takes slot * x) (layers n (a * speed K slot) N most), ap (λ x. takes slot * x) (mul-pow a (speed K slot) (suc n)))
 
 -- what slots spend at a times their speeds is the sum of the weights times what they do above each whole speed
 pub spent_by_layers : (n K a N : ℕ) (slots : List WholeSlot) → All (λ slot. a * speed K slot ≤ N) slots →
     below (λ y. weight n y * sum_by (above K a y) slots) N ≡ a ^ suc n * spent n K slots
-spent_by_layers n K a N [] most = omega (arith, below_nothing (λ y. weight n y * sum_by (above K a y) []) N (λ y. omega arith))
+spent_by_layers n K a N [] most = omega (arith, below_nothing (λ y. weight n y * sum_by (above K a y) []) N (λ y within. omega arith))
 spent_by_layers n K a N (slot ∷ slots) most =
     let here = layer_of n K a N slot (most 0 slot (omega arith)) in
     let rest = spent_by_layers n K a N slots (All-tail (λ one. a * speed K one ≤ N) slot slots most) in
     below_same (λ y. weight n y * sum_by (above K a y) (slot ∷ slots)) (λ y. weight n y * above K a y slot + weight n y * sum_by (above K a y) slots) N
-    (λ y. omega (arith, ap (λ x. weight n y * x) (sum_by-cons (above K a y) slot slots)))
+    (λ y within. omega (arith, ap (λ x. weight n y * x) (sum_by-cons (above K a y) slot slots)))
     ∙ below_add (λ y. weight n y * above K a y slot) (λ y. weight n y * sum_by (above K a y) slots) N
     ∙ omega (arith, here, rest, ap (λ x. a ^ suc n * x) (sum_by-cons (slot_spent n K) slot slots))
 
@@ -182,7 +172,7 @@ least_spends_least n K slots others have also least =
       spent_by_layers n K 1 N slots (within_top K 1 N slots (omega arith)),
       spent_by_layers n K 1 N others (within_top K 1 N others (omega arith)),
       below_at_most (λ y. weight n y * sum_by (above K 1 y) slots) (λ y. weight n y * sum_by (above K 1 y) others) N
-          (λ y. mul-le-mul_left (weight n y) (omega (
+          (λ y within. mul-le-mul_left (weight n y) (omega (
             arith,
             least y,
             ap (λ q. excess y q slots) one,
@@ -221,7 +211,7 @@ slot_time n K N slot has most =
     omega (
       arith,
       below_same (λ y. weight n y * (y * cond (is_faster y K slot) (takes slot) 0)) (λ y. takes slot * (weight n y * speed_below (speed K slot) y)) N
-          (λ y. omega (arith, ap (λ x. weight n y * x) (faster_is K y slot has))),
+          (λ y within. omega (arith, ap (λ x. weight n y * x) (faster_is K y slot has))),
       below_mul (takes slot) (λ y. weight n y * speed_below (speed K slot) y) N,
       mul-le-mul_left (takes slot) (speeds_below n (speed K slot) N most),
     )
@@ -229,7 +219,7 @@ slot_time n K N slot has most =
 -- the weights times the speeds times how long slots are faster: at most the exponent less one times what they spend
 pub time_by_layers : (n K N : ℕ) (slots : List WholeSlot) → All (HasSpeed K) slots → All (λ slot. 1 * speed K slot ≤ N) slots →
     below (λ y. weight n y * (y * time_above y K slots)) N ≤ n * spent n K slots
-time_by_layers n K N [] have most = omega (arith, below_nothing (λ y. weight n y * (y * time_above y K [])) N (λ y. omega arith))
+time_by_layers n K N [] have most = omega (arith, below_nothing (λ y. weight n y * (y * time_above y K [])) N (λ y within. omega arith))
 time_by_layers n K N (slot ∷ slots) have most =
     let here = slot_time n K N slot (have 0 slot (omega arith)) (omega (arith, most 0 slot (omega arith))) in
     let rest = time_by_layers n K N slots (All-tail (HasSpeed K) slot slots have) (All-tail (λ one. 1 * speed K one ≤ N) slot slots most) in
@@ -237,7 +227,7 @@ time_by_layers n K N (slot ∷ slots) have most =
       arith,
       below_same (λ y. weight n y * (y * time_above y K (slot ∷ slots)))
           (λ y. weight n y * (y * cond (is_faster y K slot) (takes slot) 0) + weight n y * (y * time_above y K slots)) N
-          (λ y. omega (arith, ap (λ x. weight n y * (y * x)) (sum_by-cons (λ (one : WholeSlot). cond (is_faster y K one) (takes one) 0) slot slots))),
+          (λ y within. omega (arith, ap (λ x. weight n y * (y * x)) (sum_by-cons (λ (one : WholeSlot). cond (is_faster y K one) (takes one) 0) slot slots))),
       below_add (λ y. weight n y * (y * cond (is_faster y K slot) (takes slot) 0)) (λ y. weight n y * (y * time_above y K slots)) N,
       here,
       rest,
@@ -262,7 +252,7 @@ two_speeds_spend n K slots others have also bound =
       below_add (λ y. weight n y * sum_by (above K (suc n) y) others) (λ y. weight n y * (y * time_above y K slots)) N,
       below_at_most (λ y. suc n * (weight n y * sum_by (above K 1 y) slots))
           (λ y. weight n y * sum_by (above K (suc n) y) others + weight n y * (y * time_above y K slots)) N
-          (λ y.
+          (λ y within.
           let mine : sum_by (above K 1 y) slots ≡ excess y K slots = omega (arith, excess_is K 1 y slots have, ap (λ q. excess y q slots) one) in
           let here : suc n * sum_by (above K 1 y) slots ≤ sum_by (above K (suc n) y) others + y * time_above y K slots =
           omega (arith, bound y, ap (λ x. suc n * x) mine, excess_is K (suc n) y others also) in
