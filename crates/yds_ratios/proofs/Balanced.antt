@@ -19,18 +19,19 @@ means_apart n rate past rest one other some =
     )) some
 
 -- what counts once or not at all keeps an order
-once : (often n m : ℕ) → often ≤ 1 → (often ≡ 1 → n ≤ m) → often * n ≤ often * m
+pub once : (often n m : ℕ) → often ≤ 1 → (often ≡ 1 → n ≤ m) → often * n ≤ often * m
 once zero n m few less = omega arith
 once (suc often) n m few less =
     let one : often ≡ 0 = omega (arith, few) in
     let it = less (omega (arith, one)) in
     omega (arith, it, ap (λ k. k * n) one, ap (λ k. k * m) one)
 
--- a unit lies in an interval or not
-here_few : (from to now : ℕ) → here from to now ≤ 1
+-- a unit lies in an interval once or not at all
+pub here_few : (from to now : ℕ) → here from to now ≤ 1
 here_few from to now = grind arith
 
-here_told : (from to now : ℕ) → here from to now ≡ 1 → (from ≤ now) × (now < to)
+-- once where it lies between its ends
+pub here_told : (from to now : ℕ) → here from to now ≡ 1 → (from ≤ now) × (now < to)
 here_told from to now is = (omega (arith, is), omega (arith, is))
 
 -- units of an interval are no more than it is long

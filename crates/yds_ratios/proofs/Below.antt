@@ -63,6 +63,7 @@ is_between from to k = cond (nat_le from k) (cond (nat_lt k to) 1 0) 0
 between_step : (from to n : ℕ) → (min n to - from) + is_between from to n ≡ min (suc n) to - from
 between_step from to n = grind (arith, nat_tests)
 
+-- there are as many of them as it is from the one to the other
 pub count_between : (from to n : ℕ) → below (is_between from to) n ≡ min n to - from
 count_between from to zero = omega arith
 count_between from to (suc n) = omega (arith, count_between from to n, between_step from to n)

@@ -67,20 +67,23 @@ module _ (rate first last : WholeSlot → ℕ) (slots : List WholeSlot) where
   abbrev pub right : ℕ → ℕ → ℕ
   right unit now = sum_by (λ slot. is_until (last slot) unit * rate slot * before slot.from slot.to now) slots
 
-  -- the rate of what runs now, in the units of its window up to now, and in those after
+  -- the rate of what runs now, once for each unit of its window up to now
   abbrev pub back : ℕ → ℕ
   back now = sum_by (λ slot. (suc now - first slot) * (rate slot * here slot.from slot.to now)) slots
 
+  -- and once for each unit after
   abbrev pub ahead : ℕ → ℕ
   ahead now = sum_by (λ slot. (last slot - suc now) * (rate slot * here slot.from slot.to now)) slots
 
-  -- in a unit up to now, if its window has begun there
+  -- in one unit: up to now, and once its window has begun
   abbrev back_in : ℕ → ℕ → ℕ
   back_in unit now = sum_by (λ slot. is_between (first slot) (suc now) unit * (rate slot * here slot.from slot.to now)) slots
 
+  -- or after now, and until it ends
   abbrev ahead_in : ℕ → ℕ → ℕ
   ahead_in unit now = sum_by (λ slot. is_between (suc now) (last slot) unit * (rate slot * here slot.from slot.to now)) slots
 
+  -- over all units it is there as often
   back_all : (now n : ℕ) → below (λ unit. back_in unit now) n ≤ back now
   back_all now n =
       omega (
@@ -91,6 +94,7 @@ module _ (rate first last : WholeSlot → ℕ) (slots : List WholeSlot) where
             (λ k d within. mul-le-mul_right _ (few_between (first (get_or slots k d)) (suc now) n)),
       )
 
+  -- and so ahead
   ahead_all : (now n : ℕ) → below (λ unit. ahead_in unit now) n ≤ ahead now
   ahead_all now n =
       omega (
