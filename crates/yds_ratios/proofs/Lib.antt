@@ -8,3 +8,5 @@ pub mod SpendingScale
 pub mod Borrowed
 pub mod Telescoped
 pub mod Balanced
+pub mod AverageSpeeds
+pub mod AverageRateSpends

@@ -5,7 +5,7 @@
 //! and for runs that never rounded; and on `yds_energy` for slots by stretches. No limit of a document stands in it.
 #![tactic(auto)]
 
-ghost use Rattle.yds_ratios.specs.RatioLaws.{OneScaleDecidesSpending, PlansSpendLeast};
+ghost use Rattle.yds_ratios.specs.RatioLaws.{OneScaleDecidesSpending, PlansSpendLeast, AverageRateSpends};
 
 /// What slots spend at most of what others do, at one common scale, they do at each: a spending needs no scale.
 pub fn one_scale_decides_spending()
@@ -16,4 +16,11 @@ pub fn one_scale_decides_spending()
 /// FOCS 1995).
 pub fn plans_spend_least()
     ensures { PlansSpendLeast }
+{}
+
+/// A run of Average Rate that never rounded spends at most 2 ^ (exponent - 1) times exponent ^ exponent times what any feasible schedule
+/// of the same jobs does, for each whole exponent of at least 1: 8 times for the square, 108 times for the cube (Yao, Demers, Shenker,
+/// FOCS 1995).
+pub fn average_rate_spends()
+    ensures { AverageRateSpends }
 {}
