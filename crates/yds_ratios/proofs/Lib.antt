@@ -10,3 +10,5 @@ pub mod Telescoped
 pub mod Balanced
 pub mod AverageSpeeds
 pub mod AverageRateSpends
+pub mod LaterWork
+pub mod EarliestLater
