@@ -12,3 +12,4 @@ pub mod AverageSpeeds
 pub mod AverageRateSpends
 pub mod LaterWork
 pub mod EarliestLater
+pub mod FastBlock
