@@ -1,13 +1,17 @@
 -- A block of neighbouring stretches that are all faster than a speed p/q, as long as possible: it is not followed by such a stretch. In a
 -- run of Optimal Available that never rounded, only jobs run in it that are due by its end. And where a stretch that isn't faster stands
 -- before it, the work that it has of jobs released before it is at most what that speed does in its time.
-use Rattle.yds_model.proofs.Common.{◌≡◌, ℕ, zero, suc, ◌+◌, ◌-◌, ◌*◌, ◌<◌, ◌≤◌, ◌⊎◌, List, [], ◌∷◌, length, get_or, cond, Bool, true, false, ◌&&◌, nat_le, nat_lt, refl, sym, ap, subst, ◌∙◌, arith, inl, inr, All, sum_by, add-one, cases_lt, cases_eq, cases_order, cases_Bool, cond-true, cond-false, le-leb, lt-leb, leb-true, ltb-true, true≢false, and_parts, and_from, All-tail, All-from_get_or, mul-pos, mul-le-mul_left, mul-le-mul_right, lt_of_mul-lt-mul_right, le_of_mul-le-mul_right, sum_by-cons, Job, job_at, WholeSlot, no_slot, slot_at, Piece, event_points, stretches, LiesIn, slots_in, work_in, stretch_at, get_or_default, All-contains, contains_filter, sum_by-filter, found_or_none, sum_by-add, sum_by_at_most, sum_by_zero, run_forward}
+use Rattle.yds_model.proofs.Common.{◌≡◌, ℕ, zero, suc, ◌+◌, ◌-◌, ◌*◌, ◌<◌, ◌≤◌, ◌⊎◌, List, [], ◌∷◌, length, get_or, cond, Bool, true, false, ◌&&◌, nat_le, nat_lt, refl, sym, ap, subst, ◌∙◌, arith, inl, inr, All, sum_by, add-one, cases_lt, cases_eq, cases_order, cases_Bool, cond-true, cond-false, le-leb, lt-leb, leb-true, ltb-true, true≢false, and_parts, and_from, All-tail, All-from_get_or, mul-pos, mul-le-mul_left, mul-sub, mul-le-mul_right, lt_of_mul-lt-mul_right, le_of_mul-le-mul_right, sum_by-cons, All-filter, filter, lt-ltb, Job, job_at, work_of, numbers_of, sum_by_same, WholeSlot, no_slot, slot_at, Piece, event_points, stretches, LiesIn, slots_in, work_in, stretch_at, get_or_default, All-contains, contains_filter, sum_by-filter, found_or_none, sum_by-add, sum_by_at_most, sum_by_zero, run_forward}
 use Rattle.yds_events.specs.Stretch.{no_stretch}
-use Rattle.yds_events.proofs.Times.{not_later, deadline_at}
+use Rattle.yds_events.proofs.Times.{not_later, release_at, deadline_at}
 use Rattle.yds_events.proofs.Neighbours.{count_stretches, stretch_begins, stretch_ends, stretch_forward, stretch_order, release_outside, deadline_outside}
+use Rattle.yds_model.specs.Numbers.{count as count_of}
+use Rattle.yds_laws.proofs.Group.{work_served}
+use Rattle.yds_laws.proofs.Served.{all_numbers}
 use Rattle.yds_energy.proofs.StretchSlots.{lies, lies_told, lies_passes}
 use Rattle.yds_ratios.proofs.Borrowed.{place_of}
-use Rattle.yds_ratios.proofs.LaterWork.{IsExactRun, later_part, later_work, begins_from, released_and_due, starts_rise}
+use Rattle.yds_ratios.proofs.Below.{below}
+use Rattle.yds_ratios.proofs.LaterWork.{IsExactRun, later_part, later_work, begins_from, released_and_due, starts_rise, counted_kept, one_or_none}
 use Rattle.yds_ratios.proofs.EarliestLater.{due_later}
 
 -- # In plain numbers
@@ -54,6 +58,15 @@ not_beyond p q M w long other other_long L left u v just split served slow fast 
       mul-le-mul_right long few,
       mul-le-mul_right (u + v) (let more : p * (long * M) + 1 ≤ q * w = omega (arith, fast) in more),
     ))
+
+-- what lies between a and b, and what lies between b and c, lies between a and c
+three_points : (a b c d e from to n : ℕ) → a ≤ b → d ≡ b → e ≡ c → b ≤ c → from < to →
+    cond (nat_le a from && nat_le to b) n 0 + cond (nat_le d from && nat_le to e) n 0 ≤ cond (nat_le a from && nat_le to c) n 0
+three_points a b c d e from to n first is also second takes = grind arith
+
+some_jobs : (jobs : List Job) (k : ℕ) → k < length (stretches jobs) → 1 ≤ length jobs
+some_jobs [] k within = absurd (omega arith)
+some_jobs (job ∷ jobs) k within = omega arith
 
 -- what is left after a stretch that isn't faster than p/q, and does just what is due
 left_after : (p q M w long L left x : ℕ) → w + left ≤ L → L * long ≤ w * (long + x) → q * w ≤ p * (long * M) → 1 ≤ long → q * left ≤ p * M * x
@@ -270,3 +283,281 @@ module _ (jobs : List Job) (scale : ℕ) (slots : List WholeSlot) (run : IsExact
               (λ i t after end inside lies_there. rest i t (omega (arith, after)) end inside lies_there) (fast k (omega arith) (omega (arith, is))) slow)
         ]
       ]
+
+  -- # Work that is carried into a block
+
+  -- a slot's work where it comes after a stretch, and its job was released when the stretch began and is due by a time
+  abbrev carried_part : ℕ → ℕ → WholeSlot → ℕ
+  carried_part k D slot = cond (begins_from ((stretch_at jobs k).to * scale) slot) (cond (released_and_due jobs (stretch_at jobs k).from D slot.job) slot.work 0) 0
+
+  -- none, where a slot in the stretch has a job that is due later
+  none_carried : (k D s : ℕ) → k < count → s < length slots → LiesIn scale (slot_at slots s) (stretch_at jobs k) → D < deadline (slot_at slots s) →
+      (t : ℕ) → t < length slots → carried_part k D (slot_at slots t) ≡ 0
+  none_carried k D s here within there late t inside =
+      let slot = slot_at slots t in
+      let most : carried_part k D slot ≤ 0 =
+      two_at_most (begins_from ((stretch_at jobs k).to * scale) slot) (released_and_due jobs (stretch_at jobs k).from D slot.job) slot.work 0
+      (λ begun both.
+      let tests = and_parts (nat_le (release slot) (stretch_at jobs k).from) (nat_le (deadline slot) D) both in
+      let released : release slot ≤ (stretch_at jobs k).from = leb-true (release slot) (stretch_at jobs k).from tests.0 in
+      let after : (slot_at slots s).to ≤ slot.from = omega (arith, there.to, leb-true ((stretch_at jobs k).to * scale) slot.from begun) in
+      absurd (omega (
+        arith,
+        late,
+        leb-true (deadline slot) D tests.1,
+        due_later jobs scale slots run.feasible run.earliest s t within inside after (omega (arith, there.from, mul-le-mul_right scale released)),
+      ))) in
+      omega (arith, most)
+
+  -- where all slots in the stretch are due by then, they and what is carried on are what was due
+  all_due : (k D : ℕ) → k < count → ((s : ℕ) → s < length slots → LiesIn scale (slot_at slots s) (stretch_at jobs k) → deadline (slot_at slots s) ≤ D) →
+      (t : ℕ) → t < length slots → part_in k (slot_at slots t) + carried_part k D (slot_at slots t) ≤ later_part jobs scale (stretch_at jobs k).from D (slot_at slots t)
+  all_due k D here by t inside =
+      let slot = slot_at slots t in
+      let begins = begins_from ((stretch_at jobs k).from * scale) slot in
+      let test = released_and_due jobs (stretch_at jobs k).from D slot.job in
+      elim (cases_Bool (lies scale (stretch_at jobs k) slot)) [
+        | inl passes ↦
+            let there = lies_told scale (stretch_at jobs k) slot passes in
+            let none : begins_from ((stretch_at jobs k).to * scale) slot ≡ false = lt-leb _ _ (omega (arith, takes t inside, there.to)) in
+            let is = both_pass begins test slot.work (le-leb _ _ there.from)
+            (and_from (nat_le (release slot) (stretch_at jobs k).from) (nat_le (deadline slot) D) (le-leb _ _ (released_by k t here inside there)) (le-leb _ _ (by t inside there))) in
+            omega (
+              arith,
+              is,
+              in_part k slot there,
+              cond-false {A = ℕ} (begins_from ((stretch_at jobs k).to * scale) slot) (cond test slot.work 0) 0 none,
+            )
+        | inr fails ↦
+            let most = two_at_most (begins_from ((stretch_at jobs k).to * scale) slot) test slot.work (later_part jobs scale (stretch_at jobs k).from D slot)
+            (λ begun both.
+            let forward : (stretch_at jobs k).from ≤ (stretch_at jobs k).to = omega (arith, stretch_forward jobs k here) in
+            omega (arith, both_pass begins test slot.work (le-leb _ _ (omega (arith, leb-true _ _ begun, mul-le-mul_right scale forward))) both)) in
+            omega (arith, most, cond-false {A = ℕ} (lies scale (stretch_at jobs k) slot) slot.work 0 fails)
+      ]
+
+  -- So what a stretch that isn't fast carries on, due by a time, is at most what the speed p/q does until then.
+  carried_most : (k D : ℕ) → k < count → (stretch_at jobs k).to ≤ D → IsSlow k → q * sum_by (carried_part k D) slots ≤ p * scale * (D - (stretch_at jobs k).to)
+  carried_most k D here after slow =
+      elim (found_or_none (length slots) (λ s. lies scale (stretch_at jobs k) (slot_at slots s) && nat_lt D (deadline (slot_at slots s)))) [
+        | inl (s, within, passes) ↦
+            let both = and_parts (lies scale (stretch_at jobs k) (slot_at slots s)) (nat_lt D (deadline (slot_at slots s))) passes in
+            let none = sum_by_zero (carried_part k D) slots (All-from_get_or (λ slot. carried_part k D slot ≡ 0) slots no_slot
+            (none_carried k D s here within (lies_told scale (stretch_at jobs k) (slot_at slots s) both.0) (ltb-true D (deadline (slot_at slots s)) both.1))) in
+            omega (arith, ap (λ n. q * n) none)
+        | inr none ↦
+            let by : (s : ℕ) → s < length slots → LiesIn scale (slot_at slots s) (stretch_at jobs k) → deadline (slot_at slots s) ≤ D =
+            λ s within there. elim (cases_lt D (deadline (slot_at slots s))) [
+              | inr upto ↦ upto
+              | inl late ↦ absurd (true≢false (sym (and_from (lies scale (stretch_at jobs k) (slot_at slots s)) (nat_lt D (deadline (slot_at slots s)))
+                  (lies_passes scale (stretch_at jobs k) (slot_at slots s) there) (lt-ltb D (deadline (slot_at slots s)) late)) ∙ none s within))
+            ] in
+            let split : work k + sum_by (carried_part k D) slots ≤ later_work jobs scale slots (stretch_at jobs k).from D =
+            omega (
+              arith,
+              work_is k,
+              sum_by-add (part_in k) (carried_part k D) slots,
+              sum_by_at_most (λ slot. part_in k slot + carried_part k D slot) (later_part jobs scale (stretch_at jobs k).from D) slots
+                  (All-from_get_or (λ slot. part_in k slot + carried_part k D slot ≤ later_part jobs scale (stretch_at jobs k).from D slot) slots no_slot (all_due k D here by)),
+            ) in
+            let left : D - (stretch_at jobs k).from ≡ long k + (D - (stretch_at jobs k).to) = omega (arith, after, stretch_forward jobs k here) in
+            left_after p q scale (work k) (long k) (later_work jobs scale slots (stretch_at jobs k).from D) (sum_by (carried_part k D) slots) (D - (stretch_at jobs k).to)
+            split (omega (arith, run.most k D here (omega (arith, after, stretch_forward jobs k here)), ap (λ n. work k * n) left)) slow (omega (arith, stretch_forward jobs k here))
+      ]
+
+  -- # What a block does
+
+  -- the event points around a stretch
+  points_are : (k : ℕ) → k < count → length (event_points jobs) ≡ count + 1
+  points_are k here = count_stretches jobs (some_jobs jobs k here)
+
+  ends_at : (k : ℕ) → k < count → (stretch_at jobs k).to ≡ point (suc k)
+  ends_at k here = rw add-one at (stretch_ends jobs k here)
+
+  next_later : (k : ℕ) → k < count → point k ≤ point (suc k)
+  next_later k here = omega (arith, stretch_begins jobs k here, ends_at k here, stretch_forward jobs k here)
+
+  -- with no stretch there are no event points, or one
+  points_order : (i j : ℕ) → i ≤ j → j ≤ count → point i ≤ point j
+  points_order i j order upto = elim (cases_eq i j) [
+    | inl same ↦ omega (arith, ap point same)
+    | inr other ↦ not_later jobs i j order (omega (arith, points_are i (omega (arith, order, other, upto)), upto))
+  ]
+
+  -- a slot's work where it lies between two times
+  abbrev block_part : ℕ → ℕ → WholeSlot → ℕ
+  block_part from to slot = cond (nat_le (from * scale) slot.from && nat_le slot.to (to * scale)) slot.work 0
+
+  -- what is done in stretches is done between the first and the last
+  work_between : (more i j : ℕ) → i + more ≡ j → j ≤ count → below work j ≤ below work i + sum_by (block_part (point i) (point j)) slots
+  work_between zero i j is upto = omega (arith, ap (below work) (let same : i ≡ j = omega (arith, is) in same))
+  work_between (suc more) i zero is upto = absurd (omega (arith, is))
+  work_between (suc more) i (suc j) is upto =
+      let here : j < count = omega (arith, upto) in
+      let first : point i ≤ point j = not_later jobs i j (omega (arith, is)) (omega (arith, here, points_are j here)) in
+      omega (
+        arith,
+        work_between more i j (omega (arith, is)) (omega (arith, upto)),
+        work_is j,
+        sum_by-add (block_part (point i) (point j)) (part_in j) slots,
+        sum_by_at_most (λ slot. block_part (point i) (point j) slot + part_in j slot) (block_part (point i) (point (suc j))) slots
+            (All-from_get_or (λ slot. block_part (point i) (point j) slot + part_in j slot ≤ block_part (point i) (point (suc j)) slot) slots no_slot
+            (λ s within. three_points (point i * scale) (point j * scale) (point (suc j) * scale) ((stretch_at jobs j).from * scale) ((stretch_at jobs j).to * scale)
+            (slot_at slots s).from (slot_at slots s).to (slot_at slots s).work (mul-le-mul_right scale first) (ap (λ n. n * scale) (stretch_begins jobs j here)) (ap (λ n. n * scale) (ends_at j here))
+            (mul-le-mul_right scale (next_later j here)) (takes s within))),
+      )
+
+  -- the job's window lies in the block
+  abbrev pub in_block : ℕ → ℕ → ℕ → Bool
+  in_block from to number = nat_le from (job_at jobs number).release && nat_lt (job_at jobs number).release to && nat_le (job_at jobs number).deadline to
+
+  abbrev pub block_jobs : ℕ → ℕ → List ℕ
+  block_jobs i j = filter (in_block (point i) (point j)) (numbers_of jobs)
+
+  abbrev inner_part : ℕ → ℕ → WholeSlot → ℕ
+  inner_part i j slot = cond (in_block (point i) (point j) slot.job) slot.work 0
+
+  -- the slots of those jobs have all their work
+  inner_sum : (i j : ℕ) → sum_by (inner_part i j) slots ≡ scale * work_of jobs (block_jobs i j)
+  inner_sum i j =
+      sum_by_same (inner_part i j) (λ slot. count_of slot.job (block_jobs i j) * slot.work) slots
+      (λ k d within.
+      let slot : WholeSlot = get_or slots k d in
+      sym (ap (λ n. n * slot.work) (counted_kept jobs (in_block (point i) (point j)) slot.job (run.feasible.in_windows k d within).known)
+      ∙ one_or_none (in_block (point i) (point j) slot.job) slot.work))
+      ∙ work_served jobs scale slots (block_jobs i j) run.feasible.served
+      (All-filter (in_block (point i) (point j)) (λ number. number < length jobs) (numbers_of jobs) (all_numbers (λ number. number < length jobs) jobs (λ number there. there)))
+
+  -- what is carried into a block by the stretch before it, where there is one
+  abbrev carried_into : ℕ → ℕ → WholeSlot → ℕ
+  carried_into zero D slot = 0
+  carried_into (suc k) D slot = carried_part k D slot
+
+  -- the job isn't released before the first stretch
+  none_earlier : (number : ℕ) → number < length jobs → point 0 ≤ (job_at jobs number).release
+  none_earlier number there = let at = release_at jobs number there in omega (arith, at.2, not_later jobs 0 at.0 (omega arith) at.1)
+
+  -- of jobs that were released before the block a slot is carried into it
+  carried_slot : (i j s : ℕ) → i ≤ j → j ≤ count → s < length slots → release (slot_at slots s) < point i → point i * scale ≤ (slot_at slots s).from →
+      deadline (slot_at slots s) ≤ point j → (slot_at slots s).work ≤ carried_into i (point j) (slot_at slots s)
+  carried_slot zero j s order upto within before from due = absurd (omega (arith, before, none_earlier (slot_at slots s).job (known s within)))
+  carried_slot (suc k) j s order upto within before from due =
+      let slot = slot_at slots s in
+      let here : k < count = omega (arith, order, upto) in
+      let released : release slot ≤ (stretch_at jobs k).from = elim (release_outside jobs slot.job k (known s within) here) [
+        | inl by ↦ by
+        | inr after ↦ absurd (omega (arith, after, before, ends_at k here))
+      ] in
+      let begun : (stretch_at jobs k).to * scale ≤ slot.from = omega (arith, from, ap (λ n. n * scale) (ends_at k here)) in
+      omega (
+        arith,
+        both_pass (begins_from ((stretch_at jobs k).to * scale) slot) (released_and_due jobs (stretch_at jobs k).from (point j) slot.job) slot.work
+            (le-leb _ _ begun) (and_from (nat_le (release slot) (stretch_at jobs k).from) (nat_le (deadline slot) (point j)) (le-leb _ _ released) (le-leb _ _ due)),
+      )
+
+  -- a slot of a block has a job that was released before the block, or whose window lies in it
+  slot_of_block : (i j : ℕ) → i ≤ j → j ≤ count → ((l : ℕ) → i ≤ l → l < j → IsFast l) → (j < count → IsSlow j) → (s : ℕ) → s < length slots →
+      point i * scale ≤ (slot_at slots s).from → (slot_at slots s).to ≤ point j * scale →
+      (slot_at slots s).work ≤ carried_into i (point j) (slot_at slots s) + inner_part i j (slot_at slots s)
+  slot_of_block i j order upto fast slow s within from to =
+      let slot = slot_at slots s in
+      let window = run.feasible.in_windows s no_slot within in
+      let place = place_of jobs scale slot (run.uncut s no_slot within) in
+      let l = place.0 in
+      let not_before : i ≤ l = elim (cases_lt l i) [
+        | inr later ↦ later
+        | inl earlier ↦ absurd (omega (
+          arith,
+          takes s within,
+          place.2.to,
+          from,
+          ap (λ n. n * scale) (ends_at l place.1),
+          mul-le-mul_right scale (not_later jobs (suc l) i (omega (arith, earlier)) (omega (arith, points_are l place.1, order, upto))),
+        ))
+      ] in
+      let not_after : l < j = elim (cases_lt l j) [
+        | inl earlier ↦ earlier
+        | inr later ↦ absurd (omega (
+          arith,
+          takes s within,
+          place.2.from,
+          to,
+          ap (λ n. n * scale) (stretch_begins jobs l place.1),
+          mul-le-mul_right scale (not_later jobs j l later (omega (arith, points_are l place.1, place.1))),
+        ))
+      ] in
+      let due = due_in_block (j - i) i j (omega (arith, order)) upto fast slow l s not_before not_after within place.2 in
+      let released : release slot < point j = lt_of_mul-lt-mul_right scale (omega (arith, takes s within, window.released, to)) in
+      elim (cases_lt (release slot) (point i)) [
+        | inr after ↦ omega (
+          arith,
+          cond-true {A = ℕ} (in_block (point i) (point j) slot.job) slot.work 0
+              (and_from (nat_le (point i) (release slot) && nat_lt (release slot) (point j)) (nat_le (deadline slot) (point j))
+              (and_from (nat_le (point i) (release slot)) (nat_lt (release slot) (point j)) (le-leb _ _ after) (lt-ltb _ _ released)) (le-leb _ _ due)),
+        )
+        | inl before ↦ omega (arith, carried_slot i j s order upto within before from due)
+      ]
+
+  -- So what a block does is carried into it, or work of jobs whose windows lie in it.
+  block_work : (i j : ℕ) → i ≤ j → j ≤ count → ((l : ℕ) → i ≤ l → l < j → IsFast l) → (j < count → IsSlow j) →
+      below work j ≤ below work i + sum_by (carried_into i (point j)) slots + scale * work_of jobs (block_jobs i j)
+  block_work i j order upto fast slow =
+      omega (
+        arith,
+        work_between (j - i) i j (omega (arith, order)) upto,
+        sum_by_at_most (block_part (point i) (point j)) (λ slot. carried_into i (point j) slot + inner_part i j slot) slots
+            (All-from_get_or (λ slot. block_part (point i) (point j) slot ≤ carried_into i (point j) slot + inner_part i j slot) slots no_slot
+            (λ s within. one_at_most (nat_le (point i * scale) (slot_at slots s).from && nat_le (slot_at slots s).to (point j * scale)) (slot_at slots s).work
+            (carried_into i (point j) (slot_at slots s) + inner_part i j (slot_at slots s))
+            (λ passes.
+            let both = and_parts (nat_le (point i * scale) (slot_at slots s).from) (nat_le (slot_at slots s).to (point j * scale)) passes in
+            slot_of_block i j order upto fast slow s within (leb-true _ _ both.0) (leb-true _ _ both.1)))),
+        sum_by-add (carried_into i (point j)) (inner_part i j) slots,
+        inner_sum i j,
+      )
+
+  -- and that is at most what the speed does in the block's time
+  carried_few : (i j : ℕ) → i ≤ j → j ≤ count → ((k : ℕ) → suc k ≡ i → IsSlow k) → q * sum_by (carried_into i (point j)) slots ≤ p * scale * (point j - point i)
+  carried_few zero j order upto before = omega (arith, ap (λ n. q * n) (sum_by_zero (carried_into zero (point j)) slots (λ k d within. refl)))
+  carried_few (suc k) j order upto before =
+      let here : k < count = omega (arith, order, upto) in
+      let joint = ends_at k here in
+      let after : point (suc k) ≤ point j = not_later jobs (suc k) j order (omega (arith, points_are k here, upto)) in
+      omega (arith, carried_most k (point j) here (omega (arith, joint, after)) (before k refl), ap (λ n. p * scale * (point j - n)) joint)
+
+  -- # What a block does above the speed
+
+  -- what a stretch does above it, times q
+  abbrev pub over : ℕ → ℕ
+  over k = q * work k - p * (long k * scale)
+
+  -- a fast stretch's time at the speed and what it does above it are what it does
+  over_all : (more i j : ℕ) → i + more ≡ j → j ≤ count → ((l : ℕ) → i ≤ l → l < j → IsFast l) →
+      below over j + p * scale * point j + q * below work i ≡ below over i + p * scale * point i + q * below work j
+  over_all zero i j is upto fast =
+      let same : i ≡ j = omega (arith, is) in
+      omega (arith, ap (below over) same, ap (λ n. p * scale * point n) same, ap (λ n. q * below work n) same)
+  over_all (suc more) i zero is upto fast = absurd (omega (arith, is))
+  over_all (suc more) i (suc j) is upto fast =
+      let here : j < count = omega (arith, upto) in
+      let quick = fast j (omega (arith, is)) (omega arith) in
+      let time : point (suc j) ≡ long j + point j = omega (arith, stretch_begins jobs j here, ends_at j here, stretch_forward jobs j here) in
+      omega (
+        arith,
+        over_all more i j (omega (arith, is)) (omega (arith, upto)) (λ l from to. fast l from (omega (arith, to))),
+        quick,
+        ap (λ n. p * scale * n) time,
+      )
+
+  -- The fact: what a block does above the speed is at most the work of the jobs whose windows lie in it.
+  pub block_above : (i j : ℕ) → i ≤ j → j ≤ count → ((l : ℕ) → i ≤ l → l < j → IsFast l) → (j < count → IsSlow j) → ((k : ℕ) → suc k ≡ i → IsSlow k) →
+      below over j ≤ below over i + q * scale * work_of jobs (block_jobs i j)
+  block_above i j order upto fast slow before =
+      omega (
+        arith,
+        over_all (j - i) i j (omega (arith, order)) upto fast,
+        mul-le-mul_left q (block_work i j order upto fast slow),
+        carried_few i j order upto before,
+        mul-sub (p * scale) (point j) (point i),
+        mul-le-mul_left (p * scale) (points_order i j order upto),
+      )

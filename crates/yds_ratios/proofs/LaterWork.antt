@@ -14,7 +14,7 @@ use Rattle.yds_ratios.proofs.Borrowed.{place_of}
 
 -- # How often a number stands among those that are kept
 
-counted_kept : (jobs : List Job) (p : ℕ → Bool) (j : ℕ) → j < length jobs → count j (filter p (numbers_of jobs)) ≡ cond (p j) 1 0
+pub counted_kept : (jobs : List Job) (p : ℕ → Bool) (j : ℕ) → j < length jobs → count j (filter p (numbers_of jobs)) ≡ cond (p j) 1 0
 counted_kept jobs p j known = elim (cases_Bool (p j)) [
   | inl passes ↦
       let some : 1 ≤ count j (filter p (numbers_of jobs)) = contained_counted (filter p (numbers_of jobs)) j (contains_filter p (numbers_of jobs) j passes (is_number jobs j known)) in
@@ -48,7 +48,7 @@ split_part : (ended begun : Bool) (n : ℕ) → (ended ≡ true → begun ≡ fa
 split_part true begun n one other = rw (one refl) (omega arith)
 split_part false begun n one other = rw (other refl) (omega arith)
 
-one_or_none : (b : Bool) (n : ℕ) → cond b 1 0 * n ≡ cond b n 0
+pub one_or_none : (b : Bool) (n : ℕ) → cond b 1 0 * n ≡ cond b n 0
 one_or_none true n = omega arith
 one_or_none false n = omega arith
 
