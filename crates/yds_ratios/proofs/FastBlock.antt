@@ -1,10 +1,10 @@
 -- A block of neighbouring stretches that are all faster than a speed p/q, as long as possible: it is not followed by such a stretch. In a
 -- run of Optimal Available that never rounded, only jobs run in it that are due by its end. And where a stretch that isn't faster stands
 -- before it, the work that it has of jobs released before it is at most what that speed does in its time.
-use Rattle.yds_model.proofs.Common.{◌≡◌, ℕ, zero, suc, ◌+◌, ◌-◌, ◌*◌, ◌<◌, ◌≤◌, ◌⊎◌, List, [], ◌∷◌, length, get_or, cond, Bool, true, false, ◌&&◌, nat_le, nat_lt, refl, sym, ap, subst, ◌∙◌, arith, inl, inr, All, sum_by, add-one, cases_lt, cases_eq, cases_order, cases_Bool, cond-true, cond-false, le-leb, lt-leb, leb-true, ltb-true, true≢false, and_parts, and_from, All-tail, All-from_get_or, mul-pos, mul-le-mul_left, mul-sub, mul-le-mul_right, lt_of_mul-lt-mul_right, le_of_mul-le-mul_right, sum_by-cons, All-filter, filter, lt-ltb, Job, job_at, work_of, numbers_of, sum_by_same, WholeSlot, no_slot, slot_at, Piece, event_points, stretches, LiesIn, slots_in, work_in, stretch_at, get_or_default, All-contains, contains_filter, sum_by-filter, found_or_none, sum_by-add, sum_by_at_most, sum_by_zero, run_forward}
+use Rattle.yds_model.proofs.Common.{◌≡◌, ℕ, zero, suc, ◌+◌, ◌-◌, ◌*◌, ◌<◌, ◌≤◌, List, [], ◌∷◌, length, get_or, cond, Bool, true, false, ◌&&◌, nat_le, nat_lt, refl, sym, ap, subst, ◌∙◌, arith, inl, inr, All, sum_by, add-one, cases_lt, cases_eq, cases_order, cases_Bool, cond-true, cond-false, le-leb, lt-leb, leb-true, ltb-true, true≢false, and_parts, and_from, All-tail, All-from_get_or, mul-pos, mul-le-mul_left, mul-sub, mul-le-mul_right, lt_of_mul-lt-mul_right, le_of_mul-le-mul_right, sum_by-cons, All-filter, filter, lt-ltb, Job, job_at, work_of, numbers_of, sum_by_same, WholeSlot, no_slot, slot_at, event_points, stretches, LiesIn, slots_in, work_in, stretch_at, get_or_default, All-contains, contains_filter, sum_by-filter, found_or_none, sum_by-add, sum_by_at_most, sum_by_zero, run_forward}
 use Rattle.yds_events.specs.Stretch.{no_stretch}
 use Rattle.yds_events.proofs.Times.{not_later, release_at, deadline_at}
-use Rattle.yds_events.proofs.Neighbours.{count_stretches, stretch_begins, stretch_ends, stretch_forward, stretch_order, release_outside, deadline_outside}
+use Rattle.yds_events.proofs.Neighbours.{count_stretches, stretch_begins, stretch_ends, stretch_forward, stretch_order, release_outside}
 use Rattle.yds_model.specs.Numbers.{count as count_of}
 use Rattle.yds_laws.proofs.Group.{work_served}
 use Rattle.yds_laws.proofs.Served.{all_numbers}
@@ -368,17 +368,17 @@ module _ (jobs : List Job) (scale : ℕ) (slots : List WholeSlot) (run : IsExact
   -- # What a block does
 
   -- the event points around a stretch
-  points_are : (k : ℕ) → k < count → length (event_points jobs) ≡ count + 1
+  pub points_are : (k : ℕ) → k < count → length (event_points jobs) ≡ count + 1
   points_are k here = count_stretches jobs (some_jobs jobs k here)
 
-  ends_at : (k : ℕ) → k < count → (stretch_at jobs k).to ≡ point (suc k)
+  pub ends_at : (k : ℕ) → k < count → (stretch_at jobs k).to ≡ point (suc k)
   ends_at k here = rw add-one at (stretch_ends jobs k here)
 
   next_later : (k : ℕ) → k < count → point k ≤ point (suc k)
   next_later k here = omega (arith, stretch_begins jobs k here, ends_at k here, stretch_forward jobs k here)
 
   -- with no stretch there are no event points, or one
-  points_order : (i j : ℕ) → i ≤ j → j ≤ count → point i ≤ point j
+  pub points_order : (i j : ℕ) → i ≤ j → j ≤ count → point i ≤ point j
   points_order i j order upto = elim (cases_eq i j) [
     | inl same ↦ omega (arith, ap point same)
     | inr other ↦ not_later jobs i j order (omega (arith, points_are i (omega (arith, order, other, upto)), upto))

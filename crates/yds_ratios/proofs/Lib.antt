@@ -13,3 +13,4 @@ pub mod AverageRateSpends
 pub mod LaterWork
 pub mod EarliestLater
 pub mod FastBlock
+pub mod AboveSpeed

@@ -5,7 +5,7 @@
 //! and for runs that never rounded; and on `yds_energy` for slots by stretches. No limit of a document stands in it.
 #![tactic(auto)]
 
-ghost use Rattle.yds_ratios.specs.RatioLaws.{OneScaleDecidesSpending, PlansSpendLeast, AverageRateSpends};
+ghost use Rattle.yds_ratios.specs.RatioLaws.{OneScaleDecidesSpending, PlansSpendLeast, OptimalAvailableAboveASpeed, AverageRateSpends};
 
 /// What slots spend at most of what others do, at one common scale, they do at each: a spending needs no scale.
 pub fn one_scale_decides_spending()
@@ -16,6 +16,12 @@ pub fn one_scale_decides_spending()
 /// FOCS 1995).
 pub fn plans_spend_least()
     ensures { PlansSpendLeast }
+{}
+
+/// What a run of Optimal Available that never rounded does above a speed is at most the work of the jobs in all of whose window it is
+/// faster: for every speed, so for every power of speed at once.
+pub fn optimal_available_above_a_speed()
+    ensures { OptimalAvailableAboveASpeed }
 {}
 
 /// A run of Average Rate that never rounded spends at most 2 ^ (exponent - 1) times exponent ^ exponent times what any feasible schedule
