@@ -14,3 +14,4 @@ pub mod LaterWork
 pub mod EarliestLater
 pub mod FastBlock
 pub mod AboveSpeed
+pub mod OptimalAvailableSpends

@@ -5,7 +5,7 @@
 //! and for runs that never rounded; and on `yds_energy` for slots by stretches. No limit of a document stands in it.
 #![tactic(auto)]
 
-ghost use Rattle.yds_ratios.specs.RatioLaws.{OneScaleDecidesSpending, PlansSpendLeast, OptimalAvailableAboveASpeed, AverageRateSpends};
+ghost use Rattle.yds_ratios.specs.RatioLaws.{OneScaleDecidesSpending, PlansSpendLeast, OptimalAvailableAboveASpeed, OptimalAvailableOfTwoSpeeds, OptimalAvailableSpends, AverageRateSpends};
 
 /// What slots spend at most of what others do, at one common scale, they do at each: a spending needs no scale.
 pub fn one_scale_decides_spending()
@@ -22,6 +22,18 @@ pub fn plans_spend_least()
 /// faster: for every speed, so for every power of speed at once.
 pub fn optimal_available_above_a_speed()
     ensures { OptimalAvailableAboveASpeed }
+{}
+
+/// So what it does above a speed is at most what any feasible schedule does above any other, and that other speed times as long as the run
+/// is faster than the first.
+pub fn optimal_available_of_two_speeds()
+    ensures { OptimalAvailableOfTwoSpeeds }
+{}
+
+/// Where power is speed to a whole exponent of at least 1, such a run spends at most the exponent to its own power times what any feasible
+/// schedule does: 4 times for the square, 27 for the cube (Bansal, Kimbrel, Pruhs, J. ACM 2007).
+pub fn optimal_available_spends()
+    ensures { OptimalAvailableSpends }
 {}
 
 /// A run of Average Rate that never rounded spends at most 2 ^ (exponent - 1) times exponent ^ exponent times what any feasible schedule
