@@ -42,6 +42,7 @@ by_places jobs scale before (slot ∷ slots) known earliest zero (suc t) order w
 by_places jobs scale before (slot ∷ slots) known earliest (suc s) (suc t) order within =
     by_places jobs scale (before ++ slot ∷ []) slots (All-tail (λ one. one.job < length jobs) slot slots known) earliest.1 s t (omega arith) (omega arith)
 
+-- slots that run from a time on begin then or later
 begins_after : (start : ℕ) (slots : List WholeSlot) → RunFrom start slots → (t : ℕ) → t < length slots → start ≤ (slot_at slots t).from
 begins_after start [] run t within = absurd (omega arith)
 begins_after start (slot ∷ slots) run zero within = run.0

@@ -12,10 +12,12 @@ abbrev pub rise : ℕ → ℕ → ℕ
 rise zero z = 1
 rise (suc n) z = suc z ^ suc n + z * rise n z
 
+-- the step from a power to the next number's
 pub power_step : (n z : ℕ) → suc z ^ suc n ≡ z ^ suc n + rise n z
 power_step zero z = omega (arith, first_power z, first_power (suc z))
 power_step (suc n) z = omega (arith, pow-suc (suc z) (suc n), pow-suc z (suc n), ap (λ x. z * x) (power_step n z))
 
+-- a power of 1
 pub one_to : (n : ℕ) → 1 ^ n ≡ 1
 one_to zero = pow-zero 1
 one_to (suc n) = omega (arith, pow-suc 1 n, one_to n)
@@ -25,10 +27,12 @@ rise_first : (n : ℕ) → rise n 0 ≡ 1
 rise_first zero = refl
 rise_first (suc n) = omega (arith, one_to (suc n))
 
+-- powers grow
 power_grows : (n z : ℕ) → suc z ^ n ≤ suc (suc z) ^ n
 power_grows zero z = omega (arith, pow-zero (suc z), pow-zero (suc (suc z)))
 power_grows (suc n) z = omega (arith, power_step n (suc z))
 
+-- and so do the steps
 rise_grows : (n z : ℕ) → rise n z ≤ rise n (suc z)
 rise_grows zero z = omega arith
 rise_grows (suc n) z = omega (arith, power_grows (suc n) z, mul-le-mul_left z (rise_grows n z))

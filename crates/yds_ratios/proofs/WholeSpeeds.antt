@@ -32,6 +32,7 @@ pub record HasSpeed (K : ℕ) (slot : WholeSlot) : Type 0 where
   pub some : 1 ≤ takes slot
   pub is : speed K slot * takes slot ≡ K * slot.work
 
+-- a slot whose length divides the multiple has a whole speed
 has_speed : (K : ℕ) (slot : WholeSlot) → slot.from < slot.to → takes slot ∣ K → HasSpeed K slot
 has_speed K slot forward divides = record {
   some = omega (arith, forward);
@@ -46,6 +47,7 @@ have_speeds K slots forward divided k d within = has_speed K (get_or slots k d) 
 pub first_speeds : (slots others : List WholeSlot) → All (λ slot. slot.from < slot.to) slots → All (HasSpeed (lengths slots * lengths others)) slots
 first_speeds slots others forward = have_speeds (lengths slots * lengths others) slots forward (product_divided takes slots (lengths others))
 
+-- and so it is with those of the other
 pub other_speeds : (slots others : List WholeSlot) → All (λ slot. slot.from < slot.to) others → All (HasSpeed (lengths slots * lengths others)) others
 other_speeds slots others forward =
     have_speeds (lengths slots * lengths others) others forward
@@ -57,6 +59,7 @@ other_speeds slots others forward =
 abbrev pub above : ℕ → ℕ → ℕ → WholeSlot → ℕ
 above K a y slot = takes slot * (a * speed K slot - y)
 
+-- what a slot does above a whole speed is its length times what its speed is more
 above_is : (K a y : ℕ) (slot : WholeSlot) → HasSpeed K slot → a * K * slot.work - y * takes slot ≡ above K a y slot
 above_is K a y slot has =
     let all : a * K * slot.work ≡ takes slot * (a * speed K slot) = omega (arith, ap (λ n. a * n) has.is) in
@@ -82,6 +85,7 @@ spent_more : (power long work more num den here rest : ℕ) → here * long ≡ 
 spent_more power long work more num den here rest first other =
     omega (arith, ap (λ n. n * den) first, ap (λ n. n * long) other)
 
+-- what a slot spends, times its length to n, is its work to the exponent, times that of the multiple
 slot_is : (n K : ℕ) (slot : WholeSlot) → HasSpeed K slot → slot_spent n K slot * takes slot ^ n ≡ K ^ suc n * slot.work ^ suc n
 slot_is n K slot has =
     omega (
@@ -96,6 +100,7 @@ pub record IsSpent (n K : ℕ) (slots : List WholeSlot) : Type 0 where
   pub some : 1 ≤ (spending (suc n) slots).den
   pub is : spent n K slots * (spending (suc n) slots).den ≡ K ^ suc n * (spending (suc n) slots).num
 
+-- so it is with what slots spend together
 pub is_spent : (n K : ℕ) (slots : List WholeSlot) → All (HasSpeed K) slots → IsSpent n K slots
 is_spent n K [] have = record { some = omega arith; is = omega arith }
 is_spent n K (slot ∷ slots) have =
@@ -111,6 +116,7 @@ is_spent n K (slot ∷ slots) have =
           (slot_spent n K slot) (spent n K slots) first rest.is;
     }
 
+-- in plain numbers: the comparison of sums is that of the quotients
 cross : (power factor sum num den other_sum other_num other_den : ℕ) → 1 ≤ power → sum * den ≡ power * num → other_sum * other_den ≡ power * other_num →
     sum ≤ factor * other_sum → num * other_den ≤ factor * other_num * den
 cross power factor sum num den other_sum other_num other_den some is other most =
@@ -136,6 +142,7 @@ at_most_times n K factor slots others some have also most =
 
 -- # By layers
 
+-- a slot's spending by layers
 layer_of : (n K a N : ℕ) (slot : WholeSlot) → a * speed K slot ≤ N → below (λ y. weight n y * above K a y slot) N ≡ a ^ suc n * slot_spent n K slot
 layer_of n K a N slot most =
     below_same (λ y. weight n y * above K a y slot) (λ y. takes slot * (weight n y * (a * speed K slot - y))) N (λ y within. omega arith)
@@ -158,6 +165,7 @@ spent_by_layers n K a N (slot ∷ slots) most =
 abbrev pub top : ℕ → ℕ → List WholeSlot → ℕ
 top K a slots = sum_by (λ slot. a * speed K slot) slots
 
+-- no slot is above it
 within_top : (K a N : ℕ) (slots : List WholeSlot) → top K a slots ≤ N → All (λ slot. a * speed K slot ≤ N) slots
 within_top K a N slots most k d within = omega (arith, get_or-le-sum_by (λ slot. a * speed K slot) slots k d within, most)
 
@@ -184,6 +192,7 @@ least_spends_least n K slots others have also least =
 
 -- # How long slots are faster than a whole speed
 
+-- a slot is faster than a whole speed where its own speed is greater
 faster_is : (K y : ℕ) (slot : WholeSlot) → HasSpeed K slot →
     y * cond (is_faster y K slot) (takes slot) 0 ≡ takes slot * speed_below (speed K slot) y
 faster_is K y slot has = elim (cases_lt y (speed K slot)) [
@@ -205,6 +214,7 @@ faster_is K y slot has = elim (cases_lt y (speed K slot)) [
       )
 ]
 
+-- a slot's weighed speeds below its own
 slot_time : (n K N : ℕ) (slot : WholeSlot) → HasSpeed K slot → speed K slot ≤ N →
     below (λ y. weight n y * (y * cond (is_faster y K slot) (takes slot) 0)) N ≤ n * slot_spent n K slot
 slot_time n K N slot has most =
