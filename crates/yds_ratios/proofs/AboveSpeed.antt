@@ -1,8 +1,9 @@
 -- What a run of Optimal Available that never rounded does above a speed p/q is at most the work of the jobs in all of whose window it is
 -- faster. From the last stretch to the first: from each on that follows none, or one that isn't fast, what is above the speed is at most the
 -- work of such jobs that are released from there on.
-use Rattle.yds_model.proofs.Common.{◌≡◌, ℕ, zero, suc, ◌+◌, ◌-◌, ◌*◌, ◌<◌, ◌≤◌, List, [], ◌∷◌, length, get_or, cond, Bool, true, false, ◌&&◌, nat_le, nat_lt, refl, sym, ap, subst, ◌∙◌, arith, inl, inr, All, filter, list_all, sum_by, cases_lt, cases_Bool, lt-ltb, leb-true, ltb-true, and_parts, and_from, All-nil, All-cons, All-tail, All-from_get_or, All-filter, filter_passes, mul-pos, mul-le-mul_left, mul-le-mul_right, le_of_mul-le-mul_right, sum_by-cons, Job, job_at, work_of, numbers_of, WholeSlot, slots_at, stretches, is_live, slots_in, busy, work_in, stretch_at, excess, sum_by-filter, sum_by-add, sum_by-mul, sum_by_same, sum_by_at_most, sum_by_zero, run_forward}
+use Rattle.yds_model.proofs.Common.{◌≡◌, ℕ, zero, suc, ◌+◌, ◌-◌, ◌*◌, ◌<◌, ◌≤◌, List, [], ◌∷◌, length, get_or, cond, Bool, true, ◌&&◌, nat_le, nat_lt, refl, sym, ap, subst, ◌∙◌, arith, inl, inr, All, filter, sum_by, cases_lt, cases_Bool, lt-ltb, leb-true, ltb-true, and_parts, All-from_get_or, mul-pos, mul-le-mul_left, mul-le-mul_right, le_of_mul-le-mul_right, sum_by-cons, Job, job_at, work_of, numbers_of, WholeSlot, slots_at, stretches, is_live, slots_in, busy, work_in, stretch_at, excess, sum_by-filter, sum_by-add, sum_by-mul, sum_by_same, sum_by_at_most, sum_by_zero, run_forward}
 use Rattle.yds_events.specs.Stretch.{no_stretch}
+use Rattle.yds_events.specs.Window.{length_at}
 use Rattle.yds_events.proofs.Neighbours.{stretch_begins, stretch_forward, stretches_run}
 use Rattle.yds_laws.proofs.Served.{all_numbers}
 use Rattle.yds_energy.proofs.RoundedRuns.{all_work}
@@ -10,38 +11,18 @@ use Rattle.yds_energy.proofs.StretchSlots.{sum_in_stretches}
 use Rattle.yds_ratios.specs.Spending.{is_fast, runs_faster, faster_throughout}
 use Rattle.yds_ratios.specs.RatioLaws.{OptimalAvailableAboveASpeed}
 use Rattle.yds_ratios.proofs.Below.{below, below_next}
-use Rattle.yds_ratios.proofs.LaterWork.{IsExactRun, exact_run}
-use Rattle.yds_ratios.proofs.FastBlock.{point, work, long, IsFast, IsSlow, in_block, block_jobs, over, block_above, ends_at, points_order}
+use Rattle.yds_ratios.proofs.Tests.{all_pass, filter_has, less_of_both}
+use Rattle.yds_ratios.proofs.Points.{point, ends_at, points_order}
+use Rattle.yds_ratios.proofs.ExactRun.{IsExactRun, exact_run, work_at, IsFast, IsSlow}
+use Rattle.yds_ratios.proofs.BlockAbove.{is_inside, block_jobs, over, block_above}
 
--- # Lists
-
--- what passes, one by one
-pub all_pass : {X : Type 0} (p : X → Bool) (xs : List X) → All (λ x. p x ≡ true) xs → list_all p xs ≡ true
-all_pass p [] each = refl
-all_pass p (x ∷ xs) each = and_from (p x) (list_all p xs) (each 0 x (omega arith)) (all_pass p xs (All-tail (λ y. p y ≡ true) x xs each))
-
-pub each_passes : {X : Type 0} (p : X → Bool) (xs : List X) → list_all p xs ≡ true → All (λ x. p x ≡ true) xs
-each_passes p [] all = All-nil (λ x. p x ≡ true)
-each_passes p (x ∷ xs) all =
-    let both = and_parts (p x) (list_all p xs) all in
-    All-cons (λ y. p y ≡ true) x xs both.0 (each_passes p xs both.1)
-
--- what is kept has what follows from the test
-pub filter_has : {X : Type 0} (p : X → Bool) (P : X → Type 0) (xs : List X) → All (λ x. p x ≡ true → P x) xs → All P (filter p xs)
-filter_has p P xs each k d within = All-filter p (λ x. p x ≡ true → P x) xs each k d within (filter_passes p xs k d within)
+-- # In plain numbers
 
 -- a sum over a list, place by place
 pub sum_by_places : {X : Type 0} (g : X → ℕ) (d : X) (xs : List X) → sum_by g xs ≡ below (λ k. g (get_or xs k d)) (length xs)
 sum_by_places g d [] = refl
 sum_by_places g d (x ∷ xs) =
     simp sum_by-cons (omega (arith, sum_by_places g d xs, below_next (λ k. g (get_or (x ∷ xs) k d)) (length xs)))
-
--- # In plain numbers
-
-less_of_both : (a b : Bool) (n : ℕ) → cond (a && b) n 0 ≤ cond b n 0
-less_of_both true b n = omega arith
-less_of_both false true n = omega arith
-less_of_both false false n = omega arith
 
 -- a job whose window lies in a block, or one that is released later, is released from the block's start on
 one_of_both : (first from to release deadline : ℕ) (fast : Bool) (n : ℕ) → first ≤ from → from ≤ to → (from ≤ release → deadline ≤ to → fast ≡ true) →
@@ -55,6 +36,7 @@ pub faster_slot : (p q time work slot_time slot_work : ℕ) → 1 ≤ time → s
 faster_slot p q time work slot_time slot_work some is fast =
     le_of_mul-le-mul_right {k = time} (omega (arith, ap (λ n. q * n) is, mul-le-mul_right slot_time fast)) some
 
+-- or slower
 slower_slot : (p q time work slot_time slot_work : ℕ) → 1 ≤ time → slot_work * time ≡ work * slot_time → q * work ≤ p * time → q * slot_work ≤ p * slot_time
 slower_slot p q time work slot_time slot_work some is slow =
     le_of_mul-le-mul_right {k = time} (omega (arith, ap (λ n. q * n) is, mul-le-mul_right slot_time slow)) some
@@ -93,17 +75,20 @@ empty_over : (p q time : ℕ) (slots : List WholeSlot) → slots ≡ [] → sum_
 empty_over p q time slots none = rw none (omega arith)
 
 module _ (jobs : List Job) (scale : ℕ) (slots : List WholeSlot) (run : IsExactRun jobs scale slots) (p q : ℕ) where
-  abbrev count_here : ℕ
-  count_here = length (stretches jobs)
+  abbrev count : ℕ
+  count = length (stretches jobs)
 
-  abbrev point_at : ℕ → ℕ
-  point_at = point jobs scale slots run p q
+  abbrev above : ℕ → ℕ
+  above = over jobs scale slots run p q
 
-  abbrev over_at : ℕ → ℕ
-  over_at = over jobs scale slots run p q
+  abbrev Fast : ℕ → Type 0
+  Fast = IsFast jobs scale slots p q
+
+  abbrev Slow : ℕ → Type 0
+  Slow = IsSlow jobs scale slots p q
 
   -- the excess is what the stretches do above the speed
-  pub excess_by_stretches : excess p q slots ≡ below over_at count_here
+  pub excess_by_stretches : excess p q slots ≡ below above count
   excess_by_stretches =
       let term = λ (slot : WholeSlot). q * slot.work - p * (slot.to - slot.from) in
       sym (sum_in_stretches term scale 0 (stretches jobs) slots (stretches_run jobs) (run_forward 0 slots run.feasible.one_at_a_time) run.uncut)
@@ -121,15 +106,15 @@ module _ (jobs : List Job) (scale : ℕ) (slots : List WholeSlot) (run : IsExact
   -- # Jobs in all of whose window the run is faster
 
   abbrev is_later : ℕ → ℕ → Bool
-  is_later k number = nat_le (point_at k) (job_at jobs number).release && runs_faster jobs p q scale slots (job_at jobs number)
+  is_later k number = nat_le (point jobs k) (job_at jobs number).release && runs_faster jobs p q scale slots (job_at jobs number)
 
   -- the work of those that are released from the k-th event point on
   abbrev later_jobs : ℕ → ℕ
   later_jobs k = work_of jobs (filter (is_later k) (numbers_of jobs))
 
   -- a job whose window lies in a block is one of them
-  block_faster : (i j : ℕ) → i ≤ j → j ≤ count_here → ((l : ℕ) → i ≤ l → l < j → IsFast jobs scale slots run p q l) → (number : ℕ) →
-      point_at i ≤ (job_at jobs number).release → (job_at jobs number).deadline ≤ point_at j → runs_faster jobs p q scale slots (job_at jobs number) ≡ true
+  block_faster : (i j : ℕ) → i ≤ j → j ≤ count → ((l : ℕ) → i ≤ l → l < j → Fast l) → (number : ℕ) →
+      point jobs i ≤ (job_at jobs number).release → (job_at jobs number).deadline ≤ point jobs j → runs_faster jobs p q scale slots (job_at jobs number) ≡ true
   block_faster i j order upto fast number from to =
       let job = job_at jobs number in
       all_pass (is_fast p q scale slots) (filter (λ stretch. is_live stretch job) (stretches jobs))
@@ -148,22 +133,22 @@ module _ (jobs : List Job) (scale : ℕ) (slots : List WholeSlot) (run : IsExact
           released,
           begins,
           stretch_forward jobs l here,
-          ends_at jobs scale slots run p q l here,
-          points_order jobs scale slots run p q (suc l) i (omega (arith, earlier)) (omega (arith, order, upto)),
+          ends_at jobs l here,
+          points_order jobs (suc l) i (omega (arith, earlier)) (omega (arith, order, upto)),
         ))
       ] in
       let not_after : l < j = elim (cases_lt l j) [
         | inl earlier ↦ earlier
-        | inr later ↦ absurd (omega (arith, to, due, begins, points_order jobs scale slots run p q j l later (omega (arith, here))))
+        | inr later ↦ absurd (omega (arith, to, due, begins, points_order jobs j l later (omega (arith, here))))
       ] in
       lt-ltb (p * (((stretch_at jobs l).to - (stretch_at jobs l).from) * scale)) (q * work_in scale (stretch_at jobs l) slots) (fast l not_before not_after))))
 
   -- so the jobs of a block and those after it are all released from its start on
-  jobs_with_block : (i j k : ℕ) → i ≤ j → j ≤ count_here → point_at k ≤ point_at i → ((l : ℕ) → i ≤ l → l < j → IsFast jobs scale slots run p q l) →
-      work_of jobs (block_jobs jobs scale slots run p q i j) + later_jobs j ≤ later_jobs k
+  jobs_with_block : (i j k : ℕ) → i ≤ j → j ≤ count → point jobs k ≤ point jobs i → ((l : ℕ) → i ≤ l → l < j → Fast l) →
+      work_of jobs (block_jobs jobs i j) + later_jobs j ≤ later_jobs k
   jobs_with_block i j k order upto first fast =
       let work = λ (number : ℕ). (job_at jobs number).work in
-      let inside = in_block jobs scale slots run p q (point_at i) (point_at j) in
+      let inside = is_inside jobs (point jobs i) (point jobs j) in
       omega (
         arith,
         sum_by-filter inside work (numbers_of jobs),
@@ -173,8 +158,8 @@ module _ (jobs : List Job) (scale : ℕ) (slots : List WholeSlot) (run : IsExact
         sum_by_at_most (λ number. cond (inside number) (work number) 0 + cond (is_later j number) (work number) 0) (λ number. cond (is_later k number) (work number) 0) (numbers_of jobs)
             (all_numbers (λ number. cond (inside number) (work number) 0 + cond (is_later j number) (work number) 0 ≤ cond (is_later k number) (work number) 0) jobs
             (λ number there.
-            one_of_both (point_at k) (point_at i) (point_at j) (job_at jobs number).release (job_at jobs number).deadline (runs_faster jobs p q scale slots (job_at jobs number)) (work number)
-            first (points_order jobs scale slots run p q i j order upto) (λ from to. block_faster i j order upto fast number from to))),
+            one_of_both (point jobs k) (point jobs i) (point jobs j) (job_at jobs number).release (job_at jobs number).deadline (runs_faster jobs p q scale slots (job_at jobs number)) (work number)
+            first (points_order jobs i j order upto) (λ from to. block_faster i j order upto fast number from to))),
       )
 
   -- # From the last stretch to the first
@@ -183,14 +168,14 @@ module _ (jobs : List Job) (scale : ℕ) (slots : List WholeSlot) (run : IsExact
   record Reached (k : ℕ) : Type 0 where
     end : ℕ
     order : k ≤ end
-    upto : end ≤ count_here
-    fast : (l : ℕ) → k ≤ l → l < end → IsFast jobs scale slots run p q l
-    slow : end < count_here → IsSlow jobs scale slots run p q end
-    rest : below over_at count_here ≤ below over_at end + q * scale * later_jobs end
+    upto : end ≤ count
+    fast : (l : ℕ) → k ≤ l → l < end → Fast l
+    slow : end < count → Slow end
+    rest : below above count ≤ below above end + q * scale * later_jobs end
 
   -- where none is before, or one that isn't fast, the block is whole
-  closed : (k first : ℕ) (reached : Reached k) → ((l : ℕ) → suc l ≡ k → IsSlow jobs scale slots run p q l) → point_at first ≤ point_at k →
-      below over_at count_here ≤ below over_at k + q * scale * later_jobs first
+  closed : (k first : ℕ) (reached : Reached k) → ((l : ℕ) → suc l ≡ k → Slow l) → point jobs first ≤ point jobs k →
+      below above count ≤ below above k + q * scale * later_jobs first
   closed k first reached before from =
       omega (
         arith,
@@ -199,26 +184,27 @@ module _ (jobs : List Job) (scale : ℕ) (slots : List WholeSlot) (run : IsExact
         mul-le-mul_left (q * scale) (jobs_with_block k reached.end first reached.order reached.upto from reached.fast),
       )
 
-  reach : (more k : ℕ) → k + more ≡ count_here → Reached k
+  -- from the last stretch back
+  reach : (more k : ℕ) → k + more ≡ count → Reached k
   reach zero k is = record {
     end = k;
     order = omega arith;
     upto = omega (arith, is);
     fast = λ l from to. absurd (omega (arith, from, to));
     slow = λ less. absurd (omega (arith, is, less));
-    rest = omega (arith, ap (below over_at) (let same : k ≡ count_here = omega (arith, is) in same));
+    rest = omega (arith, ap (below above) (let same : k ≡ count = omega (arith, is) in same));
   }
   reach (suc more) k is =
       let next = reach more (suc k) (omega (arith, is)) in
-      let here : k < count_here = omega (arith, is) in
-      elim (cases_lt (p * (long jobs scale slots run p q k * scale)) (q * work jobs scale slots run p q k)) [
+      let here : k < count = omega (arith, is) in
+      elim (cases_lt (p * (length_at jobs k * scale)) (q * work_at jobs scale slots k)) [
         | inl quick ↦ record {
           end = next.end;
           order = omega (arith, next.order);
           upto = next.upto;
           fast = λ l from to. elim (cases_lt k l) [
             | inl after ↦ next.fast l (omega (arith, after)) to
-            | inr not_after ↦ subst (λ (n : ℕ). IsFast jobs scale slots run p q n) (let same : k ≡ l = omega (arith, from, not_after) in same) quick
+            | inr not_after ↦ subst Fast (let same : k ≡ l = omega (arith, from, not_after) in same) quick
           ];
           slow = next.slow;
           rest = next.rest;
@@ -231,8 +217,8 @@ module _ (jobs : List Job) (scale : ℕ) (slots : List WholeSlot) (run : IsExact
           slow = λ less. slow;
           rest = omega (
             arith,
-            closed (suc k) k next (λ l same. subst (λ (n : ℕ). IsSlow jobs scale slots run p q n) (let it : k ≡ l = omega (arith, same) in it) slow)
-                (points_order jobs scale slots run p q k (suc k) (omega arith) (omega (arith, here))),
+            closed (suc k) k next (λ l same. subst Slow (let it : k ≡ l = omega (arith, same) in it) slow)
+                (points_order jobs k (suc k) (omega arith) (omega (arith, here))),
             slow,
           );
         }
@@ -249,12 +235,12 @@ module _ (jobs : List Job) (scale : ℕ) (slots : List WholeSlot) (run : IsExact
         sum_by-filter (is_later 0) work (numbers_of jobs),
         sum_by-filter all work (numbers_of jobs),
         sum_by_at_most (λ number. cond (is_later 0 number) (work number) 0) (λ number. cond (all number) (work number) 0) (numbers_of jobs)
-            (λ k d within. less_of_both (nat_le (point_at 0) (job_at jobs (get_or (numbers_of jobs) k d)).release) (all (get_or (numbers_of jobs) k d)) (work (get_or (numbers_of jobs) k d))),
+            (λ k d within. less_of_both (nat_le (point jobs 0) (job_at jobs (get_or (numbers_of jobs) k d)).release) (all (get_or (numbers_of jobs) k d)) (work (get_or (numbers_of jobs) k d))),
       ) in
       omega (
         arith,
         excess_by_stretches,
-        closed 0 0 (reach count_here 0 (omega arith)) (λ l never. absurd (omega (arith, never))) (omega arith),
+        closed 0 0 (reach count 0 (omega arith)) (λ l never. absurd (omega (arith, never))) (omega arith),
         mul-le-mul_left (q * scale) few,
       )
 

@@ -31,3 +31,8 @@ one_running weight start now most (slot ∷ slots) run each = elim (cases_lt now
         one_running weight slot.to now most slots run.2 (All-tail (λ slot. weight slot * here slot.from slot.to now ≤ most) slot slots each),
       ))
 ]
+
+-- jobs with a stretch are some: `some_jobs` of Neighbours in yds_events
+pub some_jobs : (jobs : List Job) (k : ℕ) → k < length (stretches jobs) → 1 ≤ length jobs
+some_jobs [] k within = absurd (omega arith)
+some_jobs (job ∷ jobs) k within = omega arith

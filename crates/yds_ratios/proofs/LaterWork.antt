@@ -1,66 +1,46 @@
 -- What is pending at a stretch's start and due by a time is the work of the slots from there on, of jobs released by then and due by
 -- that time. In a run of Optimal Available that never rounded, no such quotient is above the stretch's speed, whatever the time, and
 -- where something is done one attains it.
-use Rattle.yds_model.proofs.Common.{◌≡◌, ℕ, zero, suc, ◌+◌, ◌-◌, ◌*◌, ◌<◌, ◌≤◌, ◌⊎◌, List, length, map, get_or, cond, Bool, true, false, ◌==◌, ◌&&◌, nat_le, nat_lt, if◌then◌else◌, refl, sym, ap, subst, ◌∙◌, arith, inl, inr, All, Contains, filter, sum_by, cases_lt, cases_eq, cases_Bool, le-leb, lt-leb, lt-ltb, leb-true, ltb-true, eqb-true, ne_eqb, eq-eqb, true≢false, and_parts, All-contains, All-filter, filter_passes, get_or-map, length-map, mul-le-mul_right, le_of_mul-le-mul_left, eq_of_mul-eq-mul_left, count, Job, job_at, WholeSlot, work_given, Piece, WrittenSlot, IsScale, slots_at, IsEarliestFirst, IsOptimalAvailableRun, optimal_available, IsInWindow, IsFeasibleAt, stretches, IsUncut, pending_at, numbers_of, pending_jobs, due_units, pending_deadlines, units_asked, work_in, stretch_at, contains_filter, sum_by-filter, found_or_none, sum_by-add, sum_by_same, sum_by_zero, run_forward, contained_counted}
-use Rattle.yds_events.specs.Stretch.{no_stretch}
-use Rattle.yds_events.proofs.Neighbours.{stretch_forward, stretch_order, deadline_outside}
+use Rattle.yds_model.proofs.Common.{◌≡◌, ℕ, zero, suc, ◌+◌, ◌-◌, ◌*◌, ◌<◌, ◌≤◌, ◌⊎◌, List, length, get_or, cond, Bool, true, false, ◌==◌, ◌&&◌, nat_le, nat_lt, if◌then◌else◌, refl, sym, ap, subst, ◌∙◌, arith, inl, inr, All, filter, sum_by, cases_lt, cases_eq, cases_Bool, le-leb, lt-leb, lt-ltb, leb-true, ltb-true, eqb-true, eq-eqb, true≢false, and_parts, and_from, All-contains, All-filter, filter_passes, get_or-map, length-map, mul-le-mul_right, le_of_mul-le-mul_left, eq_of_mul-eq-mul_left, count, Job, job_at, WholeSlot, work_given, Piece, IsInWindow, IsFeasibleAt, stretches, IsUncut, pending_at, numbers_of, pending_jobs, due_units, pending_deadlines, units_asked, work_in, stretch_at, contains_filter, sum_by-filter, found_or_none, sum_by-add, sum_by_same, sum_by_zero, run_forward}
+use Rattle.yds_events.proofs.Neighbours.{stretch_order, deadline_outside}
 use Rattle.yds_laws.specs.RunLaws.{HasGreatestSpeed}
 use Rattle.yds_laws.proofs.Group.{given_together}
-use Rattle.yds_laws.proofs.Served.{all_numbers, is_number, kept_different}
-use Rattle.yds_laws.proofs.ExactRuns.{optimal_available_is_exact}
-use Rattle.yds_energy.proofs.SpentEnergy.{IsEven}
-use Rattle.yds_energy.proofs.EvenStretches.{run_even}
+use Rattle.yds_laws.proofs.Served.{all_numbers, is_number}
 use Rattle.yds_ratios.proofs.Borrowed.{place_of}
+use Rattle.yds_ratios.proofs.Points.{starts_rise}
+use Rattle.yds_ratios.proofs.Tests.{two_at_most, both_pass, either_part, one_or_none, contains_map, counted_kept}
 
--- # How often a number stands among those that are kept
-
-pub counted_kept : (jobs : List Job) (p : ℕ → Bool) (j : ℕ) → j < length jobs → count j (filter p (numbers_of jobs)) ≡ cond (p j) 1 0
-counted_kept jobs p j known = elim (cases_Bool (p j)) [
-  | inl passes ↦
-      let some : 1 ≤ count j (filter p (numbers_of jobs)) = contained_counted (filter p (numbers_of jobs)) j (contains_filter p (numbers_of jobs) j passes (is_number jobs j known)) in
-      let one : count j (filter p (numbers_of jobs)) ≡ 1 = omega (arith, some, kept_different jobs p j) in
-      one ∙ ap {B = ℕ} (λ b. cond b 1 0) (sym passes)
-  | inr fails ↦
-      sum_by_zero (λ other. cond (j == other) 1 0) (filter p (numbers_of jobs)) (λ k d within.
-      let other : ℕ = get_or (filter p (numbers_of jobs)) k d in
-      ap {B = ℕ} (λ b. cond b 1 0) (ne_eqb j other (λ same. true≢false (sym (filter_passes p (numbers_of jobs) k d within) ∙ ap p (sym same) ∙ fails))))
-      ∙ ap {B = ℕ} (λ b. cond b 1 0) (sym fails)
-]
-
--- # Slots before and after a time
-
--- the slot begins at this time or later
-abbrev pub begins_from : ℕ → WholeSlot → Bool
-begins_from time slot = nat_le time slot.from
+-- # Slots from a time on
 
 -- the job is released by one time and due by another
-abbrev pub released_and_due : List Job → ℕ → ℕ → ℕ → Bool
+abbrev released_and_due : List Job → ℕ → ℕ → ℕ → Bool
 released_and_due jobs time due number = nat_le (job_at jobs number).release time && nat_le (job_at jobs number).deadline due
 
--- the work of a slot that begins at a time or later, where its job is released by that time and due by another
+-- the work of a slot that begins at `start` or later, where its job is released by `time` and due by `due`
 abbrev pub later_part : List Job → ℕ → ℕ → ℕ → WholeSlot → ℕ
-later_part jobs scale time due slot = cond (begins_from (time * scale) slot) (cond (released_and_due jobs time due slot.job) slot.work 0) 0
+later_part jobs start time due slot = cond (nat_le start slot.from) (cond (released_and_due jobs time due slot.job) slot.work 0) 0
 
+-- of all slots from a time on, of jobs released by then
 abbrev pub later_work : List Job → ℕ → List WholeSlot → ℕ → ℕ → ℕ
-later_work jobs scale slots time due = sum_by (later_part jobs scale time due) slots
+later_work jobs scale slots time due = sum_by (later_part jobs (time * scale) time due) slots
 
-split_part : (ended begun : Bool) (n : ℕ) → (ended ≡ true → begun ≡ false) → (ended ≡ false → begun ≡ true) → n ≡ cond ended n 0 + cond begun n 0
-split_part true begun n one other = rw (one refl) (omega arith)
-split_part false begun n one other = rw (other refl) (omega arith)
+-- such a part is at most a number, where the work is so if it counts
+pub part_at_most : (jobs : List Job) (start time due most : ℕ) (slot : WholeSlot) →
+    (start ≤ slot.from → (job_at jobs slot.job).release ≤ time → (job_at jobs slot.job).deadline ≤ due → slot.work ≤ most) → later_part jobs start time due slot ≤ most
+part_at_most jobs start time due most slot by =
+    two_at_most (nat_le start slot.from) (released_and_due jobs time due slot.job) slot.work most
+    (λ begun both.
+    let tests = and_parts (nat_le (job_at jobs slot.job).release time) (nat_le (job_at jobs slot.job).deadline due) both in
+    by (leb-true _ _ begun) (leb-true _ _ tests.0) (leb-true _ _ tests.1))
 
-pub one_or_none : (b : Bool) (n : ℕ) → cond b 1 0 * n ≡ cond b n 0
-one_or_none true n = omega arith
-one_or_none false n = omega arith
+-- and is the work, where it counts
+pub part_whole : (jobs : List Job) (start time due : ℕ) (slot : WholeSlot) →
+    start ≤ slot.from → (job_at jobs slot.job).release ≤ time → (job_at jobs slot.job).deadline ≤ due → later_part jobs start time due slot ≡ slot.work
+part_whole jobs start time due slot begun released by =
+    both_pass (nat_le start slot.from) (released_and_due jobs time due slot.job) slot.work (le-leb _ _ begun)
+    (and_from (nat_le (job_at jobs slot.job).release time) (nat_le (job_at jobs slot.job).deadline due) (le-leb _ _ released) (le-leb _ _ by))
 
--- what counts where two tests pass is nothing where it is nothing then
-two_tests : (a b : Bool) (n : ℕ) → (a ≡ true → b ≡ true → n ≡ 0) → cond a (cond b n 0) 0 ≡ 0
-two_tests true true n none = none refl refl
-two_tests true false n none = refl
-two_tests false b n none = refl
-
--- what stands in a list has its image among the images
-contains_map : {X Y : Type 0} (f : X → Y) (xs : List X) (x : X) → Contains xs x → Contains (map f xs) (f x)
-contains_map f xs x (k, within, is) = (k, omega (arith, length-map xs f, within), get_or-map f xs k x (f x) within ∙ ap f is)
+-- # What waits
 
 -- a job that waits has something pending
 group_part : (released is_due : Bool) (n : ℕ) → cond (released && nat_lt 0 n) (cond is_due n 0) 0 ≡ cond (released && is_due) n 0
@@ -80,13 +60,6 @@ same_due true deadline D n other = elim (cases_lt D deadline) [
   ]
 ]
 
--- a stretch begins no later than one at a later place
-pub starts_rise : (jobs : List Job) (i k : ℕ) → i ≤ k → k < length (stretches jobs) → (stretch_at jobs i).from ≤ (stretch_at jobs k).from
-starts_rise jobs i k order within = elim (cases_eq i k) [
-  | inl same ↦ omega (arith, ap (λ n. (stretch_at jobs n).from) same)
-  | inr other ↦ let before : i < k = omega arith in omega (arith, stretch_order jobs i k before within, stretch_forward jobs i (omega arith))
-]
-
 module _ (jobs : List Job) (scale : ℕ) (positive : 1 ≤ scale) (slots : List WholeSlot) (feasible : IsFeasibleAt jobs scale slots)
     (uncut : All (IsUncut jobs scale) slots) (k : ℕ) (here : k < length (stretches jobs)) where
   abbrev stretch : Piece
@@ -96,11 +69,12 @@ module _ (jobs : List Job) (scale : ℕ) (positive : 1 ≤ scale) (slots : List 
   time = stretch.from
 
   abbrev begins : WholeSlot → Bool
-  begins = begins_from (time * scale)
+  begins slot = nat_le (time * scale) slot.from
 
   abbrev ended : WholeSlot → Bool
   ended slot = nat_le slot.to (time * scale)
 
+  -- each slot takes time
   forward : All (λ slot. slot.from < slot.to) slots
   forward = run_forward 0 slots feasible.one_at_a_time
 
@@ -108,6 +82,7 @@ module _ (jobs : List Job) (scale : ℕ) (positive : 1 ≤ scale) (slots : List 
   begins_not : (slot : WholeSlot) → slot.from < slot.to → ended slot ≡ true → begins slot ≡ false
   begins_not slot takes is = lt-leb (time * scale) slot.from (omega (arith, takes, leb-true slot.to (time * scale) is))
 
+  -- and one that hasn't ended begins there or later
   begins_else : (slot : WholeSlot) → slot.from < slot.to → IsUncut jobs scale slot → ended slot ≡ false → begins slot ≡ true
   begins_else slot takes cut isnt =
       let place = place_of jobs scale slot cut in
@@ -130,7 +105,7 @@ module _ (jobs : List Job) (scale : ℕ) (positive : 1 ≤ scale) (slots : List 
         sum_by_same part (λ slot. cond (ended slot) (part slot) 0 + cond (begins slot) (part slot) 0) slots
             (λ i d within.
             let slot : WholeSlot = get_or slots i d in
-            split_part (ended slot) (begins slot) (part slot) (begins_not slot (forward i d within)) (begins_else slot (forward i d within) (uncut i d within))),
+            either_part (ended slot) (begins slot) (part slot) (begins_not slot (forward i d within)) (begins_else slot (forward i d within) (uncut i d within))),
       )
 
   abbrev pending : ℕ → ℕ
@@ -147,9 +122,11 @@ module _ (jobs : List Job) (scale : ℕ) (positive : 1 ≤ scale) (slots : List 
   abbrev due : ℕ → ℕ
   due D = sum_by pending (filter (λ j. nat_le (job_at jobs j).deadline D) (pending_jobs jobs scale slots stretch))
 
+  -- a job's part of it
   due_number : ℕ → ℕ → ℕ
   due_number D j = cond (waits j) (cond (nat_le (job_at jobs j).deadline D) (pending j) 0) 0
 
+  -- it is the sum of those parts
   due_by_number : (D : ℕ) → due D ≡ sum_by (due_number D) (numbers_of jobs)
   unfolding due_number
   due_by_number D =
@@ -171,7 +148,7 @@ module _ (jobs : List Job) (scale : ℕ) (positive : 1 ≤ scale) (slots : List 
       (All-filter test (λ j. pending j ≡ work_given laters j) (numbers_of jobs) (all_numbers (λ j. pending j ≡ work_given laters j) jobs pending_is))
       ∙ given_together members laters
       ∙ sum_by-filter begins (λ slot. count slot.job members * slot.work) slots
-      ∙ sum_by_same (λ slot. cond (begins slot) (count slot.job members * slot.work) 0) (later_part jobs scale time D) slots
+      ∙ sum_by_same (λ slot. cond (begins slot) (count slot.job members * slot.work) 0) (later_part jobs (time * scale) time D) slots
       (λ i d within.
       let slot : WholeSlot = get_or slots i d in
       ap (λ n. cond (begins slot) n 0)
@@ -183,16 +160,13 @@ module _ (jobs : List Job) (scale : ℕ) (positive : 1 ≤ scale) (slots : List 
   ends_later : (slot : WholeSlot) → slot.from < slot.to → IsInWindow jobs scale slot → time * scale ≤ slot.from → (job_at jobs slot.job).deadline ≤ time → ⊥
   ends_later slot takes window from by = absurd (omega (arith, takes, window.due, from, mul-le-mul_right scale by))
 
+  -- so nothing that is pending is due by then
   none_due : later_work jobs scale slots time (time + 0) ≡ 0
-  none_due = sum_by_zero (later_part jobs scale time (time + 0)) slots (λ i d within.
+  none_due = sum_by_zero (later_part jobs (time * scale) time (time + 0)) slots (λ i d within.
       let slot : WholeSlot = get_or slots i d in
-      two_tests (begins slot) (released_and_due jobs time (time + 0) slot.job) slot.work (λ from both.
-      absurd (ends_later slot (forward i d within) (feasible.in_windows i d within) (leb-true (time * scale) slot.from from)
-      (let by : (job_at jobs slot.job).deadline ≤ time = omega (
-        arith,
-        leb-true (job_at jobs slot.job).deadline (time + 0) (and_parts (nat_le (job_at jobs slot.job).release time)
-            (nat_le (job_at jobs slot.job).deadline (time + 0)) both).1,
-      ) in by))))
+      let none = part_at_most jobs (time * scale) time (time + 0) 0 slot (λ from released by.
+      absurd (ends_later slot (forward i d within) (feasible.in_windows i d within) from (omega (arith, by)))) in
+      omega (arith, none))
 
   -- nor is a job that waits
   waits_on : (j : ℕ) → j < length jobs → waits j ≡ true → time < (job_at jobs j).deadline
@@ -205,9 +179,10 @@ module _ (jobs : List Job) (scale : ℕ) (positive : 1 ≤ scale) (slots : List 
         sum_by-filter begins part slots
         ∙ sum_by_zero (λ slot. cond (begins slot) (part slot) 0) slots (λ i d within.
         let slot : WholeSlot = get_or slots i d in
-        two_tests (begins slot) (j == slot.job) slot.work (λ from same.
+        let nothing = two_at_most (begins slot) (j == slot.job) slot.work 0 (λ from same.
         absurd (ends_later slot (forward i d within) (feasible.in_windows i d within) (leb-true (time * scale) slot.from from)
-        (subst (λ (n : ℕ). (job_at jobs n).deadline ≤ time) (eqb-true j slot.job same) by)))) in
+        (subst (λ (n : ℕ). (job_at jobs n).deadline ≤ time) (eqb-true j slot.job same) by))) in
+        omega (arith, nothing)) in
         absurd (omega (arith, some, pending_is j known, none))
   ]
 
@@ -231,6 +206,7 @@ module _ (jobs : List Job) (scale : ℕ) (positive : 1 ≤ scale) (slots : List 
     asked_of_work : (due units left : ℕ) → grid * work ≡ scale * units → grid * due * long ≤ units * (scale * left) → due * long ≤ work * left
     asked_of_work due units left does most = le_of_mul-le-mul_left {k = grid} (omega (arith, most, ap (λ n. n * left) does)) some_grid
 
+    -- what is due so long after the start is at most what the stretch's speed does in that time
     most_at : (more : ℕ) → due (time + more) * long ≤ work * more
     most_at zero = omega (arith, ap (λ n. n * long) (due_is (time + 0)), ap (λ n. n * long) none_due)
     most_at (suc more) = elim (found_or_none (length jobs) (λ j. waits j && ((job_at jobs j).deadline == suc (time + more)))) [
@@ -250,6 +226,7 @@ module _ (jobs : List Job) (scale : ℕ) (positive : 1 ≤ scale) (slots : List 
           omega (arith, ap (λ n. due n * long) is, ap (λ n. work * n) left, held)
     ]
 
+    -- so it is for each later time
     pub most_due : (D : ℕ) → time < D → later_work jobs scale slots time D * long ≤ work * (D - time)
     most_due D after =
         let is : time + (D - time) ≡ D = omega (arith, after) in
@@ -277,37 +254,3 @@ module _ (jobs : List Job) (scale : ℕ) (positive : 1 ≤ scale) (slots : List 
                 (omega (arith, just, ap (λ n. grid * n * long) (due_is D), ap (λ n. n * (D - time)) exact.does)),
           )
     ]
-
--- # A run of Optimal Available that never rounded
-
--- What is used of it, at a scale: the schedule is feasible and served earliest deadline first; a stretch has one speed; no time asks more
--- of what is pending than that, and where something is done, one asks just that.
-pub record IsExactRun (jobs : List Job) (scale : ℕ) (slots : List WholeSlot) : Type 0 where
-  pub positive : 1 ≤ scale
-  pub feasible : IsFeasibleAt jobs scale slots
-  pub earliest : IsEarliestFirst jobs scale slots
-  pub uncut : All (IsUncut jobs scale) slots
-  pub even : All (IsEven scale slots) (stretches jobs)
-  pub most : (k D : ℕ) → k < length (stretches jobs) → (stretch_at jobs k).from < D →
-      later_work jobs scale slots (stretch_at jobs k).from D * ((stretch_at jobs k).to - (stretch_at jobs k).from)
-      ≤ work_in scale (stretch_at jobs k) slots * (D - (stretch_at jobs k).from)
-  pub attained : (k : ℕ) → k < length (stretches jobs) → (work_in scale (stretch_at jobs k) slots ≡ 0)
-      ⊎ ((D : ℕ) × ((stretch_at jobs k).to ≤ D)
-      × (later_work jobs scale slots (stretch_at jobs k).from D * ((stretch_at jobs k).to - (stretch_at jobs k).from)
-      ≡ work_in scale (stretch_at jobs k) slots * (D - (stretch_at jobs k).from)))
-
-pub exact_run : (jobs : List Job) (grid : ℕ) (slots : List WrittenSlot) → 1 ≤ grid → IsOptimalAvailableRun jobs grid 0 slots → (scale : ℕ) → IsScale scale slots →
-    IsExactRun jobs scale (slots_at scale slots)
-exact_run jobs grid slots some run scale is =
-    let whole : List WholeSlot = slots_at scale slots in
-    let runs = run.run.holds scale is in
-    let exact = (optimal_available_is_exact jobs grid slots some run).holds scale is in
-    record {
-      positive = is.positive;
-      feasible = runs.feasible;
-      earliest = runs.served.earliest_first;
-      uncut = runs.served.uncut;
-      even = run_even jobs grid scale (optimal_available jobs grid scale whole) whole is.positive runs;
-      most = λ k D here after. most_due jobs scale is.positive whole runs.feasible runs.served.uncut k here grid some (exact k no_stretch here) D after;
-      attained = λ k here. some_due jobs scale is.positive whole runs.feasible runs.served.uncut k here grid some (exact k no_stretch here);
-    }

@@ -10,8 +10,9 @@ use Rattle.yds_energy.proofs.StretchSlots.{lies, sum_in_stretches}
 use Rattle.yds_ratios.specs.Spending.{is_faster, time_above, is_fast, runs_faster, faster_throughout}
 use Rattle.yds_ratios.specs.RatioLaws.{OptimalAvailableOfTwoSpeeds, OptimalAvailableSpends}
 use Rattle.yds_ratios.proofs.WholeSpeeds.{lengths, lengths_some, first_speeds, other_speeds, at_most_times, two_speeds_spend}
-use Rattle.yds_ratios.proofs.LaterWork.{IsExactRun, exact_run}
-use Rattle.yds_ratios.proofs.AboveSpeed.{each_passes, filter_has, above_a_speed}
+use Rattle.yds_ratios.proofs.Tests.{each_passes, filter_has}
+use Rattle.yds_ratios.proofs.ExactRun.{IsExactRun, exact_run}
+use Rattle.yds_ratios.proofs.AboveSpeed.{above_a_speed}
 
 -- in plain numbers: a slot of a stretch that is faster than p/q is so too
 quick_slot : (p q time work slot_time slot_work : ℕ) → 1 ≤ slot_time → slot_work * time ≡ work * slot_time → p * time < q * work → p * slot_time < q * slot_work

@@ -5,6 +5,7 @@ use Rattle.std.proofs.lemmas.Nat.{mul-pow}
 use Rattle.yds_laws.proofs.Bound.{scale_left, scale_right}
 use Rattle.yds_ratios.specs.Spending.{slot_spending, spending, IsAtMostTimes}
 use Rattle.yds_ratios.specs.RatioLaws.{OneScaleDecidesSpending}
+use Rattle.yds_ratios.proofs.Tests.{factor_some}
 
 -- one quotient is u/v times another; its denominator is a multiple of the other's
 record IsTimes (u v : ℕ) (x y : Quotient) : Type 0 where
@@ -49,9 +50,6 @@ spending_times k a (slot ∷ slots) some =
           here.den rest.den here.num rest.num;
     }
 
-some_of : (c d n : ℕ) → 1 ≤ n → n ≡ c * d → 1 ≤ d
-some_of c d n some is = grind arith
-
 -- in plain numbers: both sides of a comparison, times u and both multiples, and times v
 compared : (f u v c d xn xd yn yd pn pd qn qd : ℕ) → pd ≡ c * xd → qd ≡ d * yd → pn * v ≡ u * c * xn → qn * v ≡ u * d * yn →
     (pn * qd * v ≡ xn * yd * (u * (c * d))) × (f * qn * pd * v ≡ f * yn * xd * (u * (c * d)))
@@ -75,8 +73,8 @@ module _ (u v f : ℕ) (x y p q : Quotient) (u_some : 1 ≤ u) (v_some : 1 ≤ v
   -- and was before
   down : IsAtMostTimes f p q → IsAtMostTimes f x y
   down is = record {
-    some = some_of first.more x.den p.den is.some first.den;
-    other_some = some_of second.more y.den q.den is.other_some second.den;
+    some = factor_some first.more x.den (omega (arith, is.some, first.den));
+    other_some = factor_some second.more y.den (omega (arith, is.other_some, second.den));
     at_most = le_of_mul-le-mul_right {k = u * (first.more * second.more)} (omega (arith, both, mul-le-mul_right v is.at_most))
         (mul-pos u_some (mul-pos first.some second.some));
   }
