@@ -1,0 +1,5 @@
+pub mod Spendings
+pub mod FourJobs
+mod CommonDeadline
+mod TwoSides
+mod NearMisses
