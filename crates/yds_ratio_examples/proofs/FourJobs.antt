@@ -97,6 +97,10 @@ ratio = refl
 twice : SpendsAtMost 2 2 run plan × (SpendsAtMost 2 1 run plan → ⊥)
 twice = (spends_by_test 2 2 scale run plan refl refl refl, more_by_test 2 1 scale run plan refl refl)
 
+-- By the cube it spends between 3 and 4 times as much.
+cubes : SpendsAtMost 3 4 run plan × (SpendsAtMost 3 3 run plan → ⊥)
+cubes = (spends_by_test 3 4 scale run plan refl refl refl, more_by_test 3 3 scale run plan refl refl)
+
 -- # By the laws
 
 -- what a run is includes that it is feasible

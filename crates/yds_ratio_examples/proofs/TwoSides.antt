@@ -1,5 +1,5 @@
 -- 52 jobs around a middle, by which Average Rate spends more than 4 times what a feasible schedule does, where power is the speed's square.
--- That is more than a run of Optimal Available ever does. One side of each window is about six times as long as the other.
+-- That is more than a run of Optimal Available ever does. Most windows reach 5 to 6 times as far on one side of the middle as on the other.
 use Rattle.yds_model.proofs.Common.{ℕ, ◌*◌, List, [], ◌∷◌, refl, arith, Job, of_whole, of_parts, IsSameQuotient, WrittenSlot, IsScale, slots_at, IsFeasible, IsRunAt, average_rate, IsAverageRateRun, IsOptimalAvailableRun}
 use Rattle.yds_energy.proofs.Finer.{each_scale_of}
 use Rattle.yds_energy.proofs.RunScale.{average_rate_run_free}
