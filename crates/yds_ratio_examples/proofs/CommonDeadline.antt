@@ -3,7 +3,7 @@
 use Rattle.yds_model.proofs.Common.{ℕ, ◌*◌, List, [], ◌∷◌, refl, arith, Job, of_whole, of_parts, IsSameQuotient, WrittenSlot, IsScale, slots_at, IsFeasible, IsRunAt, average_rate, IsAverageRateRun, optimal_available, IsOptimalAvailableRun}
 use Rattle.yds_energy.proofs.Finer.{each_scale_of}
 use Rattle.yds_energy.proofs.RunScale.{average_rate_run_free, optimal_available_run_free, optimal_available_rounds_free}
-use Rattle.yds_ratios.specs.Spending.{spending, SpendsAtMost}
+use Rattle.yds_ratios.specs.SpendingByPower.{spending, SpendsAtMost}
 use Rattle.yds_ratios.proofs.OptimalAvailableSpends.{optimal_available_spends}
 use Rattle.yds_examples.proofs.Tests.{proved}
 use Rattle.yds_examples.proofs.TestedSchedules.{is_scale, run_at, feasible_by_test}

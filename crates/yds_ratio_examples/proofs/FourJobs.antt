@@ -2,7 +2,7 @@
 use Rattle.yds_model.proofs.Common.{◌≡◌, ℕ, ◌+◌, ◌*◌, List, [], ◌∷◌, ◌++◌, ◌≤◌, refl, arith, Job, of_whole, of_parts, IsSameQuotient, WrittenSlot, IsScale, slots_at, IsFeasible, IsRunAt, average_rate, IsAverageRateRun, optimal_available, IsOptimalAvailableRun, excess, work_of, Level, IsProper, IsPlan}
 use Rattle.yds_energy.proofs.Finer.{each_scale_of}
 use Rattle.yds_energy.proofs.RunScale.{average_rate_run_free, optimal_available_run_free, optimal_available_rounds_free}
-use Rattle.yds_ratios.specs.Spending.{spending, SpendsAtMost, time_above, faster_throughout}
+use Rattle.yds_ratios.specs.SpendingByPower.{spending, SpendsAtMost, time_above, faster_throughout}
 use Rattle.yds_ratios.proofs.PlansByPower.{plans_spend_least}
 use Rattle.yds_ratios.proofs.AboveSpeed.{optimal_available_above_a_speed}
 use Rattle.yds_ratios.proofs.OptimalAvailableSpends.{optimal_available_of_two_speeds, optimal_available_spends}

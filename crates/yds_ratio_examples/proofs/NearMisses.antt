@@ -3,7 +3,7 @@
 use Rattle.yds_model.proofs.Common.{◌≡◌, ◌*◌, ◌+◌, ◌≤◌, List, [], ◌∷◌, refl, arith, Job, of_whole, of_parts, WrittenSlot, IsScale, slots_at, IsFeasible, average_rate, IsAverageRateRun, optimal_available, IsOptimalAvailableRun, excess, work_of}
 use Rattle.yds_energy.proofs.Finer.{each_scale_of}
 use Rattle.yds_energy.proofs.RunScale.{average_rate_run_free, optimal_available_run_free, optimal_available_rounds_free}
-use Rattle.yds_ratios.specs.Spending.{spending, IsAtMostTimes, SpendsAtMost, time_above, faster_throughout}
+use Rattle.yds_ratios.specs.SpendingByPower.{spending, IsAtMostTimes, SpendsAtMost, time_above, faster_throughout}
 use Rattle.yds_examples.proofs.Tests.{proved}
 use Rattle.yds_examples.proofs.TestedSchedules.{is_scale, run_at, feasible_by_test, not_feasible_by_test}
 use Rattle.yds_ratio_examples.proofs.Spendings.{job, slot, at_most_times, even, hasty, more_by_test}

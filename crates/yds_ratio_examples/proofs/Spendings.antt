@@ -1,7 +1,7 @@
 -- What slots spend, tried on one or two slots: a spending at a scale, when one schedule spends at most so many times what another does, and
 -- slots that have no such comparison.
 use Rattle.yds_model.proofs.Common.{◌≡◌, ℕ, List, [], ◌∷◌, ◌++◌, refl, arith, true, false, Job, Fraction, of_whole, of_parts, Quotient, IsSameQuotient, WrittenSlot, WholeSlot, slots_at}
-use Rattle.yds_ratios.specs.Spending.{slot_spending, spending, IsAtMostTimes, SpendsAtMost}
+use Rattle.yds_ratios.specs.SpendingByPower.{slot_spending, spending, IsAtMostTimes, SpendsAtMost}
 use Rattle.yds_ratios.proofs.SpendingScale.{one_scale_decides_spending}
 use Rattle.yds_examples.proofs.Tests.{Test, tests, test_all, proved, refuted}
 use Rattle.yds_examples.proofs.TestedSchedules.{solid, is_scale}

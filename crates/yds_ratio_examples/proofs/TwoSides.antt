@@ -3,7 +3,7 @@
 use Rattle.yds_model.proofs.Common.{ℕ, ◌*◌, List, [], ◌∷◌, refl, arith, Job, of_whole, of_parts, IsSameQuotient, WrittenSlot, IsScale, slots_at, IsFeasible, IsRunAt, average_rate, IsAverageRateRun, IsOptimalAvailableRun}
 use Rattle.yds_energy.proofs.Finer.{each_scale_of}
 use Rattle.yds_energy.proofs.RunScale.{average_rate_run_free}
-use Rattle.yds_ratios.specs.Spending.{spending, SpendsAtMost}
+use Rattle.yds_ratios.specs.SpendingByPower.{spending, SpendsAtMost}
 use Rattle.yds_ratios.proofs.OptimalAvailableSpends.{optimal_available_spends}
 use Rattle.yds_ratios.proofs.AverageRateSpends.{average_rate_spends}
 use Rattle.yds_examples.proofs.Tests.{proved}

@@ -8,11 +8,11 @@ use Rattle.yds_events.proofs.Neighbours.{stretch_begins, stretch_forward, stretc
 use Rattle.yds_laws.proofs.Served.{all_numbers}
 use Rattle.yds_energy.proofs.RoundedRuns.{all_work}
 use Rattle.yds_energy.proofs.StretchSlots.{sum_in_stretches}
-use Rattle.yds_ratios.specs.Spending.{is_fast, runs_faster, faster_throughout}
+use Rattle.yds_ratios.specs.SpendingByPower.{is_fast, runs_faster, faster_throughout}
 use Rattle.yds_ratios.specs.RatioLaws.{OptimalAvailableAboveASpeed}
 use Rattle.yds_ratios.proofs.Below.{below, below_next}
-use Rattle.yds_ratios.proofs.Tests.{all_pass, filter_has, less_of_both}
-use Rattle.yds_ratios.proofs.Points.{point, ends_at, points_order}
+use Rattle.yds_ratios.proofs.PassingTests.{all_pass, filter_has, less_of_both}
+use Rattle.yds_ratios.proofs.StretchPoints.{point, ends_at, points_order}
 use Rattle.yds_ratios.proofs.ExactRun.{IsExactRun, exact_run, work_at, IsFast, IsSlow}
 use Rattle.yds_ratios.proofs.BlockAbove.{is_inside, block_jobs, over, block_above}
 

@@ -4,11 +4,11 @@ use Rattle.std.proofs.lemmas.Nat.{mul-pow}
 use Rattle.yds_laws.specs.RunLaws.{DoesItsTerms}
 use Rattle.yds_laws.proofs.Bound.{scale_left, scale_right}
 use Rattle.yds_laws.proofs.ExactRates.{average_rate_is_exact}
-use Rattle.yds_ratios.specs.Spending.{spending, IsAtMostTimes}
+use Rattle.yds_ratios.specs.SpendingByPower.{spending, IsAtMostTimes}
 use Rattle.yds_ratios.specs.RatioLaws.{AverageRateSpends}
 use Rattle.yds_ratios.proofs.Powers.{power_of_sum}
 use Rattle.yds_ratios.proofs.Below.{below, below_at_most, below_mul}
-use Rattle.yds_ratios.proofs.Products.{product_of, product_some, product_divided}
+use Rattle.yds_ratios.proofs.ListProducts.{product_of, product_some, product_divided}
 use Rattle.yds_ratios.proofs.WholeSpeeds.{takes, lengths, lengths_some, speed, HasSpeed, have_speeds, spent, at_most_times}
 use Rattle.yds_ratios.proofs.Telescoped.{left, right}
 use Rattle.yds_ratios.proofs.Balanced.{balanced}

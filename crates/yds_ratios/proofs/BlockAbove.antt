@@ -13,9 +13,9 @@ use Rattle.yds_laws.proofs.Group.{work_served}
 use Rattle.yds_laws.proofs.Served.{all_numbers}
 use Rattle.yds_energy.proofs.StretchSlots.{lies, lies_told, lies_passes}
 use Rattle.yds_ratios.proofs.Borrowed.{place_of}
-use Rattle.yds_ratios.proofs.Tests.{one_at_most, one_or_none, counted_kept}
+use Rattle.yds_ratios.proofs.PassingTests.{one_at_most, one_or_none, counted_kept}
 use Rattle.yds_ratios.proofs.Below.{below}
-use Rattle.yds_ratios.proofs.Points.{point, ends_at, points_order}
+use Rattle.yds_ratios.proofs.StretchPoints.{point, ends_at, points_order}
 use Rattle.yds_ratios.proofs.LaterWork.{later_part, later_work, part_at_most, part_whole}
 use Rattle.yds_ratios.proofs.EarliestLater.{due_later}
 use Rattle.yds_ratios.proofs.ExactRun.{IsExactRun, work_at, IsFast, IsSlow, part_in, work_is, in_part, takes_time, known, released_by}

@@ -12,8 +12,8 @@ use Rattle.yds_events.proofs.Neighbours.{count_stretches, stretch_begins, stretc
 use Rattle.yds_energy.proofs.RoundedRuns.{all_work}
 use Rattle.yds_energy.proofs.StretchSlots.{lies, lies_passes}
 use Rattle.yds_ratios.proofs.Borrowed.{place_of}
-use Rattle.yds_ratios.proofs.Tests.{factor_some, sum_by_one_less}
-use Rattle.yds_ratios.proofs.Points.{point, starts_rise}
+use Rattle.yds_ratios.proofs.PassingTests.{factor_some, sum_by_one_less}
+use Rattle.yds_ratios.proofs.StretchPoints.{point, starts_rise}
 use Rattle.yds_ratios.proofs.LaterWork.{later_part, later_work, part_at_most, part_whole}
 use Rattle.yds_ratios.proofs.EarliestLater.{due_later}
 use Rattle.yds_ratios.proofs.ExactRun.{IsExactRun, work_at, IsFast, IsSlow, part_in, work_is, in_part, takes_time, known}

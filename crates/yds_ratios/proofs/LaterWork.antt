@@ -7,8 +7,8 @@ use Rattle.yds_laws.specs.RunLaws.{HasGreatestSpeed}
 use Rattle.yds_laws.proofs.Group.{given_together}
 use Rattle.yds_laws.proofs.Served.{all_numbers, is_number}
 use Rattle.yds_ratios.proofs.Borrowed.{place_of}
-use Rattle.yds_ratios.proofs.Points.{starts_rise}
-use Rattle.yds_ratios.proofs.Tests.{two_at_most, both_pass, either_part, one_or_none, contains_map, counted_kept}
+use Rattle.yds_ratios.proofs.StretchPoints.{starts_rise}
+use Rattle.yds_ratios.proofs.PassingTests.{two_at_most, both_pass, either_part, one_or_none, contains_map, counted_kept}
 
 -- # Slots from a time on
 

@@ -1,13 +1,13 @@
 pub mod Borrowed
-pub mod Tests
+pub mod PassingTests
 pub mod Powers
 pub mod Below
-pub mod Products
+pub mod ListProducts
 pub mod Layers
 pub mod WholeSpeeds
 pub mod SpendingScale
 pub mod PlansByPower
-pub mod Points
+pub mod StretchPoints
 pub mod LaterWork
 pub mod EarliestLater
 pub mod ExactRun

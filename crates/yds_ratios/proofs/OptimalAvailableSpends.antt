@@ -7,10 +7,10 @@ use Rattle.yds_laws.proofs.Bound.{confinement_bound, scale_left, scale_right}
 use Rattle.yds_laws.proofs.Served.{all_numbers, kept_different}
 use Rattle.yds_energy.proofs.RoundedRuns.{all_work}
 use Rattle.yds_energy.proofs.StretchSlots.{lies, sum_in_stretches}
-use Rattle.yds_ratios.specs.Spending.{is_faster, time_above, is_fast, runs_faster, faster_throughout}
+use Rattle.yds_ratios.specs.SpendingByPower.{is_faster, time_above, is_fast, runs_faster, faster_throughout}
 use Rattle.yds_ratios.specs.RatioLaws.{OptimalAvailableOfTwoSpeeds, OptimalAvailableSpends}
 use Rattle.yds_ratios.proofs.WholeSpeeds.{lengths, lengths_some, first_speeds, other_speeds, at_most_times, two_speeds_spend}
-use Rattle.yds_ratios.proofs.Tests.{each_passes, filter_has}
+use Rattle.yds_ratios.proofs.PassingTests.{each_passes, filter_has}
 use Rattle.yds_ratios.proofs.ExactRun.{IsExactRun, exact_run}
 use Rattle.yds_ratios.proofs.AboveSpeed.{above_a_speed}
 

@@ -2,7 +2,7 @@
 use Rattle.yds_model.proofs.Common.{ℕ, zero, suc, ◌*◌, List, arith, mul-pos, Job, WrittenSlot, WholeSlot, IsSolid, slots_at, All-append, IsFeasible, IsLeast, run_forward}
 use Rattle.yds_laws.proofs.Bound.{scale_left, scale_right, least_among_written}
 use Rattle.yds_laws.proofs.Plans.{plans_are_least}
-use Rattle.yds_ratios.specs.Spending.{SpendsAtMost}
+use Rattle.yds_ratios.specs.SpendingByPower.{SpendsAtMost}
 use Rattle.yds_ratios.specs.RatioLaws.{PlansSpendLeast}
 use Rattle.yds_ratios.proofs.WholeSpeeds.{lengths, lengths_some, first_speeds, other_speeds, at_most_times, least_spends_least}
 

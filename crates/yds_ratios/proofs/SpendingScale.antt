@@ -3,9 +3,9 @@ use Rattle.yds_model.proofs.Common.{◌≡◌, ℕ, ◌+◌, ◌-◌, ◌*◌, �
 use Rattle.std.proofs.Math.Nat.{one-le-pow}
 use Rattle.std.proofs.lemmas.Nat.{mul-pow}
 use Rattle.yds_laws.proofs.Bound.{scale_left, scale_right}
-use Rattle.yds_ratios.specs.Spending.{slot_spending, spending, IsAtMostTimes}
+use Rattle.yds_ratios.specs.SpendingByPower.{slot_spending, spending, IsAtMostTimes}
 use Rattle.yds_ratios.specs.RatioLaws.{OneScaleDecidesSpending}
-use Rattle.yds_ratios.proofs.Tests.{factor_some}
+use Rattle.yds_ratios.proofs.PassingTests.{factor_some}
 
 -- one quotient is u/v times another; its denominator is a multiple of the other's
 record IsTimes (u v : ℕ) (x y : Quotient) : Type 0 where

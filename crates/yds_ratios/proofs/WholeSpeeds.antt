@@ -3,8 +3,8 @@
 use Rattle.yds_model.proofs.Common.{◌≡◌, ℕ, suc, ◌+◌, ◌-◌, ◌*◌, ◌/◌, ◌^◌, ◌<◌, ◌≤◌, ◌∣◌, List, [], ◌∷◌, cond, nat_lt, get_or, sym, ap, subst, ◌∙◌, arith, inl, inr, All, sum_by, sum_by-cons, cases_lt, cond-true, cond-false, lt-ltb, le-ltb, pow-suc, mul-pos, mul-sub, mul-le-mul_left, mul-le-mul_right, le_of_mul-le-mul_left, div-mul_cancel, All-tail, All-weaker, get_or-le-sum_by, excess, WholeSlot, sum_by_same}
 use Rattle.std.proofs.Math.Nat.{one-le-pow}
 use Rattle.std.proofs.lemmas.Nat.{mul-pow}
-use Rattle.yds_ratios.specs.Spending.{spending, IsAtMostTimes, is_faster, time_above}
-use Rattle.yds_ratios.proofs.Products.{product_of, product_some, product_divided}
+use Rattle.yds_ratios.specs.SpendingByPower.{spending, IsAtMostTimes, is_faster, time_above}
+use Rattle.yds_ratios.proofs.ListProducts.{product_of, product_some, product_divided}
 use Rattle.yds_ratios.proofs.Below.{below, below_at_most, below_same, below_add, below_mul, below_nothing}
 use Rattle.yds_ratios.proofs.Layers.{weight, layers, speeds_below, speed_below, one_to}
 

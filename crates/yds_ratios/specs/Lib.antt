@@ -1,2 +1,2 @@
-pub mod Spending
+pub mod SpendingByPower
 pub mod RatioLaws

@@ -10,7 +10,7 @@ use Rattle.yds_model.specs.Level.{Level}
 use Rattle.yds_model.specs.Plan.{IsPlan}
 use Rattle.yds_model.specs.AverageRate.{IsAverageRateRun}
 use Rattle.yds_model.specs.OptimalAvailable.{IsOptimalAvailableRun}
-use Rattle.yds_ratios.specs.Spending.{spending, IsAtMostTimes, SpendsAtMost, time_above, faster_throughout}
+use Rattle.yds_ratios.specs.SpendingByPower.{spending, IsAtMostTimes, SpendsAtMost, time_above, faster_throughout}
 
 -- What is so at one common scale is so at each.
 abbrev pub OneScaleDecidesSpending : Type 0
