@@ -1,7 +1,9 @@
 -- What a run of Optimal Available that never rounded does above a speed p/q is at most the work of the jobs in all of whose window it is
 -- faster. From the last stretch to the first: from each on that follows none, or one that isn't fast, what is above the speed is at most the
 -- work of such jobs that are released from there on.
-use Rattle.yds_model.proofs.Common.{◌≡◌, ℕ, zero, suc, ◌+◌, ◌-◌, ◌*◌, ◌<◌, ◌≤◌, List, [], ◌∷◌, length, get_or, cond, Bool, true, ◌&&◌, nat_le, nat_lt, refl, sym, ap, subst, ◌∙◌, arith, inl, inr, All, filter, sum_by, cases_lt, cases_Bool, lt-ltb, leb-true, ltb-true, and_parts, All-from_get_or, mul-pos, mul-le-mul_left, mul-le-mul_right, le_of_mul-le-mul_right, sum_by-cons, Job, job_at, work_of, numbers_of, WholeSlot, slots_at, stretches, is_live, slots_in, busy, work_in, stretch_at, excess, sum_by-filter, sum_by-add, sum_by-mul, sum_by_same, sum_by_at_most, sum_by_zero, run_forward}
+use Rattle.yds_model.proofs.Common.{◌≡◌, ℕ, zero, suc, ◌+◌, ◌-◌, ◌*◌, ◌<◌, ◌≤◌, List, [], length, get_or, cond, Bool, true, ◌&&◌, nat_le, nat_lt, sym, ap, subst, ◌∙◌, arith, inl, inr, All, filter, sum_by, cases_lt, cases_Bool, lt-ltb, leb-true, ltb-true, and_parts, All-from_get_or, mul-pos, mul-le-mul_left, mul-le-mul_right, le_of_mul-le-mul_right, Job, job_at, work_of, numbers_of, WholeSlot, slots_at, stretches, is_live, slots_in, busy, work_in, stretch_at, excess, sum_by-filter, sum_by-add, sum_by-mul, sum_by_same, sum_by_at_most, sum_by_zero, run_forward}
+use Rattle.yds_model.specs.Numbers.{sum_below}
+use Rattle.yds_model.proofs.SumsBelow.{sum_places}
 use Rattle.yds_events.specs.Stretch.{no_stretch}
 use Rattle.yds_events.specs.Window.{length_at}
 use Rattle.yds_events.proofs.Neighbours.{stretch_begins, stretch_forward, stretches_run}
@@ -10,19 +12,12 @@ use Rattle.yds_energy.proofs.RoundedRuns.{all_work}
 use Rattle.yds_energy.proofs.StretchSlots.{sum_in_stretches}
 use Rattle.yds_ratios.specs.SpendingByPower.{is_fast, runs_faster, faster_throughout}
 use Rattle.yds_ratios.specs.RatioLaws.{OptimalAvailableAboveASpeed}
-use Rattle.yds_ratios.proofs.Below.{below, below_next}
 use Rattle.yds_ratios.proofs.PassingTests.{all_pass, filter_has, less_of_both}
 use Rattle.yds_ratios.proofs.StretchPoints.{point, ends_at, points_order}
 use Rattle.yds_ratios.proofs.ExactRun.{IsExactRun, exact_run, work_at, IsFast, IsSlow}
 use Rattle.yds_ratios.proofs.BlockAbove.{is_inside, block_jobs, over, block_above}
 
 -- # In plain numbers
-
--- a sum over a list, place by place
-pub sum_by_places : {X : Type 0} (g : X → ℕ) (d : X) (xs : List X) → sum_by g xs ≡ below (λ k. g (get_or xs k d)) (length xs)
-sum_by_places g d [] = refl
-sum_by_places g d (x ∷ xs) =
-    simp sum_by-cons (omega (arith, sum_by_places g d xs, below_next (λ k. g (get_or (x ∷ xs) k d)) (length xs)))
 
 -- a job whose window lies in a block, or one that is released later, is released from the block's start on
 one_of_both : (first from to release deadline : ℕ) (fast : Bool) (n : ℕ) → first ≤ from → from ≤ to → (from ≤ release → deadline ≤ to → fast ≡ true) →
@@ -88,7 +83,7 @@ module _ (jobs : List Job) (scale : ℕ) (slots : List WholeSlot) (run : IsExact
   Slow = IsSlow jobs scale slots p q
 
   -- the excess is what the stretches do above the speed
-  pub excess_by_stretches : excess p q slots ≡ below above count
+  pub excess_by_stretches : excess p q slots ≡ sum_below count above
   excess_by_stretches =
       let term = λ (slot : WholeSlot). q * slot.work - p * (slot.to - slot.from) in
       sym (sum_in_stretches term scale 0 (stretches jobs) slots (stretches_run jobs) (run_forward 0 slots run.feasible.one_at_a_time) run.uncut)
@@ -101,7 +96,7 @@ module _ (jobs : List Job) (scale : ℕ) (slots : List WholeSlot) (run : IsExact
         | inr full ↦ full_over p q ((stretch.to - stretch.from) * scale) (slots_in scale stretch slots)
             (mul-pos (omega (arith, stretch_forward jobs k here)) run.positive) full.full full.speeds
       ]))
-      ∙ sum_by_places (λ stretch. q * work_in scale stretch slots - p * ((stretch.to - stretch.from) * scale)) no_stretch (stretches jobs)
+      ∙ sum_places (λ stretch. q * work_in scale stretch slots - p * ((stretch.to - stretch.from) * scale)) (stretches jobs) no_stretch
 
   -- # Jobs in all of whose window the run is faster
 
@@ -171,11 +166,11 @@ module _ (jobs : List Job) (scale : ℕ) (slots : List WholeSlot) (run : IsExact
     upto : end ≤ count
     fast : (l : ℕ) → k ≤ l → l < end → Fast l
     slow : end < count → Slow end
-    rest : below above count ≤ below above end + q * scale * later_jobs end
+    rest : sum_below count above ≤ sum_below end above + q * scale * later_jobs end
 
   -- where none is before, or one that isn't fast, the block is whole
   closed : (k first : ℕ) (reached : Reached k) → ((l : ℕ) → suc l ≡ k → Slow l) → point jobs first ≤ point jobs k →
-      below above count ≤ below above k + q * scale * later_jobs first
+      sum_below count above ≤ sum_below k above + q * scale * later_jobs first
   closed k first reached before from =
       omega (
         arith,
@@ -192,7 +187,7 @@ module _ (jobs : List Job) (scale : ℕ) (slots : List WholeSlot) (run : IsExact
     upto = omega (arith, is);
     fast = λ l from to. absurd (omega (arith, from, to));
     slow = λ less. absurd (omega (arith, is, less));
-    rest = omega (arith, ap (below above) (let same : k ≡ count = omega (arith, is) in same));
+    rest = omega (arith, ap (λ m. sum_below m above) (let same : k ≡ count = omega (arith, is) in same));
   }
   reach (suc more) k is =
       let next = reach more (suc k) (omega (arith, is)) in

@@ -1,5 +1,7 @@
 -- A run of Average Rate that never rounded spends at most 2 ^ (exponent - 1) times exponent ^ exponent times what any feasible schedule does.
 use Rattle.yds_model.proofs.Common.{◌≡◌, ℕ, zero, suc, ◌+◌, ◌-◌, ◌*◌, ◌^◌, ◌<◌, ◌≤◌, ◌∣◌, ◌∙◌, List, length, get_or, subst, ap, arith, add-one, sum_by, All, All-append, get_or-le-sum_by, mul-pos, mul-sub, mul-le-mul_left, mul-le-mul_right, lt_of_mul-lt-mul_right, eq_of_mul-eq-mul_right, div-mul_cancel, Job, no_job, job_at, WholeSlot, IsSolid, slots_at, IsFeasibleAt, IsRunAt, stretches, average_rate, run_forward, sum_by-mul, sum_by_same}
+use Rattle.yds_model.specs.Numbers.{sum_below}
+use Rattle.yds_model.proofs.SumsBelow.{sum_below_at_most, sum_below-mul}
 use Rattle.std.proofs.lemmas.Nat.{mul-pow}
 use Rattle.yds_laws.specs.RunLaws.{DoesItsTerms}
 use Rattle.yds_laws.proofs.Bound.{scale_left, scale_right}
@@ -7,7 +9,6 @@ use Rattle.yds_laws.proofs.ExactRates.{average_rate_is_exact}
 use Rattle.yds_ratios.specs.SpendingByPower.{spending, IsAtMostTimes}
 use Rattle.yds_ratios.specs.RatioLaws.{AverageRateSpends}
 use Rattle.yds_ratios.proofs.Powers.{power_of_sum}
-use Rattle.yds_ratios.proofs.Below.{below, below_at_most, below_mul}
 use Rattle.yds_ratios.proofs.ListProducts.{product_of, product_some, product_divided}
 use Rattle.yds_ratios.proofs.WholeSpeeds.{takes, lengths, lengths_some, speed, HasSpeed, have_speeds, spent, at_most_times}
 use Rattle.yds_ratios.proofs.Telescoped.{left, right}
@@ -58,7 +59,7 @@ module _ (n grid scale base windows : ℕ) (jobs : List Job) (slots others : Lis
   gone unit = right (rate jobs base windows) (begins jobs scale) (ends jobs scale) others unit unit
 
   -- their powers are at most what the other spends
-  powers_spent : below (λ unit. come unit ^ suc n + gone unit ^ suc n) (last jobs scale) ≤ suc n ^ suc n * spent n (whole scale base windows) others
+  powers_spent : sum_below (last jobs scale) (λ unit. come unit ^ suc n + gone unit ^ suc n) ≤ suc n ^ suc n * spent n (whole scale base windows) others
   powers_spent =
       let speeds = λ (slot : WholeSlot). takes slot * speed (whole scale base windows) slot ^ suc n in
       omega (
@@ -89,9 +90,9 @@ module _ (n grid scale base windows : ℕ) (jobs : List Job) (slots others : Lis
             (λ i d within. let is = run.feasible.in_windows i d within in
             let ended = window_ended jobs scale (get_or slots i d).job is.known in
             omega (arith, is.due, ended)),
-        below_at_most (λ unit. (come unit + gone unit) ^ suc n) (λ unit. 2 ^ n * (come unit ^ suc n + gone unit ^ suc n)) (last jobs scale)
+        sum_below_at_most (last jobs scale) (λ unit. (come unit + gone unit) ^ suc n) (λ unit. 2 ^ n * (come unit ^ suc n + gone unit ^ suc n))
             (λ unit within. power_of_sum n (come unit) (gone unit)),
-        below_mul (2 ^ n) (λ unit. come unit ^ suc n + gone unit ^ suc n) (last jobs scale),
+        sum_below-mul (last jobs scale) (2 ^ n) (λ unit. come unit ^ suc n + gone unit ^ suc n),
         mul-le-mul_left (2 ^ n) powers_spent,
       )
 

@@ -1,6 +1,8 @@
 -- The speed of Average Rate, where it never rounded: in each unit it is what stands there of another schedule's work, each job's work
 -- spread evenly over its window.
 use Rattle.yds_model.proofs.Common.{◌≡◌, ℕ, suc, ◌+◌, ◌-◌, ◌*◌, ◌/◌, ◌^◌, ◌<◌, ◌≤◌, ◌∣◌, ◌∙◌, ◌==◌, if◌then◌else◌, max, List, [], ◌∷◌, length, get_or, sym, subst, ap, arith, inl, inr, cond, true, nat_le, nat_lt, sum_by, sum_by-cons, All, All-contains, Contains, Contains-get_or, contains_filter, IsRunAt, slots_in, run_forward, mul_comm, cases_eq, cases_Bool, eq-eqb, ne_eqb, and_parts, cond-true, cond-false, le-leb, lt-ltb, leb-true, ltb-true, mul-pos, mul-le-mul_left, mul-le-mul_right, eq_of_mul-eq-mul_left, eq_of_mul-eq-mul_right, div-mul_cancel, Job, no_job, job_at, WholeSlot, work_given, Piece, stretches, stretch_at, LiesIn, IsFeasibleAt, numbers_of, is_live, term_of, terms_of, work_in, sum_by-add, sum_by-mul, sum_by_same, sum_by_at_most, sum_by-filter}
+use Rattle.yds_model.specs.Numbers.{sum_below}
+use Rattle.yds_model.proofs.SumsBelow.{sum_below_at_most}
 use Rattle.yds_events.specs.Stretch.{no_stretch}
 use Rattle.yds_events.proofs.Neighbours.{stretch_forward, deadline_outside}
 use Rattle.yds_laws.specs.RunLaws.{HasWholeTerms, DoesItsTerms}
@@ -13,7 +15,7 @@ use Rattle.yds_energy.proofs.SpentEnergy.{IsEven}
 use Rattle.yds_energy.proofs.EvenStretches.{run_even}
 use Rattle.yds_energy.proofs.StretchSlots.{lies, lies_passes}
 use Rattle.yds_ratios.proofs.Borrowed.{place_of, one_running}
-use Rattle.yds_ratios.proofs.Below.{below, below_at_most, below_list, count_here}
+use Rattle.yds_ratios.proofs.Below.{sum_below_list, count_here}
 use Rattle.yds_ratios.proofs.Telescoped.{after, is_since, is_until, left, right}
 use Rattle.yds_ratios.proofs.Balanced.{once, here_few, here_told}
 use Rattle.yds_ratios.proofs.WholeSpeeds.{takes, speed, HasSpeed, spent}
@@ -265,19 +267,19 @@ module _ (n grid scale base windows : ℕ) (jobs : List Job) (slots others : Lis
       (has i d within) feasible divides) (suc n)))
 
   -- Over all units: the run's times by the powers of its speeds are at most the powers of what stands in each unit.
-  pub run_powers : (end : ℕ) → All (λ slot. slot.to ≤ end) slots → spent n (whole scale base windows) slots ≤ below (λ unit. stands unit ^ suc n) end
+  pub run_powers : (end : ℕ) → All (λ slot. slot.to ≤ end) slots → spent n (whole scale base windows) slots ≤ sum_below end (λ unit. stands unit ^ suc n)
   run_powers end ended =
       let power = λ (slot : WholeSlot). speed (whole scale base windows) slot ^ suc n in
       omega (
         arith,
-        sum_by_same (λ slot. takes slot * power slot) (λ slot. below (here slot.from slot.to) end * power slot) slots
+        sum_by_same (λ slot. takes slot * power slot) (λ slot. sum_below end (here slot.from slot.to) * power slot) slots
             (λ i d within.
             let slot = get_or slots i d in
             let over = ended i d within in
-            let all : takes slot ≡ below (here slot.from slot.to) end = omega (arith, count_here slot.from slot.to end, over) in
+            let all : takes slot ≡ sum_below end (here slot.from slot.to) = omega (arith, count_here slot.from slot.to end, over) in
             ap (λ m. m * power slot) all),
-        below_list (λ unit slot. here slot.from slot.to unit) power slots end,
-        below_at_most (λ unit. sum_by (λ slot. here slot.from slot.to unit * power slot) slots) (λ unit. stands unit ^ suc n) end
+        sum_below_list (λ unit slot. here slot.from slot.to unit) power slots end,
+        sum_below_at_most end (λ unit. sum_by (λ slot. here slot.from slot.to unit * power slot) slots) (λ unit. stands unit ^ suc n)
             (λ unit inside. omega (
               arith,
               sum_by_same (λ slot. here slot.from slot.to unit * power slot) (λ slot. power slot * here slot.from slot.to unit) slots

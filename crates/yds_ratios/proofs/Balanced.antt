@@ -1,9 +1,11 @@
 -- What is to come and what has come, together: their powers, over all units, are at most those of the slots' own speeds.
 use Rattle.yds_model.proofs.Common.{◌≡◌, ℕ, zero, suc, ◌+◌, ◌-◌, ◌*◌, ◌^◌, ◌<◌, ◌≤◌, ◌∙◌, List, get_or, ap, ap₂, arith, sum_by, All, All-weaker, nat_tests, mul-le-mul_left, mul-le-mul_right, le_of_mul-le-mul_left, WholeSlot, RunFrom, sum_by-add, sum_by-mul, sum_by_at_most, sum_by_zero}
+use Rattle.yds_model.specs.Numbers.{sum_below}
+use Rattle.yds_model.proofs.SumsBelow.{sum_below_at_most, sum_below-add, sum_below-mul}
 use Rattle.yds_model.proofs.Time.{before, here}
 use Rattle.yds_ratios.proofs.Powers.{no_power, power_means}
 use Rattle.yds_ratios.proofs.Borrowed.{one_running}
-use Rattle.yds_ratios.proofs.Below.{below, below_at_most, below_add, below_mul, below_list, below_next, count_here}
+use Rattle.yds_ratios.proofs.Below.{sum_below_list, sum_below_next, count_here}
 use Rattle.yds_ratios.proofs.Telescoped.{left, right, back, ahead, is_until, left_powers, right_powers}
 
 -- the means of a speed with two numbers, weighed by the two parts of a window
@@ -35,7 +37,7 @@ pub here_told : (from to now : ℕ) → here from to now ≡ 1 → (from ≤ now
 here_told from to now is = (omega (arith, is), omega (arith, is))
 
 -- units of an interval are no more than it is long
-few_here : (from to end : ℕ) → below (here from to) end ≤ to - from
+few_here : (from to end : ℕ) → sum_below end (here from to) ≤ to - from
 few_here from to end = omega (arith, count_here from to end)
 
 -- a window that has ended by the end isn't open there
@@ -54,10 +56,10 @@ right_last rate first last slots end ended =
 
 -- sums over units, of two terms, times n + 1 and again
 below_together : (n : ℕ) (f g : ℕ → ℕ) (end : ℕ) →
-    below (λ k. (n + 1) * ((n + 1) * (f k + g k))) end ≡ (n + 1) * ((n + 1) * (below f end + below g end))
+    sum_below end (λ k. (n + 1) * ((n + 1) * (f k + g k))) ≡ (n + 1) * ((n + 1) * (sum_below end f + sum_below end g))
 below_together n f g end =
-    below_mul (n + 1) (λ k. (n + 1) * (f k + g k)) end
-    ∙ ap (λ m. (n + 1) * m) (below_mul (n + 1) (λ k. f k + g k) end ∙ ap (λ m. (n + 1) * m) (below_add f g end))
+    sum_below-mul end (n + 1) (λ k. (n + 1) * (f k + g k))
+    ∙ ap (λ m. (n + 1) * m) (sum_below-mul end (n + 1) (λ k. f k + g k) ∙ ap (λ m. (n + 1) * m) (sum_below-add end f g))
 
 -- sums of two multiples, times n + 1 and again
 together : {X : Type 0} (n one other : ℕ) (f g : X → ℕ) (xs : List X) →
@@ -111,7 +113,7 @@ module _ (rate first last : WholeSlot → ℕ) (slots : List WholeSlot) (run : R
 
   -- Over all units: where all slots and all windows have ended, the powers are at most those of n + 1 times the slots' speeds, in their time.
   pub balanced : (n end : ℕ) → All (λ slot. (slot.to ≤ end) × (last slot ≤ end)) slots →
-      below (λ unit. left rate first last slots unit unit ^ suc n + right rate first last slots unit unit ^ suc n) end
+      sum_below end (λ unit. left rate first last slots unit unit ^ suc n + right rate first last slots unit unit ^ suc n)
       ≤ sum_by (λ slot. (slot.to - slot.from) * speed n slot ^ suc n) slots
   balanced n end ended =
       let come = λ (unit : ℕ). left rate first last slots unit unit ^ suc n in
@@ -125,15 +127,15 @@ module _ (rate first last : WholeSlot → ℕ) (slots : List WholeSlot) (run : R
             (λ slot both. both.0) slots ended)),
         mul-le-mul_left (n + 1) (right_powers rate first last slots n end),
         below_together n back_then ahead_then end,
-        below_at_most (λ now. (n + 1) * ((n + 1) * (back_then now + ahead_then now))) (λ now. own now + n * (come now + gone (suc now))) end
+        sum_below_at_most end (λ now. (n + 1) * ((n + 1) * (back_then now + ahead_then now))) (λ now. own now + n * (come now + gone (suc now)))
             (λ now within. at_unit n now (left rate first last slots now now) (right rate first last slots (suc now) (suc now))),
-        below_add own (λ now. n * (come now + gone (suc now))) end,
-        below_mul n (λ now. come now + gone (suc now)) end,
-        ap (λ m. n * m) (below_add come (λ now. gone (suc now)) end),
-        ap (λ m. n * m) (below_next gone end),
+        sum_below-add end own (λ now. n * (come now + gone (suc now))),
+        sum_below-mul end n (λ now. come now + gone (suc now)),
+        ap (λ m. n * m) (sum_below-add end come (λ now. gone (suc now))),
+        ap (λ m. n * m) (sum_below_next gone end),
         ap (λ m. n * m) (ap (λ m. m ^ suc n) (right_last rate first last slots end ended) ∙ no_power n),
-        below_list (λ now slot. here slot.from slot.to now) (λ slot. speed n slot ^ suc n) slots end,
-        sum_by_at_most (λ slot. below (here slot.from slot.to) end * speed n slot ^ suc n) (λ slot. (slot.to - slot.from) * speed n slot ^ suc n) slots
+        sum_below_list (λ now slot. here slot.from slot.to now) (λ slot. speed n slot ^ suc n) slots end,
+        sum_by_at_most (λ slot. sum_below end (here slot.from slot.to) * speed n slot ^ suc n) (λ slot. (slot.to - slot.from) * speed n slot ^ suc n) slots
             (λ k d within. let slot = get_or slots k d in mul-le-mul_right (speed n slot ^ suc n) (few_here slot.from slot.to end)),
-        below_add come gone end,
+        sum_below-add end come gone,
       )

@@ -5,6 +5,7 @@
 -- that is due after the block, nothing is carried: earliest deadline first. Else all that is done there was due by the block's end too, and
 -- no time asks more than that stretch's speed. So what is carried is at most what the speed p/q does in the block's time.
 use Rattle.yds_model.proofs.Common.{◌≡◌, ℕ, zero, suc, ◌+◌, ◌-◌, ◌*◌, ◌<◌, ◌≤◌, List, length, get_or, cond, Bool, ◌&&◌, nat_le, nat_lt, refl, sym, ap, ◌∙◌, arith, inl, inr, filter, sum_by, cases_lt, cases_Bool, cond-true, cond-false, le-leb, lt-ltb, leb-true, ltb-true, true≢false, and_parts, and_from, All-from_get_or, All-filter, mul-sub, mul-le-mul_left, mul-le-mul_right, lt_of_mul-lt-mul_right, le_of_mul-le-mul_right, Job, job_at, work_of, numbers_of, WholeSlot, no_slot, slot_at, stretches, LiesIn, stretch_at, found_or_none, sum_by-add, sum_by_same, sum_by_at_most, sum_by_zero}
+use Rattle.yds_model.specs.Numbers.{sum_below}
 use Rattle.yds_model.specs.Numbers.{count as count_of}
 use Rattle.yds_events.specs.Window.{length_at}
 use Rattle.yds_events.proofs.Times.{not_later, release_at}
@@ -14,7 +15,6 @@ use Rattle.yds_laws.proofs.Served.{all_numbers}
 use Rattle.yds_energy.proofs.StretchSlots.{lies, lies_told, lies_passes}
 use Rattle.yds_ratios.proofs.Borrowed.{place_of}
 use Rattle.yds_ratios.proofs.PassingTests.{one_at_most, one_or_none, counted_kept}
-use Rattle.yds_ratios.proofs.Below.{below}
 use Rattle.yds_ratios.proofs.StretchPoints.{point, ends_at, points_order}
 use Rattle.yds_ratios.proofs.LaterWork.{later_part, later_work, part_at_most, part_whole}
 use Rattle.yds_ratios.proofs.EarliestLater.{due_later}
@@ -144,8 +144,8 @@ module _ (jobs : List Job) (scale : ℕ) (slots : List WholeSlot) (run : IsExact
   block_part from to slot = cond (nat_le (from * scale) slot.from && nat_le slot.to (to * scale)) slot.work 0
 
   -- what is done in stretches is done between the first's start and the last's end
-  work_between : (more i j : ℕ) → i + more ≡ j → j ≤ count → below work j ≤ below work i + sum_by (block_part (point jobs i) (point jobs j)) slots
-  work_between zero i j is upto = omega (arith, ap (below work) (let same : i ≡ j = omega (arith, is) in same))
+  work_between : (more i j : ℕ) → i + more ≡ j → j ≤ count → sum_below j work ≤ sum_below i work + sum_by (block_part (point jobs i) (point jobs j)) slots
+  work_between zero i j is upto = omega (arith, ap (λ m. sum_below m work) (let same : i ≡ j = omega (arith, is) in same))
   work_between (suc more) i zero is upto = absurd (omega (arith, is))
   work_between (suc more) i (suc j) is upto =
       let here : j < count = omega (arith, upto) in
@@ -243,7 +243,7 @@ module _ (jobs : List Job) (scale : ℕ) (slots : List WholeSlot) (run : IsExact
         ]
 
     -- So what the block does is carried into it, or work of jobs whose windows lie in it.
-    block_work : below work j ≤ below work i + sum_by (carried_into i (point jobs j)) slots + scale * work_of jobs (block_jobs jobs i j)
+    block_work : sum_below j work ≤ sum_below i work + sum_by (carried_into i (point jobs j)) slots + scale * work_of jobs (block_jobs jobs i j)
     block_work =
         let parts = λ (slot : WholeSlot). carried_into i (point jobs j) slot + inside_part jobs i j slot in
         omega (
@@ -278,10 +278,10 @@ module _ (jobs : List Job) (scale : ℕ) (slots : List WholeSlot) (run : IsExact
 
   -- a fast stretch does its time at the speed and what it does above it
   over_all : (p q more i j : ℕ) → i + more ≡ j → j ≤ count → ((l : ℕ) → i ≤ l → l < j → IsFast jobs scale slots p q l) →
-      below (over p q) j + p * scale * point jobs j + q * below work i ≡ below (over p q) i + p * scale * point jobs i + q * below work j
+      sum_below j (over p q) + p * scale * point jobs j + q * sum_below i work ≡ sum_below i (over p q) + p * scale * point jobs i + q * sum_below j work
   over_all p q zero i j is upto fast =
       let same : i ≡ j = omega (arith, is) in
-      omega (arith, ap (below (over p q)) same, ap (λ n. p * scale * point jobs n) same, ap (λ n. q * below work n) same)
+      omega (arith, ap (λ m. sum_below m (over p q)) same, ap (λ n. p * scale * point jobs n) same, ap (λ n. q * sum_below n work) same)
   over_all p q (suc more) i zero is upto fast = absurd (omega (arith, is))
   over_all p q (suc more) i (suc j) is upto fast =
       let here : j < count = omega (arith, upto) in
@@ -296,7 +296,7 @@ module _ (jobs : List Job) (scale : ℕ) (slots : List WholeSlot) (run : IsExact
 
   -- The fact: what a block does above the speed is at most the work of the jobs whose windows lie in it.
   pub block_above : (p q i j : ℕ) → i ≤ j → j ≤ count → ((l : ℕ) → i ≤ l → l < j → IsFast jobs scale slots p q l) → (j < count → IsSlow jobs scale slots p q j) →
-      ((k : ℕ) → suc k ≡ i → IsSlow jobs scale slots p q k) → below (over p q) j ≤ below (over p q) i + q * scale * work_of jobs (block_jobs jobs i j)
+      ((k : ℕ) → suc k ≡ i → IsSlow jobs scale slots p q k) → sum_below j (over p q) ≤ sum_below i (over p q) + q * scale * work_of jobs (block_jobs jobs i j)
   block_above p q i j order upto fast slow before =
       omega (
         arith,

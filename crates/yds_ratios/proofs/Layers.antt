@@ -1,9 +1,9 @@
 -- A power as a sum of layers: a power of a whole speed S is the sum, over the whole speeds y below S, of a weight of y times S - y.
 -- So what runs spend is the sum of the weights times what they do above each whole speed.
 use Rattle.yds_model.proofs.Common.{◌≡◌, ℕ, zero, suc, ◌+◌, ◌-◌, ◌*◌, ◌^◌, ◌≤◌, min, cond, nat_lt, refl, ap, arith, inl, inr, cases_lt, cond-true, cond-false, lt-ltb, le-ltb, pow-suc, mul-le-mul_left}
+use Rattle.yds_model.specs.Numbers.{sum_below}
 use Rattle.std.proofs.Math.Nat.{pow-zero}
 use Rattle.yds_ratios.proofs.Powers.{first_power, no_power}
-use Rattle.yds_ratios.proofs.Below.{below}
 
 -- # Steps of a power
 
@@ -51,13 +51,13 @@ weight n zero = 1
 weight n (suc y) = rise n (suc y) - rise n y
 
 -- together they are a step
-weights : (n y : ℕ) → below (weight n) (suc y) ≡ rise n y
+weights : (n y : ℕ) → sum_below (suc y) (weight n) ≡ rise n y
 weights n zero = omega (arith, rise_first n)
 weights n (suc y) = omega (arith, weights n y, rise_grows n y)
 
 -- one speed more adds a layer
-layer_more : (n S N : ℕ) → below (λ y. weight n y * (suc S - y)) N ≡ below (λ y. weight n y * (S - y)) N + below (weight n) (min N (suc S))
-layer_more n S zero = let none : min 0 (suc S) ≡ 0 = omega arith in omega (arith, ap (below (weight n)) none)
+layer_more : (n S N : ℕ) → sum_below N (λ y. weight n y * (suc S - y)) ≡ sum_below N (λ y. weight n y * (S - y)) + sum_below (min N (suc S)) (weight n)
+layer_more n S zero = let none : min 0 (suc S) ≡ 0 = omega arith in omega (arith, ap (λ m. sum_below m (weight n)) none)
 layer_more n S (suc N) = elim (cases_lt N (suc S)) [
   | inl in_it ↦
       let one : suc S - N ≡ (S - N) + 1 = omega (arith, in_it) in
@@ -67,8 +67,8 @@ layer_more n S (suc N) = elim (cases_lt N (suc S)) [
         arith,
         layer_more n S N,
         ap (λ x. weight n N * x) one,
-        ap (below (weight n)) here,
-        ap (below (weight n)) before,
+        ap (λ m. sum_below m (weight n)) here,
+        ap (λ m. sum_below m (weight n)) before,
       )
   | inr past ↦
       let none : suc S - N ≡ 0 = omega (arith, past) in
@@ -79,27 +79,27 @@ layer_more n S (suc N) = elim (cases_lt N (suc S)) [
         layer_more n S N,
         ap (λ x. weight n N * x) none,
         ap (λ x. weight n N * x) nothing,
-        ap (below (weight n)) same,
+        ap (λ m. sum_below m (weight n)) same,
       )
 ]
 
 -- the layers of a speed are its power
-pub layers : (n S N : ℕ) → S ≤ N → below (λ y. weight n y * (S - y)) N ≡ S ^ suc n
+pub layers : (n S N : ℕ) → S ≤ N → sum_below N (λ y. weight n y * (S - y)) ≡ S ^ suc n
 layers n zero zero within = omega (arith, no_power n)
 layers n zero (suc N) within =
     let none : 0 - N ≡ 0 = omega arith in
     omega (arith, layers n zero N (omega arith), ap (λ x. weight n N * x) none)
 layers n (suc S) N within =
     let least : min N (suc S) ≡ suc S = omega (arith, within) in
-    omega (arith, layer_more n S N, layers n S N (omega (arith, within)), ap (below (weight n)) least, weights n S, power_step n S)
+    omega (arith, layer_more n S N, layers n S N (omega (arith, within)), ap (λ m. sum_below m (weight n)) least, weights n S, power_step n S)
 
 -- the speed y, where it is below S
 abbrev pub speed_below : ℕ → ℕ → ℕ
 speed_below S y = cond (nat_lt y S) y 0
 
 -- weighed speeds below S and layers of S are S times the weights
-both_sums : (n S N : ℕ) → below (λ y. weight n y * speed_below S y) N + below (λ y. weight n y * (S - y)) N ≡ S * below (weight n) (min N S)
-both_sums n S zero = let none : min 0 S ≡ 0 = omega arith in omega (arith, ap (λ x. S * below (weight n) x) none)
+both_sums : (n S N : ℕ) → sum_below N (λ y. weight n y * speed_below S y) + sum_below N (λ y. weight n y * (S - y)) ≡ S * sum_below (min N S) (weight n)
+both_sums n S zero = let none : min 0 S ≡ 0 = omega arith in omega (arith, ap (λ x. S * sum_below x (weight n)) none)
 both_sums n S (suc N) = elim (cases_lt N S) [
   | inl in_it ↦
       let is : speed_below S N ≡ N = cond-true {A = ℕ} (nat_lt N S) N 0 (lt-ltb N S in_it) in
@@ -111,8 +111,8 @@ both_sums n S (suc N) = elim (cases_lt N S) [
         both_sums n S N,
         ap (λ x. weight n N * x) is,
         ap (λ x. weight n N * x) rest,
-        ap (λ x. S * below (weight n) x) here,
-        ap (λ x. S * below (weight n) x) before,
+        ap (λ x. S * sum_below x (weight n)) here,
+        ap (λ x. S * sum_below x (weight n)) before,
       )
   | inr past ↦
       let is : speed_below S N ≡ 0 = cond-false {A = ℕ} (nat_lt N S) N 0 (le-ltb N S past) in
@@ -123,12 +123,12 @@ both_sums n S (suc N) = elim (cases_lt N S) [
         both_sums n S N,
         ap (λ x. weight n N * x) is,
         ap (λ x. weight n N * x) none,
-        ap (λ x. S * below (weight n) x) same,
+        ap (λ x. S * sum_below x (weight n)) same,
       )
 ]
 
 -- So the weighed speeds below S are at most the exponent less one times the power.
-pub speeds_below : (n S N : ℕ) → S ≤ N → below (λ y. weight n y * speed_below S y) N ≤ n * S ^ suc n
+pub speeds_below : (n S N : ℕ) → S ≤ N → sum_below N (λ y. weight n y * speed_below S y) ≤ n * S ^ suc n
 speeds_below n zero N within = omega (arith, both_sums n 0 N)
 speeds_below n (suc S) N within =
     let least : min N (suc S) ≡ suc S = omega (arith, within) in
@@ -136,7 +136,7 @@ speeds_below n (suc S) N within =
       arith,
       both_sums n (suc S) N,
       layers n (suc S) N within,
-      ap (λ x. suc S * below (weight n) x) least,
+      ap (λ x. suc S * sum_below x (weight n)) least,
       ap (λ x. suc S * x) (weights n S),
       mul-le-mul_left (suc S) (rise_most n S),
       ap (λ x. suc n * x) (pow-suc (suc S) n),

@@ -1,10 +1,12 @@
 -- Two potentials by units of time. Each slot's rate stands in a window around it: in each of the window's units stands what of the slot
 -- comes at that unit or later, and what comes before. The powers of what stands fall, or rise, in steps as time goes on.
 use Rattle.yds_model.proofs.Common.{◌≡◌, ℕ, suc, ◌+◌, ◌-◌, ◌*◌, ◌^◌, ◌≤◌, ◌∙◌, min, max, List, get_or, sym, ap, arith, inl, inr, cond, nat_le, nat_lt, sum_by, All, nat_tests, cases_lt, mul-le-mul_left, mul-le-mul_right, mul_assoc, mul-add, WholeSlot, sum_by-add, sum_by_same, sum_by_at_most, sum_by_zero}
+use Rattle.yds_model.specs.Numbers.{sum_below}
+use Rattle.yds_model.proofs.SumsBelow.{sum_below_at_most, sum_below-mul, sum_below_zero}
 use Rattle.std.proofs.Math.Nat.{pow-le-pow_left}
 use Rattle.yds_model.proofs.Time.{before, here}
 use Rattle.yds_ratios.proofs.Powers.{no_power, power_step}
-use Rattle.yds_ratios.proofs.Below.{below, below_at_most, below_mul, below_times, below_nothing, below_list, is_between, count_between, all_steps, all_rises}
+use Rattle.yds_ratios.proofs.Below.{sum_below_times, sum_below_list, is_between, count_between, all_steps, all_rises}
 
 -- how much of an interval lies at `now` or later
 abbrev pub after : ℕ → ℕ → ℕ → ℕ
@@ -51,7 +53,7 @@ until_more : (last unit now : ℕ) → now ≤ unit → is_until last unit ≤ i
 until_more last unit now later = grind (arith, nat_tests)
 
 -- there are as many units between
-few_between : (from to n : ℕ) → below (is_between from to) n ≤ to - from
+few_between : (from to n : ℕ) → sum_below n (is_between from to) ≤ to - from
 few_between from to n = omega (arith, count_between from to n)
 
 -- what is nothing comes to nothing, however often it counts
@@ -84,23 +86,23 @@ module _ (rate first last : WholeSlot → ℕ) (slots : List WholeSlot) where
   ahead_in unit now = sum_by (λ slot. is_between (suc now) (last slot) unit * (rate slot * here slot.from slot.to now)) slots
 
   -- over all units it is there as often
-  back_all : (now n : ℕ) → below (λ unit. back_in unit now) n ≤ back now
+  back_all : (now n : ℕ) → sum_below n (λ unit. back_in unit now) ≤ back now
   back_all now n =
       omega (
         arith,
-        below_list (λ unit slot. is_between (first slot) (suc now) unit) (λ slot. rate slot * here slot.from slot.to now) slots n,
-        sum_by_at_most (λ slot. below (λ unit. is_between (first slot) (suc now) unit) n * (rate slot * here slot.from slot.to now))
+        sum_below_list (λ unit slot. is_between (first slot) (suc now) unit) (λ slot. rate slot * here slot.from slot.to now) slots n,
+        sum_by_at_most (λ slot. sum_below n (λ unit. is_between (first slot) (suc now) unit) * (rate slot * here slot.from slot.to now))
             (λ slot. (suc now - first slot) * (rate slot * here slot.from slot.to now)) slots
             (λ k d within. mul-le-mul_right _ (few_between (first (get_or slots k d)) (suc now) n)),
       )
 
   -- and so ahead
-  ahead_all : (now n : ℕ) → below (λ unit. ahead_in unit now) n ≤ ahead now
+  ahead_all : (now n : ℕ) → sum_below n (λ unit. ahead_in unit now) ≤ ahead now
   ahead_all now n =
       omega (
         arith,
-        below_list (λ unit slot. is_between (suc now) (last slot) unit) (λ slot. rate slot * here slot.from slot.to now) slots n,
-        sum_by_at_most (λ slot. below (λ unit. is_between (suc now) (last slot) unit) n * (rate slot * here slot.from slot.to now))
+        sum_below_list (λ unit slot. is_between (suc now) (last slot) unit) (λ slot. rate slot * here slot.from slot.to now) slots n,
+        sum_by_at_most (λ slot. sum_below n (λ unit. is_between (suc now) (last slot) unit) * (rate slot * here slot.from slot.to now))
             (λ slot. (last slot - suc now) * (rate slot * here slot.from slot.to now)) slots
             (λ k d within. mul-le-mul_right _ (few_between (suc now) (last (get_or slots k d)) n)),
       )
@@ -203,48 +205,47 @@ module _ (rate first last : WholeSlot → ℕ) (slots : List WholeSlot) where
 
   -- Together: the powers of what is to come are at most n + 1 times the rates, each as often as its window has units up to then.
   pub left_powers : (n end : ℕ) → All (λ slot. slot.to ≤ end) slots →
-      below (λ unit. left unit unit ^ suc n) end ≤ (n + 1) * below (λ now. back now * left now now ^ n) end
+      sum_below end (λ unit. left unit unit ^ suc n) ≤ (n + 1) * sum_below end (λ now. back now * left now now ^ n)
   left_powers n end ended =
       omega (
         arith,
-        below_at_most (λ unit. left unit unit ^ suc n) (λ unit. left unit (max unit 0) ^ suc n) end (λ unit within.
+        sum_below_at_most end (λ unit. left unit unit ^ suc n) (λ unit. left unit (max unit 0) ^ suc n) (λ unit within.
             let same : unit ≡ max unit 0 = omega arith in
             let it = ap (λ time. left unit time ^ suc n) same in omega (arith, it)),
         all_steps (λ unit now. left unit (max unit now) ^ suc n) (λ unit now. (n + 1) * (back_in unit now * left now now ^ n)) end end
             (λ unit now within. left_power n unit now),
-        below_nothing (λ unit. left unit (max unit end) ^ suc n) end (λ unit within.
+        sum_below_zero end (λ unit. left unit (max unit end) ^ suc n) (λ unit within.
             let same : max unit end ≡ end = omega (arith, within) in
             ap (λ m. m ^ suc n) (ap (λ time. left unit time) same ∙ left_last unit end ended) ∙ no_power n),
-        below_at_most (λ now. below (λ unit. (n + 1) * (back_in unit now * left now now ^ n)) end) (λ now. (n + 1) * (back now * left now now ^ n)) end
+        sum_below_at_most end (λ now. sum_below end (λ unit. (n + 1) * (back_in unit now * left now now ^ n))) (λ now. (n + 1) * (back now * left now now ^ n))
             (λ now within. omega (
               arith,
-              below_mul (n + 1) (λ unit. back_in unit now * left now now ^ n) end,
-              ap (λ m. (n + 1) * m) (below_times (left now now ^ n) (λ unit. back_in unit now) end),
+              sum_below-mul end (n + 1) (λ unit. back_in unit now * left now now ^ n),
+              ap (λ m. (n + 1) * m) (sum_below_times (left now now ^ n) (λ unit. back_in unit now) end),
               mul-le-mul_left (n + 1) (mul-le-mul_right (left now now ^ n) (back_all now end)),
             )),
-        below_mul (n + 1) (λ now. back now * left now now ^ n) end,
+        sum_below-mul end (n + 1) (λ now. back now * left now now ^ n),
       )
 
   -- And those of what has come are at most so with the units after, and with what has come by the end of the unit.
-  pub right_powers : (n end : ℕ) → below (λ unit. right unit unit ^ suc n) end ≤ (n + 1) * below (λ now. ahead now * right (suc now) (suc now) ^ n) end
+  pub right_powers : (n end : ℕ) → sum_below end (λ unit. right unit unit ^ suc n) ≤ (n + 1) * sum_below end (λ now. ahead now * right (suc now) (suc now) ^ n)
   right_powers n end =
       omega (
         arith,
-        below_at_most (λ unit. right unit unit ^ suc n) (λ unit. right unit (min unit end) ^ suc n) end (λ unit within.
+        sum_below_at_most end (λ unit. right unit unit ^ suc n) (λ unit. right unit (min unit end) ^ suc n) (λ unit within.
             let same : unit ≡ min unit end = omega (arith, within) in
             let it = ap (λ time. right unit time ^ suc n) same in omega (arith, it)),
         all_rises (λ unit now. right unit (min unit now) ^ suc n) (λ unit now. (n + 1) * (ahead_in unit now * right (suc now) (suc now) ^ n)) end end
             (λ unit now within. right_power n unit now),
-        below_nothing (λ unit. right unit (min unit 0) ^ suc n) end (λ unit within.
+        sum_below_zero end (λ unit. right unit (min unit 0) ^ suc n) (λ unit within.
             let same : min unit 0 ≡ 0 = omega arith in
             ap (λ m. m ^ suc n) (ap (λ time. right unit time) same ∙ right_first unit) ∙ no_power n),
-        below_at_most (λ now. below (λ unit. (n + 1) * (ahead_in unit now * right (suc now) (suc now) ^ n)) end)
-            (λ now. (n + 1) * (ahead now * right (suc now) (suc now) ^ n)) end
+        sum_below_at_most end (λ now. sum_below end (λ unit. (n + 1) * (ahead_in unit now * right (suc now) (suc now) ^ n))) (λ now. (n + 1) * (ahead now * right (suc now) (suc now) ^ n))
             (λ now within. omega (
               arith,
-              below_mul (n + 1) (λ unit. ahead_in unit now * right (suc now) (suc now) ^ n) end,
-              ap (λ m. (n + 1) * m) (below_times (right (suc now) (suc now) ^ n) (λ unit. ahead_in unit now) end),
+              sum_below-mul end (n + 1) (λ unit. ahead_in unit now * right (suc now) (suc now) ^ n),
+              ap (λ m. (n + 1) * m) (sum_below_times (right (suc now) (suc now) ^ n) (λ unit. ahead_in unit now) end),
               mul-le-mul_left (n + 1) (mul-le-mul_right (right (suc now) (suc now) ^ n) (ahead_all now end)),
             )),
-        below_mul (n + 1) (λ now. ahead now * right (suc now) (suc now) ^ n) end,
+        sum_below-mul end (n + 1) (λ now. ahead now * right (suc now) (suc now) ^ n),
       )

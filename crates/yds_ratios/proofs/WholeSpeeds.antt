@@ -1,11 +1,12 @@
 -- Speeds made whole. At a common multiple of the slots' lengths each slot has a whole speed, its excess above a whole speed is its length
 -- times what its speed is more, and its spending is its length times a power of its speed.
 use Rattle.yds_model.proofs.Common.{◌≡◌, ℕ, suc, ◌+◌, ◌-◌, ◌*◌, ◌/◌, ◌^◌, ◌<◌, ◌≤◌, ◌∣◌, List, [], ◌∷◌, cond, nat_lt, get_or, sym, ap, subst, ◌∙◌, arith, inl, inr, All, sum_by, sum_by-cons, cases_lt, cond-true, cond-false, lt-ltb, le-ltb, pow-suc, mul-pos, mul-sub, mul-le-mul_left, mul-le-mul_right, le_of_mul-le-mul_left, div-mul_cancel, All-tail, All-weaker, get_or-le-sum_by, excess, WholeSlot, sum_by_same}
+use Rattle.yds_model.specs.Numbers.{sum_below}
+use Rattle.yds_model.proofs.SumsBelow.{sum_below_at_most, sum_below_same, sum_below-add, sum_below-mul, sum_below_zero}
 use Rattle.std.proofs.Math.Nat.{one-le-pow}
 use Rattle.std.proofs.lemmas.Nat.{mul-pow}
 use Rattle.yds_ratios.specs.SpendingByPower.{spending, IsAtMostTimes, is_faster, time_above}
 use Rattle.yds_ratios.proofs.ListProducts.{product_of, product_some, product_divided}
-use Rattle.yds_ratios.proofs.Below.{below, below_at_most, below_same, below_add, below_mul, below_nothing}
 use Rattle.yds_ratios.proofs.Layers.{weight, layers, speeds_below, speed_below, one_to}
 
 -- # A common multiple of lengths
@@ -143,22 +144,22 @@ at_most_times n K factor slots others some have also most =
 -- # By layers
 
 -- a slot's spending by layers
-layer_of : (n K a N : ℕ) (slot : WholeSlot) → a * speed K slot ≤ N → below (λ y. weight n y * above K a y slot) N ≡ a ^ suc n * slot_spent n K slot
+layer_of : (n K a N : ℕ) (slot : WholeSlot) → a * speed K slot ≤ N → sum_below N (λ y. weight n y * above K a y slot) ≡ a ^ suc n * slot_spent n K slot
 layer_of n K a N slot most =
-    below_same (λ y. weight n y * above K a y slot) (λ y. takes slot * (weight n y * (a * speed K slot - y))) N (λ y within. omega arith)
-    ∙ below_mul (takes slot) (λ y. weight n y * (a * speed K slot - y)) N
+    sum_below_same N (λ y. weight n y * above K a y slot) (λ y. takes slot * (weight n y * (a * speed K slot - y))) (λ y within. omega arith)
+    ∙ sum_below-mul N (takes slot) (λ y. weight n y * (a * speed K slot - y))
     ∙ omega (arith, ap (λ x. takes slot * x) (layers n (a * speed K slot) N most), ap (λ x. takes slot * x) (mul-pow a (speed K slot) (suc n)))
 
 -- what slots spend at a times their speeds is the sum of the weights times what they do above each whole speed
 pub spent_by_layers : (n K a N : ℕ) (slots : List WholeSlot) → All (λ slot. a * speed K slot ≤ N) slots →
-    below (λ y. weight n y * sum_by (above K a y) slots) N ≡ a ^ suc n * spent n K slots
-spent_by_layers n K a N [] most = omega (arith, below_nothing (λ y. weight n y * sum_by (above K a y) []) N (λ y within. omega arith))
+    sum_below N (λ y. weight n y * sum_by (above K a y) slots) ≡ a ^ suc n * spent n K slots
+spent_by_layers n K a N [] most = omega (arith, sum_below_zero N (λ y. weight n y * sum_by (above K a y) []) (λ y within. omega arith))
 spent_by_layers n K a N (slot ∷ slots) most =
     let here = layer_of n K a N slot (most 0 slot (omega arith)) in
     let rest = spent_by_layers n K a N slots (All-tail (λ one. a * speed K one ≤ N) slot slots most) in
-    below_same (λ y. weight n y * sum_by (above K a y) (slot ∷ slots)) (λ y. weight n y * above K a y slot + weight n y * sum_by (above K a y) slots) N
+    sum_below_same N (λ y. weight n y * sum_by (above K a y) (slot ∷ slots)) (λ y. weight n y * above K a y slot + weight n y * sum_by (above K a y) slots)
     (λ y within. omega (arith, ap (λ x. weight n y * x) (sum_by-cons (above K a y) slot slots)))
-    ∙ below_add (λ y. weight n y * above K a y slot) (λ y. weight n y * sum_by (above K a y) slots) N
+    ∙ sum_below-add N (λ y. weight n y * above K a y slot) (λ y. weight n y * sum_by (above K a y) slots)
     ∙ omega (arith, here, rest, ap (λ x. a ^ suc n * x) (sum_by-cons (slot_spent n K) slot slots))
 
 -- a speed that is above all of a times the slots' speeds
@@ -179,7 +180,7 @@ least_spends_least n K slots others have also least =
       arith,
       spent_by_layers n K 1 N slots (within_top K 1 N slots (omega arith)),
       spent_by_layers n K 1 N others (within_top K 1 N others (omega arith)),
-      below_at_most (λ y. weight n y * sum_by (above K 1 y) slots) (λ y. weight n y * sum_by (above K 1 y) others) N
+      sum_below_at_most N (λ y. weight n y * sum_by (above K 1 y) slots) (λ y. weight n y * sum_by (above K 1 y) others)
           (λ y within. mul-le-mul_left (weight n y) (omega (
             arith,
             least y,
@@ -216,29 +217,28 @@ faster_is K y slot has = elim (cases_lt y (speed K slot)) [
 
 -- a slot's weighed speeds below its own
 slot_time : (n K N : ℕ) (slot : WholeSlot) → HasSpeed K slot → speed K slot ≤ N →
-    below (λ y. weight n y * (y * cond (is_faster y K slot) (takes slot) 0)) N ≤ n * slot_spent n K slot
+    sum_below N (λ y. weight n y * (y * cond (is_faster y K slot) (takes slot) 0)) ≤ n * slot_spent n K slot
 slot_time n K N slot has most =
     omega (
       arith,
-      below_same (λ y. weight n y * (y * cond (is_faster y K slot) (takes slot) 0)) (λ y. takes slot * (weight n y * speed_below (speed K slot) y)) N
+      sum_below_same N (λ y. weight n y * (y * cond (is_faster y K slot) (takes slot) 0)) (λ y. takes slot * (weight n y * speed_below (speed K slot) y))
           (λ y within. omega (arith, ap (λ x. weight n y * x) (faster_is K y slot has))),
-      below_mul (takes slot) (λ y. weight n y * speed_below (speed K slot) y) N,
+      sum_below-mul N (takes slot) (λ y. weight n y * speed_below (speed K slot) y),
       mul-le-mul_left (takes slot) (speeds_below n (speed K slot) N most),
     )
 
 -- the weights times the speeds times how long slots are faster: at most the exponent less one times what they spend
 pub time_by_layers : (n K N : ℕ) (slots : List WholeSlot) → All (HasSpeed K) slots → All (λ slot. 1 * speed K slot ≤ N) slots →
-    below (λ y. weight n y * (y * time_above y K slots)) N ≤ n * spent n K slots
-time_by_layers n K N [] have most = omega (arith, below_nothing (λ y. weight n y * (y * time_above y K [])) N (λ y within. omega arith))
+    sum_below N (λ y. weight n y * (y * time_above y K slots)) ≤ n * spent n K slots
+time_by_layers n K N [] have most = omega (arith, sum_below_zero N (λ y. weight n y * (y * time_above y K [])) (λ y within. omega arith))
 time_by_layers n K N (slot ∷ slots) have most =
     let here = slot_time n K N slot (have 0 slot (omega arith)) (omega (arith, most 0 slot (omega arith))) in
     let rest = time_by_layers n K N slots (All-tail (HasSpeed K) slot slots have) (All-tail (λ one. 1 * speed K one ≤ N) slot slots most) in
     omega (
       arith,
-      below_same (λ y. weight n y * (y * time_above y K (slot ∷ slots)))
-          (λ y. weight n y * (y * cond (is_faster y K slot) (takes slot) 0) + weight n y * (y * time_above y K slots)) N
+      sum_below_same N (λ y. weight n y * (y * time_above y K (slot ∷ slots))) (λ y. weight n y * (y * cond (is_faster y K slot) (takes slot) 0) + weight n y * (y * time_above y K slots))
           (λ y within. omega (arith, ap (λ x. weight n y * (y * x)) (sum_by-cons (λ (one : WholeSlot). cond (is_faster y K one) (takes one) 0) slot slots))),
-      below_add (λ y. weight n y * (y * cond (is_faster y K slot) (takes slot) 0)) (λ y. weight n y * (y * time_above y K slots)) N,
+      sum_below-add N (λ y. weight n y * (y * cond (is_faster y K slot) (takes slot) 0)) (λ y. weight n y * (y * time_above y K slots)),
       here,
       rest,
       ap (λ x. n * x) (sum_by-cons (slot_spent n K) slot slots),
@@ -258,10 +258,9 @@ two_speeds_spend n K slots others have also bound =
       ap (λ x. suc n * (x * spent n K slots)) (one_to (suc n)),
       spent_by_layers n K (suc n) N others (within_top K (suc n) N others (omega arith)),
       time_by_layers n K N slots have first,
-      below_mul (suc n) (λ y. weight n y * sum_by (above K 1 y) slots) N,
-      below_add (λ y. weight n y * sum_by (above K (suc n) y) others) (λ y. weight n y * (y * time_above y K slots)) N,
-      below_at_most (λ y. suc n * (weight n y * sum_by (above K 1 y) slots))
-          (λ y. weight n y * sum_by (above K (suc n) y) others + weight n y * (y * time_above y K slots)) N
+      sum_below-mul N (suc n) (λ y. weight n y * sum_by (above K 1 y) slots),
+      sum_below-add N (λ y. weight n y * sum_by (above K (suc n) y) others) (λ y. weight n y * (y * time_above y K slots)),
+      sum_below_at_most N (λ y. suc n * (weight n y * sum_by (above K 1 y) slots)) (λ y. weight n y * sum_by (above K (suc n) y) others + weight n y * (y * time_above y K slots))
           (λ y within.
           let mine : sum_by (above K 1 y) slots ≡ excess y K slots = omega (arith, excess_is K 1 y slots have, ap (λ q. excess y q slots) one) in
           let here : suc n * sum_by (above K 1 y) slots ≤ sum_by (above K (suc n) y) others + y * time_above y K slots =
