@@ -86,6 +86,35 @@ def program(words: List[str], text: bytes) -> yds.Answer:
     return yds.Answer(yds.Status(ran.returncode), ran.stdout)
 
 
+class StoredAnswers(unittest.TestCase):
+    def test_what_is_read_as_an_answer_is_one(self) -> None:
+        """Of drawn texts near those of answers: what isn't refused holds as an answer does, by other commands."""
+        draw = random.Random(int(os.environ.get("SEED", "1")))
+        document = yds.Document([("a", 0, 3, 2), ("b", 1, 2, 1)], [(0, 0), (1, 1), (2, 3)])
+        answers = [document.plan(), document.round(), document.avr(6), document.oa(1)]
+        taken = refused = 0
+        for _ in range(120):
+            answer = draw.choice(answers)
+            text = changed(draw, answer.text)
+            with self.subTest(text=text):
+                try:
+                    again = type(answer).from_text(text)
+                except ValueError:
+                    refused += 1
+                    continue
+                taken += 1
+                self.assertTrue(again.audit(points=isinstance(again, yds.Rounded)))
+                if isinstance(again, yds.Plan):
+                    self.assertTrue(again.check())
+                    self.assertEqual(again.peak, again.report().peak)
+                elif isinstance(again, yds.Rounded):
+                    self.assertEqual(again.energy, yds.Document(again.jobs, again.points).compare().plan.energy)
+                elif isinstance(again, yds.Run):
+                    self.assertEqual(again.exact, again.grid == 6)
+        self.assertGreater(refused, 60)
+        self.assertGreater(taken, 0)
+
+
 class Fuzzed(unittest.TestCase):
     def test_answers_are_those_of_the_program(self) -> None:
         draw = random.Random(int(os.environ.get("SEED", "1")))

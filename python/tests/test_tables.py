@@ -90,6 +90,18 @@ class Columns(unittest.TestCase):
             self.assertEqual(found["speed"][place], slot.speed.numerator / slot.speed.denominator)
             self.assertEqual(found["end"][place], slot.end.numerator / slot.end.denominator)  # type: ignore[union-attr]
 
+    def test_drawn_columns_are_the_nearest_floats(self) -> None:
+        """An int divided by an int is rounded once, to the nearest float."""
+        draw = random.Random(6)
+        for _ in range(300):
+            start, length, work = (
+                Fraction(draw.randrange(1, 10 ** draw.randrange(1, 18)), draw.randrange(1, 10**9)) for _ in "abc"
+            )
+            found = schedule.columns([("a", start, start + length, work)])
+            end, speed = start + length, work / length
+            for column, number in (("start", start), ("end", end), ("work", work), ("speed", speed)):
+                self.assertEqual(found[column], [number.numerator / number.denominator])
+
     def test_a_slot_without_length_has_no_speed(self) -> None:
         with self.assertRaisesRegex(ValueError, r"slots\[1\] ends at 2, and not after its start 2"):
             schedule.columns([("a", 0, 1, 1), ("b", 2, 2, 1)])
