@@ -1,0 +1,4 @@
+pub mod Renamed
+pub mod InTurn
+pub mod ServedParts
+pub mod OnTable

@@ -1,10 +1,10 @@
 -- Any number of cuts at which no window is open: what is least in each part is least in all, and energies add. Each law is the contract of
 -- a public function of this crate.
-use Rattle.std.specs.Prelude.{◌≡◌, ℕ, ◌+◌, ◌*◌, ◌<◌, ◌≤◌, ◌↔◌, List, [], ◌∷◌, length, map, sum_by, ◌==◌, if◌then◌else◌}
+use Rattle.std.specs.Prelude.{◌≡◌, ℕ, ◌+◌, ◌*◌, ◌≤◌, ◌↔◌, List, [], ◌∷◌, length, sum_by, ◌==◌, if◌then◌else◌}
 use Rattle.std.specs.List.{All, AllZip}
 use Rattle.yds_model.specs.Job.{Job}
 use Rattle.yds_model.specs.Scale.{Fraction}
-use Rattle.yds_model.specs.Slot.{WrittenSlot, IsScale, AtEachScale, slots_at}
+use Rattle.yds_model.specs.Slot.{WrittenSlot, IsScale, slots_at}
 use Rattle.yds_model.specs.Feasible.{IsFeasible}
 use Rattle.yds_model.specs.Excess.{IsLeast}
 use Rattle.yds_model.specs.Level.{Level}

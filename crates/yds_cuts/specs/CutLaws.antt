@@ -1,5 +1,5 @@
 -- What is asked of slots is asked of each part's, wherever the cuts are. Each law is the contract of a public function of this crate.
-use Rattle.std.specs.Prelude.{◌≡◌, ℕ, ◌*◌, ◌↔◌, List, Option, map, ℤ, pos, ◌+ℤ◌}
+use Rattle.std.specs.Prelude.{◌≡◌, ℕ, ◌*◌, ◌↔◌, List, Option, map, pos, ◌+ℤ◌}
 use Rattle.std.specs.List.{All, AllZip}
 use Rattle.yds_model.specs.Feasible.{IsFeasible}
 use Rattle.yds_model.specs.Scale.{Fraction}

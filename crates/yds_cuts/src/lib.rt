@@ -6,3 +6,22 @@
 //! It carries the promises that a verdict needs no closed window, only that each job has its slots on one side of a cut; and that the
 //! least energy lies between two bounds, each of them the parts' energies together. No limit of a document stands in it.
 #![tactic(auto)]
+
+ghost use Rattle.yds_cuts.specs.CutLaws.{OneAtATimeInEachPart, FeasibleInEachPart, OnTableInEachPart};
+
+/// Wherever jobs and slots are cut, all slots run one at a time exactly where each part's do and each part begins at or after the end
+/// of the last slot before it.
+pub fn one_at_a_time_in_each_part()
+    ensures { OneAtATimeInEachPart }
+{}
+
+/// Where each job has all of its slots in its own part, all slots give every job its work in its window exactly where each part's do so
+/// for its jobs, and each part begins at or after the end of the last slot before it. Windows may be open at the cuts.
+pub fn feasible_in_each_part()
+    ensures { FeasibleInEachPart }
+{}
+
+/// All slots run at speeds of a table exactly where each part's do.
+pub fn on_table_in_each_part()
+    ensures { OnTableInEachPart }
+{}
