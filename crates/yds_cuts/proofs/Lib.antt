@@ -2,3 +2,6 @@ pub mod Renamed
 pub mod InTurn
 pub mod ServedParts
 pub mod OnTable
+pub mod Works
+pub mod Verdicts
+mod CutsExamples

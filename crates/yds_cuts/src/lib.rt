@@ -8,6 +8,7 @@
 #![tactic(auto)]
 
 ghost use Rattle.yds_cuts.specs.CutLaws.{OneAtATimeInEachPart, FeasibleInEachPart, OnTableInEachPart};
+ghost use Rattle.yds_cuts.specs.VerdictOfParts.{VerdictOfParts};
 
 /// Wherever jobs and slots are cut, all slots run one at a time exactly where each part's do and each part begins at or after the end
 /// of the last slot before it.
@@ -24,4 +25,10 @@ pub fn feasible_in_each_part()
 /// All slots run at speeds of a table exactly where each part's do.
 pub fn on_table_in_each_part()
     ensures { OnTableInEachPart }
+{}
+
+/// The auditor's verdict on all slots is found from its verdicts on the parts: it is that of the first part whose verdict is about a
+/// slot, else that of the first whose verdict is about a work, else 'feasible'. Slots and jobs are told by their numbers among all.
+pub fn verdict_of_parts()
+    ensures { VerdictOfParts }
 {}
