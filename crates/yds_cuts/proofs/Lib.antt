@@ -4,4 +4,7 @@ pub mod ServedParts
 pub mod OnTable
 pub mod Works
 pub mod Verdicts
+pub mod Selected
+pub mod Below
+pub mod LeastEnergies
 mod CutsExamples

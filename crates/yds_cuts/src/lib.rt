@@ -9,6 +9,9 @@
 
 ghost use Rattle.yds_cuts.specs.CutLaws.{OneAtATimeInEachPart, FeasibleInEachPart, OnTableInEachPart};
 ghost use Rattle.yds_cuts.specs.VerdictOfParts.{VerdictOfParts};
+ghost use Rattle.yds_cuts.specs.Bounds.{
+    GroupsCostAtMostAll, FewerJobsCostAtMostAll, GroupsCostAtMostAllOnPoints, FewerJobsCostAtMostAllOnPoints, LeastEnergiesAreALowerBound
+};
 
 /// Wherever jobs and slots are cut, all slots run one at a time exactly where each part's do and each part begins at or after the end
 /// of the last slot before it.
@@ -31,4 +34,31 @@ pub fn on_table_in_each_part()
 /// slot, else that of the first whose verdict is about a work, else 'feasible'. Slots and jobs are told by their numbers among all.
 pub fn verdict_of_parts()
     ensures { VerdictOfParts }
+{}
+
+/// Groups of jobs have each a schedule that is least for its own jobs, whatever windows overlap. By a convex table they cost together,
+/// over the horizon of all jobs, at most what any feasible schedule of all jobs costs, where each job is in a group.
+pub fn groups_cost_at_most_all()
+    ensures { GroupsCostAtMostAll }
+{}
+
+/// So they do where jobs are left out, if no point has less power than the first: fewer jobs never cost more.
+pub fn fewer_jobs_cost_at_most_all()
+    ensures { FewerJobsCostAtMostAll }
+{}
+
+/// By the lower hull of any table they cost at most what any feasible schedule of all jobs spends on the table's points, where each
+/// job is in a group.
+pub fn groups_cost_at_most_all_on_points()
+    ensures { GroupsCostAtMostAllOnPoints }
+{}
+
+/// So they do where jobs are left out, if no point of the hull has less power than the first.
+pub fn fewer_jobs_cost_at_most_all_on_points()
+    ensures { FewerJobsCostAtMostAllOnPoints }
+{}
+
+/// The least energies of groups on the points, as fractions, are together a lower bound of the energy of all jobs, over their horizon.
+pub fn least_energies_are_a_lower_bound()
+    ensures { LeastEnergiesAreALowerBound }
 {}

@@ -1,0 +1,5 @@
+use Rattle.yds_cuts.proofs.Below.{fewer_jobs_cost_at_most_all}
+use Rattle.yds_cuts.proofs.fewer_jobs_cost_at_most_all.Goals as goal
+
+pub returns : goal.returns
+returns c = fewer_jobs_cost_at_most_all
