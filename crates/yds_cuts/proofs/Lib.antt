@@ -7,4 +7,5 @@ pub mod Verdicts
 pub mod Selected
 pub mod Below
 pub mod LeastEnergies
+pub mod Above
 mod CutsExamples

@@ -10,7 +10,17 @@
 ghost use Rattle.yds_cuts.specs.CutLaws.{OneAtATimeInEachPart, FeasibleInEachPart, OnTableInEachPart};
 ghost use Rattle.yds_cuts.specs.VerdictOfParts.{VerdictOfParts};
 ghost use Rattle.yds_cuts.specs.Bounds.{
-    GroupsCostAtMostAll, FewerJobsCostAtMostAll, GroupsCostAtMostAllOnPoints, FewerJobsCostAtMostAllOnPoints, LeastEnergiesAreALowerBound
+  GroupsCostAtMostAll,
+  FewerJobsCostAtMostAll,
+  GroupsCostAtMostAllOnPoints,
+  FewerJobsCostAtMostAllOnPoints,
+  LeastEnergiesAreALowerBound,
+  ShortenedIsFeasible,
+  WindowsInTurnRunInTurn,
+  ShortenedGroupsCost,
+  AllCostAtMostShortened,
+  ShortenedGroupsSpend,
+  LeastEnergyIsAtMostShortened,
 };
 
 /// Wherever jobs and slots are cut, all slots run one at a time exactly where each part's do and each part begins at or after the end
@@ -61,4 +71,36 @@ pub fn fewer_jobs_cost_at_most_all_on_points()
 /// The least energies of groups on the points, as fractions, are together a lower bound of the energy of all jobs, over their horizon.
 pub fn least_energies_are_a_lower_bound()
     ensures { LeastEnergiesAreALowerBound }
+{}
+
+/// Slots that are feasible for jobs with shortened windows are feasible for the jobs.
+pub fn shortened_is_feasible()
+    ensures { ShortenedIsFeasible }
+{}
+
+/// Where the windows of each group's jobs begin after those of the groups before have ended, feasible slots of the groups, one after
+/// another, run one at a time.
+pub fn windows_in_turn_run_in_turn()
+    ensures { WindowsInTurnRunInTurn }
+{}
+
+/// Feasible slots of groups whose windows are shortened, one after another, are feasible for all jobs. By any table they cost together
+/// what each costs, with idle time over the horizon of all jobs.
+pub fn shortened_groups_cost()
+    ensures { ShortenedGroupsCost }
+{}
+
+/// So a least schedule of all jobs costs at most that, by every convex table.
+pub fn all_cost_at_most_shortened()
+    ensures { AllCostAtMostShortened }
+{}
+
+/// On the points of any table they spend together what each does, with idle time over the horizon of all jobs.
+pub fn shortened_groups_spend()
+    ensures { ShortenedGroupsSpend }
+{}
+
+/// So the least energy of all jobs on the points is at most that, as fractions.
+pub fn least_energy_is_at_most_shortened()
+    ensures { LeastEnergyIsAtMostShortened }
 {}
