@@ -9,3 +9,4 @@ pub mod Below
 pub mod LeastEnergies
 pub mod Above
 mod CutsExamples
+mod BoundsExamples
