@@ -1,15 +1,15 @@
 -- Windows that are shortened: what is feasible for them is feasible for the jobs, and costs at least what is least.
-use Rattle.yds_model.proofs.Common.{◌≡◌, ℕ, ◌+◌, ◌-◌, ◌*◌, ◌<◌, ◌≤◌, List, [], ◌∷◌, ◌++◌, length, get_or, map, refl, sym, ap, subst, ◌∙◌, arith, inl, inr, ℤ, pos, ◌+ℤ◌, ◌≤ℤ◌, ints, All, AllZip, Contains, sum, sum_by-cons, sum_by-append, get_or-map, length-map, All-nil, All-head, All-tail, All-append, All-map, All-front, All-back, Contains-get_or, Contains-append_left, Contains-append_right, Contains-append_cases, get_or_default, mul-le-mul_right, eq_of_mul-eq-mul_left, mul-pos, AreDifferent, count_joined, contained_counted, Job, no_job, job_at, jobs_with, Fraction, numerator, WholeSlot, RunFrom, IsInWindow, IsFeasibleAt, work_given, Point, point_at, gaps_of, busy, idle, horizon, product, total, interpolated_energy, SpendsAtPoints, IsEnergyOnPoints, busy_and_idle, run_joined, run_later, run_earlier}
+use Rattle.yds_model.proofs.Common.{◌≡◌, ℕ, ◌+◌, ◌-◌, ◌*◌, ◌<◌, ◌≤◌, List, [], ◌∷◌, ◌++◌, length, get_or, map, refl, sym, ap, subst, ◌∙◌, arith, inl, inr, ℤ, pos, ◌+ℤ◌, ◌≤ℤ◌, ints, All, AllZip, Contains, sum, sum_by-cons, sum_by-append, get_or-map, length-map, All-nil, All-head, All-tail, All-append, All-map, All-front, All-back, Contains-get_or, Contains-append_left, Contains-append_right, Contains-append_cases, get_or_default, mul-le-mul_right, AreDifferent, count_joined, contained_counted, Job, no_job, job_at, jobs_with, Fraction, numerator, WholeSlot, RunFrom, IsInWindow, IsFeasibleAt, work_given, Point, point_at, gaps_of, busy, idle, horizon, product, total, interpolated_energy, SpendsAtPoints, IsEnergyOnPoints, busy_and_idle, run_joined, run_later, run_earlier}
 use Rattle.std.proofs.lemmas.List.Elements.{AllZip-get_or, length_all_zip}
 use Rattle.yds_energy.proofs.Differences.{total-cons}
 use Rattle.yds_energy.proofs.Energy.{least_is_cheapest}
 use Rattle.yds_energy.proofs.HullCosts.{power_of}
 use Rattle.yds_energy.proofs.PlanParts.{given_joined}
 use Rattle.yds_energy.proofs.RoundedEnergy.{total_joined, spends_joined}
-use Rattle.yds_cuts.specs.Groups.{Group, numbers_of_groups, AreApartIn, HaveAll, named, slots_of_groups, horizons, cost_of_idle}
-use Rattle.yds_cuts.specs.Energies.{IsSumOf, IsEnergyOver}
+use Rattle.yds_cuts.specs.Groups.{Group, numbers_of_groups, AreApartIn, HaveAll, named, slots_of_groups, horizons}
 use Rattle.yds_cuts.specs.Bounds.{IsShortened, ShortenedIsFeasible, AreShortenedGroups, WindowsInTurn, WindowsInTurnRunInTurn, ShortenedGroupsCost, AllCostAtMostShortened, ShortenedGroupsSpend, HasEnergyAt, LeastEnergyIsAtMostShortened}
 use Rattle.yds_cuts.proofs.Renamed.{run_renamed, busy_renamed, spends_renamed, powers_renamed, window_renamed, given_renamed, given_none}
+use Rattle.yds_cuts.proofs.Priced.{priced, spends_more, over_at_scale}
 use Rattle.yds_cuts.proofs.Selected.{one_place}
 use Rattle.yds_cuts.proofs.LeastEnergies.{at_most_written}
 
@@ -163,13 +163,6 @@ module _ (jobs : List Job) (scale : ℕ) where
   abbrev energy_of : List Point → Group → ℤ
   energy_of points group = interpolated_energy (jobs_with jobs group.numbers) points scale group.slots
 
-  -- one group more, in plain numbers
-  priced : (all power mine idle own owns rest both : ℕ) (e s es t whole : ℤ) → e ≡ s +ℤ pos (all * (power * idle)) → mine + idle ≡ scale * own →
-      (es +ℤ pos (all * (power * rest))) ≡ (t +ℤ pos (all * (power * (scale * owns)))) → both ≡ mine + rest → whole ≡ s +ℤ t →
-      ((e +ℤ es) +ℤ pos (all * (power * both))) ≡ (whole +ℤ pos (all * (power * (scale * (own + owns)))))
-  priced all power mine idle own owns rest both e s es t whole first times later sum total =
-      omega (arith, ints, first, later, total, ap (λ n. all * (power * n)) times, ap (λ n. all * (power * n)) sum)
-
   -- their energies together, with what they run for at the first point's power
   pub groups_cost : (points : List Point) (groups : List Group) → All IsFeasibleGroup groups →
       (total (map (energy_of points) groups) +ℤ pos (product (gaps_of points) * ((point_at points 0).power * busy (slots_of_groups groups))))
@@ -185,7 +178,7 @@ module _ (jobs : List Job) (scale : ℕ) where
         total-cons (energy_of points group) (map (energy_of points) groups),
         sum_by-cons (λ numbers. horizon (jobs_with jobs numbers)) numbers (map (λ (group : Group). group.numbers) groups),
       )
-      (priced (product (gaps_of points)) (point_at points 0).power (busy group.slots) (idle own scale group.slots) (horizon own)
+      (priced (product (gaps_of points)) (point_at points 0).power scale (busy group.slots) (idle own scale group.slots) (horizon own)
       (horizons jobs (map (λ group. group.numbers) groups)) (busy later) (busy (mine ++ later)) (energy_of points group) (total (map (power_of points) group.slots))
       (total (map (energy_of points) groups)) (total (map (power_of points) later)) (total (map (power_of points) (mine ++ later))) refl
       (busy_and_idle own scale group.slots (All-head IsFeasibleGroup group groups feasible))
@@ -193,13 +186,6 @@ module _ (jobs : List Job) (scale : ℕ) where
       (sum_by-append (λ (slot : WholeSlot). slot.to - slot.from) mine later ∙ ap (λ n. n + busy later) (busy_renamed (name_in numbers) group.slots))
       (total_joined (power_of points) mine later
       ∙ ap (λ (powers : List ℤ). total powers +ℤ total (map (power_of points) later)) (powers_renamed (name_in numbers) points group.slots)))
-
-  -- one group more on the points
-  spends_more : (power mine idle own owns rest both spends spent others all : ℕ) → mine + idle ≡ scale * own → both ≡ mine + rest →
-      others + power * rest ≡ spent + power * (scale * owns) → all ≡ (spends + power * idle) + others →
-      all + power * both ≡ (spends + spent) + power * (scale * (own + owns))
-  spends_more power mine idle own owns rest both spends spent others all times busy_sum later sum =
-      omega (arith, later, sum, ap (λ n. power * n) times, ap (λ n. power * n) busy_sum)
 
   abbrev HasEnergy : List Point → Group → ℕ → Type 0
   HasEnergy points group energy = IsEnergyOnPoints (jobs_with jobs group.numbers) points scale group.slots energy
@@ -226,7 +212,7 @@ module _ (jobs : List Job) (scale : ℕ) where
         amount = amount + others.amount;
         spends = spends_joined points mine later amount others.amount (spends_renamed (name_in numbers) points group.slots amount spends) others.spends;
         is = rw (sum_by-cons (λ numbers. horizon (jobs_with jobs numbers)) numbers (map (λ (group : Group). group.numbers) groups))
-            (spends_more (point_at points 0).power (busy group.slots) (idle own scale group.slots) (horizon own) (horizons jobs (map (λ group. group.numbers) groups)) (busy later)
+            (spends_more (point_at points 0).power scale (busy group.slots) (idle own scale group.slots) (horizon own) (horizons jobs (map (λ group. group.numbers) groups)) (busy later)
             (busy (mine ++ later)) amount others.amount (sum energies) (sum (energy ∷ energies)) (busy_and_idle own scale group.slots (All-head IsFeasibleGroup group groups feasible))
             (sum_by-append (λ (slot : WholeSlot). slot.to - slot.from) mine later ∙ ap (λ n. n + busy later) (busy_renamed (name_in numbers) group.slots))
             others.is (omega (arith, sum_by-cons (λ n. n) energy energies, is)));
@@ -269,44 +255,6 @@ shortened_groups_spend jobs short points scale groups energies are have =
       (together.amount, together.spends, refl),
       omega (arith, together.is, ap (λ n. power * n) (busy_and_idle jobs scale (slots_of_groups groups) (all_feasible jobs short scale groups are))),
     )
-
--- # Fractions
-
--- one energy more, in plain numbers
-sum_more : (e d r f s c scale one rest all : ℕ) → 1 ≤ d → 1 ≤ f → s * (d * f) ≡ (e * f + r * d) * c → one * d ≡ e * scale → rest * f ≡ r * scale → all ≡ one + rest →
-    all * c ≡ s * scale
-sum_more e d r f s c scale one rest all some some_rest sum first later is =
-    eq_of_mul-eq-mul_left (d * f) (mul-pos some some_rest) (all * c) (s * scale) (omega (
-      arith,
-      ap (λ n. n * scale) sum,
-      ap (λ n. f * c * n) first,
-      ap (λ n. d * c * n) later,
-      ap (λ n. d * f * c * n) is,
-    ))
-
--- at a scale the sum of fractions is the sum of what they are
-pub sum_at_scale : (scale : ℕ) (energies : List Fraction) (costs : List ℕ) (total : Fraction) → All (λ one. 1 ≤ one.den) energies → IsSumOf energies total →
-    AllZip (λ energy cost. cost * energy.den ≡ numerator energy * scale) energies costs → sum costs * total.den ≡ numerator total * scale
-sum_at_scale scale [] [] total each is are = omega (arith, ap (λ n. n * scale) is)
-sum_at_scale scale [] (cost ∷ costs) total each is are = absurd are
-sum_at_scale scale (energy ∷ energies) [] total each is are = absurd are
-sum_at_scale scale (energy ∷ energies) (cost ∷ costs) total each (rest, some, sums, is) (here, are) =
-    sum_more (numerator energy) energy.den (numerator rest) rest.den (numerator total) total.den scale cost (sum costs) (sum (cost ∷ costs))
-    (All-head (λ one. 1 ≤ one.den) energy energies each) some is here
-    (sum_at_scale scale energies costs rest (All-tail (λ one. 1 ≤ one.den) energy energies each) sums are) (sum_by-cons (λ n. n) cost costs)
-
--- the fraction with idle time over another horizon, in plain numbers
-over_more : (b d s c scale power time own cost all : ℕ) → 1 ≤ c → (power * own * d + b) * c ≡ (power * time * c + s) * d → all * c ≡ s * scale →
-    cost + power * (scale * own) ≡ all + power * (scale * time) → cost * d ≡ b * scale
-over_more b d s c scale power time own cost all some same sum is =
-    eq_of_mul-eq-mul_left c some (cost * d) (b * scale) (omega (arith, ap (λ n. n * scale) same, ap (λ n. n * d) sum, ap (λ n. d * c * n) is))
-
-pub over_at_scale : (scale time own : ℕ) (points : List Point) (energies : List Fraction) (costs : List ℕ) (energy : Fraction) (cost : ℕ) →
-    IsEnergyOver time own points energies energy → AllZip (λ energy cost. cost * energy.den ≡ numerator energy * scale) energies costs →
-    cost + cost_of_idle points scale own ≡ sum costs + cost_of_idle points scale time → cost * energy.den ≡ numerator energy * scale
-over_at_scale scale time own points energies costs energy cost over are is =
-    over_more (numerator energy) energy.den (numerator over.sum) over.sum.den scale (point_at points 0).power time own cost (sum costs) over.sum_has_parts
-    (omega (arith, over.same)) (sum_at_scale scale energies costs over.sum over.each over.is_sum are) is
 
 -- the groups' energies at the scale
 record EnergiesAt (jobs : List Job) (points : List Point) (scale : ℕ) (groups : List Group) (energies : List Fraction) : Type 0 where

@@ -4,9 +4,11 @@ pub mod ServedParts
 pub mod OnTable
 pub mod Works
 pub mod Verdicts
+pub mod Priced
 pub mod Selected
 pub mod Below
 pub mod LeastEnergies
 pub mod Above
+pub mod CutEnergies
 mod CutsExamples
 mod BoundsExamples

@@ -7,7 +7,13 @@
 //! least energy lies between two bounds, each of them the parts' energies together. No limit of a document stands in it.
 #![tactic(auto)]
 
-ghost use Rattle.yds_cuts.specs.CutLaws.{OneAtATimeInEachPart, FeasibleInEachPart, OnTableInEachPart};
+ghost use Rattle.yds_cuts.specs.CutLaws.{
+  OneAtATimeInEachPart,
+  FeasibleInEachPart,
+  OnTableInEachPart,
+  EnergyInEachPart,
+  EnergyOnPointsInEachPart,
+};
 ghost use Rattle.yds_cuts.specs.VerdictOfParts.{VerdictOfParts};
 ghost use Rattle.yds_cuts.specs.Bounds.{
   GroupsCostAtMostAll,
@@ -103,4 +109,15 @@ pub fn shortened_groups_spend()
 /// So the least energy of all jobs on the points is at most that, as fractions.
 pub fn least_energy_is_at_most_shortened()
     ensures { LeastEnergyIsAtMostShortened }
+{}
+
+/// By any table the interpolated energies of feasible parts that follow one another add, with idle time over the horizon of all jobs in
+/// place of theirs. Windows may be open at the cuts.
+pub fn energy_in_each_part()
+    ensures { EnergyInEachPart }
+{}
+
+/// So do their energies on the points, as fractions.
+pub fn energy_on_points_in_each_part()
+    ensures { EnergyOnPointsInEachPart }
 {}

@@ -1,0 +1,5 @@
+use Rattle.yds_cuts.proofs.CutEnergies.{energy_in_each_part}
+use Rattle.yds_cuts.proofs.energy_in_each_part.Goals as goal
+
+pub returns : goal.returns
+returns c = energy_in_each_part
