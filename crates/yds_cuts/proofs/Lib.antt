@@ -10,5 +10,7 @@ pub mod Below
 pub mod LeastEnergies
 pub mod Above
 pub mod CutEnergies
+pub mod ClosedCuts
+pub mod CheapestParts
 mod CutsExamples
 mod BoundsExamples

@@ -52,7 +52,7 @@ pub record IsCheapestOnPoints (jobs : List Job) (points : List Point) (slots : L
 
 -- Slots that are cheapest in each part are so together, and their energies add, with idle time over the horizon of all jobs.
 abbrev pub CheapestInEachPart : Type 0
-CheapestInEachPart = (points : List Point) (parts : List Part) (energies : List Fraction) (energy : Fraction) → IsTable points → AreParted parts →
+CheapestInEachPart = (points : List Point) (parts : List Part) (energies : List Fraction) (energy : Fraction) → AreParted parts →
     AllZip (λ part energy. IsCheapestOnPoints part.jobs points part.slots energy) parts energies →
     IsEnergyOver (horizon (all_jobs parts)) (part_horizons parts) points energies energy →
     IsCheapestOnPoints (all_jobs parts) points (all_slots parts) energy

@@ -28,6 +28,12 @@ ghost use Rattle.yds_cuts.specs.Bounds.{
   ShortenedGroupsSpend,
   LeastEnergyIsAtMostShortened,
 };
+ghost use Rattle.yds_cuts.specs.ClosedCuts.{
+  LeastInEachPart,
+  PlansOfEachPart,
+  CheapestInEachPart,
+  RoundedInEachPart,
+};
 
 /// Wherever jobs and slots are cut, all slots run one at a time exactly where each part's do and each part begins at or after the end
 /// of the last slot before it.
@@ -120,4 +126,26 @@ pub fn energy_in_each_part()
 /// So do their energies on the points, as fractions.
 pub fn energy_on_points_in_each_part()
     ensures { EnergyOnPointsInEachPart }
+{}
+
+/// At any number of cuts at which no window is open, all slots do no more work above any speed than any feasible schedule exactly where
+/// each part's slots do so for its jobs.
+pub fn least_in_each_part()
+    ensures { LeastInEachPart }
+{}
+
+/// The slots of plans of the parts, one after another, are least for all jobs, and cost least by every convex table.
+pub fn plans_of_each_part()
+    ensures { PlansOfEachPart }
+{}
+
+/// Slots that spend the least energy on the points in each part do so together, and their energies add, with idle time over the horizon
+/// of all jobs.
+pub fn cheapest_in_each_part()
+    ensures { CheapestInEachPart }
+{}
+
+/// So do the slots of plans of the parts, rounded to the points.
+pub fn rounded_in_each_part()
+    ensures { RoundedInEachPart }
 {}
