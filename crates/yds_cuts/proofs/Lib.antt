@@ -12,5 +12,7 @@ pub mod Above
 pub mod CutEnergies
 pub mod ClosedCuts
 pub mod CheapestParts
+pub mod SpentParts
+pub mod SidesOfParts
 mod CutsExamples
 mod BoundsExamples

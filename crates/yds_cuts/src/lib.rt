@@ -33,6 +33,9 @@ ghost use Rattle.yds_cuts.specs.ClosedCuts.{
   PlansOfEachPart,
   CheapestInEachPart,
   RoundedInEachPart,
+  TimesOfEachPart,
+  StretchEnergyOfEachPart,
+  SidesOfParts,
 };
 
 /// Wherever jobs and slots are cut, all slots run one at a time exactly where each part's do and each part begins at or after the end
@@ -148,4 +151,21 @@ pub fn cheapest_in_each_part()
 /// So do the slots of plans of the parts, rounded to the points.
 pub fn rounded_in_each_part()
     ensures { RoundedInEachPart }
+{}
+
+/// Where each stretch runs at one speed, the time at each point is the sum of the parts' times; the first point has besides what they
+/// leave of the horizon.
+pub fn times_of_each_part()
+    ensures { TimesOfEachPart }
+{}
+
+/// So what all slots spend is the sum of what the parts do, with idle time over the horizon of all jobs.
+pub fn stretch_energy_of_each_part()
+    ensures { StretchEnergyOfEachPart }
+{}
+
+/// The side of a comparison for all slots is the first of the parts' sides for which the top point is too slow, with its stretch, and
+/// elsewhere what all slots spend.
+pub fn sides_of_parts()
+    ensures { SidesOfParts }
 {}
