@@ -13,7 +13,7 @@ slot job from to work = record { job = job; from = from; to = to; work = work }
 
 -- # A job alone is least over its whole window
 
-one_number : (x : ℕ) → AreDifferent (x ∷ [])
+pub one_number : (x : ℕ) → AreDifferent (x ∷ [])
 one_number x number = elim (cases_eq number x) [
   | inl same ↦ omega (arith, count-cons number x [], ap {B = ℕ} (λ b. cond b 1 0) (eq-eqb number x same))
   | inr other ↦ omega (arith, count-cons number x [], ap {B = ℕ} (λ b. cond b 1 0) (ne_eqb number x other))

@@ -16,3 +16,4 @@ pub mod SpentParts
 pub mod SidesOfParts
 mod CutsExamples
 mod BoundsExamples
+mod ClosedCutsExamples
