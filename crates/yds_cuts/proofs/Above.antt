@@ -7,7 +7,7 @@ use Rattle.yds_energy.proofs.HullCosts.{power_of}
 use Rattle.yds_energy.proofs.PlanParts.{given_joined}
 use Rattle.yds_energy.proofs.RoundedEnergy.{total_joined, spends_joined}
 use Rattle.yds_cuts.specs.Groups.{Group, numbers_of_groups, AreApartIn, HaveAll, named, slots_of_groups, horizons}
-use Rattle.yds_cuts.specs.Bounds.{IsShortened, ShortenedIsFeasible, AreShortenedGroups, WindowsInTurn, WindowsInTurnRunInTurn, ShortenedGroupsCost, AllCostAtMostShortened, ShortenedGroupsSpend, HasEnergyAt, LeastEnergyIsAtMostShortened}
+use Rattle.yds_cuts.specs.Bounds.{IsShortened, CutsShorten, ShortenedIsFeasible, AreShortenedGroups, WindowsInTurn, WindowsInTurnRunInTurn, ShortenedGroupsCost, AllCostAtMostShortened, ShortenedGroupsSpend, HasEnergyAt, LeastEnergyIsAtMostShortened}
 use Rattle.yds_cuts.proofs.Renamed.{run_renamed, busy_renamed, spends_renamed, powers_renamed, window_renamed, given_renamed, given_none}
 use Rattle.yds_cuts.proofs.Priced.{priced, spends_more, over_at_scale}
 use Rattle.yds_cuts.proofs.Selected.{one_place}
@@ -38,6 +38,10 @@ module _ (jobs short : List Job) (shortened : AllZip IsShortened short jobs) whe
         let inside : number < length short = omega (arith, within, as_many) in
         feasible.served number inside ∙ ap (λ n. n * scale) (short_job number inside).work;
   }
+
+-- the law of both sides of a cut
+pub cuts_shorten : CutsShorten
+cuts_shorten time job = (record { released = omega arith; due = omega arith; work = refl }, record { released = omega arith; due = omega arith; work = refl })
 
 -- the law
 pub shortened_is_feasible : ShortenedIsFeasible

@@ -1,13 +1,13 @@
 -- Two jobs of work 2 with windows from 0 to 2 and from 5 to 7, by the points (0, 1) and (1, 2): what meets the laws of closed cuts, and near misses.
-use Rattle.yds_model.proofs.Common.{rules, ◌≡◌, ℕ, zero, suc, ◌+◌, ◌-◌, ◌*◌, ◌<◌, ◌≤◌, List, [], ◌∷◌, refl, arith, inl, inr, cases_lt, ℤ, pos, ◌≤ℤ◌, ints, All, All-nil, All-cons, ap, one-dvd, mul-sub, Job, job_at, Fraction, of_whole, WrittenSlot, WholeSlot, IsScale, slots_at, IsFeasible, IsInWindow, work_given, IsFeasibleAt, IsLeastAt, Piece, IsConfined, Point, IsTable, IsConvex, IsHullOf, horizon, interpolated_energy, IsEnergyOnPoints, IsEnergyOf, one_scale_decides, Side, Spends, Spent, TooSlowFor}
+use Rattle.yds_model.proofs.Common.{rules, ◌≡◌, ℕ, zero, suc, ◌+◌, ◌-◌, ◌*◌, ◌<◌, ◌≤◌, List, [], ◌∷◌, refl, arith, inl, inr, cases_lt, pos, ints, All-nil, All-cons, ap, one-dvd, Job, job_at, Fraction, of_whole, WholeSlot, IsFeasible, IsInWindow, work_given, IsLeastAt, Piece, IsConfined, Point, IsTable, IsHullOf, IsLowest, point_at, horizon, interpolated_energy, one_scale_decides, Spends, Spent, TooSlowFor}
 use Rattle.yds_laws.proofs.Bound.{confinement_bound}
 use Rattle.yds_energy.specs.RoundingLaws.{IsLeastEnergy}
 use Rattle.yds_energy.proofs.Differences.{at_most_in_turn}
 use Rattle.yds_energy.proofs.Energy.{least_is_cheapest}
 use Rattle.yds_energy.proofs.HullEnergy.{points_cost_at_least_the_hull}
 use Rattle.yds_cuts.specs.Cuts.{Part, all_jobs, all_slots, part_horizons}
-use Rattle.yds_cuts.specs.Energies.{IsEnergyOver}
-use Rattle.yds_cuts.specs.ClosedCuts.{AreParted, IsCheapestOnPoints, IsScheduledPart, first_too_slow}
+use Rattle.yds_cuts.specs.Energies.{IsSumWith, IsEnergyOver}
+use Rattle.yds_cuts.specs.ClosedCuts.{AreParted, IsCheapestOnPoints, IsScheduledPart, at_first, time_at_place, IsSpentOver, first_too_slow}
 use Rattle.yds_cuts.proofs.CheapestParts.{cheapest_in_each_part}
 use Rattle.yds_cuts.proofs.CutsExamples.{job, part, early, late}
 use Rattle.yds_cuts.proofs.BoundsExamples.{one_number}
@@ -23,12 +23,17 @@ parts = full 0 ∷ full 5 ∷ []
 -- Their windows are apart,
 parted : AreParted parts
 parted = (
-  2, omega arith,
+  2,
+  omega arith,
   All-cons (λ (job : Job). 0 ≤ job.release) (job 0 2 2) [] (omega arith) (All-nil (λ (job : Job). 0 ≤ job.release)),
   All-cons (λ (job : Job). job.deadline ≤ 2) (job 0 2 2) [] (omega arith) (All-nil (λ (job : Job). job.deadline ≤ 2)),
-  (7, omega arith,
-  All-cons (λ (job : Job). 2 ≤ job.release) (job 5 7 2) [] (omega arith) (All-nil (λ (job : Job). 2 ≤ job.release)),
-  All-cons (λ (job : Job). job.deadline ≤ 7) (job 5 7 2) [] (omega arith) (All-nil (λ (job : Job). job.deadline ≤ 7)), tt),
+  (
+    7,
+    omega arith,
+    All-cons (λ (job : Job). 2 ≤ job.release) (job 5 7 2) [] (omega arith) (All-nil (λ (job : Job). 2 ≤ job.release)),
+    All-cons (λ (job : Job). job.deadline ≤ 7) (job 5 7 2) [] (omega arith) (All-nil (λ (job : Job). job.deadline ≤ 7)),
+    tt,
+  ),
 )
 
 -- with 3 units of time between them.
@@ -155,3 +160,37 @@ first_slow = refl
 
 none_slow : first_too_slow nothing (Spends nothing ∷ Spends nothing ∷ []) ≡ Spends nothing
 none_slow = refl
+
+-- # What compare tells
+
+-- Each part runs for 2 units of time at the point (1, 2), so both do for 4, and idle for the 3 units between: energy 11, times 3 and 4.
+abbrev spent : Spent
+spent = record { energy = of_whole 4; times = of_whole 0 ∷ of_whole 2 ∷ [] }
+
+-- so many and so many more, in whole numbers
+sum_of_two : (one other more own whole : ℕ) → own + whole ≡ more + (one + other) → IsSumWith more own (of_whole one ∷ of_whole other ∷ []) (of_whole whole)
+sum_of_two one other more own whole is = record {
+  has_parts = omega arith;
+  each = All-cons (λ (one : Fraction). 1 ≤ one.den) (of_whole one) (of_whole other ∷ []) (omega arith)
+      (All-cons (λ (one : Fraction). 1 ≤ one.den) (of_whole other) [] (omega arith) (All-nil (λ (one : Fraction). 1 ≤ one.den)));
+  sum = of_whole (one + other);
+  sum_has_parts = omega arith;
+  is_sum = (of_whole other, omega arith, (of_whole 0, omega arith, refl, omega arith), omega arith);
+  same = omega (arith, is);
+}
+
+over : IsSpentOver 7 4 points (spent ∷ spent ∷ []) (record { energy = of_whole 11; times = of_whole 3 ∷ of_whole 4 ∷ [] })
+over = record {
+  energy = over_11;
+  energy_lowest = record { below_one = omega arith; reduced = refl };
+  many = refl;
+  times = times;
+  times_lowest = All-cons IsLowest (of_whole 3) (of_whole 4 ∷ []) (record { below_one = omega arith; reduced = refl })
+      (All-cons IsLowest (of_whole 4) [] (record { below_one = omega arith; reduced = refl }) (All-nil IsLowest));
+}
+  where
+    times : (i : ℕ) → i < 2 → IsSumWith (at_first points (point_at points i).speed 7) (at_first points (point_at points i).speed 4)
+        (time_at_place i spent ∷ time_at_place i spent ∷ []) (time_at_place i (record { energy = of_whole 11; times = of_whole 3 ∷ of_whole 4 ∷ [] }))
+    times zero within = sum_of_two 0 0 7 4 3 (omega arith)
+    times (suc zero) within = sum_of_two 2 2 0 0 4 (omega arith)
+    times (suc (suc i)) within = absurd (omega (arith, within))

@@ -13,6 +13,7 @@ pub mod CutEnergies
 pub mod ClosedCuts
 pub mod CheapestParts
 pub mod SpentParts
+pub mod SpentOfEachPart
 pub mod SidesOfParts
 mod CutsExamples
 mod BoundsExamples

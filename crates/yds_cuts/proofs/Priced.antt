@@ -1,6 +1,6 @@
 -- One part more of a schedule: what it costs, with what all that runs costs at the first point's power. In plain numbers, and as fractions.
 use Rattle.yds_model.proofs.Common.{◌≡◌, ℕ, ◌+◌, ◌*◌, ◌≤◌, List, [], ◌∷◌, ap, arith, ℤ, pos, ◌+ℤ◌, ints, All, AllZip, sum, sum_by-cons, All-head, All-tail, eq_of_mul-eq-mul_left, mul-pos, Fraction, numerator, Point, point_at}
-use Rattle.yds_cuts.specs.Energies.{IsSumOf, IsEnergyOver}
+use Rattle.yds_cuts.specs.Energies.{IsSumOf, IsSumWith, IsEnergyOver}
 use Rattle.yds_cuts.specs.Groups.{cost_of_idle}
 
 -- by interpolation: the energies, and the times at the first point's power
@@ -42,15 +42,22 @@ sum_at_scale scale (energy ∷ energies) (cost ∷ costs) total each (rest, some
     (All-head (λ one. 1 ≤ one.den) energy energies each) some is here
     (sum_at_scale scale energies costs rest (All-tail (λ one. 1 ≤ one.den) energy energies each) sums are) (sum_by-cons (λ n. n) cost costs)
 
--- the fraction with idle time over another horizon, in plain numbers
-over_more : (b d s c scale power time own cost all : ℕ) → 1 ≤ c → (power * own * d + b) * c ≡ (power * time * c + s) * d → all * c ≡ s * scale →
-    cost + power * (scale * own) ≡ all + power * (scale * time) → cost * d ≡ b * scale
-over_more b d s c scale power time own cost all some same sum is =
+-- the fraction with so much more, and without what the parts have of their own, in plain numbers
+over_more : (b d s c scale more own cost all : ℕ) → 1 ≤ c → (own * d + b) * c ≡ (more * c + s) * d → all * c ≡ s * scale →
+    cost + scale * own ≡ all + scale * more → cost * d ≡ b * scale
+over_more b d s c scale more own cost all some same sum is =
     eq_of_mul-eq-mul_left c some (cost * d) (b * scale) (omega (arith, ap (λ n. n * scale) same, ap (λ n. n * d) sum, ap (λ n. d * c * n) is))
 
+pub with_at_scale : (scale more own : ℕ) (fractions : List Fraction) (costs : List ℕ) (whole : Fraction) (cost : ℕ) → IsSumWith more own fractions whole →
+    AllZip (λ energy cost. cost * energy.den ≡ numerator energy * scale) fractions costs → cost + scale * own ≡ sum costs + scale * more →
+    cost * whole.den ≡ numerator whole * scale
+with_at_scale scale more own fractions costs whole cost over are is =
+    over_more (numerator whole) whole.den (numerator over.sum) over.sum.den scale more own cost (sum costs) over.sum_has_parts
+    (omega (arith, over.same)) (sum_at_scale scale fractions costs over.sum over.each over.is_sum are) is
+
+-- so it is with idle time over another horizon
 pub over_at_scale : (scale time own : ℕ) (points : List Point) (energies : List Fraction) (costs : List ℕ) (energy : Fraction) (cost : ℕ) →
     IsEnergyOver time own points energies energy → AllZip (λ energy cost. cost * energy.den ≡ numerator energy * scale) energies costs →
     cost + cost_of_idle points scale own ≡ sum costs + cost_of_idle points scale time → cost * energy.den ≡ numerator energy * scale
 over_at_scale scale time own points energies costs energy cost over are is =
-    over_more (numerator energy) energy.den (numerator over.sum) over.sum.den scale (point_at points 0).power time own cost (sum costs) over.sum_has_parts
-    (omega (arith, over.same)) (sum_at_scale scale energies costs over.sum over.each over.is_sum are) is
+    with_at_scale scale ((point_at points 0).power * time) ((point_at points 0).power * own) energies costs energy cost over are (omega (arith, is))

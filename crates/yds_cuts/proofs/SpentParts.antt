@@ -88,6 +88,10 @@ for_each : (chosen : Bool) (multiple scale long : ℕ) → (if chosen then multi
 for_each true multiple scale long = omega arith
 for_each false multiple scale long = omega arith
 
+of_first : (chosen : Bool) (multiple scale long : ℕ) → multiple * (scale * (if chosen then long else 0)) ≡ (if chosen then multiple * scale else 0) * long
+of_first true multiple scale long = omega arith
+of_first false multiple scale long = omega arith
+
 pub times_of_each_part : TimesOfEachPart
 times_of_each_part points parts scale speed table parted are is =
     let chosen = speed == (point_at points 0).speed in
@@ -98,7 +102,7 @@ times_of_each_part points parts scale speed table parted are is =
     times_of_parts time scale speed first second points slots others scheduled table
     ∙ ap (λ n. all_time_at first points scale slots speed + all_time_at second points scale others speed + n) (for_each chosen multiple scale (gap_between first second)))
     0 parts refl parted are is in
-    rw (for_each chosen multiple scale (part_horizons parts), for_each chosen multiple scale (horizon (all_jobs parts))) add
+    rw (of_first chosen multiple scale (part_horizons parts), of_first chosen multiple scale (horizon (all_jobs parts))) add
 
 pub stretch_energy_of_each_part : StretchEnergyOfEachPart
 stretch_energy_of_each_part points parts scale table parted are is =

@@ -69,6 +69,10 @@ before_cut time job = record { release = job.release; deadline = min job.deadlin
 abbrev pub after_cut : ℕ → Job → Job
 after_cut time job = record { release = max job.release time; deadline = job.deadline; work = job.work }
 
+-- Either side of a cut shortens a window.
+abbrev pub CutsShorten : Type 0
+CutsShorten = (time : ℕ) (job : Job) → IsShortened (before_cut time job) job × IsShortened (after_cut time job) job
+
 -- What is feasible for jobs whose windows are shortened is feasible for the jobs.
 abbrev pub ShortenedIsFeasible : Type 0
 ShortenedIsFeasible = (jobs short : List Job) (slots : List WrittenSlot) → AllZip IsShortened short jobs → IsFeasible short slots → IsFeasible jobs slots

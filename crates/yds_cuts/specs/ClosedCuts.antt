@@ -1,14 +1,15 @@
 -- Any number of cuts at which no window is open: what is least in each part is least in all, and energies add. Each law is the contract of
 -- a public function of this crate.
-use Rattle.std.specs.Prelude.{◌≡◌, ℕ, ◌+◌, ◌*◌, ◌≤◌, ◌↔◌, List, [], ◌∷◌, length, sum_by, ◌==◌, if◌then◌else◌}
-use Rattle.std.specs.List.{All, AllZip}
+use Rattle.std.specs.Prelude.{◌≡◌, ℕ, ◌+◌, ◌*◌, ◌<◌, ◌≤◌, ◌↔◌, List, [], ◌∷◌, length, map, sum_by, ◌==◌, if◌then◌else◌}
+use Rattle.std.specs.List.{All, AllZip, slice_index_or}
 use Rattle.yds_model.specs.Job.{Job}
-use Rattle.yds_model.specs.Scale.{Fraction}
+use Rattle.yds_model.specs.Scale.{Fraction, of_whole}
 use Rattle.yds_model.specs.Slot.{WrittenSlot, IsScale, slots_at}
 use Rattle.yds_model.specs.Feasible.{IsFeasible}
 use Rattle.yds_model.specs.Excess.{IsLeast}
 use Rattle.yds_model.specs.Level.{Level}
 use Rattle.yds_model.specs.Plan.{IsPlan}
+use Rattle.yds_model.specs.Divisor.{IsLowest}
 use Rattle.yds_model.specs.Table.{Point, point_at, IsTable, hull_multiple}
 use Rattle.yds_model.specs.Energy.{horizon}
 use Rattle.yds_model.specs.Rounding.{IsEnergyOf, IsRounding}
@@ -18,7 +19,7 @@ use Rattle.yds_energy.specs.RoundingLaws.{IsLeastEnergy}
 use Rattle.yds_parts.specs.Parts.{WindowsAreForward}
 use Rattle.yds_cuts.specs.Cuts.{Part, HasOwnSlots, all_jobs, all_slots, part_horizons}
 use Rattle.yds_cuts.specs.Groups.{cost_of_idle}
-use Rattle.yds_cuts.specs.Energies.{IsEnergyOver}
+use Rattle.yds_cuts.specs.Energies.{IsSumWith, IsEnergyOver}
 
 -- From this time on the windows of each part begin after those of the parts before it have ended.
 abbrev pub ArePartedFrom : ℕ → List Part → Type 0
@@ -78,14 +79,17 @@ pub record IsScheduledPart (part : Part) : Type 0 where
   pub windows : WindowsAreForward part.jobs
   pub feasible : IsFeasible part.jobs part.slots
 
+-- so much time at the first point, and none at the others
+abbrev pub at_first : List Point → ℕ → ℕ → ℕ
+at_first points speed time = if speed == (point_at points 0).speed then time else 0
+
 -- The time at each point is the sum of the parts' times; the first point has besides what they leave of the horizon.
 abbrev pub TimesOfEachPart : Type 0
 TimesOfEachPart = (points : List Point) (parts : List Part) (scale speed : ℕ) → IsTable points → AreParted parts → All IsScheduledPart parts →
     IsScale scale (all_slots parts) →
-    all_time_at (all_jobs parts) points scale (slots_at scale (all_slots parts)) speed
-    + (if speed == (point_at points 0).speed then hull_multiple points * (scale * part_horizons parts) else 0)
+    all_time_at (all_jobs parts) points scale (slots_at scale (all_slots parts)) speed + hull_multiple points * (scale * at_first points speed (part_horizons parts))
     ≡ sum_by (λ part. all_time_at part.jobs points scale (slots_at scale part.slots) speed) parts
-    + (if speed == (point_at points 0).speed then hull_multiple points * (scale * horizon (all_jobs parts)) else 0)
+    + hull_multiple points * (scale * at_first points speed (horizon (all_jobs parts)))
 
 -- So the energy is the sum of theirs, with idle time over the horizon of all jobs.
 abbrev pub StretchEnergyOfEachPart : Type 0
@@ -94,6 +98,26 @@ StretchEnergyOfEachPart = (points : List Point) (parts : List Part) (scale : ℕ
     all_energy (all_jobs parts) points scale (slots_at scale (all_slots parts)) + hull_multiple points * cost_of_idle points scale (part_horizons parts)
     ≡ sum_by (λ part. all_energy part.jobs points scale (slots_at scale part.slots)) parts
     + hull_multiple points * cost_of_idle points scale (horizon (all_jobs parts))
+
+-- the time at the point at this place
+abbrev pub time_at_place : ℕ → Spent → Fraction
+time_at_place place spent = slice_index_or spent.times place (of_whole 0)
+
+-- What all slots spend, from what the parts do: the energies together, with idle time over a horizon of so much time in place of horizons of
+-- `own` time together, and for each point the times, where the first has what the parts leave of that horizon. All are in lowest terms.
+pub record IsSpentOver (time own : ℕ) (points : List Point) (spents : List Spent) (all : Spent) : Type 0 where
+  pub energy : IsEnergyOver time own points (map (λ spent. spent.energy) spents) all.energy
+  pub energy_lowest : IsLowest all.energy
+  pub many : length all.times ≡ length points
+  pub times : (i : ℕ) → i < length points →
+      IsSumWith (at_first points (point_at points i).speed time) (at_first points (point_at points i).speed own) (map (time_at_place i) spents) (time_at_place i all)
+  pub times_lowest : All IsLowest all.times
+
+-- That is what all slots spend.
+abbrev pub SpentOfEachPart : Type 0
+SpentOfEachPart = (points : List Point) (parts : List Part) (spents : List Spent) (all : Spent) → IsTable points → AreParted parts → All IsScheduledPart parts →
+    AllZip (λ part spent. IsSpent part.jobs points part.slots spent) parts spents → IsSpentOver (horizon (all_jobs parts)) (part_horizons parts) points spents all →
+    IsSpent (all_jobs parts) points (all_slots parts) all
 
 -- # The sides of a comparison
 

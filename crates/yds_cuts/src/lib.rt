@@ -21,6 +21,7 @@ ghost use Rattle.yds_cuts.specs.Bounds.{
   GroupsCostAtMostAllOnPoints,
   FewerJobsCostAtMostAllOnPoints,
   LeastEnergiesAreALowerBound,
+  CutsShorten,
   ShortenedIsFeasible,
   WindowsInTurnRunInTurn,
   ShortenedGroupsCost,
@@ -35,6 +36,7 @@ ghost use Rattle.yds_cuts.specs.ClosedCuts.{
   RoundedInEachPart,
   TimesOfEachPart,
   StretchEnergyOfEachPart,
+  SpentOfEachPart,
   SidesOfParts,
 };
 
@@ -86,6 +88,11 @@ pub fn fewer_jobs_cost_at_most_all_on_points()
 /// The least energies of groups on the points, as fractions, are together a lower bound of the energy of all jobs, over their horizon.
 pub fn least_energies_are_a_lower_bound()
     ensures { LeastEnergiesAreALowerBound }
+{}
+
+/// The window of a job up to a cut, and that from a cut on, are windows that are shortened.
+pub fn cuts_shorten()
+    ensures { CutsShorten }
 {}
 
 /// Slots that are feasible for jobs with shortened windows are feasible for the jobs.
@@ -162,6 +169,12 @@ pub fn times_of_each_part()
 /// So what all slots spend is the sum of what the parts do, with idle time over the horizon of all jobs.
 pub fn stretch_energy_of_each_part()
     ensures { StretchEnergyOfEachPart }
+{}
+
+/// As fractions in lowest terms, energy and times of all slots are what the parts spend together, with idle time over the horizon of all
+/// jobs.
+pub fn spent_of_each_part()
+    ensures { SpentOfEachPart }
 {}
 
 /// The side of a comparison for all slots is the first of the parts' sides for which the top point is too slow, with its stretch, and
