@@ -55,7 +55,7 @@ abbrev groups : List Group
 groups = alone 0 0 4 4 ∷ alone 1 2 6 4 ∷ []
 
 -- two different numbers
-two_numbers : (x y : ℕ) → (x ≡ y → ⊥) → AreDifferent (x ∷ y ∷ [])
+pub two_numbers : (x y : ℕ) → (x ≡ y → ⊥) → AreDifferent (x ∷ y ∷ [])
 two_numbers x y other number = elim (cases_eq number x) [
   | inl same ↦ omega (
     arith,

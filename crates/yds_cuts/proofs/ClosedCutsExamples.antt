@@ -14,7 +14,7 @@ use Rattle.yds_cuts.proofs.BoundsExamples.{one_number}
 use Rattle.yds_cuts.proofs.LeastEnergies.{least_from_scales}
 
 -- a job of work 2 with a slot that fills its window
-abbrev full : ℕ → Part
+abbrev pub full : ℕ → Part
 full release = part release (release + 2) release (release + 2) 2
 
 abbrev parts : List Part
@@ -50,7 +50,7 @@ not_parted (end, order, releases, deadlines, (last, after, later, ends, rest)) =
 
 -- # Each part is scheduled, and cheapest on the points
 
-abbrev points : List Point
+abbrev pub points : List Point
 points = record { speed = 0; power = 1 } ∷ record { speed = 1; power = 2 } ∷ []
 
 table : IsTable points
@@ -117,7 +117,7 @@ module _ (release : ℕ) where
         omega (arith, ints, most, costs_4 scale)
   ])
 
-  cheapest : IsCheapestOnPoints alone points (full release).slots (of_whole 4)
+  pub cheapest : IsCheapestOnPoints alone points (full release).slots (of_whole 4)
   cheapest = record {
     feasible = feasible;
     energy_of = record {
@@ -168,7 +168,7 @@ abbrev spent : Spent
 spent = record { energy = of_whole 4; times = of_whole 0 ∷ of_whole 2 ∷ [] }
 
 -- so many and so many more, in whole numbers
-sum_of_two : (one other more own whole : ℕ) → own + whole ≡ more + (one + other) → IsSumWith more own (of_whole one ∷ of_whole other ∷ []) (of_whole whole)
+pub sum_of_two : (one other more own whole : ℕ) → own + whole ≡ more + (one + other) → IsSumWith more own (of_whole one ∷ of_whole other ∷ []) (of_whole whole)
 sum_of_two one other more own whole is = record {
   has_parts = omega arith;
   each = All-cons (λ (one : Fraction). 1 ≤ one.den) (of_whole one) (of_whole other ∷ []) (omega arith)

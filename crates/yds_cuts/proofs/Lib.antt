@@ -15,6 +15,8 @@ pub mod CheapestParts
 pub mod SpentParts
 pub mod SpentOfEachPart
 pub mod SidesOfParts
+pub mod WrittenGroups
 mod CutsExamples
 mod BoundsExamples
 mod ClosedCutsExamples
+mod WrittenExamples

@@ -9,6 +9,7 @@ use Rattle.yds_model.specs.Excess.{IsLeastAt}
 use Rattle.yds_model.specs.Table.{Point, IsTable, IsConvex, IsHullOf, gaps_of}
 use Rattle.yds_model.specs.Energy.{horizon, product, interpolated_energy, IsEnergyOnPoints}
 use Rattle.yds_model.specs.Admission.{jobs_with}
+use Rattle.yds_model.specs.Rounding.{IsEnergyOf}
 use Rattle.yds_energy.specs.RoundingLaws.{IsLeastEnergy}
 use Rattle.yds_cuts.specs.Energies.{IsEnergyOver}
 use Rattle.yds_cuts.specs.Groups.{Group, numbers_of_groups, AreApartIn, HaveAll, IdleIsCheapest, slots_of_groups, horizons, cost_of_idle, energy_over}
@@ -128,3 +129,26 @@ LeastEnergyIsAtMostShortened = (jobs short : List Job) (points : List Point) (sc
     AllZip (λ group energy. HasEnergyAt (jobs_with short group.numbers) points scale group.slots energy) groups energies →
     IsEnergyOver (horizon jobs) (horizons short (map (λ group. group.numbers) groups)) points energies bound → IsLeastEnergy jobs points least →
     IsAtMost least bound
+
+-- # Written answers
+
+-- some of the jobs, by their numbers, with written slots and a fraction, such as `round` answers
+pub record WrittenGroup : Type 0 where
+  pub numbers : List ℕ
+  pub slots : List WrittenSlot
+  pub energy : Fraction
+
+-- They have all jobs, with windows that are shortened and in turn. Each is feasible, and the fraction is its energy on the points.
+pub record AreWrittenGroups (jobs short : List Job) (points : List Point) (groups : List WrittenGroup) : Type 0 where
+  pub shortened : AllZip IsShortened short jobs
+  pub apart : AreApartIn jobs (flat_map (λ group. group.numbers) groups)
+  pub all : HaveAll jobs (flat_map (λ group. group.numbers) groups)
+  pub in_turn : WindowsInTurn 0 short (map (λ group. group.numbers) groups)
+  pub written : All (λ group. IsFeasible (jobs_with short group.numbers) group.slots × IsEnergyOf (jobs_with short group.numbers) points group.slots group.energy) groups
+
+-- So their energies are together at least a least energy of all jobs, whatever denominators they have.
+abbrev pub LeastEnergyIsAtMostWritten : Type 0
+LeastEnergyIsAtMostWritten = (jobs short : List Job) (points : List Point) (groups : List WrittenGroup) (least bound : Fraction) →
+    AreWrittenGroups jobs short points groups →
+    IsEnergyOver (horizon jobs) (horizons short (map (λ group. group.numbers) groups)) points (map (λ group. group.energy) groups) bound →
+    IsLeastEnergy jobs points least → IsAtMost least bound

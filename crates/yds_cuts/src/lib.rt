@@ -28,6 +28,7 @@ ghost use Rattle.yds_cuts.specs.Bounds.{
   AllCostAtMostShortened,
   ShortenedGroupsSpend,
   LeastEnergyIsAtMostShortened,
+  LeastEnergyIsAtMostWritten,
 };
 ghost use Rattle.yds_cuts.specs.ClosedCuts.{
   LeastInEachPart,
@@ -125,6 +126,11 @@ pub fn shortened_groups_spend()
 /// So the least energy of all jobs on the points is at most that, as fractions.
 pub fn least_energy_is_at_most_shortened()
     ensures { LeastEnergyIsAtMostShortened }
+{}
+
+/// So it is for written slots and energies of such groups, whatever denominators they have.
+pub fn least_energy_is_at_most_written()
+    ensures { LeastEnergyIsAtMostWritten }
 {}
 
 /// By any table the interpolated energies of feasible parts that follow one another add, with idle time over the horizon of all jobs in
