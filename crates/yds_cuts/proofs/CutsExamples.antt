@@ -1,10 +1,11 @@
 -- Cuts at which windows are open, tried on two jobs of work 2 that may run from 0 to 4 and from 1 to 6: what meets the laws, and near misses.
-use Rattle.yds_model.proofs.Common.{rules, ◌≡◌, ℕ, ◌<◌, ◌≤◌, [], ◌∷◌, refl, arith, None, All, All-nil, All-cons, one-dvd, Job, of_whole, IsFeasible, Feasible, Late, WrongWork, IsVerdict, one_scale_decides, subst, Stands}
+use Rattle.yds_model.proofs.Common.{rules, ◌≡◌, ℕ, ◌<◌, ◌≤◌, [], ◌∷◌, refl, arith, None, All, All-nil, All-cons, one-dvd, Job, of_whole, IsFeasible, Feasible, Late, WrongWork, IsVerdict, one_scale_decides, subst, Stands, GetsItsWork}
 use Rattle.yds_model.specs.Audit.{Overlap}
 use Rattle.yds_parts.specs.Parts.{ArePartedAt}
 use Rattle.yds_cuts.specs.Cuts.{Part, HasOwnSlots, all_jobs, all_slots, FollowInTurn}
 use Rattle.yds_cuts.specs.VerdictOfParts.{verdicts_in_whole, first_cause}
 use Rattle.yds_cuts.proofs.ServedParts.{feasible_in_each_part}
+use Rattle.yds_cuts.proofs.OverlappingParts.{verdict_where_parts_overlap}
 
 abbrev pub job : ℕ → ℕ → ℕ → Job
 job release deadline work = record { release = release; deadline = deadline; work = work }
@@ -70,6 +71,19 @@ overlaps = record {
   where
     first_stands : Stands (all_jobs (early ∷ sooner ∷ [])) None (all_slots (early ∷ sooner ∷ [])) 0
     first_stands = record { forward = omega arith; after = λ before is. absurd (omega (arith, is)); released = omega arith; due = omega arith; on_table = tt }
+
+-- It is found from the first part's verdict and the first slot behind.
+early_stands : IsVerdict early.jobs None early.slots Feasible
+early_stands = record {
+  stand = λ i within. let first : 0 ≡ i = omega (arith, within) in
+      subst (Stands early.jobs None early.slots) first (record { forward = omega arith; after = λ before is. absurd (omega (arith, is)); released = omega arith; due = omega arith; on_table = tt });
+  served = λ i within. let first : 0 ≡ i = omega (arith, within) in subst (GetsItsWork early.jobs early.slots) first refl;
+}
+
+found : IsVerdict (all_jobs (early ∷ sooner ∷ [])) None (all_slots (early ∷ sooner ∷ [])) (Overlap 1)
+found =
+    verdict_where_parts_overlap None (early ∷ []) (sooner ∷ []) (Feasible ∷ []) (record { job = 0; from = of_whole 1; to = of_whole 3; work = of_whole 2 }) []
+    (All-cons HasOwnSlots early [] (own 0 early (omega arith)) (All-nil HasOwnSlots)) (follow.0, tt) (early_stands, tt) refl (omega arith)
 
 -- A slot of the second job in the first part isn't its own.
 abbrev mixed : Part

@@ -16,6 +16,7 @@ pub mod SpentParts
 pub mod SpentOfEachPart
 pub mod SidesOfParts
 pub mod WrittenGroups
+pub mod OverlappingParts
 mod CutsExamples
 mod BoundsExamples
 mod ClosedCutsExamples

@@ -9,7 +9,7 @@ use Rattle.yds_cuts.proofs.OnTable.{on_moved, on_again}
 use Rattle.yds_cuts.proofs.Works.{first_grain, second_grain, first_parts, second_parts}
 
 -- the end of the last slot is that of the slot at the last place
-last_end : (time : Fraction) (slots : List WrittenSlot) (before : ℕ) → before + 1 ≡ length slots → end_of_last time slots ≡ (written_slot_at slots before).to
+pub last_end : (time : Fraction) (slots : List WrittenSlot) (before : ℕ) → before + 1 ≡ length slots → end_of_last time slots ≡ (written_slot_at slots before).to
 last_end time [] before is = absurd (omega (arith, is))
 last_end time (slot ∷ []) before is =
     let first : before ≡ 0 = omega (arith, is) in
@@ -45,17 +45,17 @@ module _ (table : Option (List Point)) (first second : List Job) (slots others :
   second_job : (j : ℕ) → job_at jobs (n + j) ≡ job_at second j
   second_job j = get_or-append-add first second j no_job
 
-  first_slot : (i : ℕ) → i < m → written_slot_at all i ≡ written_slot_at slots i
+  pub first_slot : (i : ℕ) → i < m → written_slot_at all i ≡ written_slot_at slots i
   first_slot i within = get_or_append_left slots (map (moved_written n) others) no_written_slot i within
 
   first_known : (i : ℕ) → i < m → (written_slot_at slots i).job < n
   first_known i within = omega (arith, own i no_written_slot within)
 
-  second_slot : (i : ℕ) → i < length others → written_slot_at all (m + i) ≡ moved_written n (written_slot_at others i)
+  pub second_slot : (i : ℕ) → i < length others → written_slot_at all (m + i) ≡ moved_written n (written_slot_at others i)
   second_slot i within = get_or-append-add slots (map (moved_written n) others) i no_written_slot ∙ get_or-map (moved_written n) others i no_written_slot no_written_slot within
 
   -- a slot of the first part stands among all
-  first_stands : (i : ℕ) → i < m → Stands first table slots i → Stands jobs table all i
+  pub first_stands : (i : ℕ) → i < m → Stands first table slots i → Stands jobs table all i
   first_stands i within is = grind (arith, first_job, first_slot, first_known)
 
   -- so a cause in the first part is one among all
@@ -65,19 +65,19 @@ module _ (table : Option (List Point)) (first second : List Job) (slots others :
     before = λ k earlier. first_stands k (omega (arith, earlier, is.within)) (is.before k earlier);
   }
 
-  first_backward : (i : ℕ) → IsBackward first table slots i → IsBackward jobs table all i
+  pub first_backward : (i : ℕ) → IsBackward first table slots i → IsBackward jobs table all i
   first_backward i is = let comes = first_comes i is.comes in grind (arith, first_slot)
 
-  first_overlap : (i : ℕ) → IsOverlap first table slots i → IsOverlap jobs table all i
+  pub first_overlap : (i : ℕ) → IsOverlap first table slots i → IsOverlap jobs table all i
   first_overlap i is = let comes = first_comes i is.comes in grind (arith, first_slot)
 
-  first_early : (i : ℕ) → IsEarly first table slots i → IsEarly jobs table all i
+  pub first_early : (i : ℕ) → IsEarly first table slots i → IsEarly jobs table all i
   first_early i is = let comes = first_comes i is.comes in grind (arith, first_job, first_slot, first_known)
 
-  first_late : (i : ℕ) → IsLate first table slots i → IsLate jobs table all i
+  pub first_late : (i : ℕ) → IsLate first table slots i → IsLate jobs table all i
   first_late i is = let comes = first_comes i is.comes in grind (arith, first_job, first_slot, first_known)
 
-  first_off : (i : ℕ) → IsOffPoint first table slots i → IsOffPoint jobs table all i
+  pub first_off : (i : ℕ) → IsOffPoint first table slots i → IsOffPoint jobs table all i
   first_off i is = let comes = first_comes i is.comes in grind (arith, first_job, first_slot, first_known)
 
   -- # The second part, whose slots begin when the first part's have ended
@@ -304,7 +304,7 @@ cause_moved slots places verdicts =
     ∙ first_moved slots places is_about_slot (λ verdict. (same_kind slots places verdict).0) (first_that is_about_work Feasible verdicts) verdicts
 
 -- the first about a work is about no slot
-work_is_no_slot : (verdicts : List Verdict) → is_about_slot (first_that is_about_work Feasible verdicts) ≡ false
+pub work_is_no_slot : (verdicts : List Verdict) → is_about_slot (first_that is_about_work Feasible verdicts) ≡ false
 work_is_no_slot [] = refl
 work_is_no_slot (Feasible ∷ verdicts) = work_is_no_slot verdicts
 work_is_no_slot (WrongWork job given wanted ∷ verdicts) = refl
@@ -315,7 +315,7 @@ work_is_no_slot (Late i ∷ verdicts) = work_is_no_slot verdicts
 work_is_no_slot (OffPoint i ∷ verdicts) = work_is_no_slot verdicts
 
 -- the first about a slot, or another in place of one that is about none
-slot_or : (none other : Verdict) (verdicts : List Verdict) → is_about_slot none ≡ false →
+pub slot_or : (none other : Verdict) (verdicts : List Verdict) → is_about_slot none ≡ false →
     first_that is_about_slot other (first_that is_about_slot none verdicts ∷ []) ≡ first_that is_about_slot other verdicts
 slot_or none other [] isnt = rw isnt refl
 slot_or none other (verdict ∷ verdicts) isnt =

@@ -1,10 +1,12 @@
 -- The auditor's verdict on all slots, found from its verdicts on the parts. The auditor goes through the slots before the works.
 -- The law is the contract of a public function of this crate.
-use Rattle.std.specs.Prelude.{ℕ, ◌+◌, List, [], ◌∷◌, length, Bool, true, false, Option, if◌then◌else◌}
+use Rattle.std.specs.Prelude.{◌≡◌, ℕ, ◌+◌, ◌*◌, nat_lt, ◌++◌, List, [], ◌∷◌, length, Bool, true, false, Option, if◌then◌else◌}
 use Rattle.std.specs.List.{All, AllZip}
+use Rattle.yds_model.specs.Scale.{of_whole, numerator, IsLess}
+use Rattle.yds_model.specs.Slot.{WrittenSlot}
 use Rattle.yds_model.specs.Table.{Point}
 use Rattle.yds_model.specs.Audit.{Verdict, Feasible, Backward, Overlap, Early, Late, OffPoint, WrongWork, IsVerdict}
-use Rattle.yds_cuts.specs.Cuts.{Part, HasOwnSlots, all_jobs, all_slots, FollowInTurn}
+use Rattle.yds_cuts.specs.Cuts.{Part, HasOwnSlots, all_jobs, all_slots, end_of_last, FollowInTurn}
 
 -- the same verdict where so many slots and jobs come before
 abbrev pub moved_verdict : ℕ → ℕ → Verdict → Verdict
@@ -55,3 +57,20 @@ abbrev pub VerdictOfParts : Type 0
 VerdictOfParts = (table : Option (List Point)) (parts : List Part) (verdicts : List Verdict) → All HasOwnSlots parts → FollowInTurn parts →
     AllZip (λ part verdict. IsVerdict part.jobs table part.slots verdict) parts verdicts →
     IsVerdict (all_jobs parts) table (all_slots parts) (first_cause (verdicts_in_whole 0 0 parts verdicts))
+
+-- the slot takes time
+abbrev pub is_forward : WrittenSlot → Bool
+is_forward slot = nat_lt (numerator slot.from * slot.to.den) (numerator slot.to * slot.from.den)
+
+-- the verdict about a slot that begins before the one before it has ended
+abbrev pub begun_too_soon : ℕ → WrittenSlot → Verdict
+begun_too_soon place slot = if is_forward slot then Overlap place else Backward place
+
+-- Where the first slot behind a cut begins before the last one in front of it has ended, the verdict is the first one in front that is about a
+-- slot, else that of the slot behind. Nothing is asked of the parts behind.
+abbrev pub VerdictWherePartsOverlap : Type 0
+VerdictWherePartsOverlap = (table : Option (List Point)) (front back : List Part) (verdicts : List Verdict) (slot : WrittenSlot) (slots : List WrittenSlot) →
+    All HasOwnSlots front → FollowInTurn front → AllZip (λ part verdict. IsVerdict part.jobs table part.slots verdict) front verdicts →
+    all_slots back ≡ slot ∷ slots → IsLess slot.from (end_of_last (of_whole 0) (all_slots front)) →
+    IsVerdict (all_jobs (front ++ back)) table (all_slots (front ++ back))
+    (first_that is_about_slot (begun_too_soon (length (all_slots front)) slot) (verdicts_in_whole 0 0 front verdicts))

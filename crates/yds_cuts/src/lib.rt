@@ -14,7 +14,7 @@ ghost use Rattle.yds_cuts.specs.CutLaws.{
   EnergyInEachPart,
   EnergyOnPointsInEachPart,
 };
-ghost use Rattle.yds_cuts.specs.VerdictOfParts.{VerdictOfParts};
+ghost use Rattle.yds_cuts.specs.VerdictOfParts.{VerdictOfParts, VerdictWherePartsOverlap};
 ghost use Rattle.yds_cuts.specs.Bounds.{
   GroupsCostAtMostAll,
   FewerJobsCostAtMostAll,
@@ -62,6 +62,13 @@ pub fn on_table_in_each_part()
 /// slot, else that of the first whose verdict is about a work, else 'feasible'. Slots and jobs are told by their numbers among all.
 pub fn verdict_of_parts()
     ensures { VerdictOfParts }
+{}
+
+/// Where the first slot behind a cut begins before the last one in front of it has ended, the verdict on all slots is that of the first
+/// part in front whose verdict is about a slot, else that the slot behind overlaps, or is backward where it takes no time. Nothing is
+/// asked of the parts behind.
+pub fn verdict_where_parts_overlap()
+    ensures { VerdictWherePartsOverlap }
 {}
 
 /// Groups of jobs have each a schedule that is least for its own jobs, whatever windows overlap. By a convex table they cost together,
