@@ -12,3 +12,4 @@ pub mod Stands
 pub mod AllStages
 pub mod Theorem
 pub mod Making
+mod TheoremExamples

@@ -1,5 +1,5 @@
 -- The theorem of Yao, Demers and Shenker: the stages of the textbook's way make a plan.
-use Rattle.yds_model.proofs.Common.{◌≡◌, ℕ, ◌-◌, ◌*◌, ◌<◌, ◌≤◌, ◌==◌, List, [], ◌∷◌, length, ◌∙◌, sym, ap, arith, inl, inr, cond, refl, true, false, subst, Bool, nat_lt, filter, All, Contains, cases_lt, le-leb, leb-true, length-map, length-map-range_with_len, get_or-map-range_with_len, length-range_with_len, get_or-range_with_len, Contains-permutation, Job, IsJob, job_at, Piece, stretches, numbers_of, stretch_at, contains_filter}
+use Rattle.yds_model.proofs.Common.{◌≡◌, ℕ, ◌-◌, ◌*◌, ◌<◌, ◌≤◌, ◌==◌, List, [], ◌∷◌, length, ◌∙◌, sym, ap, arith, inl, inr, cond, refl, true, false, subst, Bool, nat_lt, filter, Option, Result, Ok, Err, IfOk, All, Contains, cases_lt, le-leb, leb-true, length-map, length-map-range_with_len, get_or-map-range_with_len, length-range_with_len, get_or-range_with_len, Contains-permutation, Job, IsJob, WrittenSlot, IsPlan, job_at, Piece, stretches, numbers_of, stretch_at, contains_filter}
 use Rattle.yds_model.specs.declared.limits.TheConstants.{MAX_JOBS}
 use Rattle.yds_events.specs.Window.{length_at}
 use Rattle.yds_events.proofs.Neighbours.{stretch_forward}
@@ -16,6 +16,11 @@ use Rattle.yds_textbook.specs.declared.stage.Stage.{Stage}
 use Rattle.yds_textbook.specs.Waiting.{contracted_jobs, job_has_work, outside}
 use Rattle.yds_textbook.specs.Stages.{IsStage, AreStages}
 use Rattle.yds_textbook.specs.Together.{stage_of_job, stage_of_stretch, found_of}
+use Rattle.yds_slots.specs.Schedule.{WrittenSchedule}
+use Rattle.yds_model.specs.Level.{Level}
+use Rattle.yds_textbook.specs.Theorem.{AreOfTextbook, StagesMakeAPlan}
+use Rattle.yds_plan.specs.Laid.{laid_slots, levels_of}
+use Rattle.yds_plan.proofs.FoundPlan.{found_makes_plan}
 use Rattle.yds_textbook.proofs.Starting.{few_wait}
 use Rattle.yds_textbook.proofs.Members.{kept_from}
 use Rattle.yds_textbook.proofs.Intensities.{intensities_dont_rise}
@@ -131,3 +136,28 @@ pub found_of_stages : (jobs : List Job) (stages all : List Stage) (found : Found
     (order : List ℕ) × IsDeadlineOrder jobs order × AreStages jobs [] (filter (job_has_work jobs) order) stages → all ≡ stages → found ≡ found_of jobs all → IsFound jobs found
 found_of_stages jobs stages all _ are_jobs few (order, ordered, are) same made =
     subst (IsFound jobs) (sym (made ∙ ap (found_of jobs) same)) (stages_are_found jobs order stages are_jobs few ordered are)
+
+-- what is laid of them is of the textbook
+pub laid_of_stages : {T E : Type 0} (jobs : List Job) (stages all : List Stage) (found : Found) (schedule : T → WrittenSchedule) (levels : T → List Level) (r : Result T E) →
+    (order : List ℕ) × IsDeadlineOrder jobs order × AreStages jobs [] (filter (job_has_work jobs) order) stages → all ≡ stages → found ≡ found_of jobs all →
+    IfOk r (λ x. schedule x ≡ record { jobs = length jobs; slots = laid_slots jobs found }) → IfOk r (λ x. levels x ≡ levels_of jobs found) →
+    IfOk r (λ x. AreOfTextbook jobs (schedule x).slots (levels x))
+laid_of_stages jobs stages all groups schedule levels (Err e) are same made laid certified = tt
+laid_of_stages jobs stages all groups schedule levels (Ok x) (order, ordered, are) same made laid certified =
+    let is : groups ≡ found_of jobs stages = made ∙ ap (found_of jobs) same in record {
+      order = order;
+      ordered = ordered;
+      stages = stages;
+      are_stages = are;
+      slots_laid = ap (λ (s : WrittenSchedule). s.slots) laid ∙ ap (laid_slots jobs) is;
+      levels_laid = certified ∙ ap (levels_of jobs) is;
+    }
+
+-- the law of it
+pub stages_make_a_plan : StagesMakeAPlan
+stages_make_a_plan jobs slots levels are few by =
+    let found : IsFound jobs (found_of jobs by.stages) =
+    found_of_stages jobs by.stages by.stages (found_of jobs by.stages) are few (by.order, by.ordered, by.are_stages) refl refl in
+    subst (λ (all : List WrittenSlot). IsPlan jobs all levels) (sym by.slots_laid)
+    (subst (λ (all : List Level). IsPlan jobs (laid_slots jobs (found_of jobs by.stages)) all) (sym by.levels_laid)
+    (found_makes_plan jobs are few (found_of jobs by.stages) found))

@@ -2,3 +2,4 @@ pub mod Waiting
 pub mod Served
 pub mod Stages
 pub mod Together
+pub mod Theorem

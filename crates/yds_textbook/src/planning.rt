@@ -6,6 +6,7 @@ ghost use Rattle.yds_intensity.specs.DeadlineOrder.{IsDeadlineOrder};
 ghost use Rattle.yds_plan.specs.Timetabled.{IsTimetabled};
 ghost use Rattle.yds_textbook.specs.Waiting.{job_has_work};
 ghost use Rattle.yds_textbook.specs.Stages.{AreStages};
+ghost use Rattle.yds_textbook.specs.Theorem.{AreOfTextbook};
 
 use crate::stage::{Stage, stage_of};
 use crate::together::found_of;
@@ -48,6 +49,7 @@ pub fn stages(alloc: Global, rows: &[JobRow], timeline: &[Stretch]) -> Result<Ve
 /// each at its intensity. Intervals of the same intensity make one level.
 pub fn textbook(alloc: Global, rows: &[JobRow]) -> Result<Planned, Memory>
     requires { length rows.now ≤ MAX_JOBS }
+    ensures stages { IfOk result (λ planned. AreOfTextbook rows.now planned.schedule.slots planned.certificate) }
     ensures plan { IfOk result (λ planned. IsPlan rows.now planned.schedule.slots planned.certificate) }
     ensures jobs { IfOk result (λ planned. planned.schedule.jobs ≡ length rows.now) }
     ensures timetable { IfOk result (λ planned. IsTimetabled rows.now planned.timetable planned.level_of_stretch.items planned.schedule.slots planned.certificate) }

@@ -3,7 +3,7 @@ use Rattle.yds_search.specs.Found.{IsFound}
 use Rattle.yds_search.specs.Views.{found_view}
 use Rattle.yds_plan.proofs.FoundPlan.{laid_plan}
 use Rattle.yds_textbook.specs.declared.stage.Stage.{Stage}
-use Rattle.yds_textbook.proofs.Theorem.{found_of_stages, stages_are_few}
+use Rattle.yds_textbook.proofs.Theorem.{found_of_stages, laid_of_stages, stages_are_few}
 use Rattle.yds_textbook.proofs.planning.textbook.Goals as goal
 
 pub found_of-requires-clause-few_stages : goal.found_of-requires-clause-few_stages
@@ -27,3 +27,8 @@ returns-clause-plan c =
     c.deref-3.ensures.value c.in_ok-found.ensures in
     laid_plan c.args.rows.now c.read_rows.ensures c.requires (found_view c.in_ok-found.found) (λ planned. planned.schedule) (λ planned. planned.certificate) c.lay_out.result
     found c.lay_out.ensures.schedule c.lay_out.ensures.certificate
+
+pub returns-clause-stages : goal.returns-clause-stages
+returns-clause-stages c =
+    laid_of_stages c.args.rows.now c.in_ok-stages.stages.items c.deref-3.result.now (found_view c.in_ok-found.found) (λ planned. planned.schedule) (λ planned. planned.certificate)
+    c.lay_out.result c.in_ok-stages.ensures c.deref-3.ensures.value c.in_ok-found.ensures c.lay_out.ensures.schedule c.lay_out.ensures.certificate
