@@ -65,7 +65,7 @@ none_refused taken (inl (_, _, _, inr second)) = absurd (cc second.3)
 none_refused taken (inr first) = absurd (cc first.3)
 
 -- and so is one that takes a alone, since b can be served beside it.
-only_first_taken : (refused : List Refusal) → IsAdmission jobs 2 (0 ∷ []) refused → ⊥
+pub only_first_taken : (refused : List Refusal) → IsAdmission jobs 2 (0 ∷ []) refused → ⊥
 only_first_taken refused (inl (_, later, is, inl second)) = absurd (cc (is, second.2))
 only_first_taken refused (inl (_, later, is, inr second)) = second.0 serves_b
 only_first_taken refused (inr first) = first.0 serves_a
@@ -205,7 +205,7 @@ unfolding digits
 is_written = record { possible = read_is_within_limits written (with_taken document (0 ∷ 1 ∷ []) slots) refl; written = refl }
 
 -- So this is the answer of `admit`.
-answer : Answers (codes "admit" ∷ codes "2" ∷ []) (codes "job a 0 4 4\njob b 0 2 4\njob c 1 3 1\n")
+pub answer : Answers (codes "admit" ∷ codes "2" ∷ []) (codes "job a 0 4 4\njob b 0 2 4\njob c 1 3 1\n")
     (codes "job a 0 4 4\njob b 0 2 4\nslot b 0 2 4\nslot a 2 4 4\n# refuse c from 0 to 4 work 9 top 2\n") Done
 unfolding digits
 answer = record {

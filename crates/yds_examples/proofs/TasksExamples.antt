@@ -9,7 +9,7 @@ abbrev task : List ℕ → ℕ → ℕ → ℕ → ℕ → Task
 task name offset period deadline work = record { name = name; offset = offset; period = period; deadline = deadline; work = work }
 
 -- a each 4 time units and b each 6, until 12
-abbrev two : TaskSet
+abbrev pub two : TaskSet
 two = record { horizon = Some 12; tasks = task (codes "a") 0 4 4 2 ∷ task (codes "b") 0 6 6 3 ∷ [] }
 
 -- These lines are read as the two tasks.
@@ -151,7 +151,7 @@ one_more : task_reading (codes "horizon 4000\ntask a 0 1 1 1\ntask b 0 4000 4000
 one_more = refl
 
 -- So this is the answer of `expand` to the two tasks,
-expanded : Answers (codes "expand" ∷ []) (codes "horizon 12\ntask a 0 4 4 2\ntask b 0 6 6 3\n")
+pub expanded : Answers (codes "expand" ∷ []) (codes "horizon 12\ntask a 0 4 4 2\ntask b 0 6 6 3\n")
     (codes "job a.0 0 4 2\njob a.1 4 8 2\njob a.2 8 12 2\njob b.0 0 6 3\njob b.1 6 12 3\n# one level 12 12\n") Done
 unfolding digits
 expanded = record { said = refl; ended = refl }
