@@ -5,6 +5,7 @@ use Rattle.yds_cuts.specs.Groups.{Group, numbers_of_groups, AreApartIn, HaveAll,
 use Rattle.yds_cuts.specs.Energies.{IsEnergyOver}
 use Rattle.yds_cuts.specs.Bounds.{AreLeastGroups, before_cut, after_cut, AreShortenedGroups, WindowsInTurn}
 use Rattle.yds_cuts.proofs.Below.{groups_cost_at_most_all}
+use Rattle.yds_cuts.proofs.BothBounds.{bounds_meet}
 use Rattle.yds_cuts.proofs.Above.{windows_in_turn_run_in_turn, shortened_groups_cost}
 use Rattle.yds_cuts.proofs.CutsExamples.{job}
 
@@ -156,6 +157,46 @@ over_14 = record {
   is_sum = (of_whole 8, omega arith, (of_whole 0, omega arith, refl, refl), refl);
   same = refl;
 }
+
+-- # Windows that are apart
+
+-- From 0 to 2 and from 5 to 7 the windows are in turn,
+abbrev apart_jobs : List Job
+apart_jobs = job 0 2 2 ∷ job 5 7 2 ∷ []
+
+abbrev apart_groups : List Group
+apart_groups = alone 0 0 2 2 ∷ alone 1 5 7 2 ∷ []
+
+apart_in_turn : WindowsInTurn 0 apart_jobs ((0 ∷ []) ∷ (1 ∷ []) ∷ [])
+apart_in_turn = (
+  2,
+  omega arith,
+  All-cons (λ number. 0 ≤ (job_at apart_jobs number).release) 0 [] (omega arith) (All-nil (λ number. 0 ≤ (job_at apart_jobs number).release)),
+  All-cons (λ number. (job_at apart_jobs number).deadline ≤ 2) 0 [] (omega arith) (All-nil (λ number. (job_at apart_jobs number).deadline ≤ 2)),
+  (
+    7,
+    omega arith,
+    All-cons (λ number. 2 ≤ (job_at apart_jobs number).release) 1 [] (omega arith) (All-nil (λ number. 2 ≤ (job_at apart_jobs number).release)),
+    All-cons (λ number. (job_at apart_jobs number).deadline ≤ 7) 1 [] (omega arith) (All-nil (λ number. (job_at apart_jobs number).deadline ≤ 7)),
+    tt,
+  ),
+)
+
+apart_least : AreLeastGroups apart_jobs 1 apart_groups
+apart_least = record {
+  apart = record { known = apart.known; different = apart.different };
+  least = All-cons (λ group. IsLeastAt (jobs_with apart_jobs group.numbers) 1 group.slots) (alone 0 0 2 2) (alone 1 5 7 2 ∷ []) (alone_least 0 2 2 (omega arith))
+      (All-cons (λ group. IsLeastAt (jobs_with apart_jobs group.numbers) 1 group.slots) (alone 1 5 7 2) [] (alone_least 5 7 2 (omega arith))
+      (All-nil (λ group. IsLeastAt (jobs_with apart_jobs group.numbers) 1 group.slots)));
+}
+
+-- so both bounds are the least energy: 4 each, and 3 between.
+least_is_11 : interpolated_energy apart_jobs points 1 (slots_of_groups apart_groups) ≡ pos 11
+least_is_11 = (bounds_meet apart_jobs points 1 apart_groups table convex apart_least have_all apart_in_turn).1
+
+-- Windows that overlap aren't in turn.
+not_in_turn : WindowsInTurn 0 jobs ((0 ∷ []) ∷ (1 ∷ []) ∷ []) → ⊥
+not_in_turn (end, order, releases, deadlines, (last, after, later, ends, rest)) = absurd (omega (arith, deadlines 0 0 (omega arith), later 0 0 (omega arith)))
 
 -- # Near miss: idle time that is dear
 

@@ -17,6 +17,7 @@ pub mod SpentOfEachPart
 pub mod SidesOfParts
 pub mod WrittenGroups
 pub mod OverlappingParts
+pub mod BothBounds
 mod CutsExamples
 mod BoundsExamples
 mod ClosedCutsExamples

@@ -130,6 +130,17 @@ LeastEnergyIsAtMostShortened = (jobs short : List Job) (points : List Point) (sc
     IsEnergyOver (horizon jobs) (horizons short (map (λ group. group.numbers) groups)) points energies bound → IsLeastEnergy jobs points least →
     IsAtMost least bound
 
+-- # Where no window is open at a cut
+
+-- Least groups of all jobs, whose windows are in turn, meet both bounds: their slots, one after another, are a feasible schedule of all jobs
+-- with the groups' energy, and no feasible schedule of all jobs costs less.
+abbrev pub BoundsMeet : Type 0
+BoundsMeet = (jobs : List Job) (points : List Point) (scale : ℕ) (groups : List Group) → IsTable points → IsConvex points → AreLeastGroups jobs scale groups →
+    HaveAll jobs (numbers_of_groups groups) → WindowsInTurn 0 jobs (map (λ group. group.numbers) groups) →
+    IsFeasibleAt jobs scale (slots_of_groups groups)
+    × (interpolated_energy jobs points scale (slots_of_groups groups) ≡ energy_over (horizon jobs) jobs points scale groups)
+    × ((others : List WholeSlot) → IsFeasibleAt jobs scale others → energy_over (horizon jobs) jobs points scale groups ≤ℤ interpolated_energy jobs points scale others)
+
 -- # Written answers
 
 -- some of the jobs, by their numbers, with written slots and a fraction, such as `round` answers

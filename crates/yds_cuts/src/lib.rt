@@ -3,8 +3,9 @@
 //!
 //! It stands on `yds_parts`, whose laws are of one cut at which no window is open; and on `yds_model`, `yds_events`, `yds_laws` and
 //! `yds_energy`, whose definitions and laws it speaks of.
-//! It carries the promises that a verdict needs no closed window, only that each job has its slots on one side of a cut; and that the
-//! least energy lies between two bounds, each of them the parts' energies together. No limit of a document stands in it.
+//! It carries the promises that a verdict needs no closed window, only that each job has its slots on one side of a cut; that the least
+//! energy lies between two bounds, each of them the parts' energies together; and that both are it, and all that is said of two parts is so
+//! of any number, where no window is open. No limit of a document stands in it.
 #![tactic(auto)]
 
 ghost use Rattle.yds_cuts.specs.CutLaws.{
@@ -28,6 +29,7 @@ ghost use Rattle.yds_cuts.specs.Bounds.{
   AllCostAtMostShortened,
   ShortenedGroupsSpend,
   LeastEnergyIsAtMostShortened,
+  BoundsMeet,
   LeastEnergyIsAtMostWritten,
 };
 ghost use Rattle.yds_cuts.specs.ClosedCuts.{
@@ -135,7 +137,14 @@ pub fn least_energy_is_at_most_shortened()
     ensures { LeastEnergyIsAtMostShortened }
 {}
 
-/// So it is for written slots and energies of such groups, whatever denominators they have.
+/// Where no window is open at a cut, both bounds are the least energy: least slots of groups whose windows are in turn, one after
+/// another, are a feasible schedule of all jobs that costs what the groups do, and none costs less.
+pub fn bounds_meet()
+    ensures { BoundsMeet }
+{}
+
+/// Written slots and energies of groups with shortened windows bound the least energy of all jobs on the points, whatever denominators
+/// they have.
 pub fn least_energy_is_at_most_written()
     ensures { LeastEnergyIsAtMostWritten }
 {}
