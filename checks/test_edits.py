@@ -59,6 +59,36 @@ new: self.length / 2
 # breaks: length.value
 """
 
+# a call whose clause is a record
+RUN = """pub fn run(words: &[u8]) -> u32
+    ensures later { 1 ≤ result }
+    ensures worth { IsWorth words.now result }
+{
+    first_of(words)
+}
+"""
+
+WORTH = """-- What an answer is worth.
+pub record IsInput (input : ℕ) : Type 0 where
+  pub read : input ≡ 1
+
+pub record IsWorth (words : List ℕ) (result : ℕ) : Type 0 where
+  -- a plan
+  pub headline : words ≡ codes "plan" → result ≡ 1
+      → result ≡ 1
+  pub accepted : words ≡ codes "check" → result ≡ 2
+
+abbrev pub IsOther : Type 0
+"""
+
+WORTH_EDIT = """file: src/lib.rt
+old: first_of(words)
+new: last_of(words)
+# breaks: run.later
+# breaks: run.worth.headline
+# breaks: run.worth.accepted
+"""
+
 
 class Edits(unittest.TestCase):
     """Each test has a repository of one crate with one edit, and its page."""
@@ -134,6 +164,21 @@ class Edits(unittest.TestCase):
         self.write_page()
         self.assertEqual(self.faults(), [])
         self.assertIn("| `length.value` | `low/half` |", (self.folder / "docs/edits.md").read_text(encoding="utf-8"))
+
+    def test_each_field_of_a_record_needs_an_edit(self) -> None:
+        self.write("crates/yds_run/src/lib.rt", RUN)
+        self.write("crates/yds_run/specs/Worth.antt", WORTH)
+        self.write("crates/yds_run/must-fail/last.edit", WORTH_EDIT)
+        self.write_page()
+        self.assertEqual(self.faults(), [])
+        self.write("crates/yds_run/must-fail/last.edit", WORTH_EDIT.replace("# breaks: run.worth.accepted\n", ""))
+        self.write_page()
+        self.assertEqual(self.faults(), ["crates/yds_run: no edit breaks run.worth.accepted"])
+        for said in ("run.worth", "run.headline", "run.worth.read"):
+            with self.subTest(said):
+                self.write("crates/yds_run/must-fail/last.edit", WORTH_EDIT + f"# breaks: {said}\n")
+                self.write_page()
+                self.assertEqual(self.faults(), [f"crates/yds_run/must-fail/last.edit: there is no clause {said}"])
 
     def test_an_old_text_that_stands_twice(self) -> None:
         self.replace("old: self.length", "old: ensures")

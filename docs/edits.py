@@ -4,7 +4,8 @@
 An edit is a file `crates/CRATE/must-fail/NAME.edit`: a wrong body, one changed line of code, that the check has to
 refuse. Its lines `# breaks: FUNCTION.CLAUSE` name the clauses that are false with it, as they stand in the contract. A
 clause without a name is its function's name alone, a method is `Type::method`, and a clause of another crate that is
-false too is `CRATE/FUNCTION.CLAUSE`. An example that is no function has the name by which it is declared.
+false too is `CRATE/FUNCTION.CLAUSE`. A clause in RECORDS is a record, and each of its fields stands for a clause of its
+own: `FUNCTION.CLAUSE.FIELD`. An example that is no function has the name by which it is declared.
 
     python3 docs/edits.py            writes the page
     python3 docs/edits.py --check    says in a line each what is wrong, and then ends with 1
@@ -38,10 +39,13 @@ NEEDED = [
     ("yds_run", "run_on_bytes"),
     ("yds_c", "yds_answer"),
 ]
+# A clause that is a record, by crate and function, with the file of the record and its name.
+RECORDS = {("yds_run", "run", "worth"): ("specs/Worth.antt", "IsWorth")}
 
 FUNCTION = re.compile(r'^(\s*)(pub(?:\([^)]*\))? )?(?:const |unsafe |extern "C" )*fn (\w+)')
 OWNER = re.compile(r"^(?:pub(?:\([^)]*\))? )?(impl|trait)\b\s*(.*)$")
 ENSURES = re.compile(r"^\s*ensures(?: (\w+))? \{")
+FIELD = re.compile(r"^  pub (\w+) :")
 DECLARED = re.compile(r"^(?:pub |abbrev |record |data |mutual )*(\w+)\b", re.M)
 
 
@@ -150,7 +154,27 @@ def code_of(folder: Path) -> Dict[str, Function]:
                 it = it._replace(clauses=earlier.clauses + [c for c in it.clauses if c not in earlier.clauses])
             if not earlier or it.public or not earlier.public:
                 functions[it.name] = it
-    return functions
+    return {name: with_fields(folder, it) for name, it in functions.items()}
+
+
+def fields_of(path: Path, record: str) -> List[str]:
+    """Returns the names of a record's fields."""
+    text = path.read_text(encoding="utf-8") if path.is_file() else ""
+    _, _, rest = text.partition(f"\npub record {record} ")
+    lines = rest.split("\n")[1:]
+    ends = [at for at, line in enumerate(lines) if not line.startswith("  ")]
+    found = [FIELD.match(line) for line in lines[: ends[0] if ends else len(lines)]]
+    return [it.group(1) for it in found if it]
+
+
+def with_fields(folder: Path, function: Function) -> Function:
+    """Returns the function with the fields of a clause in place of the clause, where it is a record."""
+    clauses: List[str] = []
+    for clause in function.clauses:
+        record = RECORDS.get((folder.name, function.name, clause))
+        fields = fields_of(folder / record[0], record[1]) if record else []
+        clauses += [f"{clause}.{it}" for it in fields] or [clause]
+    return function._replace(clauses=clauses)
 
 
 def declared_in(folder: Path) -> Set[str]:
@@ -279,7 +303,8 @@ or examples alone, the edit turns what they state.
 
 `docs/edits.py` writes this page from the lines `# breaks:` of the edits, and says of each public clause which of them
 make it false. Most are refused earlier: at the clause of a smaller function from which the public one follows, or at
-what a callee asks for. An edit of another crate that makes a clause false stands with its crate's name.
+what a callee asks for. An edit of another crate that makes a clause false stands with its crate's name. Where a clause
+is a record, each of its fields has a row: `run.worth.headline` is a field of the clause `worth` of `run`.
 
 A clause without an edit is proved like the others; no mistake is kept for it. Some of these say only what a type keeps,
 which no body can make false.

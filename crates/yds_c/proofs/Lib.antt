@@ -1,1 +1,1 @@
-pub mod Worth
+pub mod Answered

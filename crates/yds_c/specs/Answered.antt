@@ -5,8 +5,8 @@ use Rattle.yds_model.specs.Answer.{AnswersRequest}
 use Rattle.yds_model.specs.Status.{status_code}
 use Rattle.yds_run.specs.Words.{asked}
 use Rattle.yds_run.specs.Endings.{IsWhole}
+use Rattle.yds_run.specs.Worth.{IsWorth}
 use Rattle.yds_c.specs.Put.{IsPut}
-use Rattle.yds_c.specs.Worth.{IsWorth}
 
 -- The text and the status answer the words and all bytes of the input by the definitions. The status is one of a run that wrote its
 -- text whole.

@@ -1,5 +1,4 @@
 pub mod Given
 pub mod Text
 pub mod Put
-pub mod Worth
 pub mod Answered

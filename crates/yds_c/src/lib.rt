@@ -1,6 +1,6 @@
 //! The C library: one call, `yds_answer`, that does what the program does, over bytes in memory.
 //!
-//! It stands on `yds_run`, whose `run_on_bytes` writes into its own sink, and on the laws of `yds_texts` and `yds_report`. It
+//! It stands on `yds_run`, whose `run_on_bytes` writes into its own sink, and whose `IsWorth` tells what an answer is worth. It
 //! carries the promise that the caller gets the program's text and status: the text is the answer of the definitions to
 //! the words and to all bytes of the input, and is worth what `run` says of it. The room has the text whole, or it is as it was.
 //!

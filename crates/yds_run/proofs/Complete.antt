@@ -1,9 +1,8 @@
 -- From the bytes that were taken to all bytes of the input.
-use Rattle.yds_model.proofs.Common.{◌≡◌, ◌⊎◌, ℕ, ◌+◌, ◌<◌, ◌≤◌, List, [], ◌++◌, length, Option, Some, None, refl, subst, sym, ap, ◌∙◌, arith, inl, inr, length-append, lt-ltb, le-ltb, ◌≢◌, IfSome, append-nil, Appends, Question, Request, OfDocument, OfTasks, OfTrial, AnswersRequest, AnswersReading, AnswersTasks, UnlessTooLong, is_too_long, reading, task_reading, TrialAnswer}
+use Rattle.yds_model.proofs.Common.{◌≡◌, ◌⊎◌, ℕ, ◌+◌, ◌<◌, ◌≤◌, List, [], ◌++◌, length, Option, Some, None, refl, subst, sym, ap, ◌∙◌, arith, inl, inr, length-append, lt-ltb, le-ltb, IfSome, append-nil, Question, Request, OfDocument, OfTasks, OfTrial, usage_line, AnswersRequest, AnswersReading, AnswersTasks, UnlessTooLong, is_too_long, reading, task_reading, TrialAnswer}
 use Rattle.yds_model.specs.declared.limits.TheConstants.{MAX_INPUT}
 use Rattle.yds_model.specs.declared.status.Status.{Status}
 use Rattle.yds_model.specs.declared.status.Status.TheVariants as statuses
-use Rattle.yds_texts.specs.JudgedText.{IsJudged}
 use Rattle.yds_run.specs.Endings.{IsWhole, Writes, WritesWhole, AnswersBytes, AnswersTaken, Outcome}
 
 -- what is an answer to one thing and so to another
@@ -85,7 +84,15 @@ pub trial_answers : (named : Option Request) (seed jobs : ℕ) (result : Status)
     → Writes (TrialAnswer seed jobs) result old new flushed → (input : List ℕ) → AnswersBytes named input result old new flushed
 trial_answers named seed jobs result old new flushed is writes input = subst (λ asks. AnswersBytes asks input result old new flushed) is writes
 
--- # What a text that was written whole is worth
+-- so is the usage line, to words that ask for nothing
+pub usage_answers : (named : Option Request) (result : Status) (old new : Option (List ℕ)) (flushed : Option ℕ) → None ≡ named
+    → Outcome result usage_line statuses.Usage old new flushed → (input : List ℕ) → AnswersBytes named input result old new flushed
+usage_answers named result old new flushed is outcome input = subst (λ asks. AnswersBytes asks input result old new flushed) is (record {
+  text = usage_line;
+  status = statuses.Usage;
+  answers = record { said = refl; ended = refl };
+  outcome = outcome;
+})
 
 -- what a run that ended whole wrote is the whole text
 pub whole_outcome : (ended : Status) (text : List ℕ) (status : Status) (old new : Option (List ℕ)) (flushed : Option ℕ) → IsWhole ended
@@ -97,56 +104,3 @@ whole_outcome statuses.Refused text status old new flushed whole outcome = outco
 whole_outcome statuses.ReadFault text status old new flushed whole outcome = absurd whole
 whole_outcome statuses.WriteFault text status old new flushed whole outcome = absurd whole
 whole_outcome statuses.Memory text status old new flushed whole outcome = absurd whole
-
--- a text of this status holds what each answer of that status holds
-text_holds : (request : Request) (ended result : Status) (Holds : List ℕ → List ℕ → Type 0) (input : List ℕ) (old new : Option (List ℕ)) (flushed : Option ℕ)
-    → IsWhole ended → ((input text : List ℕ) → AnswersRequest (Some request) input text ended → Holds input text) → result ≡ ended
-    → AnswersBytes (Some request) input result old new flushed → (text : List ℕ) × Appends old new text × Holds input text
-text_holds request ended result Holds input old new flushed whole law is answered =
-    let outcome : WritesWhole ended answered.text answered.status old new flushed =
-    whole_outcome ended answered.text answered.status old new flushed whole (subst (λ ended. Outcome ended answered.text answered.status old new flushed) is answered.outcome) in (
-      answered.text,
-      outcome.whole,
-      law input answered.text (subst (AnswersRequest (Some request) input answered.text) outcome.said answered.answers),
-    )
-
--- so it does where the words ask for it and the input is told
-pub answer_holds : (named : Option Request) (request : Request) (ended result : Status) (Holds : List ℕ → List ℕ → Type 0) (left old new : Option (List ℕ)) (flushed : Option ℕ)
-    → IsWhole ended → ((input text : List ℕ) → AnswersRequest (Some request) input text ended → Holds input text)
-    → named ≡ Some request → result ≡ ended → IfSome left (λ input. AnswersBytes named input result old new flushed)
-    → IfSome left (λ input. (text : List ℕ) × Appends old new text × Holds input text)
-answer_holds named request ended result Holds None old new flushed whole law asks is answered = tt
-answer_holds named request ended result Holds (Some input) old new flushed whole law asks is answered =
-    text_holds request ended result Holds input old new flushed whole law is (subst (λ asked. AnswersBytes asked input result old new flushed) asks answered)
-
--- # A yes or a no
-
--- what was answered by yes or no had its memory,
-pub judged_keeps : (result : Status) → IsJudged result → result ≢ statuses.Memory
-judged_keeps result (inl is) wanting = absurd (done_kept (sym is ∙ wanting)) where
-  done_kept : statuses.Done ≡ statuses.Memory → ⊥
-  done_kept same = absurd cc
-judged_keeps result (inr is) wanting = absurd (no_kept (sym is ∙ wanting)) where
-  no_kept : statuses.No ≡ statuses.Memory → ⊥
-  no_kept same = absurd cc
-
--- and its input
-pub judged_reads : (result : Status) → IsJudged result → result ≢ statuses.ReadFault
-judged_reads result (inl is) fault = absurd (done_read (sym is ∙ fault)) where
-  done_read : statuses.Done ≡ statuses.ReadFault → ⊥
-  done_read same = absurd cc
-judged_reads result (inr is) fault = absurd (no_read (sym is ∙ fault)) where
-  no_read : statuses.No ≡ statuses.ReadFault → ⊥
-  no_read same = absurd cc
-
--- a yes or a no holds what each such answer holds, where the words ask for it and the input is told
-pub judged_holds : (named : Option Request) (request : Request) (result : Status) (Holds : List ℕ → List ℕ → Status → Type 0) (left old new : Option (List ℕ)) (flushed : Option ℕ)
-    → ((input text : List ℕ) (status : Status) → IsJudged status → AnswersRequest (Some request) input text status → Holds input text status)
-    → named ≡ Some request → IsJudged result → IfSome left (λ input. AnswersBytes named input result old new flushed)
-    → IfSome left (λ input. (text : List ℕ) × Appends old new text × Holds input text result)
-judged_holds named request result Holds left old new flushed law asks (inl wanted) answered =
-    answer_holds named request statuses.Done result (λ input text. Holds input text result) left old new flushed tt
-    (λ input text answers. subst (Holds input text) (sym wanted) (law input text statuses.Done (inl refl) answers)) asks wanted answered
-judged_holds named request result Holds left old new flushed law asks (inr unwanted) answered =
-    answer_holds named request statuses.No result (λ input text. Holds input text result) left old new flushed tt
-    (λ input text answers. subst (Holds input text) (sym unwanted) (law input text statuses.No (inr refl) answers)) asks unwanted answered

@@ -8,3 +8,5 @@ pub mod Admitting
 pub mod TooSlow
 pub mod Compared
 pub mod Reported
+pub mod Worth
+mod WorthExamples

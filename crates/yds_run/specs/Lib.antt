@@ -13,3 +13,4 @@ pub mod Compare
 pub mod Trial
 pub mod Admit
 pub mod Policies
+pub mod Worth

@@ -1,22 +1,14 @@
-ghost use Rattle.std.specs.Prelude.{◌≡◌, ◌≢◌, ◌⊎◌, ◌<◌, ◌≤◌, ◌∷◌, [], ℕ, List, length, codes, Some, None, IfSome, MatchResult};
+ghost use Rattle.std.specs.Prelude.{◌≡◌, ◌≢◌, ◌⊎◌, ◌<◌, ◌≤◌, ℕ, List, length, Some, None, IfSome, MatchResult};
 ghost use Rattle.yds_model.specs.declared.limits.TheConstants.{MAX_INPUT};
 ghost use Rattle.std.specs.Io.KnownBytes.{Appends, IsAtEnd};
 ghost use Rattle.yds_model.specs.Answer.{AnswersReading, AnswersQuestion};
 ghost use Rattle.yds_model.specs.Reading.{reading};
-ghost use Rattle.yds_model.specs.Request.{usage_line, OfDocument, AskAverageRate, AskOptimalAvailable, AskAdmit, AskCompare};
-ghost use Rattle.yds_texts.specs.AdmitText.{HoldsAdmission};
-ghost use Rattle.yds_texts.specs.CompareText.{HoldsComparison};
-ghost use Rattle.yds_texts.specs.CurveText.{HoldsCurve};
-ghost use Rattle.yds_report.specs.JsonText.{HoldsReport};
-ghost use Rattle.yds_texts.specs.JudgedText.{HoldsJudgement, HoldsVerdict, HoldsVerdictOnPoints};
-ghost use Rattle.yds_texts.specs.PlanText.{HoldsHeadline};
-ghost use Rattle.yds_texts.specs.RoundText.{HoldsLeastEnergy, HoldsTooSlow};
-ghost use Rattle.yds_texts.specs.RunText.{HoldsAverageRate, HoldsOptimalAvailable};
-ghost use Rattle.yds_texts.specs.TaskLaws.{HoldsExpansion};
+ghost use Rattle.yds_model.specs.Request.{usage_line, OfDocument};
 ghost use Rattle.yds_port.specs.Count.{Rose, next_count};
 ghost use Rattle.yds_document.specs.Documents.{document_view};
 ghost use Rattle.yds_run.specs.Words.{words_of, asked, IsTrial, ReadsInput, question_view, IsAskable};
 ghost use Rattle.yds_run.specs.Endings.{Outcome, IsWhole, CountTells, IsDelivered, Replies, AnswersBytes, AnswersTaken, IsTooLong};
+ghost use Rattle.yds_run.specs.Worth.{IsWorth};
 
 use crate::admit::admit_document;
 use crate::answer::Answer;
@@ -92,64 +84,10 @@ pub fn run<S: Source, K: Sink>(
         → (result ≡ Status.Done) ⊎ (result ≡ Status.No) ⊎ (result ≡ Status.Refused)
         → IsAtEnd (S.left source.new) ⊎ IsTooLong result (S.left source.old) (S.left source.new) (K.written sink.old) (K.written sink.new) }
 
-    // A plan that was written is read again as the document with that plan, which gives every job its
-    // work in its window and, for every speed, does no more work above it than any feasible schedule. By every convex table
-    // of points it takes no more energy than any of them.
-    ensures headline { words_of words.now ≡ codes "plan" ∷ [] → result ≡ Status.Done
-        → IfSome (S.left source.old) (λ input. (text : List ℕ) × Appends (K.written sink.old) (K.written sink.new) text × HoldsHeadline input text) }
-
-    // `check` is done and says 'accepted' exactly where the document's levels are a proper certificate of its slots, and says
-    // no exactly where they aren't. Where they are, the slots are as good as those of a plan: least above every speed and
-    // cheapest by every convex table.
-    ensures accepted { words_of words.now ≡ codes "check" ∷ [] → (result ≡ Status.Done) ⊎ (result ≡ Status.No)
-        → IfSome (S.left source.old) (λ input. (text : List ℕ) × Appends (K.written sink.old) (K.written sink.new) text × HoldsJudgement input text result) }
-    // `audit` is done and says 'feasible' exactly where the document's slots give every job its work inside its window, one job
-    // at a time, and says no exactly where they don't. With `--points` it is so where each also runs at a point's speed.
-    ensures feasible { words_of words.now ≡ codes "audit" ∷ [] → (result ≡ Status.Done) ⊎ (result ≡ Status.No)
-        → IfSome (S.left source.old) (λ input. (text : List ℕ) × Appends (K.written sink.old) (K.written sink.new) text × HoldsVerdict input text result) }
-    ensures feasible_on_points { words_of words.now ≡ codes "audit" ∷ codes "--points" ∷ [] → (result ≡ Status.Done) ⊎ (result ≡ Status.No)
-        → IfSome (S.left source.old) (λ input. (text : List ℕ) × Appends (K.written sink.old) (K.written sink.new) text × HoldsVerdictOnPoints input text result) }
-
-    // A rounded plan that was written is read again as the document with slots at the speeds of its points,
-    // which give every job its work in its window, and no feasible schedule on the points takes less energy.
-    ensures least_energy { words_of words.now ≡ codes "round" ∷ [] → result ≡ Status.Done
-        → IfSome (S.left source.old) (λ input. (text : List ℕ) × Appends (K.written sink.old) (K.written sink.new) text × HoldsLeastEnergy input text) }
-    // Where it says no, the points are too slow: no feasible schedule stays at or below the top one, and the first level of a
-    // plan, whose work and length are told, is faster.
-    ensures too_slow { words_of words.now ≡ codes "round" ∷ [] → result ≡ Status.No
-        → IfSome (S.left source.old) (λ input. (text : List ℕ) × Appends (K.written sink.old) (K.written sink.new) text × HoldsTooSlow input text) }
-    // A policy's run that was written is read again as the document with the run, which gives every job its work in its window.
-    // Where it says that it never rounded, it is the policy's own.
-    ensures average_rate { (grid : ℕ) → asked (words_of words.now) ≡ Some (OfDocument (AskAverageRate grid)) → result ≡ Status.Done
-        → IfSome (S.left source.old) (λ input. (text : List ℕ) × Appends (K.written sink.old) (K.written sink.new) text × HoldsAverageRate grid input text) }
-    ensures optimal_available { (grid : ℕ) → asked (words_of words.now) ≡ Some (OfDocument (AskOptimalAvailable grid)) → result ≡ Status.Done
-        → IfSome (S.left source.old) (λ input. (text : List ℕ) × Appends (K.written sink.old) (K.written sink.new) text × HoldsOptimalAvailable grid input text) }
-    // A comparison that was written tells neither policy less energy than the plan, and the plan the energy that `round`
-    // writes for the same input.
-    ensures comparison { (grid : ℕ) → asked (words_of words.now) ≡ Some (OfDocument (AskCompare grid)) → result ≡ Status.Done
-        → IfSome (S.left source.old) (λ input. (text : List ℕ) × Appends (K.written sink.old) (K.written sink.new) text × HoldsComparison grid input text) }
-    // Where it says no, the points are too slow, as for `round`.
-    ensures compared_too_slow { (grid : ℕ) → asked (words_of words.now) ≡ Some (OfDocument (AskCompare grid)) → result ≡ Status.No
-        → IfSome (S.left source.old) (λ input. (text : List ℕ) × Appends (K.written sink.old) (K.written sink.new) text × HoldsTooSlow input text) }
-
-    // A curve that was written tells at rising speeds, from 0 on, the least work that any feasible schedule does above them. Between two of
-    // them it goes in a straight line, and above the last it is 0.
-    ensures least_excess { words_of words.now ≡ codes "curve" ∷ [] → result ≡ Status.Done
-        → IfSome (S.left source.old) (λ input. (text : List ℕ) × Appends (K.written sink.old) (K.written sink.new) text × HoldsCurve input text) }
-    // A report of JSON that was written is read by `serde_json` as the numbers of the jobs and of a plan's levels.
-    ensures json { words_of words.now ≡ codes "report" ∷ codes "--json" ∷ [] → result ≡ Status.Done
-        → IfSome (S.left source.old) (λ input. (text : List ℕ) × Appends (K.written sink.old) (K.written sink.new) text × HoldsReport input text) }
-
-    // The jobs of periodic tasks that were written are read again as a document with just these jobs, in
-    // their order and under different names.
-    ensures expansion { words_of words.now ≡ codes "expand" ∷ [] → result ≡ Status.Done
-        → IfSome (S.left source.old) (λ input. (text : List ℕ) × Appends (K.written sink.old) (K.written sink.new) text × HoldsExpansion input text) }
-
-    // The admitted jobs that were written, with a comment for each other job, are read again as a document of the admitted jobs
-    // with slots that give each of them its work in its window, nowhere faster than the top speed. In the interval of each comment lie the
-    // windows of that job and of admitted ones whose work is more than the top speed does there.
-    ensures admission { (top : ℕ) → asked (words_of words.now) ≡ Some (OfDocument (AskAdmit top)) → result ≡ Status.Done
-        → IfSome (S.left source.old) (λ input. (text : List ℕ) × Appends (K.written sink.old) (K.written sink.new) text × HoldsAdmission top input text) }
+    // An answer that was written whole is worth what the record says of the words, the input, the text and the status: for each
+    // command what its user relies on. Any other end is want of memory or a fault that was counted.
+    ensures worth { IsWhole result → IfSome (S.left source.old) (λ input.
+        (text : List ℕ) × Appends (K.written sink.old) (K.written sink.new) text × IsWorth (words_of words.now) input text result) }
 {
     match Command::of(words) {
         Some(Command::Document(question)) => answer_input(alloc, keys, question, source, sink),

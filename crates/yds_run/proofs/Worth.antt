@@ -1,5 +1,5 @@
 -- Each answer of the definitions is worth what is said of it.
-use Rattle.yds_model.proofs.Common.{◌≡◌, ◌≢◌, ◌++◌, ℕ, List, [], Some, None, ap, refl, subst, sym, ◌∙◌, AnswersRequest, Request}
+use Rattle.yds_model.proofs.Common.{◌≡◌, ◌≢◌, ℕ, List, Option, Some, None, ap, subst, IfSome, Appends, AnswersRequest, Request}
 use Rattle.yds_model.specs.declared.status.Status.{Status}
 use Rattle.yds_model.specs.declared.status.Status.TheVariants as statuses
 use Rattle.yds_report.specs.JsonText.{HoldsReport}
@@ -20,11 +20,10 @@ use Rattle.yds_texts.proofs.RoundText.{rounded_holds_least_energy, refused_is_to
 use Rattle.yds_texts.proofs.RunText.{runs_are_read}
 use Rattle.yds_texts.proofs.TaskTexts.{expansions_are_read}
 use Rattle.yds_run.specs.Words.{asked}
-use Rattle.yds_run.specs.Endings.{IsWhole, Writes, WritesWhole}
+use Rattle.yds_run.specs.Endings.{IsWhole, WritesWhole, AnswersBytes}
+use Rattle.yds_run.specs.Worth.{IsWorth}
 use Rattle.yds_run.proofs.Complete.{whole_outcome}
 use Rattle.yds_run.proofs.Reported.{report_held}
-use Rattle.yds_c.specs.Worth.{IsWorth}
-use Rattle.yds_c.specs.Answered.{IsAnswer}
 
 module _ (words : List (List ℕ)) (input text : List ℕ) (status : Status) (answers : AnswersRequest (asked words) input text status) where
   -- an answer of this status holds what each such answer holds, where the words ask for it
@@ -57,23 +56,28 @@ module _ (words : List (List ℕ)) (input text : List ℕ) (status : Status) (an
     admission = λ top admit done. holds _ _ (HoldsAdmission top) (admission_held words top admit) admit done;
   }
 
--- a text that was written whole into a sink that was empty
-pub whole_is_answer : (words : List (List ℕ)) (input old written : List ℕ) (result : Status) → old ≡ [] → IsWhole result
-    → Writes (AnswersRequest (asked words) input) result (Some old) (Some written) None → IsAnswer words input written result
-whole_is_answer words input old written result empty whole writes =
-    let outcome : WritesWhole result writes.text writes.status (Some old) (Some written) None =
-    whole_outcome result writes.text writes.status (Some old) (Some written) None whole writes.outcome in
-    let same : written ≡ writes.text = outcome.whole ∙ ap (λ front. front ++ writes.text) empty in
-    let answers : AnswersRequest (asked words) input written result =
-    subst (AnswersRequest (asked words) input written) outcome.said (subst (λ told. AnswersRequest (asked words) input told writes.status) (sym same) writes.answers) in
-    record { answers = answers; whole = whole; worth = answers_are_worth words input written result answers }
+-- what was written whole is worth what its answer is
+written_is_worth : (words : List (List ℕ)) (input : List ℕ) (result : Status) (old new : Option (List ℕ)) (flushed : Option ℕ) → IsWhole result
+    → AnswersBytes (asked words) input result old new flushed → (text : List ℕ) × Appends old new text × IsWorth words input text result
+written_is_worth words input result old new flushed whole answered =
+    let outcome : WritesWhole result answered.text answered.status old new flushed = whole_outcome result answered.text answered.status old new flushed whole answered.outcome in (
+      answered.text,
+      outcome.whole,
+      answers_are_worth words input answered.text result (subst (AnswersRequest (asked words) input answered.text) outcome.said answered.answers),
+    )
 
--- a run that ended by no fault and had its memory wrote its text whole
-pub ended_whole : (result : Status) → result ≢ statuses.ReadFault → result ≢ statuses.WriteFault → result ≢ statuses.Memory → IsWhole result
-ended_whole statuses.Done read write memory = tt
-ended_whole statuses.No read write memory = tt
-ended_whole statuses.Usage read write memory = tt
-ended_whole statuses.Refused read write memory = tt
-ended_whole statuses.ReadFault read write memory = absurd (read refl)
-ended_whole statuses.WriteFault read write memory = absurd (write refl)
-ended_whole statuses.Memory read write memory = absurd (memory refl)
+-- so it is where the input is told
+pub told_is_worth : (words : List (List ℕ)) (result : Status) (left old new : Option (List ℕ)) (flushed : Option ℕ) → IsWhole result
+    → (result ≢ statuses.Memory → result ≢ statuses.ReadFault → IfSome left (λ input. AnswersBytes (asked words) input result old new flushed))
+    → IfSome left (λ input. (text : List ℕ) × Appends old new text × IsWorth words input text result)
+told_is_worth words result None old new flushed whole complete = tt
+told_is_worth words result (Some input) old new flushed whole complete =
+    written_is_worth words input result old new flushed whole (complete (λ memory. subst IsWhole memory whole) (λ fault. subst IsWhole fault whole))
+
+-- and where the answer is the same for each input
+pub each_is_worth : (words : List (List ℕ)) (result : Status) (left old new : Option (List ℕ)) (flushed : Option ℕ) → IsWhole result
+    → (result ≢ statuses.Memory → (input : List ℕ) → AnswersBytes (asked words) input result old new flushed)
+    → IfSome left (λ input. (text : List ℕ) × Appends old new text × IsWorth words input text result)
+each_is_worth words result None old new flushed whole answered = tt
+each_is_worth words result (Some input) old new flushed whole answered =
+    written_is_worth words input result old new flushed whole (answered (λ memory. subst IsWhole memory whole) input)
