@@ -21,9 +21,10 @@ use Rattle.yds_texts.proofs.RunText.{runs_are_read}
 use Rattle.yds_texts.proofs.TaskTexts.{expansions_are_read}
 use Rattle.yds_run.specs.Words.{asked}
 use Rattle.yds_run.specs.Endings.{IsWhole, WritesWhole, AnswersBytes}
+use Rattle.yds_run.specs.TableText.{HoldsTable}
 use Rattle.yds_run.specs.Worth.{IsWorth}
 use Rattle.yds_run.proofs.Complete.{whole_outcome}
-use Rattle.yds_run.proofs.Reported.{report_held}
+use Rattle.yds_run.proofs.Reported.{report_held, table_held}
 
 module _ (words : List (List ℕ)) (input text : List ℕ) (status : Status) (answers : AnswersRequest (asked words) input text status) where
   -- an answer of this status holds what each such answer holds, where the words ask for it
@@ -54,6 +55,7 @@ module _ (words : List (List ℕ)) (input text : List ℕ) (status : Status) (an
     json = λ report done. holds _ _ HoldsReport report_held (ap asked report) done;
     expansion = λ expand done. holds _ _ HoldsExpansion expansions_are_read (ap asked expand) done;
     admission = λ top admit done. holds _ _ (HoldsAdmission top) (admission_held words top admit) admit done;
+    table = λ report done. holds _ _ HoldsTable table_held (ap asked report) done;
   }
 
 -- what was written whole is worth what its answer is

@@ -13,4 +13,5 @@ pub mod Compare
 pub mod Trial
 pub mod Admit
 pub mod Policies
+pub mod TableText
 pub mod Worth

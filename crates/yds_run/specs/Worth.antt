@@ -14,6 +14,7 @@ use Rattle.yds_texts.specs.RoundText.{HoldsLeastEnergy, HoldsTooSlow}
 use Rattle.yds_texts.specs.RunText.{HoldsAverageRate, HoldsOptimalAvailable}
 use Rattle.yds_texts.specs.TaskLaws.{HoldsExpansion}
 use Rattle.yds_run.specs.Words.{asked}
+use Rattle.yds_run.specs.TableText.{HoldsTable}
 
 pub record IsWorth (words : List (List ℕ)) (input text : List ℕ) (status : Status) : Type 0 where
   -- A plan is read again as the document with that plan, which gives every job its work in its window and, for every speed, does no more
@@ -44,6 +45,8 @@ pub record IsWorth (words : List (List ℕ)) (input text : List ℕ) (status : S
   -- A curve tells at rising speeds, from 0 on, the least work that any feasible schedule does above them. Between two of them it goes in a
   -- straight line, and above the last it is 0.
   pub least_excess : words ≡ codes "curve" ∷ [] → status ≡ statuses.Done → HoldsCurve input text
+  -- A report is the table of the numbers of the jobs and of a plan's levels.
+  pub table : words ≡ codes "report" ∷ [] → status ≡ statuses.Done → HoldsTable input text
   -- A report of JSON is read by `serde_json` as the numbers of the jobs and of a plan's levels.
   pub json : words ≡ codes "report" ∷ codes "--json" ∷ [] → status ≡ statuses.Done → HoldsReport input text
   -- The jobs of periodic tasks are read again as a document with just these jobs, in their order and under different names.
