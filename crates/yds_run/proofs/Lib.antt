@@ -8,5 +8,6 @@ pub mod Admitting
 pub mod TooSlow
 pub mod Compared
 pub mod Reported
+pub mod Ended
 pub mod Worth
 mod WorthExamples

@@ -1,5 +1,5 @@
 -- Each answer of the definitions is worth what is said of it.
-use Rattle.yds_model.proofs.Common.{◌≡◌, ◌≢◌, ℕ, List, Option, Some, None, ap, subst, IfSome, Appends, AnswersRequest, Request}
+use Rattle.yds_model.proofs.Common.{◌≡◌, ◌≢◌, ℕ, List, Option, Some, None, [], ◌∷◌, codes, ap, subst, IfSome, Appends, ◌≤◌, length, Document, AuditAnswer, RoundAnswer, CompareAnswer, Question, AskPlan, AskRound, AskAverageRate, AskOptimalAvailable, AskCheck, AskAudit, AskAuditOnPoints, AskReport, AskReportAsJson, AskAdmit, AskCurve, AskCompare, OfDocument, AnswersQuestion, AnswersRequest, Request}
 use Rattle.yds_model.specs.declared.status.Status.{Status}
 use Rattle.yds_model.specs.declared.status.Status.TheVariants as statuses
 use Rattle.yds_report.specs.JsonText.{HoldsReport}
@@ -22,9 +22,10 @@ use Rattle.yds_texts.proofs.TaskTexts.{expansions_are_read}
 use Rattle.yds_run.specs.Words.{asked}
 use Rattle.yds_run.specs.Endings.{IsWhole, WritesWhole, AnswersBytes}
 use Rattle.yds_run.specs.TableText.{HoldsTable}
-use Rattle.yds_run.specs.Worth.{IsWorth}
+use Rattle.yds_run.specs.Worth.{IsWorth, IsInputOf}
 use Rattle.yds_run.proofs.Complete.{whole_outcome}
 use Rattle.yds_run.proofs.Reported.{report_held, table_held}
+use Rattle.yds_run.proofs.Ended.{answer_about, answer_of_tasks, answer_on_points, audit_ends, check_ends, round_ends, compare_ends, served_ends}
 
 module _ (words : List (List ℕ)) (input text : List ℕ) (status : Status) (answers : AnswersRequest (asked words) input text status) where
   -- an answer of this status holds what each such answer holds, where the words ask for it
@@ -38,6 +39,22 @@ module _ (words : List (List ℕ)) (input text : List ℕ) (status : Status) (an
       → ((input text : List ℕ) (status : Status) → IsJudged status → AnswersRequest (Some request) input text status → Holds input text status)
       → asked words ≡ Some request → IsJudged status → Holds input text status
   holds_judged request Holds law asks judged = law input text status judged (subst (λ asked. AnswersRequest asked input text status) asks answers)
+
+  -- an answer to a question about a document within the limits is one about that document
+  about : (question : Question) (document : Document) → asked words ≡ Some (OfDocument question) → IsInputOf document input → AnswersQuestion question document text status
+  about question document asks given = answer_about question document input text status given (subst (λ asked. AnswersRequest asked input text status) asks answers)
+
+  plan_done : (document : Document) → words ≡ codes "plan" ∷ [] → IsInputOf document input → status ≡ statuses.Done
+  plan_done document plan given = (about AskPlan document (ap asked plan) given).ended
+
+  -- where there are points, one to `round` and to `compare` says yes or no
+  round_judged : (document : Document) → asked words ≡ Some (OfDocument AskRound) → IsInputOf document input → 1 ≤ length document.points → IsJudged status
+  round_judged document asks given some =
+      round_ends document text status (answer_on_points (RoundAnswer document) document.points text status some (about AskRound document asks given))
+
+  compare_judged : (grid : ℕ) (document : Document) → asked words ≡ Some (OfDocument (AskCompare grid)) → IsInputOf document input → 1 ≤ length document.points → IsJudged status
+  compare_judged grid document asks given some =
+      compare_ends document grid text status (answer_on_points (CompareAnswer document grid) document.points text status some (about (AskCompare grid) document asks given))
 
   pub answers_are_worth : IsWorth words input text status
   answers_are_worth = record {
@@ -56,6 +73,28 @@ module _ (words : List (List ℕ)) (input text : List ℕ) (status : Status) (an
     expansion = λ expand done. holds _ _ HoldsExpansion expansions_are_read (ap asked expand) done;
     admission = λ top admit done. holds _ _ (HoldsAdmission top) (admission_held words top admit) admit done;
     table = λ report done. holds _ _ HoldsTable table_held (ap asked report) done;
+    planned = λ document plan given. (
+      plan_done document plan given,
+      holds _ _ HoldsHeadline plans_hold_the_headline (ap asked plan) (plan_done document plan given),
+    );
+    checked = λ document check given. check_ends document text status (about AskCheck document (ap asked check) given);
+    audited = λ document audit given. audit_ends document None text status (about AskAudit document (ap asked audit) given);
+    audited_on_points = λ document audit given some. audit_ends document (Some document.points) text status
+        (answer_on_points (AuditAnswer document (Some document.points)) document.points text status some (about AskAuditOnPoints document (ap asked audit) given));
+    rounded_or_not = λ document round given some. round_judged document (ap asked round) given some;
+    rounded = λ document round given some served. served_ends document input text status given (round_judged document (ap asked round) given some)
+        (λ no. holds _ _ HoldsTooSlow refused_is_too_slow (ap asked round) no) served;
+    compared_or_not = λ grid document compare given some. compare_judged grid document compare given some;
+    compared = λ grid document compare given some served. served_ends document input text status given (compare_judged grid document compare given some)
+        (λ no. holds _ _ HoldsTooSlow (compared_is_too_slow grid) compare no) served;
+    average_rate_run = λ grid document avr given. (about (AskAverageRate grid) document avr given).ended;
+    optimal_available_run = λ grid document oa given. (about (AskOptimalAvailable grid) document oa given).ended;
+    curve_told = λ document curve given. (about AskCurve document (ap asked curve) given).ended;
+    reported = λ document report given. (about AskReport document (ap asked report) given).ended;
+    reported_as_json = λ document report given. (about AskReportAsJson document (ap asked report) given).ended;
+    admitted = λ top document admit given. (about (AskAdmit top) document admit given).ended;
+    expanded = λ set expand short read. (answer_of_tasks set input text status short read
+        (subst (λ asked. AnswersRequest asked input text status) (ap asked expand) answers)).ended;
   }
 
 -- what was written whole is worth what its answer is

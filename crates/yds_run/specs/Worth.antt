@@ -1,9 +1,16 @@
 -- What an answer with its status is worth to whoever asked for it with these words, over this input. It is what `run` ensures over
 -- a source and a sink that tell their bytes.
-use Rattle.std.specs.Prelude.{◌≡◌, ℕ, ◌⊎◌, List, [], ◌∷◌, codes, Some}
+use Rattle.std.specs.Prelude.{◌≡◌, ℕ, ◌≤◌, ◌⊎◌, List, [], ◌∷◌, length, codes, Some, Ok}
+use Rattle.yds_model.specs.declared.limits.TheConstants.{MAX_INPUT}
 use Rattle.yds_model.specs.declared.status.Status.{Status}
 use Rattle.yds_model.specs.declared.status.Status.TheVariants as statuses
 use Rattle.yds_model.specs.Request.{OfDocument, AskAverageRate, AskOptimalAvailable, AskAdmit, AskCompare}
+use Rattle.yds_model.specs.Admission.{CanServe}
+use Rattle.yds_model.specs.Rounding.{top_of}
+use Rattle.yds_model.specs.Document.{Document}
+use Rattle.yds_model.specs.Reading.{reading}
+use Rattle.yds_model.specs.Tasks.{TaskSet}
+use Rattle.yds_model.specs.TaskReading.{task_reading}
 use Rattle.yds_report.specs.JsonText.{HoldsReport}
 use Rattle.yds_texts.specs.AdmitText.{HoldsAdmission}
 use Rattle.yds_texts.specs.CompareText.{HoldsComparison}
@@ -15,6 +22,11 @@ use Rattle.yds_texts.specs.RunText.{HoldsAverageRate, HoldsOptimalAvailable}
 use Rattle.yds_texts.specs.TaskLaws.{HoldsExpansion}
 use Rattle.yds_run.specs.Words.{asked}
 use Rattle.yds_run.specs.TableText.{HoldsTable}
+
+-- The input is within the limits, and is read as this document.
+pub record IsInputOf (document : Document) (input : List ℕ) : Type 0 where
+  pub short : length input ≤ MAX_INPUT
+  pub read : reading input ≡ Ok document
 
 pub record IsWorth (words : List (List ℕ)) (input text : List ℕ) (status : Status) : Type 0 where
   -- A plan is read again as the document with that plan, which gives every job its work in its window and, for every speed, does no more
@@ -55,3 +67,30 @@ pub record IsWorth (words : List (List ℕ)) (input text : List ℕ) (status : S
   -- its work in its window, nowhere faster than the top speed. In the interval of each comment lie the windows of that job and of admitted
   -- ones whose work is more than the top speed does there.
   pub admission : (top : ℕ) → asked words ≡ Some (OfDocument (AskAdmit top)) → status ≡ statuses.Done → HoldsAdmission top input text
+  -- The headline, from the input on: where it is a document within the limits `plan` is done, and its text holds the headline.
+  pub planned : (document : Document) → words ≡ codes "plan" ∷ [] → IsInputOf document input → (status ≡ statuses.Done) × HoldsHeadline input text
+  -- Of such a document `check` and `audit` say yes or no, and `audit --points` does where there are points.
+  pub checked : (document : Document) → words ≡ codes "check" ∷ [] → IsInputOf document input → (status ≡ statuses.Done) ⊎ (status ≡ statuses.No)
+  pub audited : (document : Document) → words ≡ codes "audit" ∷ [] → IsInputOf document input → (status ≡ statuses.Done) ⊎ (status ≡ statuses.No)
+  pub audited_on_points : (document : Document) → words ≡ codes "audit" ∷ codes "--points" ∷ [] → IsInputOf document input
+      → 1 ≤ length document.points → (status ≡ statuses.Done) ⊎ (status ≡ statuses.No)
+  -- Where there are points `round` and `compare` are done or say no, and they are done where the top point's speed suffices for the jobs.
+  pub rounded_or_not : (document : Document) → words ≡ codes "round" ∷ [] → IsInputOf document input
+      → 1 ≤ length document.points → (status ≡ statuses.Done) ⊎ (status ≡ statuses.No)
+  pub rounded : (document : Document) → words ≡ codes "round" ∷ [] → IsInputOf document input
+      → 1 ≤ length document.points → CanServe (top_of document.points) document.jobs → status ≡ statuses.Done
+  pub compared_or_not : (grid : ℕ) (document : Document) → asked words ≡ Some (OfDocument (AskCompare grid)) → IsInputOf document input
+      → 1 ≤ length document.points → (status ≡ statuses.Done) ⊎ (status ≡ statuses.No)
+  pub compared : (grid : ℕ) (document : Document) → asked words ≡ Some (OfDocument (AskCompare grid)) → IsInputOf document input
+      → 1 ≤ length document.points → CanServe (top_of document.points) document.jobs → status ≡ statuses.Done
+  -- The policies, the curve, both reports and the admission of such a document are done.
+  pub average_rate_run : (grid : ℕ) (document : Document) → asked words ≡ Some (OfDocument (AskAverageRate grid)) → IsInputOf document input
+      → status ≡ statuses.Done
+  pub optimal_available_run : (grid : ℕ) (document : Document) → asked words ≡ Some (OfDocument (AskOptimalAvailable grid)) → IsInputOf document input
+      → status ≡ statuses.Done
+  pub curve_told : (document : Document) → words ≡ codes "curve" ∷ [] → IsInputOf document input → status ≡ statuses.Done
+  pub reported : (document : Document) → words ≡ codes "report" ∷ [] → IsInputOf document input → status ≡ statuses.Done
+  pub reported_as_json : (document : Document) → words ≡ codes "report" ∷ codes "--json" ∷ [] → IsInputOf document input → status ≡ statuses.Done
+  pub admitted : (top : ℕ) (document : Document) → asked words ≡ Some (OfDocument (AskAdmit top)) → IsInputOf document input → status ≡ statuses.Done
+  -- Where the input is a list of tasks within the limits `expand` is done.
+  pub expanded : (set : TaskSet) → words ≡ codes "expand" ∷ [] → length input ≤ MAX_INPUT → task_reading input ≡ Ok set → status ≡ statuses.Done
