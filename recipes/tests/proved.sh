@@ -7,7 +7,7 @@ test_proved() {
 		crate = $2
 		gsub(/[` ]/, "", crate)
 		n = split($4, part, "`")
-		for (i = 2; i <= n; i += 2) { name = part[i]; sub(/.*::/, "", name); print crate, name }
+		for (i = 2; i <= n; i += 2) { name = part[i]; sub(/.*(::|[.])/, "", name); print crate, name }
 	}' "$proved" >"$work/contracts"
 	while read -r crate name; do
 		grep -rqw -- "$name" "$here/../crates/$crate/src" "$here/../crates/$crate/specs" 2>/dev/null || wrong="$wrong $crate: $name;"
