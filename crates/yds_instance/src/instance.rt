@@ -55,8 +55,8 @@ impl<'a> Instance<'a> {
     /// Adds a job after the others, and answers its number.
     ///
     /// Fails as `Duplicate` exactly where the name stands already, as `Full` exactly where the name is
-    /// new and `MAX_JOBS` jobs are there, and as `Memory` for want of memory, tried in this order. After
-    /// each of them the instance is unchanged.
+    /// new and `MAX_JOBS` jobs are there, and as `Memory` for want of memory, tried in this order: so `Memory`
+    /// tells that the name is new. After each of them the instance is unchanged.
     pub fn add(&mut self, name: &'a str, row: JobRow) -> Result<u32, AddFault>
         requires { IsTrue (is_name name.now) }
         ensures number { IfOk result (λ number. number ≡ length self.old.jobs) }
@@ -64,6 +64,7 @@ impl<'a> Instance<'a> {
         ensures new { OnOk result (number_of self.old.names name.entry.now ≡ None) }
         ensures duplicate { (earlier : ℕ) → IsErrOf result (AddFault.Duplicate earlier) ↔ (number_of self.old.names name.entry.now ≡ Some earlier) }
         ensures full { IsErrOf result AddFault.Full ↔ ((number_of self.old.names name.entry.now ≡ None) × (length self.old.jobs ≡ MAX_JOBS)) }
+        ensures memory { IsErrOf result AddFault.Memory → number_of self.old.names name.entry.now ≡ None }
         ensures unchanged { OnErr result (self.new ≡ self.old) }
     {
         if self.rows.len() >= MAX_JOBS {
@@ -80,6 +81,7 @@ impl<'a> Instance<'a> {
     fn refusal(&self, name: &str) -> AddFault
         ensures duplicate { (earlier : ℕ) → (result ≡ AddFault.Duplicate earlier) ↔ (number_of self.now.names name.now ≡ Some earlier) }
         ensures full { (result ≡ AddFault.Full) ↔ ((number_of self.now.names name.now ≡ None) × (length self.now.jobs ≡ MAX_JOBS)) }
+        ensures memory { (result ≡ AddFault.Memory) → number_of self.now.names name.now ≡ None }
     {
         match self.find(name) {
             Some(earlier) => AddFault::Duplicate(earlier),
