@@ -3,4 +3,3 @@ pub mod Names
 pub mod Told
 pub mod Printed
 pub mod Level
-pub mod LineKinds

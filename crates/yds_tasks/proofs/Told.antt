@@ -7,9 +7,10 @@ use Rattle.yds_text.specs.Count.{no_reason}
 use Rattle.yds_text.proofs.Counted.{counted_for}
 use Rattle.yds_laws.proofs.TasksSaid.{task_more}
 use Rattle.yds_tasks.specs.declared.draft.Draft.{Draft}
+use Rattle.yds_tasks.specs.declared.field_fault.FieldFault.{FieldFault}
 use Rattle.yds_tasks.specs.declared.line_fault.LineFault.{LineFault}
 use Rattle.yds_tasks.specs.declared.line_fault.LineFault.TheVariants as faults
-use Rattle.yds_tasks.specs.Fields.{Fails, has_name, task_name_of, task_of, task_within}
+use Rattle.yds_tasks.specs.Fields.{Fails, line_fault_of, has_name, task_name_of, task_of, task_within}
 use Rattle.yds_tasks.specs.Lines.{Holds, Takes, Tells}
 
 -- # The horizon and the tasks that were said
@@ -136,8 +137,9 @@ task_read_from earlier fields set k a b c d e holds counted =
 
 -- # What was returned
 
-pub fails_at : (fault : LineFault) (read : Result (List ℕ) (Spot TaskReason)) (column : ℕ) (reason : TaskReason) → fault ≡ faults.At column reason → read ≡ Err (record { column = column; reason = reason }) → Fails fault read
-fails_at fault read column reason is fails = subst (λ (f : LineFault). Fails f read) (sym is) fails
+pub refused_at : {Y : Type 0} (fault : FieldFault) (read : Result Y (Spot TaskReason)) (column : ℕ) (reason : TaskReason) → fault ≡ record { column = column; reason = reason } →
+    read ≡ Err (record { column = column; reason = reason }) → read ≡ Err (record { column = fault.column; reason = fault.reason })
+refused_at fault read column reason is refused = refused ∙ ap (λ (f : FieldFault). Err (record { column = f.column; reason = f.reason })) (sym is)
 
 -- an error that is passed on
 pub passed : (r : Result (Unit {0}) LineFault) (e : LineFault) (read : Result TaskEntry (Spot TaskReason)) (draft : Draft) (es : List TaskEntry)
@@ -145,16 +147,17 @@ pub passed : (r : Result (Unit {0}) LineFault) (e : LineFault) (read : Result Ta
 passed r e read draft es told failed =
     subst (λ (t : Result (Unit {0}) LineFault). Tells t read draft es) (sym told.1) (subst (λ (f : LineFault). Fails f read) (sym told.2) failed)
 
-task_failed : (fault : LineFault) (read : Result Task (Spot TaskReason)) → Fails fault read → Fails fault (entry_of read)
-task_failed (faults.At column reason) read failed = ap entry_of failed
-task_failed faults.Memory read failed = tt
+-- one of a field
+pub passed_on : (r : Result (Unit {0}) LineFault) (field : FieldFault) (read : Result TaskEntry (Spot TaskReason)) (draft : Draft) (es : List TaskEntry)
+    → (y : LineFault) × (r ≡ Err y) × (y ≡ line_fault_of field) → read ≡ Err (record { column = field.column; reason = field.reason }) → Tells r read draft es
+passed_on r field read draft es told refused = passed r (line_fault_of field) read draft es told refused
 
 -- the fields of a task are refused
-pub task_refused : (earlier : List TaskEntry) (fields : List Field) (set : TaskSet) (k a b c d e : Field) (fault : LineFault) → tasks_said earlier ≡ set → is_some set.horizon ≡ true →
-    length set.tasks < MAX_TASKS → (fields ≡ k ∷ a ∷ b ∷ c ∷ d ∷ e ∷ []) × (count_fields no_reason 5 fields ≡ Ok true) → Fails fault (task_of set a b c d e) →
-    Fails fault (read_task earlier fields)
-task_refused earlier fields set k a b c d e fault holds some few counted failed =
-    subst (Fails fault) (sym (task_placed earlier fields set holds some few ∙ task_read_from earlier fields set k a b c d e holds counted)) (task_failed fault (task_of set a b c d e) failed)
+pub task_refused : (earlier : List TaskEntry) (fields : List Field) (set : TaskSet) (k a b c d e : Field) (spot : Spot TaskReason) → tasks_said earlier ≡ set → is_some set.horizon ≡ true →
+    length set.tasks < MAX_TASKS → (fields ≡ k ∷ a ∷ b ∷ c ∷ d ∷ e ∷ []) × (count_fields no_reason 5 fields ≡ Ok true) → task_of set a b c d e ≡ Err spot →
+    read_task earlier fields ≡ Err spot
+task_refused earlier fields set k a b c d e spot holds some few counted refused =
+    task_placed earlier fields set holds some few ∙ task_read_from earlier fields set k a b c d e holds counted ∙ ap entry_of refused
 
 memory_alone : (fault : LineFault) (read : Result TaskEntry (Spot TaskReason)) → fault ≡ faults.Memory → Fails fault read
 memory_alone fault read is = subst (λ (f : LineFault). Fails f read) (sym is) tt

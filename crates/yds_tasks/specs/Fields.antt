@@ -11,6 +11,7 @@ use Rattle.yds_model.specs.Fields.{Spot, ◌>>=◌, demand}
 use Rattle.yds_model.specs.Tasks.{Task, TaskSet}
 use Rattle.yds_model.specs.TaskReading.{is_task_name, task_number_in, count_of_all}
 use Rattle.yds_text.specs.declared.count.FieldCount.{FieldCount}
+use Rattle.yds_tasks.specs.declared.field_fault.FieldFault.{FieldFault}
 use Rattle.yds_tasks.specs.declared.line_fault.LineFault.{LineFault}
 use Rattle.yds_tasks.specs.declared.line_fault.LineFault.TheVariants as faults
 use Rattle.yds_tasks.specs.KeptTasks.{with_task}
@@ -20,14 +21,18 @@ abbrev pub Fails : {Y : Type 0} → LineFault → Result Y (Spot TaskReason) →
 Fails (faults.At column reason) read = read ≡ Err (record { column = column; reason = reason })
 Fails faults.Memory read = Unit {0}
 
--- what was returned, seen by `view`, is what the definition says, unless memory ran out
-abbrev pub Gives : {X Y : Type 0} → (X → Y) → Result X LineFault → Result Y (Spot TaskReason) → Type 0
+-- what a reader of fields returned, seen by `view`, is what the definition says
+abbrev pub Gives : {X Y : Type 0} → (X → Y) → Result X FieldFault → Result Y (Spot TaskReason) → Type 0
 Gives view (Ok x) read = read ≡ Ok (view x)
-Gives view (Err fault) read = Fails fault read
+Gives view (Err fault) read = read ≡ Err (record { column = fault.column; reason = fault.reason })
+
+-- the fault of a line whose fields have this one
+abbrev pub line_fault_of : FieldFault → LineFault
+line_fault_of field = faults.At field.column field.reason
 
 -- the fault of a line of too many or too few fields
-abbrev pub task_count_fault : FieldCount → LineFault
-task_count_fault count = faults.At count.column reasons.FieldCount
+abbrev pub task_count_fault : FieldCount → FieldFault
+task_count_fault count = record { column = count.column; reason = reasons.FieldCount }
 
 -- a task of this name is there
 abbrev pub has_name : TaskSet → List ℕ → Bool

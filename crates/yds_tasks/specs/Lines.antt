@@ -9,6 +9,7 @@ use Rattle.yds_model.specs.Reading.{live_lines}
 use Rattle.yds_model.specs.Tasks.{TaskSet}
 use Rattle.yds_model.specs.TaskReading.{TaskEntry, tasks_said, read_tasks_after}
 use Rattle.yds_tasks.specs.declared.draft.Draft.{Draft}
+use Rattle.yds_tasks.specs.declared.field_fault.FieldFault.{FieldFault}
 use Rattle.yds_tasks.specs.declared.line_fault.LineFault.{LineFault}
 use Rattle.yds_tasks.specs.declared.fault.TaskFault.{TaskFault}
 use Rattle.yds_tasks.specs.declared.fault.TaskFault.TheVariants as faults
@@ -35,6 +36,11 @@ pub record HoldsMore (read : Result TaskEntry (Spot TaskReason)) (draft : Draft)
 abbrev pub Tells : Result (Unit {0}) LineFault → Result TaskEntry (Spot TaskReason) → Draft → List TaskEntry → Type 0
 Tells (Ok done) read draft earlier = HoldsMore read draft earlier
 Tells (Err fault) read draft earlier = Fails fault read
+
+-- the same of a line that is read without memory
+abbrev pub TellsField : Result (Unit {0}) FieldFault → Result TaskEntry (Spot TaskReason) → Draft → List TaskEntry → Type 0
+TellsField (Ok done) read draft earlier = HoldsMore read draft earlier
+TellsField (Err fault) read draft earlier = read ≡ Err (record { column = fault.column; reason = fault.reason })
 
 -- the definition says this fault, unless memory ran out
 abbrev pub TaskFails : {Y : Type 0} → TaskFault → Result Y (Fault TaskReason) → Type 0

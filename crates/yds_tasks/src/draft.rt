@@ -5,9 +5,10 @@ ghost use Rattle.yds_model.specs.TaskReading.{TaskEntry, TaskEntryOf, read_horiz
 ghost use Rattle.yds_text.specs.Read.{field_read};
 ghost use Rattle.yds_tasks.specs.Fields.{Gives, task_name_of, task_of, has_name};
 ghost use Rattle.yds_tasks.specs.KeptTasks.{with_task};
-ghost use Rattle.yds_tasks.specs.Lines.{IsDraft, Holds, Takes, Tells};
+ghost use Rattle.yds_tasks.specs.Lines.{IsDraft, Holds, Takes, Tells, TellsField};
 ghost use Rattle.yds_tasks.specs.Read.{task_read};
 
+use crate::field_fault::FieldFault;
 use crate::fields::{number_in, task_name};
 use crate::line_fault::LineFault;
 use crate::line_kind::LineKind;
@@ -51,20 +52,23 @@ impl<'a> Draft<'a> {
         ensures reads { (earlier : List TaskEntry) → Holds self.old earlier → Tells result (read_task_fields earlier (field_read first.entry ∷ rest.entry.fields)) self.new earlier }
     {
         match LineKind::of(first.text) {
-            Some(LineKind::Horizon) => self.read_horizon(first, rest),
+            Some(LineKind::Horizon) => {
+                self.read_horizon(first, rest)?;
+                Ok(())
+            }
             Some(LineKind::Task) => self.read_task(first, rest),
             None => Err(LineFault::at(first.column, TaskReason::UnknownKind)),
         }
     }
 
     /// Reads the line of the horizon, of which there is one at most.
-    fn read_horizon(&mut self, first: Field<'a>, rest: Fields<'a>) -> Result<(), LineFault>
+    fn read_horizon(&mut self, first: Field<'a>, rest: Fields<'a>) -> Result<(), FieldFault>
         requires kept { IsDraft self.old }
         ensures kept { OnOk result (IsDraft self.new) }
-        ensures reads { (earlier : List TaskEntry) → Holds self.old earlier → Tells result (read_horizon earlier (field_read first.entry ∷ rest.entry.fields)) self.new earlier }
+        ensures reads { (earlier : List TaskEntry) → Holds self.old earlier → TellsField result (read_horizon earlier (field_read first.entry ∷ rest.entry.fields)) self.new earlier }
     {
         if self.set.has_horizon() {
-            return Err(LineFault::at(first.column, TaskReason::Misplaced));
+            return Err(FieldFault::at(first.column, TaskReason::Misplaced));
         }
         let field = one_field(first, rest)?;
         let horizon = number_in(field, 1, MAX_TIME)?;
@@ -90,7 +94,7 @@ impl<'a> Draft<'a> {
     }
 
     /// What the fields say.
-    fn task_in(&self, fields: FiveFields<'a>) -> Result<Task<'a>, LineFault>
+    fn task_in(&self, fields: FiveFields<'a>) -> Result<Task<'a>, FieldFault>
         requires kept { IsDraft self.now }
         requires horizon { IsTrue (is_some self.now.set.horizon) }
         ensures gives { Gives task_read result (task_of self.now.set (field_read fields.entry.0) (field_read fields.entry.1) (field_read fields.entry.2) (field_read fields.entry.3) (field_read fields.entry.4)) }
@@ -114,22 +118,22 @@ impl<'a> Draft<'a> {
         if self.set.has_room_for(&task) {
             Ok(task)
         } else {
-            Err(LineFault::at(period_column, TaskReason::TooManyJobs))
+            Err(FieldFault::at(period_column, TaskReason::TooManyJobs))
         }
     }
 
     /// A name that no task has yet.
-    fn new_name(&self, field: Field<'a>) -> Result<&'a str, LineFault>
+    fn new_name(&self, field: Field<'a>) -> Result<&'a str, FieldFault>
         requires kept { IsDraft self.now }
         ensures gives { Gives (λ name. name.now) result (task_name_of self.now.set (field_read field.entry)) }
         ensures named { IfOk result (λ name. IsTrue (is_task_name name.now)) }
         ensures new { IfOk result (λ name. IsFalse (has_name self.now.set name.now)) }
     {
         let Some(name) = task_name(field) else {
-            return Err(LineFault::at(field.column, TaskReason::BadName));
+            return Err(FieldFault::at(field.column, TaskReason::BadName));
         };
         if self.names.contains(name) {
-            Err(LineFault::at(field.column, TaskReason::DuplicateName))
+            Err(FieldFault::at(field.column, TaskReason::DuplicateName))
         } else {
             Ok(name)
         }

@@ -4,19 +4,19 @@ ghost use Rattle.yds_model.specs.TaskReading.{task_number_in, is_task_name};
 ghost use Rattle.yds_text.specs.Read.{field_read};
 ghost use Rattle.yds_tasks.specs.Fields.{Gives};
 
-use crate::line_fault::LineFault;
+use crate::field_fault::FieldFault;
 use yds_model::TaskReason;
 use yds_model::limits::MAX_TASK_NAME;
 use yds_text::{Field, name, number_from};
 
 /// The number of 32 bits that the field spells.
-pub(crate) fn number_in(field: Field<'_>, least: u32, most: u32) -> Result<u32, LineFault>
+pub(crate) fn number_in(field: Field<'_>, least: u32, most: u32) -> Result<u32, FieldFault>
     ensures gives { Gives (λ n. n) result (task_number_in least most (field_read field.entry)) }
     ensures within { IfOk result (λ n. (least ≤ n) × (n ≤ most)) }
 {
     match number_from(field, u64::from(least), u64::from(most)) {
         Ok(number) => Ok(number as u32),
-        Err(fault) => Err(LineFault::of_number(field.column, fault)),
+        Err(fault) => Err(FieldFault::of_number(field.column, fault)),
     }
 }
 

@@ -10,6 +10,7 @@
 
 mod draft;
 mod fault;
+mod field_fault;
 mod fields;
 mod job_line;
 mod line_fault;

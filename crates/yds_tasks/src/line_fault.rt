@@ -1,9 +1,9 @@
 ghost use Rattle.std.specs.Prelude.{◌≡◌};
-ghost use Rattle.yds_model.specs.TaskReading.{task_reason_of};
 ghost use Rattle.yds_tasks.specs.declared.line_fault.LineFault.TheVariants as faults;
 
+use crate::field_fault::FieldFault;
 use std::alloc::{AllocError, AllocFailed};
-use yds_model::{NumberFault, TaskReason};
+use yds_model::TaskReason;
 use yds_text::FieldCount;
 
 /// Why a line wasn't taken.
@@ -35,11 +35,22 @@ impl<T: Drop> From<AllocFailed<T>> for LineFault {
     }
 }
 
+impl From<FieldFault> for LineFault {
+    ghost use Rattle.std.specs.Prelude.{◌≡◌};
+    ghost use Rattle.yds_tasks.specs.Fields.{line_fault_of};
+
+    ghost from_gives = { λ field fault. fault ≡ line_fault_of field };
+
+    fn from(field: FieldFault) -> LineFault {
+        LineFault::at(field.column, field.reason)
+    }
+}
+
 impl From<FieldCount> for LineFault {
     ghost use Rattle.std.specs.Prelude.{◌≡◌};
-    ghost use Rattle.yds_tasks.specs.Fields.{task_count_fault};
+    ghost use Rattle.yds_tasks.specs.Fields.{task_count_fault, line_fault_of};
 
-    ghost from_gives = { λ count fault. fault ≡ task_count_fault count };
+    ghost from_gives = { λ count fault. fault ≡ line_fault_of (task_count_fault count) };
 
     fn from(count: FieldCount) -> LineFault {
         LineFault::at(count.column, TaskReason::FieldCount)
@@ -52,15 +63,5 @@ impl LineFault {
         ensures { result ≡ faults.At column reason }
     {
         LineFault::At { column, reason }
-    }
-
-    /// What is wrong with the number at this column, from 1.
-    pub(crate) fn of_number(column: u32, fault: NumberFault) -> LineFault
-        ensures { result ≡ faults.At column (task_reason_of fault) }
-    {
-        match fault {
-            NumberFault::BadNumber => LineFault::at(column, TaskReason::BadNumber),
-            NumberFault::OutOfRange => LineFault::at(column, TaskReason::OutOfRange),
-        }
     }
 }
