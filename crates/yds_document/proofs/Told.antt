@@ -4,11 +4,11 @@ use Rattle.yds_model.specs.declared.reason.Reason.{Reason}
 use Rattle.yds_model.specs.declared.reason.Reason.TheVariants as reasons
 use Rattle.yds_model.specs.declared.limits.TheConstants.{MAX_POINT_SPEED, MAX_POINT_POWER}
 use Rattle.yds_document.specs.declared.draft.Draft.{Draft}
+use Rattle.yds_document.specs.declared.field_fault.FieldFault.{FieldFault}
 use Rattle.yds_document.specs.declared.line_fault.LineFault.{LineFault}
-use Rattle.yds_document.specs.declared.line_fault.LineFault.TheVariants.{At, Memory}
 use Rattle.yds_text.specs.Count.{no_reason}
 use Rattle.yds_text.proofs.Counted.{counted_for}
-use Rattle.yds_document.specs.Fields.{Fails}
+use Rattle.yds_document.specs.Fields.{Fails, line_fault_of}
 use Rattle.yds_document.specs.Job.{job_of}
 use Rattle.yds_document.specs.Slot.{slot_of}
 use Rattle.yds_document.specs.Run.{run_of}
@@ -21,6 +21,11 @@ pub passed : (r : Result (Unit {0}) LineFault) (e : LineFault) (read : Result En
 passed r e read draft es told failed =
     subst (λ (t : Result (Unit {0}) LineFault). Tells t read draft es) (sym told.1) (subst (λ (f : LineFault). Fails f read) (sym told.2) failed)
 
+-- one of a field
+pub passed_on : (r : Result (Unit {0}) LineFault) (field : FieldFault) (read : Result Entry (Spot Reason)) (draft : Draft) (es : List Entry)
+    → (y : LineFault) × (r ≡ Err y) × (y ≡ line_fault_of field) → read ≡ Err (record { column = field.column; reason = field.reason }) → Tells r read draft es
+passed_on r field read draft es told refused = passed r (line_fault_of field) read draft es told refused
+
 counted_read : (kind : Kind) (earlier : List Entry) (fields cells : List Field) → (fields ≡ cells) × (count_fields no_reason (fields_wanted kind) fields ≡ Ok true)
     → count_and_read kind earlier fields ≡ read_kind kind earlier cells
 counted_read kind earlier fields cells counted =
@@ -30,6 +35,10 @@ counted_read kind earlier fields cells counted =
 pub fields_failed : (kind : Kind) (earlier : List Entry) (fields cells : List Field) (fault : LineFault)
     → (fields ≡ cells) × (count_fields no_reason (fields_wanted kind) fields ≡ Ok true) → Fails fault (read_kind kind earlier cells) → Fails fault (count_and_read kind earlier fields)
 fields_failed kind earlier fields cells fault counted failed = subst (Fails fault) (sym (counted_read kind earlier fields cells counted)) failed
+
+pub fields_refused : (kind : Kind) (earlier : List Entry) (fields cells : List Field) (spot : Spot Reason)
+    → (fields ≡ cells) × (count_fields no_reason (fields_wanted kind) fields ≡ Ok true) → read_kind kind earlier cells ≡ Err spot → count_and_read kind earlier fields ≡ Err spot
+fields_refused kind earlier fields cells spot counted refused = counted_read kind earlier fields cells counted ∙ refused
 
 -- the entry that the fields say is held
 pub holds_more : (kind : Kind) (earlier : List Entry) (fields cells : List Field) (entry : Entry) (old new : Draft)
@@ -81,7 +90,6 @@ point_refused points (Ok speed) (Ok power) a spot is = cc
 point_refused points (Ok speed) (Err e) a spot is = cc
 point_refused points (Err e) p a spot is = cc
 
-pub point_failed : (earlier : List Entry) (k a b : Field) (fault : LineFault) → Fails fault (point_of a b) → Fails fault (read_kind PointLine earlier (k ∷ a ∷ b ∷ []))
-point_failed earlier k a b (At column reason) failed =
-    point_refused (filter_map point_said earlier) (number_in 0 MAX_POINT_SPEED a) (number_in 0 MAX_POINT_POWER b) a (record { column = column; reason = reason }) failed
-point_failed earlier k a b Memory failed = tt
+pub point_failed : (earlier : List Entry) (k a b : Field) (spot : Spot Reason) → point_of a b ≡ Err spot → read_kind PointLine earlier (k ∷ a ∷ b ∷ []) ≡ Err spot
+point_failed earlier k a b spot refused =
+    point_refused (filter_map point_said earlier) (number_in 0 MAX_POINT_SPEED a) (number_in 0 MAX_POINT_POWER b) a spot refused

@@ -8,6 +8,7 @@ use Rattle.yds_model.specs.declared.reason.Reason.TheVariants as reasons
 use Rattle.yds_model.specs.Fields.{Spot, ◌>>=◌, refuse, demand}
 use Rattle.yds_instance.specs.Named.{number_of}
 use Rattle.yds_text.specs.declared.count.FieldCount.{FieldCount}
+use Rattle.yds_document.specs.declared.field_fault.FieldFault.{FieldFault}
 use Rattle.yds_document.specs.declared.line_fault.LineFault.{LineFault}
 use Rattle.yds_document.specs.declared.line_fault.LineFault.TheVariants as faults
 
@@ -16,10 +17,19 @@ abbrev pub Fails : {Y : Type 0} → LineFault → Result Y (Spot Reason) → Typ
 Fails (faults.At column reason) read = read ≡ Err (record { column = column; reason = reason })
 Fails faults.Memory read = Unit {0}
 
--- what was returned, seen by `view`, is what the definition says, unless memory ran out
-abbrev pub Gives : {X Y : Type 0} → (X → Y) → Result X LineFault → Result Y (Spot Reason) → Type 0
+-- what a reader of fields returned, seen by `view`, is what the definition says
+abbrev pub Gives : {X Y : Type 0} → (X → Y) → Result X FieldFault → Result Y (Spot Reason) → Type 0
 Gives view (Ok x) read = read ≡ Ok (view x)
-Gives view (Err fault) read = Fails fault read
+Gives view (Err fault) read = read ≡ Err (record { column = fault.column; reason = fault.reason })
+
+-- the same of what takes memory, unless it ran out
+abbrev pub GivesUnlessMemory : {X Y : Type 0} → (X → Y) → Result X LineFault → Result Y (Spot Reason) → Type 0
+GivesUnlessMemory view (Ok x) read = read ≡ Ok (view x)
+GivesUnlessMemory view (Err fault) read = Fails fault read
+
+-- the fault of a line whose fields have this one
+abbrev pub line_fault_of : FieldFault → LineFault
+line_fault_of field = faults.At field.column field.reason
 
 -- the fault of a line of too many or too few fields
 abbrev pub count_fault : FieldCount → LineFault

@@ -14,6 +14,7 @@ ghost use Rattle.yds_document.specs.Draft.{IsDraft, Reads, Takes};
 ghost use Rattle.yds_document.specs.Fields.{Gives};
 
 use crate::draft::Draft;
+use crate::field_fault::FieldFault;
 use crate::fields::fraction_in;
 use crate::kept_text::{NumberText, put_fraction};
 use crate::line_fault::LineFault;
@@ -41,7 +42,7 @@ pub(crate) fn read<'a>(
 }
 
 /// What the field says.
-fn energy_in(energy: Field<'_>) -> Result<Amount, LineFault>
+fn energy_in(energy: Field<'_>) -> Result<Amount, FieldFault>
     ensures gives { Gives (λ energy. EnergyEntry energy) result (read_energy (no_field ∷ field_read energy.entry ∷ [])) }
     ensures within { IfOk result (λ energy. energy.whole ≤ MAX_ENERGY) }
 {

@@ -10,25 +10,25 @@ ghost use Rattle.yds_text.specs.Read.{field_read};
 ghost use Rattle.yds_text.specs.Plain.{ReadsText};
 ghost use Rattle.yds_document.specs.Fields.{Gives, new_name_of, known_job_of};
 
-use crate::line_fault::LineFault;
+use crate::field_fault::FieldFault;
 use yds_fraction::Amount;
 use yds_instance::Instance;
 use yds_model::Reason;
 use yds_text::{Field, Fields, mixed, name, number_from};
 
 /// The number that the field spells.
-pub(crate) fn number_in(field: Field<'_>, least: u64, most: u64) -> Result<u64, LineFault>
+pub(crate) fn number_in(field: Field<'_>, least: u64, most: u64) -> Result<u64, FieldFault>
     ensures gives { Gives (λ n. n) result (number_in least most (field_read field.entry)) }
     ensures within { IfOk result (λ n. (least ≤ n) × (n ≤ most)) }
 {
     match number_from(field, least, most) {
         Ok(number) => Ok(number),
-        Err(fault) => Err(LineFault::of_number(field.column, fault)),
+        Err(fault) => Err(FieldFault::of_number(field.column, fault)),
     }
 }
 
 /// The same of a number of 32 bits.
-pub(crate) fn small_in(field: Field<'_>, least: u32, most: u32) -> Result<u32, LineFault>
+pub(crate) fn small_in(field: Field<'_>, least: u32, most: u32) -> Result<u32, FieldFault>
     ensures gives { Gives (λ n. n) result (number_in least most (field_read field.entry)) }
     ensures within { IfOk result (λ n. (least ≤ n) × (n ≤ most)) }
 {
@@ -37,7 +37,7 @@ pub(crate) fn small_in(field: Field<'_>, least: u32, most: u32) -> Result<u32, L
 }
 
 /// The fraction that the field spells.
-pub(crate) fn fraction_in(field: Field<'_>, most: u64) -> Result<Amount, LineFault>
+pub(crate) fn fraction_in(field: Field<'_>, most: u64) -> Result<Amount, FieldFault>
     requires { most ≤ MAX_WHOLE }
     ensures gives { Gives (λ x. x) result (fraction_in most (field_read field.entry)) }
     ensures within { IfOk result (IsFraction most) }
@@ -48,7 +48,7 @@ pub(crate) fn fraction_in(field: Field<'_>, most: u64) -> Result<Amount, LineFau
             let _den = value.den();
             Ok(value)
         }
-        Err(fault) => Err(LineFault::of_number(field.column, fault)),
+        Err(fault) => Err(FieldFault::of_number(field.column, fault)),
     }
 }
 
@@ -65,22 +65,22 @@ pub(crate) fn plain_fraction(fields: &mut Fields<'_>, most: u64) -> Option<Amoun
 }
 
 /// A name that no job has yet.
-pub(crate) fn new_name<'a>(instance: &Instance<'a>, field: Field<'a>) -> Result<&'a str, LineFault>
+pub(crate) fn new_name<'a>(instance: &Instance<'a>, field: Field<'a>) -> Result<&'a str, FieldFault>
     ensures gives { Gives (λ name. name.now) result (new_name_of instance.now.names (field_read field.entry)) }
     ensures named { IfOk result (λ name. IsTrue (is_name name.now)) }
     ensures new { IfOk result (λ name. number_of instance.now.names name.now ≡ None) }
 {
     let Some(name) = name(field) else {
-        return Err(LineFault::at(field.column, Reason::BadName));
+        return Err(FieldFault::at(field.column, Reason::BadName));
     };
     match instance.find(name) {
-        Some(_) => Err(LineFault::at(field.column, Reason::DuplicateName)),
+        Some(_) => Err(FieldFault::at(field.column, Reason::DuplicateName)),
         None => Ok(name),
     }
 }
 
 /// The number of the job of this name.
-pub(crate) fn known_job(instance: &Instance<'_>, field: Field<'_>) -> Result<u32, LineFault>
+pub(crate) fn known_job(instance: &Instance<'_>, field: Field<'_>) -> Result<u32, FieldFault>
     ensures gives { Gives (λ job. job) result (known_job_of instance.now.names (field_read field.entry)) }
     ensures known { IfOk result (λ job. job < length instance.now.jobs) }
 {
@@ -88,10 +88,10 @@ pub(crate) fn known_job(instance: &Instance<'_>, field: Field<'_>) -> Result<u32
         return Ok(job);
     }
     let Some(name) = name(field) else {
-        return Err(LineFault::at(field.column, Reason::BadName));
+        return Err(FieldFault::at(field.column, Reason::BadName));
     };
     match instance.find(name) {
         Some(job) => Ok(job),
-        None => Err(LineFault::at(field.column, Reason::UnknownName)),
+        None => Err(FieldFault::at(field.column, Reason::UnknownName)),
     }
 }

@@ -11,6 +11,7 @@ ghost use Rattle.yds_document.specs.Draft.{IsDraft, Reads, Takes};
 ghost use Rattle.yds_document.specs.Fields.{Gives};
 
 use crate::draft::Draft;
+use crate::field_fault::FieldFault;
 use crate::fields::small_in;
 use crate::line_fault::LineFault;
 use crate::tail_buffer::Line;
@@ -61,7 +62,7 @@ pub(crate) fn read<'a>(
 }
 
 /// What the fields say.
-fn grid_in(grid: Field<'_>, rounded: Field<'_>) -> Result<Grid, LineFault>
+fn grid_in(grid: Field<'_>, rounded: Field<'_>) -> Result<Grid, FieldFault>
     ensures gives { Gives (λ grid. GridEntry grid) result (read_grid (no_field ∷ field_read grid.entry ∷ field_read rounded.entry ∷ [])) }
 {
     let grid = small_in(grid, 1, MAX_GRID)?;

@@ -1,6 +1,6 @@
 //! The lines of jobs: a job with a name of its own.
 
-ghost use Rattle.std.specs.Prelude.{◌≡◌, ◌+◌, ◌<◌, ◌≤◌, ◌∷◌, ◌++◌, ℕ, List, length, None, OnOk, IfOk, IfSome, IsTrue, IsFalse};
+ghost use Rattle.std.specs.Prelude.{◌≡◌, ◌+◌, ◌<◌, ◌≤◌, ◌∷◌, ◌++◌, ℕ, List, length, None, OnOk, OnErr, IfOk, IfSome, IsTrue, IsFalse};
 ghost use Rattle.yds_model.specs.declared.limits.TheConstants.{MAX_JOBS, MAX_NAME};
 ghost use Rattle.yds_model.specs.Document.{name_at};
 ghost use Rattle.yds_model.specs.Entry.{JobEntry};
@@ -16,6 +16,7 @@ ghost use Rattle.yds_document.specs.Job.{job_of, job_lines_from};
 ghost use Rattle.yds_document.specs.Plain.{SaysFour};
 
 use crate::draft::Draft;
+use crate::field_fault::FieldFault;
 use crate::fields::{new_name, small_in};
 use crate::line_buffer::LINE_BYTES;
 use crate::line_fault::LineFault;
@@ -62,7 +63,7 @@ fn read_each<'a>(
             add(draft, name, row)?;
             Ok(())
         }
-        Err(fault) => Err(fault),
+        Err(fault) => Err(LineFault::from(fault)),
     }
 }
 
@@ -89,7 +90,7 @@ fn job_in<'a>(
     release: Field<'a>,
     deadline: Field<'a>,
     work: Field<'a>,
-) -> Result<(&'a str, JobRow), LineFault>
+) -> Result<(&'a str, JobRow), FieldFault>
     ensures gives { Gives (λ said. JobEntry said.0.now said.1) result
         (job_of instance.now.names (field_read name.entry) (field_read release.entry) (field_read deadline.entry) (field_read work.entry)) }
     ensures named { IfOk result (λ said. IsTrue (is_name said.0.now)) }
@@ -102,11 +103,11 @@ fn job_in<'a>(
     if from < to {
         Ok((name, JobRow::new(from, to, work)))
     } else {
-        Err(LineFault::at(deadline.column, Reason::EmptyWindow))
+        Err(FieldFault::at(deadline.column, Reason::EmptyWindow))
     }
 }
 
-/// Puts the job last, if no other has its name: whether that is so.
+/// Puts the job last, if no other has its name: whether that is so. Only a job of a new name can want memory.
 fn add_new<'a>(draft: &mut Draft<'a>, name: &'a str, row: JobRow) -> Result<bool, Memory>
     requires kept { IsDraft draft.old }
     requires named { IsTrue (is_name name.now) }
@@ -115,6 +116,7 @@ fn add_new<'a>(draft: &mut Draft<'a>, name: &'a str, row: JobRow) -> Result<bool
     ensures new { IfOk result (λ added. IsTrue added → number_of draft.old.instance.names name.entry.now ≡ None) }
     ensures takes { IfOk result (λ added. IsTrue added → Takes draft.old draft.new (JobEntry name.entry.now row)) }
     ensures same { IfOk result (λ added. IsFalse added → draft.new ≡ draft.old) }
+    ensures memory { OnErr result (number_of draft.old.instance.names name.entry.now ≡ None) }
 {
     let jobs = draft.instance.rows().len() as u32;
     match draft.instance.add(name, row) {

@@ -15,6 +15,7 @@ ghost use Rattle.yds_document.specs.Level.{line_count, line_total};
 ghost use Rattle.yds_document.specs.Plain.{SaysTwo, read_level_fields};
 
 use crate::draft::Draft;
+use crate::field_fault::FieldFault;
 use crate::fields::number_in;
 use crate::line_buffer::LINE_BYTES;
 use crate::line_fault::LineFault;
@@ -81,7 +82,7 @@ fn plain_level(mut fields: Fields<'_>) -> Option<(u64, u64)>
 }
 
 /// What the fields say: the work and the length.
-fn level_in(work: Field<'_>, len: Field<'_>) -> Result<(u64, u64), LineFault>
+fn level_in(work: Field<'_>, len: Field<'_>) -> Result<(u64, u64), FieldFault>
     ensures gives { Gives (λ said. LevelEntry said.0 said.1) result (read_level (no_field ∷ field_read work.entry ∷ field_read len.entry ∷ [])) }
     ensures work { IfOk result (λ said. (1 ≤ said.0) × (said.0 ≤ MAX_LEVEL_WORK)) }
     ensures len { IfOk result (λ said. (1 ≤ said.1) × (said.1 ≤ MAX_LEVEL_LENGTH)) }

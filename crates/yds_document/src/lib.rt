@@ -16,6 +16,7 @@ mod document;
 mod draft;
 mod energy;
 mod fault;
+mod field_fault;
 mod fields;
 mod grid;
 mod job;

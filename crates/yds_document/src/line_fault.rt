@@ -1,8 +1,8 @@
 ghost use Rattle.std.specs.Prelude.{◌≡◌};
-ghost use Rattle.yds_model.specs.Reading.{reason_of};
 ghost use Rattle.yds_document.specs.declared.line_fault.LineFault.TheVariants as faults;
 
-use yds_model::{Memory, NumberFault, Reason};
+use crate::field_fault::FieldFault;
+use yds_model::{Memory, Reason};
 use yds_text::FieldCount;
 
 /// Why a line wasn't taken.
@@ -24,6 +24,17 @@ impl From<Memory> for LineFault {
     }
 }
 
+impl From<FieldFault> for LineFault {
+    ghost use Rattle.std.specs.Prelude.{◌≡◌};
+    ghost use Rattle.yds_document.specs.Fields.{line_fault_of};
+
+    ghost from_gives = { λ field fault. fault ≡ line_fault_of field };
+
+    fn from(field: FieldFault) -> LineFault {
+        LineFault::at(field.column, field.reason)
+    }
+}
+
 impl From<FieldCount> for LineFault {
     ghost use Rattle.std.specs.Prelude.{◌≡◌};
     ghost use Rattle.yds_document.specs.Fields.{count_fault};
@@ -41,15 +52,5 @@ impl LineFault {
         ensures { result ≡ faults.At column reason }
     {
         LineFault::At { column, reason }
-    }
-
-    /// What is wrong with the number at this column, from 1.
-    pub(crate) fn of_number(column: u32, fault: NumberFault) -> LineFault
-        ensures { result ≡ faults.At column (reason_of fault) }
-    {
-        match fault {
-            NumberFault::BadNumber => LineFault::at(column, Reason::BadNumber),
-            NumberFault::OutOfRange => LineFault::at(column, Reason::OutOfRange),
-        }
     }
 }

@@ -14,6 +14,7 @@ ghost use Rattle.yds_document.specs.Member.{member_of};
 ghost use Rattle.yds_document.specs.Plain.{SaysOne};
 
 use crate::draft::Draft;
+use crate::field_fault::FieldFault;
 use crate::fields::known_job;
 use crate::job::name_of;
 use crate::line_buffer::LINE_BYTES;
@@ -73,7 +74,7 @@ fn plain_member(instance: &Instance<'_>, mut fields: Fields<'_>) -> Option<u32>
 }
 
 /// What the field says.
-fn member_in(instance: &Instance<'_>, name: Field<'_>) -> Result<u32, LineFault>
+fn member_in(instance: &Instance<'_>, name: Field<'_>) -> Result<u32, FieldFault>
     ensures gives { Gives (λ job. MemberEntry job) result (member_of instance.now.names (field_read name.entry)) }
     ensures known { IfOk result (λ job. job < length instance.now.jobs) }
 {

@@ -14,6 +14,7 @@ ghost use Rattle.yds_document.specs.Fields.{Gives};
 ghost use Rattle.yds_document.specs.Plain.{SaysTwo, read_piece_fields};
 
 use crate::draft::Draft;
+use crate::field_fault::FieldFault;
 use crate::fields::small_in;
 use crate::line_buffer::LINE_BYTES;
 use crate::line_fault::LineFault;
@@ -75,7 +76,7 @@ fn plain_piece(mut fields: Fields<'_>) -> Option<Piece>
 }
 
 /// What the fields say.
-fn piece_in(from: Field<'_>, to: Field<'_>) -> Result<Piece, LineFault>
+fn piece_in(from: Field<'_>, to: Field<'_>) -> Result<Piece, FieldFault>
     ensures gives { Gives (λ piece. PieceEntry piece) result (read_piece (no_field ∷ field_read from.entry ∷ field_read to.entry ∷ [])) }
 {
     let from = small_in(from, 0, MAX_TIME)?;

@@ -10,10 +10,11 @@ ghost use Rattle.yds_model.specs.Within.{ArePoints};
 ghost use Rattle.yds_port.specs.Sink.{Puts};
 ghost use Rattle.yds_text.specs.Read.{field_read};
 ghost use Rattle.yds_document.specs.Draft.{IsDraft, Reads, Takes, points_of};
-ghost use Rattle.yds_document.specs.Fields.{Gives};
+ghost use Rattle.yds_document.specs.Fields.{Gives, GivesUnlessMemory};
 ghost use Rattle.yds_document.specs.Point.{point_of, point_after, table_fault};
 
 use crate::draft::Draft;
+use crate::field_fault::FieldFault;
 use crate::fields::small_in;
 use crate::line_fault::LineFault;
 use crate::tail_buffer::Line;
@@ -44,7 +45,7 @@ pub(crate) fn read<'a>(
 }
 
 /// What the fields say: a point of whatever speed.
-fn point_in(speed: Field<'_>, power: Field<'_>) -> Result<Point, LineFault>
+fn point_in(speed: Field<'_>, power: Field<'_>) -> Result<Point, FieldFault>
     ensures { Gives (λ point. point) result (point_of (field_read speed.entry) (field_read power.entry)) }
 {
     let speed = small_in(speed, 0, MAX_POINT_SPEED)?;
@@ -57,7 +58,7 @@ fn add(draft: &mut Draft<'_>, alloc: Global, point: Point, column: u32) -> Resul
     requires kept { IsDraft draft.old }
     requires room { length (points_of draft.old.table) < MAX_POINTS }
     ensures kept { OnOk result (IsDraft draft.new) }
-    ensures gives { Gives (λ done. PointEntry point) result (point_after (points_of draft.old.table) point column) }
+    ensures gives { GivesUnlessMemory (λ done. PointEntry point) result (point_after (points_of draft.old.table) point column) }
     ensures takes { OnOk result (Takes draft.old draft.new (PointEntry point)) }
 {
     match &mut draft.table {
@@ -86,7 +87,7 @@ fn of_table(fault: TableFault, column: u32) -> LineFault
 
 /// The table of this point alone.
 fn first_point(alloc: Global, point: Point, column: u32) -> Result<Table, LineFault>
-    ensures gives { Gives (λ table. PointEntry point) result (point_after [] point column) }
+    ensures gives { GivesUnlessMemory (λ table. PointEntry point) result (point_after [] point column) }
     ensures one { IfOk result (λ table. table ≡ point ∷ []) }
 {
     match Table::new(alloc, point) {
@@ -98,7 +99,7 @@ fn first_point(alloc: Global, point: Point, column: u32) -> Result<Table, LineFa
 /// The point after the others.
 fn next_point(table: &mut Table, point: Point, column: u32) -> Result<(), LineFault>
     requires { length table.old < MAX_POINTS }
-    ensures gives { Gives (λ done. PointEntry point) result (point_after table.old point column) }
+    ensures gives { GivesUnlessMemory (λ done. PointEntry point) result (point_after table.old point column) }
     ensures last { OnOk result (table.new ≡ table.old ++ point ∷ []) }
 {
     // Reading the points shows that they are a table, before and after.

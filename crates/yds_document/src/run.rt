@@ -13,6 +13,7 @@ ghost use Rattle.yds_document.specs.Run.{run_after, run_between, run_of};
 ghost use Rattle.yds_document.specs.Plain.{SaysFour};
 
 use crate::draft::Draft;
+use crate::field_fault::FieldFault;
 use crate::fields::{known_job, number_in};
 use crate::line_fault::LineFault;
 use crate::slot::{add, fits_grain};
@@ -110,7 +111,7 @@ fn run_in<'a>(
     ticks: u32,
     name: Field<'a>,
     fields: (Field<'a>, Field<'a>, Field<'a>),
-) -> Result<Slot, LineFault>
+) -> Result<Slot, FieldFault>
     requires kept { IsDraft draft.now }
     requires ticks { (1 ≤ ticks) × (ticks ≤ MAX_TICKS) }
     ensures gives { Gives (λ slot. SlotEntry slot) result
@@ -128,7 +129,7 @@ fn slot_at(
     ticks: u32,
     job: u32,
     fields: (Field<'_>, Field<'_>, Field<'_>),
-) -> Result<Slot, LineFault>
+) -> Result<Slot, FieldFault>
     requires known { job < schedule.now.jobs }
     requires ticks { (1 ≤ ticks) × (ticks ≤ MAX_TICKS) }
     ensures gives { Gives (λ slot. SlotEntry slot) result
@@ -151,7 +152,7 @@ fn slot_at(
 }
 
 /// The slot of a run: the speed times the time, and its work alike with those that the job got before. A fault is told at this column.
-fn slot_of_run(schedule: &Schedule, ticks: u32, run: Run, column: u32) -> Result<Slot, LineFault>
+fn slot_of_run(schedule: &Schedule, ticks: u32, run: Run, column: u32) -> Result<Slot, FieldFault>
     requires known { run.job < schedule.now.jobs }
     requires ticks { (1 ≤ ticks) × (ticks ≤ MAX_TICKS) }
     requires begins { run.from ≤ MAX_TIME * ticks }
@@ -164,11 +165,11 @@ fn slot_of_run(schedule: &Schedule, ticks: u32, run: Run, column: u32) -> Result
     let den = u64::from(ticks);
     let parts = u128::from(run.speed) * u128::from(run.to.saturating_sub(run.from));
     if parts / u128::from(den) > u128::from(MAX_SLOT_WORK) {
-        return Err(LineFault::at(column, Reason::OutOfRange));
+        return Err(FieldFault::at(column, Reason::OutOfRange));
     }
     let work = Amount::of_parts(parts, den);
     if !fits_grain(schedule, run.job, work) {
-        return Err(LineFault::at(column, Reason::MixedGrain));
+        return Err(FieldFault::at(column, Reason::MixedGrain));
     }
     Ok(Slot {
         job: run.job,

@@ -15,6 +15,7 @@ ghost use Rattle.yds_document.specs.Plain.{SaysFour};
 ghost use Rattle.yds_document.specs.Slot.{fits_among, fits_test, FitsGrainOf, slot_of};
 
 use crate::draft::Draft;
+use crate::field_fault::FieldFault;
 use crate::fields::{fraction_in, known_job, plain_fraction};
 use crate::job::name_of;
 use crate::kept_text::{FRACTION_ROOM, FractionText, NumberText, put_fraction};
@@ -94,7 +95,7 @@ fn slot_in(
     instance: &Instance<'_>,
     schedule: &Schedule,
     fields: (Field<'_>, Field<'_>, Field<'_>, Field<'_>),
-) -> Result<Slot, LineFault>
+) -> Result<Slot, FieldFault>
     requires { schedule.now.jobs ≡ length instance.now.jobs }
     ensures gives { Gives (λ slot. SlotEntry slot) result
         (slot_of instance.now.names schedule.now.slots (field_read fields.entry.0) (field_read fields.entry.1) (field_read fields.entry.2) (field_read fields.entry.3)) }
@@ -107,10 +108,10 @@ fn slot_in(
     let end = fraction_in(to, u64::from(MAX_TIME))?;
     let amount = fraction_in(work, MAX_SLOT_WORK)?;
     if !begin.alike(end) {
-        return Err(LineFault::at(to.column, Reason::MixedEnds));
+        return Err(FieldFault::at(to.column, Reason::MixedEnds));
     }
     if !fits_grain(schedule, job, amount) {
-        return Err(LineFault::at(work.column, Reason::MixedGrain));
+        return Err(FieldFault::at(work.column, Reason::MixedGrain));
     }
     Ok(Slot {
         job,

@@ -10,6 +10,7 @@ ghost use Rattle.yds_document.specs.Draft.{IsDraft, Reads, Takes};
 ghost use Rattle.yds_document.specs.Fields.{Gives};
 
 use crate::draft::Draft;
+use crate::field_fault::FieldFault;
 use crate::fields::small_in;
 use crate::line_fault::LineFault;
 use yds_model::limits::MAX_TICKS;
@@ -33,7 +34,7 @@ pub(crate) fn read<'a>(
 }
 
 /// What the field says.
-fn ticks_in(ticks: Field<'_>) -> Result<u32, LineFault>
+fn ticks_in(ticks: Field<'_>) -> Result<u32, FieldFault>
     ensures gives { Gives (λ ticks. TicksEntry ticks) result (read_ticks (no_field ∷ field_read ticks.entry ∷ [])) }
     ensures within { IfOk result (λ ticks. (1 ≤ ticks) × (ticks ≤ MAX_TICKS)) }
 {

@@ -1,15 +1,14 @@
-use Rattle.yds_model.proofs.Common.{sym, subst, ◌∙◌, err_from_is_err_and, RunLine}
+use Rattle.yds_model.proofs.Common.{sym, ◌∙◌, err_from_is_err_and, RunLine}
 use Rattle.yds_text.specs.Read.{field_read}
-use Rattle.yds_document.specs.Fields.{Fails}
-use Rattle.yds_document.proofs.Told.{passed, fields_failed, holds_more, run_same}
+use Rattle.yds_document.proofs.Told.{passed_on, fields_refused, holds_more, run_same}
 use Rattle.yds_document.proofs.run.read_each.Goals as goal
 
 pub returns-in_err-slot-clause-reads : goal.returns-in_err-slot-clause-reads
 returns-in_err-slot-clause-reads c = λ earlier holds.
     let f = c.in_ok-name in
-    passed _ _ _ _ _ (err_from_is_err_and _ c.from_residual-in_err-slot.ensures.1)
-    (fields_failed RunLine earlier _ _ _ f.ensures
-    (subst (Fails c.in_err-slot.field-0.0) (run_same c.args.draft.now earlier _ (field_read c.args.kind) (field_read f.name) (field_read f.from) (field_read f.to) (field_read f.speed) holds c.unwrap_or-ticks.ensures) c.in_err-slot.ensures.gives))
+    passed_on _ c.in_err-slot.field-0.0 _ _ _ (err_from_is_err_and _ c.from_residual-in_err-slot.ensures.1)
+    (fields_refused RunLine earlier _ _ _ f.ensures
+    (sym (run_same c.args.draft.now earlier _ (field_read c.args.kind) (field_read f.name) (field_read f.from) (field_read f.to) (field_read f.speed) holds c.unwrap_or-ticks.ensures) ∙ c.in_err-slot.ensures.gives))
 
 pub returns-clause-reads : goal.returns-clause-reads
 returns-clause-reads c = λ earlier holds.
