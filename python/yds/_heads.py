@@ -1,0 +1,115 @@
+"""What stands between a long document and its parts: the head line of a part, a part's texts, and what is raised."""
+
+from __future__ import annotations
+
+import io
+import re
+from os import PathLike, fspath
+from typing import BinaryIO, Iterator, NamedTuple, Optional, Union
+
+from yds.errors import YdsError
+
+Text = Union[bytes, "PathLike[str]"]
+"""A text as bytes, or the file that holds it."""
+
+MOST_JOBS = 4000
+MOST_SLOTS = 100_000
+MOST_BYTES = 8_388_608
+MOST_TIME = 1_000_000_000
+"""The limits of a document."""
+
+
+class PartsError(YdsError, ValueError):
+    """A long document that can't be cut, or answers that can't be put together. The message says what to do."""
+
+    line: Optional[int]
+    """The line of the document that is meant, counted from 1; None where it is no line."""
+
+    def __init__(self, text: str, line: Optional[int] = None) -> None:
+        super().__init__(text if line is None else f"line {line}: {text}")
+        self.line = line
+
+
+class Head(NamedTuple):
+    """The first line of a part.
+
+    >>> Head(2, 21, 40, 400, 800, 0, windows_open=True).spelled()
+    b'# part 2: jobs 21 to 40, from 400 to 800, shift 0, windows open\\n'
+    """
+
+    number: int
+    """The part's number, from 1."""
+    first: int
+    """The number of its first job among all, from 1."""
+    final: int
+    """The number of its last job among all."""
+    start: int
+    """Its first release, in units of time of the whole."""
+    end: int
+    """Its last deadline, in units of time of the whole."""
+    shift: int
+    """What is taken off each time of the part."""
+    cpu: Optional[int] = None
+    """The processor, where there are documents of several."""
+    windows_open: bool = False
+    """Whether a window is open at the cut before it."""
+    last: bool = False
+    """Whether no part comes after it."""
+
+    @property
+    def jobs(self) -> int:
+        """How many jobs the part has."""
+        return self.final - self.first + 1
+
+    def spelled(self) -> bytes:
+        """The line."""
+        told = f"# part {self.number}: jobs {self.first} to {self.final}, from {self.start} to {self.end}"
+        told += f", shift {self.shift}"
+        told += "" if self.cpu is None else f", cpu {self.cpu}"
+        told += (", windows open" if self.windows_open else "") + (", the last" if self.last else "")
+        return told.encode("ascii") + b"\n"
+
+
+_NUMBER = rb"(0|[1-9][0-9]*)"
+_HEAD = re.compile(
+    rb"# part %b: jobs %b to %b, from %b to %b, shift %b(?:, cpu %b)?(, windows open)?(, the last)?\n?"
+    % ((_NUMBER,) * 7)
+)
+
+
+def read_head(line: bytes) -> Optional[Head]:
+    """The head that the line spells; None where it is no head of a part.
+
+    >>> read_head(b"# part 3: jobs 3 to 3, from 9 to 12, shift 0, the last\\n").last
+    True
+    """
+    found = _HEAD.fullmatch(line)
+    if found is None:
+        return None
+    number, first, final, start, end, shift = (int(text) for text in found.groups()[:6])
+    cpu, is_open, last = found.group(7), found.group(8), found.group(9)
+    cpu_number = None if cpu is None else int(cpu)
+    return Head(number, first, final, start, end, shift, cpu_number, is_open is not None, last is not None)
+
+
+class Part(NamedTuple):
+    """One part of a long document: its head, and its text, which begins with the head's line."""
+
+    head: Head
+    text: bytes
+
+
+def opened(text: Text) -> BinaryIO:
+    """The text, to be read from its begin."""
+    return io.BytesIO(text) if isinstance(text, bytes) else open(fspath(text), "rb")
+
+
+def lines_of(text: Text) -> Iterator[bytes]:
+    """The lines of the text, each with its line feed."""
+    with opened(text) as source:
+        yield from source
+
+
+def called(text: Text, number: int, what: str) -> str:
+    """How a message names the text: by its file, or by the part's number."""
+    return f"the {what} of part {number}" if isinstance(text, bytes) else fspath(text)

@@ -1,0 +1,47 @@
+"""Long documents, in parts that the library answers one by one.
+
+A document holds 4,000 jobs. `cut` makes parts of one of any length.
+"""
+
+from __future__ import annotations
+
+from typing import Iterable, Iterator, Optional
+
+from yds._cut import MOST_PARTS, Writer, ranges
+from yds._heads import MOST_JOBS, Head, Part, PartsError, Text, read_head
+from yds._long import Long
+from yds._numbers import integer
+
+__all__ = ["Head", "Part", "PartsError", "Text", "cut", "read_head"]
+
+
+def cut(
+    lines: Iterable[bytes], jobs: int = MOST_JOBS, shift: bool = False, folder: Optional[str] = None
+) -> Iterator[Part]:
+    """The parts of a document with any number of jobs, slots and runs, as few as the limits allow.
+
+    lines are those of docs/format.md, each with its line feed, as a file has them; the jobs stand in order of release.
+    Each part is a document, with all points and with the slots and runs of its jobs. jobs is how many it has at most.
+    With shift the times of each part begin at 0, and those of the document may be above 1,000,000,000. folder is where
+    two files of the document's size are made for the time being; None for the usual folder.
+
+    A part ends at a quiet instant: each job has all of its runs before it or all behind it. It is one at which no
+    window is open either, if there is such a one within the limits; else the next part's head says so. PartsError is
+    raised where the document has a fault or no place to cut.
+
+    >>> text = [b"job a 0 4 8\\n", b"job b 4 6 4\\n", b"job c 5 12 3\\n"]
+    >>> for part in cut(text, jobs=1):
+    ...     print(part.head.start, part.head.windows_open)
+    0 False
+    4 False
+    5 True
+    """
+    jobs = integer(jobs, "the number of jobs of a part", 1)
+    if jobs > MOST_JOBS:
+        raise ValueError(f"a part has at most {MOST_JOBS} jobs, and not {jobs}")
+    with Long(folder, shift) as long:
+        long.read(lines)
+        parts = list(ranges(long, jobs))
+        if len(parts) > MOST_PARTS:
+            raise PartsError(f"more than {MOST_PARTS} parts; give more jobs to each")
+        yield from Writer(long, parts, folder).parts()
