@@ -1,18 +1,20 @@
-"""Long documents, in parts that the library answers one by one.
+"""Long documents, in parts that the library answers one by one, and the answers put together again.
 
-A document holds 4,000 jobs. `cut` makes parts of one of any length.
+A document holds 4,000 jobs. `cut` makes parts of one of any length, and `whole` makes one answer of the answers to
+them.
 """
 
 from __future__ import annotations
 
-from typing import Iterable, Iterator, Optional
+from typing import Iterable, Iterator, Optional, Sequence
 
 from yds._cut import MOST_PARTS, Writer, ranges
 from yds._heads import MOST_JOBS, Head, Part, PartsError, Text, read_head
 from yds._long import Long
 from yds._numbers import integer
+from yds._whole import Whole, put_together
 
-__all__ = ["Head", "Part", "PartsError", "Text", "cut", "read_head"]
+__all__ = ["Head", "Part", "PartsError", "Text", "Whole", "cut", "read_head", "whole"]
 
 
 def cut(
@@ -45,3 +47,27 @@ def cut(
         if len(parts) > MOST_PARTS:
             raise PartsError(f"more than {MOST_PARTS} parts; give more jobs to each")
         yield from Writer(long, parts, folder).parts()
+
+
+def whole(parts: Sequence[Text], answers: Sequence[Text]) -> Whole:
+    """The answers to all parts, in their order, as one answer to the whole.
+
+    Each part and answer is bytes, or the file that holds it. All answers are to the same command. Where no window is
+    open at the cuts, the lines are those that the program answers to the long document:
+
+      plan, round, avr, oa   one text; levels of one speed are one level, the energy has the idle time between the parts
+      compare, yds-energy    energies and times summed, with the idle time between the parts, in lowest terms
+      audit                  feasible, or the first verdict that isn't, with the slot's number in the long document
+      check                  accepted, or the first condition that fails, with the level or slot of its part
+      report                 one table
+
+    Where windows are open, audit and yds-energy are the same. Of compare a line `plan at-least X` is left, and one of
+    Average Rate where its runs rounded nowhere: the least energy, and that of the policy, are at least X. Comments say
+    so. PartsError is raised where a part has no answer, or the answers make none of the whole.
+
+    >>> parts = [part.text for part in cut([b"job a 0 4 8\\n", b"job b 2 6 4\\n", b"slot b 2 4 4\\n"], jobs=1)]
+    >>> told = whole(parts, [b"work a given 0 wanted 8\\n", b"feasible\\n"])
+    >>> told.yes, list(told.lines)
+    (False, [b'work a given 0 wanted 8\\n'])
+    """
+    return put_together(parts, answers)
