@@ -1,20 +1,22 @@
 """Long documents, in parts that the library answers one by one, and the answers put together again.
 
-A document holds 4,000 jobs. `cut` makes parts of one of any length, and `whole` makes one answer of the answers to
-them.
+A document holds 4,000 jobs. `cut` makes parts of one of any length, `whole` makes one answer of the answers to them,
+and `bounds` tells between which energies the least lies, where windows are open at the cuts.
 """
 
 from __future__ import annotations
 
 from typing import Iterable, Iterator, Optional, Sequence
 
+from yds._bounds import Bounds, Search
 from yds._cut import MOST_PARTS, Writer, ranges
 from yds._heads import MOST_JOBS, Head, Part, PartsError, Text, read_head
 from yds._long import Long
 from yds._numbers import integer
+from yds._program import Answer, of_library
 from yds._whole import Whole, put_together
 
-__all__ = ["Head", "Part", "PartsError", "Text", "Whole", "cut", "read_head", "whole"]
+__all__ = ["Answer", "Bounds", "Head", "Part", "PartsError", "Text", "Whole", "bounds", "cut", "read_head", "whole"]
 
 
 def cut(
@@ -71,3 +73,26 @@ def whole(parts: Sequence[Text], answers: Sequence[Text]) -> Whole:
     (False, [b'work a given 0 wanted 8\\n'])
     """
     return put_together(parts, answers)
+
+
+def bounds(parts: Sequence[Text], jobs: int = MOST_JOBS, answer: Optional[Answer] = None) -> Bounds:
+    """Between which energies the least of all jobs lies on the points, also where windows are open at every instant.
+
+    parts are the texts of `cut`, as bytes or files. Their jobs are put into groups of at most so many, cut where no
+    window is open if there is such an instant, else at one of at most 16 in the last tenth of the group: that at which
+    both bounds come nearest, as seen on the 40 jobs on either side. answer is called with words and a document, and
+    gives a status of the program and its answer; without it the library answers.
+
+    Both bounds are exact numbers, over the horizon of all jobs, and the same where no window is open at any cut. The
+    upper is None where the shortened windows made the top point too slow at each cut that was tried, and both are None
+    where the top point is too slow for all jobs: `told` says so.
+
+    >>> text = [b"job a 0 4 4\\n", b"job b 2 6 4\\n", b"point 0 1\\n", b"point 1 2\\n", b"point 2 5\\n"]
+    >>> found = bounds([part.text for part in cut(text)], jobs=1)
+    >>> found.lower, found.upper
+    (Fraction(14, 1), Fraction(18, 1))
+    """
+    jobs = integer(jobs, "the number of jobs of a group", 1)
+    if jobs > MOST_JOBS:
+        raise ValueError(f"a group has at most {MOST_JOBS} jobs, and not {jobs}")
+    return Search(parts, of_library() if answer is None else answer, jobs).bounds()

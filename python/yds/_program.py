@@ -1,0 +1,33 @@
+"""Answers of the program itself, where the environment's YDS names it; elsewhere those of the library."""
+
+from __future__ import annotations
+
+import os
+import subprocess
+from typing import Callable, Sequence, Tuple
+
+Answer = Callable[[Sequence[str], bytes], Tuple[int, bytes]]
+"""Words and a document in; a status of the program and its answer out."""
+
+
+def of_program(place: str) -> Answer:
+    """The answers of the program at this place."""
+
+    def answer(words: Sequence[str], document: bytes) -> Tuple[int, bytes]:
+        done = subprocess.run([place, *words], input=document, stdout=subprocess.PIPE, check=False)
+        return done.returncode, done.stdout
+
+    return answer
+
+
+def of_library() -> Answer:
+    """The answers of the library."""
+    from yds._library import answer
+
+    return answer
+
+
+def of_environment() -> Answer:
+    """Those of the program that YDS names, else of the library."""
+    place = os.environ.get("YDS")
+    return of_program(place) if place else of_library()
