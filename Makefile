@@ -60,7 +60,7 @@ SEED ?= 1
 DOCUMENTS ?= 100000
 
 LIBRARY := build/libyds.so
-PACKAGE_FILES := $(notdir $(wildcard python/yds/*.py)) py.typed
+PACKAGE_FILES := $(patsubst python/yds/%,%,$(wildcard python/yds/*.py python/yds/commands/*.py)) py.typed
 LIBRARY_FILES := libyds.so libyds.so.$(firstword $(subst ., ,$(VERSION))) libyds.so.$(VERSION) libyds.a
 
 .PHONY: all run try test check recipes faults fuzz costly bench bench-library library library-test wheel install install-program install-library uninstall uninstall-program uninstall-library map deb dist check-build record-build packages-test clean tool
@@ -179,16 +179,16 @@ install-library: $(LIBRARY)
 	install -m 644 library/yds.h $(INCLUDE)
 	sed 's|@PREFIX@|$(PREFIX)|; s|@VERSION@|$(VERSION)|' library/yds.pc.in >$(LIB)/pkgconfig/yds.pc
 	chmod 644 $(LIB)/pkgconfig/yds.pc
-	install -d $(PACKAGE)
-	install -m 644 $(PACKAGE_FILES:%=python/yds/%) $(PACKAGE)
+	install -d $(PACKAGE)/commands
+	for file in $(PACKAGE_FILES); do install -m 644 python/yds/$$file $(PACKAGE)/$$file || exit 1; done
 	@test -n "$(DESTDIR)" || ldconfig 2>/dev/null || echo "ldconfig, run by root, lets programs find $(LIB)/libyds.so.1"
 
 uninstall: uninstall-program uninstall-library
 
 uninstall-library:
 	rm -f $(LIBRARY_FILES:%=$(LIB)/%) $(LIB)/pkgconfig/yds.pc $(INCLUDE)/yds.h $(PACKAGE_FILES:%=$(PACKAGE)/%)
-	rm -rf $(PACKAGE)/__pycache__
-	test ! -d $(PACKAGE) || rmdir --ignore-fail-on-non-empty $(PACKAGE)
+	rm -rf $(PACKAGE)/__pycache__ $(PACKAGE)/commands/__pycache__
+	for folder in $(PACKAGE)/commands $(PACKAGE); do test ! -d $$folder || rmdir --ignore-fail-on-non-empty $$folder; done
 
 uninstall-program:
 	rm -f $(BIN)/$(PROGRAM) $(MAN)/$(PROGRAM).1 $(COMPLETIONS)/$(PROGRAM) $(RECIPE_FILES:%=$(RECIPES)/%)

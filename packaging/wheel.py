@@ -51,7 +51,8 @@ def contents(version: str) -> Dict[str, bytes]:
     """The files of the wheel by their names, all but its record."""
     package = Path("python/yds")
     info = f"yds-{version}.dist-info"
-    files = {f"yds/{path.name}": path.read_bytes() for path in package.iterdir() if path.suffix in (".py", ".typed")}
+    places = [path for path in package.rglob("*") if path.suffix in (".py", ".typed")]
+    files = {path.relative_to(package.parent).as_posix(): path.read_bytes() for path in places}
     if f'__version__ = "{version}"\n'.encode() not in files["yds/__init__.py"]:
         sys.exit(f"wheel.py: python/yds/__init__.py doesn't say __version__ = {version!r}, which VERSION says")
     files["yds/libyds.so.1"] = shared_object(Path("build/libyds.so"))
