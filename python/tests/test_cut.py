@@ -74,6 +74,7 @@ class CutTest(unittest.TestCase):
             (("job a 0 4 8", "job b 4 6"), "line 2: a job is: job NAME RELEASE DEADLINE WORK, in whole numbers"),
             (("job a 0 4 8", "job b 04 6 1"), "line 2: a job is: job NAME RELEASE DEADLINE WORK, in whole numbers"),
             (("job a 0 4 8", "job b 4 6 -1"), "line 2: a job is: job NAME RELEASE DEADLINE WORK, in whole numbers"),
+            (("job a 0 4 " + "9" * 1000000,), "line 1: a job is: job NAME RELEASE DEADLINE WORK, in whole numbers"),
             (("job a 4 4 8",), "line 1: job a has its deadline 4 at or before its release 4"),
             (("job a 0 4 1000001",), "line 1: a work above 1000000"),
             (("job " + "a" * 65 + " 0 4 8",), "line 1: a name of more than 64 bytes"),

@@ -82,7 +82,7 @@ class Limits:
 
 
 def ranges(long: Long, jobs: int) -> Iterator[Range]:
-    """The parts, as few as the limits allow.
+    """The parts.
 
     Each ends at its last quiet instant at which no window is open. Where there is none, it ends at the last instant at
     which no window is open: a run that is late, early or out of order is then put into its job's part. Where there is
@@ -248,7 +248,10 @@ class Writer:
         ticks = long.ticks or 1
         runs = self._runs.lines(number)
         text += [_shifted_run(line, shift, ticks) for line in runs] if shift else runs
-        return Part(head, b"".join(text))
+        whole = b"".join(text)
+        if len(whole) > MOST_BYTES:
+            raise PartsError(f"part {head.number} takes {len(whole)} bytes, above {MOST_BYTES}; give each part fewer jobs")
+        return Part(head, whole)
 
     def _job_lines(self, part: Range) -> List[bytes]:
         """The part's lines of jobs, and the comments between them."""

@@ -14,12 +14,12 @@ from typing import IO, Dict, Iterable, Iterator, List, NamedTuple, Optional, Tup
 
 from yds._heads import MOST_TIME, PartsError
 
-_NUMBER = rb"(0|[1-9][0-9]*)"
+_NUMBER = rb"(0|[1-9][0-9]{0,29})"
 _ENDING = rb" %b %b %b\n?" % ((_NUMBER,) * 3)
 _JOB = re.compile(rb"job ([!-~]{1,64})" + _ENDING).fullmatch
 _RUN = re.compile(rb"run ([!-~]{1,64})" + _ENDING).fullmatch
 _WHOLE = re.compile(_NUMBER).fullmatch
-_FRACTION = re.compile(rb"(0|[1-9][0-9]*)(\+(0|[1-9][0-9]*)/([1-9][0-9]*))?").fullmatch
+_FRACTION = re.compile(rb"%b(\+%b/%b)?" % ((_NUMBER,) * 3)).fullmatch
 _UNIT = re.compile(rb"(time|speed|power) unit ([0-9.]+) (us|kHz|uW)")
 _ODD_BYTE = re.compile(rb"[^ -~\t]").search
 

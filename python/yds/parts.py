@@ -22,7 +22,7 @@ __all__ = ["Answer", "Bounds", "Head", "Part", "PartsError", "Text", "Whole", "b
 def cut(
     lines: Iterable[bytes], jobs: int = MOST_JOBS, shift: bool = False, folder: Optional[str] = None
 ) -> Iterator[Part]:
-    """The parts of a document with any number of jobs, slots and runs, as few as the limits allow.
+    """The parts of a document with any number of jobs, slots and runs, each within the limits.
 
     lines are those of docs/format.md, each with its line feed, as a file has them; the jobs stand in order of release.
     Each part is a document, with all points and with the slots and runs of its jobs. jobs is how many it has at most.
