@@ -45,3 +45,14 @@ def rows(number: Index) -> yds.Document:
 def shown(answer: Union[yds.Rounded, yds.TooSlow]) -> bytes:
     """Both have a text."""
     return answer.text
+
+
+def at_the_next_deadline(moment: yds.Moment) -> float:
+    """A policy. The numbers that it sees are floats or Fractions, as the caller of simulate says."""
+    return float(moment.pending[0].left / (moment.pending[0].deadline - moment.now))
+
+
+def simulated(document: yds.Document) -> yds.Verdict:
+    """A policy is a call from a moment to a number."""
+    yds.simulate(document, lambda moment: "2")  # type: ignore[arg-type, return-value]
+    return yds.simulate(document, at_the_next_deadline, every=Fraction(1, 2)).verdict

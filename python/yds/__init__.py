@@ -24,6 +24,7 @@ from yds import energy, schedule
 from yds._library import Answer, Status, answer
 from yds.document import Admission, Document, Expansion, OneLevel, Plan, Rounded, Run, expand, trial
 from yds.errors import OutOfMemory, Refused, UsageError, YdsError
+from yds.policy import Moment, Pending, Policy, Simulation, simulate
 from yds.results import (
     Break,
     Comparison,
@@ -54,12 +55,15 @@ __all__ = [
     "Job",
     "Judgement",
     "Level",
+    "Moment",
     "OneLevel",
     "OutOfMemory",
     "Overload",
+    "Pending",
     "Piece",
     "Plan",
     "Point",
+    "Policy",
     "Refusal",
     "Refused",
     "Report",
@@ -68,6 +72,7 @@ __all__ = [
     "Rows",
     "Run",
     "Side",
+    "Simulation",
     "Slot",
     "Status",
     "Task",
@@ -80,5 +85,6 @@ __all__ = [
     "energy",
     "expand",
     "schedule",
+    "simulate",
     "trial",
 ]

@@ -1,0 +1,307 @@
+"""A policy of one's own, simulated on a document's jobs. What it ran is judged, exactly.
+
+A policy is a call that says how fast to run, given a moment: the time, the jobs that wait, and those released by then.
+
+>>> import yds
+>>> def as_late_as_can_be(moment):
+...     left, needed = 0, 0
+...     for job in moment.pending:
+...         left += job.left
+...         needed = max(needed, left / (job.deadline - moment.now))
+...     return needed
+>>> document = yds.Document([("a", 0, 3, 2), ("b", 1, 2, 1)])
+>>> run = yds.simulate(document, as_late_as_can_be, exact=True)
+>>> run
+<Simulation of 2 jobs, work 3, 0 to 3: 3 slots, grid 720720, rounded 0, feasible>
+>>> run.energy_for(3) == document.oa().energy_for(3)
+True
+"""
+
+from __future__ import annotations
+
+import math
+from bisect import insort
+from fractions import Fraction
+from numbers import Rational, Real
+from typing import Any, Callable, Dict, Iterable, List, NamedTuple, Optional, Sequence, Tuple, Union
+
+from yds import _spelling
+from yds._numbers import exact as exact_number
+from yds._numbers import integer, is_truth
+from yds._powers import Span
+from yds.document import FINE_GRID, GRIDS, Document, _Answered
+from yds.errors import Refused
+from yds.results import Verdict
+from yds.rows import Exact, Job, Slot
+
+__all__ = ["Moment", "Pending", "Policy", "Simulation", "simulate"]
+
+_LATEST = 1_000_000_000
+"""The greatest time of a document."""
+_MOST_SLOTS = 100_000
+
+
+class Pending(NamedTuple):
+    """A job that is released and not done, as a policy sees it.
+
+    Its name, its window (units of time) and its work (units of work) are those of its row.
+    """
+
+    name: str
+    release: int
+    deadline: int
+    work: int
+    left: Any
+    """What of its work is left, above 0: a float, the nearest to the exact number; a Fraction where those are wanted."""
+
+
+class Moment(NamedTuple):
+    """What a policy knows when it is asked for a speed."""
+
+    now: Any
+    """The time: a float, or a Fraction where those are wanted."""
+    pending: Sequence[Pending]
+    """The jobs that wait, in the order in which they run: the earliest deadline first. There is one at least."""
+    released: Sequence[Job]
+    """All jobs that are released by now, also those that are done, in the order of their releases."""
+
+
+Policy = Callable[[Moment], Union[int, float, Fraction]]
+"""The speed (work per unit of time) at which to run from this moment to the next, at least 0."""
+
+
+class Simulation(_Answered):
+    """A document with the slots that a policy ran, and the verdict on them. It is true where they are feasible."""
+
+    _from = "yds.simulate(document, policy)"
+    _by = "hull"
+    _grid: int
+    _rounded: int
+    _missed: Optional[str]
+    _verdict: Verdict
+
+    @property
+    def verdict(self) -> Verdict:
+        """Whether the slots give each job its work in its window: the library's own verdict, of `audit`."""
+        return self._verdict
+
+    @property
+    def missed(self) -> Optional[str]:
+        """The job at whose deadline the run ended, since it wasn't done; None where there is none."""
+        return self._missed
+
+    @property
+    def grid(self) -> int:
+        """So many parts of a unit of work are counted where a float is rounded up."""
+        return self._grid
+
+    @property
+    def rounded(self) -> int:
+        """How many of the speeds that the policy said were floats that had to be rounded up."""
+        return self._rounded
+
+    @property
+    def exact(self) -> bool:
+        """Whether the slots run at just the speeds that the policy said: none was rounded."""
+        return self._rounded == 0
+
+    def __bool__(self) -> bool:
+        return self._verdict.feasible
+
+    def _spans(self, start: Optional[int], end: Optional[int]) -> List[Span]:
+        if not self:
+            raise ValueError(f"the run isn't feasible ({str(self._verdict).strip()}), so its energy is that of a part")
+        return super()._spans(start, end)
+
+    def _told(self) -> List[str]:
+        return [f"grid {self.grid}", f"rounded {self.rounded}", str(self._verdict).strip()]
+
+    def __getstate__(self) -> Dict[str, object]:
+        more = ("_grid", "_rounded", "_missed", "_verdict")
+        return {**super().__getstate__(), **{name: self.__dict__[name] for name in more}}
+
+    @classmethod
+    def _again(cls, document: Document) -> Sequence[bytes]:
+        raise TypeError(f"a text doesn't tell what a policy said: ask {cls._from} again, or pickle what it answers")
+
+
+def simulate(
+    document: Document, policy: Policy, grid: int = FINE_GRID, every: Optional[Exact] = None, exact: bool = False
+) -> Simulation:
+    """Runs the document's jobs at the speeds that the policy says, the earliest deadline first, and judges the slots.
+
+    The policy is asked at each release and each deadline, and, where `every` is given, again after so many units of
+    time, as long as a job waits. In between, its speed stays. Where no job waits, nothing runs.
+
+    A speed that is an int or a Fraction is taken as it is. A float is a speed of the grid: what is done until the
+    policy is asked again is a multiple of 1/grid (1 to 1,000,000) of a unit of work, or, where all that waits gets
+    done, the speed itself is one. It is the speed to which the float is the nearest one, and where there is none, the
+    next higher; the answer tells how many were rounded up so. The policy sees floats, each the nearest to the exact
+    number; Fractions where exact is True.
+
+    Too slow a policy is late, and nothing is mended: at the first deadline that is missed it isn't asked any more. That
+    job runs on at the last speed to its end, so that the verdict names it, and the run ends there.
+
+    TypeError or ValueError is raised where a speed is no number of at least 0, and where the fractions of the slots
+    come to denominators that no document takes, as Fractions for speeds may.
+
+    >>> import yds
+    >>> document = yds.Document([("a", 0, 4, 6), ("b", 1, 2, 1)])
+    >>> yds.simulate(document, lambda moment: 2).slots[0]
+    Slot(job='a', start=Fraction(0, 1), end=Fraction(1, 1), work=Fraction(2, 1))
+    >>> slow = yds.simulate(document, lambda moment: 1)
+    >>> bool(slow), slow.missed, slow.verdict
+    (False, 'a', <Verdict late: slot 2 of a ends at 7, deadline 4>)
+    """
+    parts = integer(grid, "the grid", 1)
+    if parts > 1_000_000:
+        raise ValueError(f"{GRIDS}, and not {grid!r}")
+    step = None if every is None else exact_number(every)
+    if step is not None and step <= 0:
+        raise ValueError(f"every is a time above 0, and not {every!r}")
+    simulator = _Simulator(document.jobs, policy, parts, exact)
+    simulator.run(step)
+    return _judged(document, simulator)
+
+
+class _Waiting:
+    """A job that waits, with what is left of its work in parts of a unit."""
+
+    __slots__ = ("job", "order", "left")
+
+    def __init__(self, job: Job, place: int, grid: int) -> None:
+        self.job = job
+        self.order = (job.deadline, job.release, place)
+        self.left = Fraction(job.work * grid)
+
+    def __lt__(self, other: _Waiting) -> bool:
+        return self.order < other.order
+
+
+class _Simulator:
+    """The jobs that wait, and what ran. Works are counted in parts of a unit: ints, and Fractions where speeds are."""
+
+    def __init__(self, jobs: Sequence[Job], policy: Policy, grid: int, exact: bool) -> None:
+        self._policy = policy
+        self.grid = grid
+        self._exact = exact
+        self._coming = sorted(((job.release, place, job) for place, job in enumerate(jobs)), reverse=True)
+        self._times = sorted({time for job in jobs for time in (job.release, job.deadline)})
+        self._pending: List[_Waiting] = []
+        self._released: List[Job] = []
+        self._rate: Any = 0
+        self._rates: List[Any] = []
+        self.slots: List[Slot] = []
+        self.rounded = 0
+        self.missed: Optional[str] = None
+
+    def run(self, every: Optional[Fraction]) -> None:
+        """From the first release to the last deadline, or to the first that is missed."""
+        for now, end in zip(self._times, [*self._times[1:], None]):
+            if self._pending and self._pending[0].job.deadline <= now:
+                self._miss(now)
+                return
+            self._release(now)
+            if end is not None:
+                self._run_from(now, end, every)
+
+    def _release(self, now: int) -> None:
+        while self._coming and self._coming[-1][0] == now:
+            _, place, job = self._coming.pop()
+            self._released.append(job)
+            if job.work:
+                insort(self._pending, _Waiting(job, place, self.grid))
+
+    def _run_from(self, start: int, end: int, every: Optional[Fraction]) -> None:
+        """One stretch, or as many as are no longer than `every`."""
+        now: Any = start
+        while self._pending and now < end:
+            until: Any = end if every is None else min(now + every, end)
+            self._stretch(now, until - now)
+            now = until
+
+    def _stretch(self, now: Exact, length: Exact) -> None:
+        """What waits runs at the policy's speed, the earliest deadline first."""
+        self._rate = rate = self._rate_for(self._said(now), length)
+        could = Fraction(rate * length)
+        done = Fraction(0)
+        while self._pending and done < could:
+            first = self._pending[0]
+            part: Fraction = min(first.left, could - done)
+            self._run_one(first.job.name, now + _over(done, rate), now + _over(done + part, rate), part)
+            done += part
+            first.left -= part
+            if not first.left:
+                del self._pending[0]
+
+    def _said(self, now: Exact) -> Union[int, float, Fraction]:
+        """The speed that the policy says."""
+        pending = [Pending(*one.job, self._number(_over(one.left, self.grid))) for one in self._pending]
+        said = self._policy(Moment(self._number(now), pending, tuple(self._released)))
+        if is_truth(said) or not isinstance(said, Real):
+            raise TypeError(f"at {now} the policy says {said!r}, and a speed is an int, a Fraction or a float")
+        if not 0 <= said < math.inf:
+            raise ValueError(f"at {now} the policy says {said!r}, and a speed is a number of at least 0")
+        return exact_number(said) if isinstance(said, Rational) else float(said)
+
+    def _number(self, value: Any) -> Any:
+        return Fraction(value) if self._exact else float(value)
+
+    def _rate_for(self, said: Union[int, float, Fraction], length: Exact) -> Any:
+        """The speed in parts of a unit for each unit of time, of the grid where the policy said a float."""
+        if not isinstance(said, float):
+            return Fraction(said) * self.grid
+        rate = self._of_grid(said, Fraction(length))
+        if rate * length > sum(one.left for one in self._pending):
+            rate = self._of_grid(said, Fraction(1))
+        self.rounded += float(rate / self.grid) != said
+        return rate
+
+    def _of_grid(self, said: float, span: Fraction) -> Fraction:
+        """The speed at which whole parts are done in the span: that to which the float is the nearest, or the next."""
+        wanted = Fraction(said) * self.grid * span
+        nearest = round(wanted) / span
+        return nearest if float(nearest / self.grid) == said else math.ceil(wanted) / span
+
+    def _run_one(self, name: str, start: Any, end: Any, parts: Any) -> None:
+        """A slot; the one before goes on where it has the same job and speed, and ends where this one starts."""
+        work = _over(parts, self.grid)
+        before = self.slots[-1] if self.slots else None
+        if before is not None and before.job == name and before.end == start and self._rates[-1] == self._rate:
+            self.slots[-1] = before._replace(end=Fraction(end), work=before.work + work)
+            return
+        if len(self.slots) == _MOST_SLOTS:
+            raise ValueError("the run has more than 100,000 slots, and a document has no more: take a longer `every`")
+        self.slots.append(Slot(name, Fraction(start), Fraction(end), work))
+        self._rates.append(self._rate)
+
+    def _miss(self, now: int) -> None:
+        """The first job that is late runs on at the last speed, to its end or to the greatest time of a document."""
+        first = self._pending[0]
+        self.missed = first.job.name
+        if not self._rate:
+            return
+        end = min(now + _over(first.left, self._rate), Fraction(_LATEST))
+        if end > now:
+            self._run_one(self.missed, now, end, (end - now) * self._rate)
+
+
+def _over(parts: Any, whole: Any) -> Fraction:
+    return Fraction(parts, whole)
+
+
+def _judged(document: Document, simulator: _Simulator) -> Simulation:
+    """The answer, with the library's verdict."""
+    rows: Iterable[Tuple[str, Any, Any, Any]] = simulator.slots
+    made = Simulation._made(document._head + _spelling.joined(_spelling.slot_lines(list(rows))), written=True)
+    made.__dict__.update(jobs=document.jobs, points=document.points, slots=tuple(simulator.slots), levels=())
+    try:
+        verdict = made.audit()
+    except Refused as fault:
+        raise ValueError(
+            f"what the policy ran is no document ({fault}): let it say floats, which are rounded up to the grid; "
+            "or take a coarser grid, or speeds that aren't so high"
+        ) from fault
+    more = {"_grid": simulator.grid, "_rounded": simulator.rounded, "_missed": simulator.missed, "_verdict": verdict}
+    made.__dict__.update(more)
+    return made
