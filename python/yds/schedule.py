@@ -12,6 +12,9 @@ from fractions import Fraction
 from typing import Callable, Iterable, List, Optional, Sequence, Tuple, TypeVar
 
 from yds._forms import FOREIGN_SLOTS, read
+from yds._near import Mended, Near
+from yds._near import near as _near
+from yds._numbers import Decimalish
 from yds._spelling import joined, level_lines, slot_lines
 from yds._tables import Profile, columns, profile, to_pandas
 from yds.document import Document
@@ -19,7 +22,10 @@ from yds.errors import Refused
 from yds.results import Judgement, Verdict
 from yds.rows import Level, SlotLike
 
-__all__ = ["Profile", "check", "columns", "judge", "profile", "to_pandas"]
+__all__ = ["DecimalSlot", "Mended", "Near", "Profile", "check", "columns", "judge", "near", "profile", "to_pandas"]
+
+DecimalSlot = Tuple[str, Decimalish, Decimalish, Decimalish]
+"""A slot of decimals: the job, its start and end (units of time), and its work (units of work)."""
 
 ExactSlot = Tuple[str, Fraction, Fraction, Fraction]
 Told = TypeVar("Told", Verdict, Judgement)
@@ -63,6 +69,33 @@ def check(document: Document, slots: Iterable[SlotLike], levels: Optional[Sequen
     if judgement.verdict is None:
         return judgement
     return replace(judgement, verdict=_placed(judgement.verdict, order))
+
+
+def near(document: Document, slots: Iterable[DecimalSlot], *, most: Decimalish) -> Near:
+    """A schedule of exact numbers near slots of decimals, as a solver or a simulator tells them, in any order.
+
+    Numbers are floats, Decimals, Fractions, or texts as '2.5e-3' and '10/3'. Each is moved by at most `most`, below 1/2
+    (units of time for times, and of work for works), and the answer tells the greatest `error`. With most=0 each number
+    is taken at its word. The document's own slots don't count.
+
+      times   become the fractions of least denominator within most. Whole numbers stay, and so does the order of any
+              two: what is in time, after its release and apart as given is so here too
+      works   of a job become such fractions, where these add up to the job's work. Else they stay, where they add up
+              to it as given; else all move by the same amount, where that makes them add up. Where nothing does, they
+              stay, and the audit will say what is wrong
+
+    So a slot that is late by less than most may come to be in time: `mended` tells each such condition, with its
+    amount. A number below 0 by at most most becomes 0. ValueError is raised where one is further below, where a slot is
+    so short that its ends fall together, and where no document can have the fractions.
+
+    >>> document = Document(jobs=[("a", 0, 2, 1), ("b", 0, 2, 1)])
+    >>> found = near(document, [("a", 0.0, 0.6666667, 1.0), ("b", 0.6666667, 2.0, 1.0)], most=1e-6)
+    >>> found.slots[0].end, found.error < 4e-8, found.mended, judge(document, found.slots).feasible
+    (Fraction(2, 3), True, (), True)
+    >>> near(document, [("a", 1, 2.0000004, 1)], most="0.000001").mended[0]
+    Mended(condition='late', job='a', index=0, amount=Fraction(900719925, 2251799813685248))
+    """
+    return _near(document.jobs, [point.speed for point in document.points], slots, most)
 
 
 def _in_time(slots: Iterable[SlotLike]) -> Tuple[Sequence[int], List[ExactSlot]]:

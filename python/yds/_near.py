@@ -1,0 +1,237 @@
+"""A schedule of exact numbers near one of decimals. `yds.schedule.near` says what it does."""
+
+from __future__ import annotations
+
+import math
+from dataclasses import dataclass
+from fractions import Fraction
+from typing import Any, Callable, Dict, Iterable, List, Optional, Sequence, Tuple
+
+from yds._forms import Form, name, read
+from yds._numbers import Decimalish, decimal, total
+from yds._spelling import common
+from yds.rows import Job, Slot
+
+_GREATEST = 2**60
+"""The greatest denominator of a document."""
+
+Row = Tuple[str, Fraction, Fraction, Fraction]
+
+
+@dataclass(frozen=True)
+class Mended:
+    """A condition that fails in what was given, and holds of the schedule nearby."""
+
+    condition: str
+    """'early', 'late', 'overlap' or 'work', as the causes of a verdict."""
+    job: str
+    """The job that is concerned."""
+    index: Optional[int]
+    """The place of the slot in the given list, counted from 0; None for 'work'."""
+    amount: Fraction
+    """By how much it fails (units of time; of work for 'work')."""
+
+
+@dataclass(frozen=True)
+class Near:
+    """A schedule of exact numbers, and how far it is from what was given."""
+
+    slots: Tuple[Slot, ...]
+    """The slots in the given order, but for those that were left out."""
+    error: Fraction
+    """By how much a number was moved at most (units of time or of work)."""
+    index: Optional[int]
+    """The place in the given list of the slot whose number that was; None where none was moved."""
+    field: Optional[str]
+    """The field of that number: 'start', 'end' or 'work'."""
+    mended: Tuple[Mended, ...]
+    """What fails in the given numbers and holds here. Look at it before a yes is believed."""
+    left_out: Tuple[int, ...]
+    """The places in the given list of slots without work, or without any once they are moved."""
+    to_points: Tuple[int, ...]
+    """The places of slots that run at the speed of a point here, and didn't as they were given."""
+    off_points: Tuple[int, ...]
+    """The places of slots that ran at the speed of a point as they were given, and don't here."""
+
+
+def near(jobs: Sequence[Job], speeds: Iterable[int], slots: Iterable[Any], most: Decimalish) -> Near:
+    """The schedule nearby, for a document's jobs and the speeds of its points."""
+    bound = decimal(most)
+    if not 0 <= bound < Fraction(1, 2):
+        raise ValueError(f"most is from 0 to below 1/2, and not {most!r}")
+    return _Search(jobs, speeds, _taken(slots, bound), bound).found()
+
+
+def _taken(slots: Iterable[Any], most: Fraction) -> List[Row]:
+    """The slots at their word."""
+
+    def number(value: Any) -> Fraction:
+        taken = decimal(value)
+        if taken < -most:
+            raise ValueError(f"{value!r} is below 0, by more than most")
+        return taken
+
+    form = Form("slots", ("job", "start", "end", "work"), (name, number, number, number))
+    return [(job, start, end, work) for job, start, end, work in read(form, slots)]
+
+
+class _Search:
+    """The given slots, and those nearby."""
+
+    def __init__(self, jobs: Sequence[Job], speeds: Iterable[int], given: List[Row], most: Fraction) -> None:
+        self._jobs = {job.name: job for job in jobs}
+        self._speeds = set(speeds)
+        self._given = given
+        self._most = most
+        self._mended: List[Mended] = []
+        for place, (job, *_) in enumerate(given):
+            if job not in self._jobs:
+                raise ValueError(f"slots[{place}].job: the document has no job {job!r}")
+
+    def found(self) -> Near:
+        """The schedule nearby, with all that is told of it."""
+        works = self._works()
+        moved = [
+            (job, self._time(start), self._time(end), works[place])
+            for place, (job, start, end, _) in enumerate(self._given)
+        ]
+        kept = [place for place, row in enumerate(moved) if row[3]]
+        for place in kept:
+            self._look_at(place, moved[place])
+        self._bounds(moved, kept)
+        error, index, field = self._greatest_move(moved)
+        was, is_now = (self._at_points(rows, kept) for rows in (self._given, moved))
+        return Near(
+            tuple(Slot(*moved[place]) for place in kept),
+            error,
+            index,
+            field,
+            tuple(self._mended),
+            tuple(place for place, row in enumerate(moved) if not row[3]),
+            tuple(sorted(is_now - was)),
+            tuple(sorted(was - is_now)),
+        )
+
+    def _time(self, value: Fraction) -> Fraction:
+        return _simplest_near(value, self._most)
+
+    def _look_at(self, place: int, moved: Row) -> None:
+        """Raises ValueError where the slot vanished, or no document can have its ends."""
+        _, start, end, _ = moved
+        given = self._given[place]
+        if start == end and given[1] != given[2]:
+            raise ValueError(f"slots[{place}] is so short that both its ends become {start}: take a smaller most")
+        if common([start.denominator, end.denominator]) > _GREATEST:
+            raise ValueError(f"the ends of slots[{place}] have no common denominator up to 2^60: take a greater most")
+
+    def _works(self) -> Dict[int, Fraction]:
+        """The work of each slot, moved job by job."""
+        places: Dict[str, List[int]] = {}
+        for place, (job, _, _, work) in enumerate(self._given):
+            if work > 0:
+                places.setdefault(job, []).append(place)
+        works = {place: Fraction(0) for place in range(len(self._given))}
+        for job, its in places.items():
+            given = [self._given[place][3] for place in its]
+            wanted = Fraction(self._jobs[job].work)
+            moved = self._works_of(job, given, wanted)
+            if total(given) != wanted and total(moved) == wanted:
+                self._mended.append(Mended("work", job, None, abs(total(given) - wanted)))
+            works.update(zip(its, moved))
+        return works
+
+    def _works_of(self, job: str, given: List[Fraction], wanted: Fraction) -> List[Fraction]:
+        """The works of a job's slots: those that add up to what it wants, if there are some, and else as given."""
+        ways: Tuple[Callable[[], Optional[List[Fraction]]], ...] = (
+            lambda: [_simplest_near(work, self._most) for work in given],
+            lambda: given,
+            lambda: _shared(given, wanted, self._most),
+        )
+        for way in ways:
+            moved = way()
+            if moved is not None and total(moved) == wanted and _has_one_denominator(moved):
+                return moved
+        if not _has_one_denominator(given):
+            raise ValueError(
+                f"the works of job {job} have no common denominator up to 2^60, "
+                f"and no move by most makes them add up to {wanted}: take a greater most"
+            )
+        return given
+
+    def _bounds(self, moved: List[Row], kept: List[int]) -> None:
+        """What fails of each slot as given and holds as moved."""
+        order = sorted(kept, key=lambda place: (self._given[place][1], self._given[place][2]))
+        for place in order:
+            (job, start, end, _), (_, new_start, new_end, _) = self._given[place], moved[place]
+            row = self._jobs[job]
+            if start < row.release <= new_start:
+                self._mended.append(Mended("early", job, place, row.release - start))
+            if end > row.deadline >= new_end:
+                self._mended.append(Mended("late", job, place, end - row.deadline))
+        for before, after in zip(order, order[1:]):
+            over = self._given[before][2] - self._given[after][1]
+            if over > 0 and moved[before][2] <= moved[after][1]:
+                self._mended.append(Mended("overlap", self._given[after][0], after, over))
+
+    def _greatest_move(self, moved: List[Row]) -> Tuple[Fraction, Optional[int], Optional[str]]:
+        """How far a number was moved at most, and which."""
+        greatest: Tuple[Fraction, Optional[int], Optional[str]] = (Fraction(0), None, None)
+        for place, (old, new) in enumerate(zip(self._given, moved)):
+            for field, one, other in zip(("start", "end", "work"), old[1:], new[1:]):
+                if abs(one - other) > greatest[0]:
+                    greatest = abs(one - other), place, field
+        return greatest
+
+    def _at_points(self, rows: Sequence[Row], kept: Iterable[int]) -> "set[int]":
+        """The places of slots that run at the speed of a point."""
+        return {
+            place
+            for place in kept
+            if rows[place][1] < rows[place][2] and rows[place][3] / (rows[place][2] - rows[place][1]) in self._speeds
+        }
+
+
+def _simplest_near(value: Fraction, most: Fraction) -> Fraction:
+    """The fraction of least denominator within most of the value, and not below 0; the value where it is whole."""
+    if value < 0:
+        return Fraction(0)
+    if not most or value.denominator == 1:
+        return value
+    return _simplest(max(value - most, Fraction(0)), value + most)
+
+
+def _simplest(low: Fraction, high: Fraction) -> Fraction:
+    """The fraction of least denominator from low to high, of those the least: by their continued fractions.
+
+    >>> _simplest(Fraction(31, 100), Fraction(35, 100))
+    Fraction(1, 3)
+    """
+    wholes = []
+    while True:
+        whole = math.floor(low)
+        if low == whole or math.floor(high) > whole:
+            wholes.append(math.ceil(low))
+            break
+        wholes.append(whole)
+        low, high = 1 / (high - whole), 1 / (low - whole)
+    found = Fraction(wholes.pop())
+    while wholes:
+        found = wholes.pop() + 1 / found
+    return found
+
+
+def _shared(given: Sequence[Fraction], wanted: Fraction, most: Fraction) -> Optional[List[Fraction]]:
+    """The works, all moved by one amount so that they add up; None where one would be moved by more than most."""
+    if not most:
+        return None
+    scale = 10 ** (len(str(math.ceil(4 / most))))
+    near_by = [work if work.denominator <= scale else Fraction(round(work * scale), scale) for work in given]
+    amount = (wanted - total(near_by)) / len(given)
+    moved = [work + amount for work in near_by]
+    if any(new <= 0 or abs(new - old) > most for new, old in zip(moved, given)):
+        return None
+    return moved
+
+
+def _has_one_denominator(values: Iterable[Fraction]) -> bool:
+    return common(value.denominator for value in values) <= _GREATEST
