@@ -22,6 +22,7 @@ This package spells documents and reads answers, and is only tested.
 
 from yds import energy, schedule
 from yds._library import Answer, Status, answer
+from yds._many import map
 from yds.document import Admission, Document, Expansion, OneLevel, Plan, Rounded, Run, expand, trial
 from yds.errors import OutOfMemory, Refused, UsageError, YdsError
 from yds.policy import Moment, Pending, Policy, Simulation, simulate
@@ -84,6 +85,7 @@ __all__ = [
     "answer",
     "energy",
     "expand",
+    "map",
     "schedule",
     "simulate",
     "trial",
