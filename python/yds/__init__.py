@@ -20,7 +20,7 @@ What is proved is the library under this package: yds.answer hands words and byt
 This package spells documents and reads answers, and is only tested.
 """
 
-from yds import energy, schedule
+from yds import energy, pictures, schedule
 from yds._library import Answer, Status, answer
 from yds._many import map
 from yds.document import Admission, Document, Expansion, OneLevel, Plan, Rounded, Run, expand, trial
@@ -86,6 +86,7 @@ __all__ = [
     "energy",
     "expand",
     "map",
+    "pictures",
     "schedule",
     "simulate",
     "trial",

@@ -5,9 +5,11 @@ from __future__ import annotations
 from fractions import Fraction
 from typing import Any, ClassVar, Dict, List, Optional, Tuple, overload
 
+from yds import _drawn, pictures
 from yds._powers import By, Energy, Power, Span, Table, checked, is_exponent, of_spans
 from yds._tables import Profile, columns, profile, to_pandas
 from yds._turns import in_turn
+from yds.errors import Refused
 from yds.rows import Job, Point, Slot
 
 
@@ -103,3 +105,18 @@ class Measured:
     def to_pandas(self, exact: bool = False) -> Any:
         """The columns of the slots as a pandas.DataFrame, in floats; in Fractions where exact is True."""
         return to_pandas(self.slots, exact)
+
+    def plot(self, axes: Optional[Any] = None) -> Any:
+        """Who runs when, and how fast, on matplotlib's axes, which are given back; on those of a new figure without.
+
+        `yds.pictures.jobs` says what is drawn, and `yds.pictures` has the speed over time, too. ImportError is raised
+        where there is no matplotlib.
+        """
+        return pictures.jobs(self.jobs, self.slots, axes)
+
+    def _repr_svg_(self) -> Optional[str]:
+        """What a notebook shows where there are slots: windows and slots of at most 40 jobs, the darker the faster."""
+        try:
+            return _drawn.svg(self.jobs, self.slots) if self.slots else None
+        except Refused:
+            return None

@@ -7,9 +7,9 @@ from __future__ import annotations
 
 from dataclasses import dataclass
 from fractions import Fraction
-from typing import Dict, List, Literal, NamedTuple, Optional, Sequence, Tuple
+from typing import Any, Dict, List, Literal, NamedTuple, Optional, Sequence, Tuple
 
-from yds import _shown
+from yds import _drawn, _shown, pictures
 from yds._numbers import exact
 from yds._spelling import read_fraction
 from yds.rows import Exact, Slot
@@ -196,6 +196,10 @@ class Report(Result):
     def __repr__(self) -> str:
         return _shown.report(self)
 
+    def _repr_html_(self) -> str:
+        """What a notebook shows: the levels as a table, at most 40 of them."""
+        return _drawn.report(self)
+
     @classmethod
     def read(cls, text: bytes) -> Report:
         """What the table tells."""
@@ -233,8 +237,16 @@ class Curve(Result):
                 return low.excess + (high.excess - low.excess) * (at - low.speed) / (high.speed - low.speed)
         return Fraction(0)
 
+    def plot(self, axes: Optional[Any] = None, **look: Any) -> Any:
+        """The curve on matplotlib's axes: see `yds.pictures.curve`."""
+        return pictures.curve(self, axes, **look)
+
     def __repr__(self) -> str:
         return _shown.curve(self)
+
+    def _repr_html_(self) -> str:
+        """What a notebook shows: the breaks as a table, at most 40 of them."""
+        return _drawn.curve(self)
 
     @classmethod
     def read(cls, text: bytes) -> Curve:
@@ -275,8 +287,16 @@ class Comparison(Result):
     avr: Side
     oa: Side
 
+    def plot(self, axes: Optional[Any] = None) -> Any:
+        """The energies as bars on matplotlib's axes: see `yds.pictures.energies`."""
+        return pictures.energies(self, axes)
+
     def __repr__(self) -> str:
         return _shown.comparison(self)
+
+    def _repr_html_(self) -> str:
+        """What a notebook shows: energies and times as a table."""
+        return _drawn.comparison(self)
 
     @classmethod
     def read(cls, text: bytes) -> Comparison:
