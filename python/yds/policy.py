@@ -23,7 +23,7 @@ import math
 from bisect import insort
 from fractions import Fraction
 from numbers import Rational, Real
-from typing import Any, Callable, Dict, Iterable, List, NamedTuple, Optional, Sequence, Tuple, Union
+from typing import Any, Callable, Dict, List, NamedTuple, Optional, Sequence, Tuple, Union
 
 from yds import _spelling
 from yds._numbers import exact as exact_number
@@ -105,6 +105,10 @@ class Simulation(_Answered):
         """Whether the slots run at just the speeds that the policy said: none was rounded."""
         return self._rounded == 0
 
+    def audit(self, points: bool = False) -> Verdict:
+        """As that of a document; without points it is the verdict that was told already."""
+        return super().audit(points) if points is not False or "_verdict" not in self.__dict__ else self._verdict
+
     def __bool__(self) -> bool:
         return self._verdict.feasible
 
@@ -165,21 +169,32 @@ def simulate(
 
 
 class _Waiting:
-    """A job that waits, with what is left of its work in parts of a unit."""
+    """A job that waits, with what is left of its work in parts of a unit: an int, or a Fraction where speeds are."""
 
     __slots__ = ("job", "order", "left")
 
     def __init__(self, job: Job, place: int, grid: int) -> None:
         self.job = job
         self.order = (job.deadline, job.release, place)
-        self.left = Fraction(job.work * grid)
+        self.left: Any = job.work * grid
 
     def __lt__(self, other: _Waiting) -> bool:
         return self.order < other.order
 
 
+class _Ran(NamedTuple):
+    """A slot: its work in parts of a unit, and its speed as so many parts in so much time."""
+
+    name: str
+    start: Any
+    end: Any
+    parts: Any
+    could: Any
+    length: Any
+
+
 class _Simulator:
-    """The jobs that wait, and what ran. Works are counted in parts of a unit: ints, and Fractions where speeds are."""
+    """The jobs that wait, and what ran. Numbers are ints as long as they are whole, since these are quicker."""
 
     def __init__(self, jobs: Sequence[Job], policy: Policy, grid: int, exact: bool) -> None:
         self._policy = policy
@@ -189,21 +204,28 @@ class _Simulator:
         self._times = sorted({time for job in jobs for time in (job.release, job.deadline)})
         self._pending: List[_Waiting] = []
         self._released: List[Job] = []
-        self._rate: Any = 0
-        self._rates: List[Any] = []
-        self.slots: List[Slot] = []
+        self._ran: List[_Ran] = []
+        self._could: Any = 0
+        self._length: Any = 1
         self.rounded = 0
         self.missed: Optional[str] = None
 
     def run(self, every: Optional[Fraction]) -> None:
         """From the first release to the last deadline, or to the first that is missed."""
+        step = None if every is None else _plain(every)
         for now, end in zip(self._times, [*self._times[1:], None]):
             if self._pending and self._pending[0].job.deadline <= now:
                 self._miss(now)
                 return
             self._release(now)
             if end is not None:
-                self._run_from(now, end, every)
+                self._run_from(now, end, step)
+
+    def slots(self) -> List[Slot]:
+        """What ran, in the order of time."""
+        return [
+            Slot(one.name, Fraction(one.start), Fraction(one.end), Fraction(one.parts, self.grid)) for one in self._ran
+        ]
 
     def _release(self, now: int) -> None:
         while self._coming and self._coming[-1][0] == now:
@@ -212,89 +234,107 @@ class _Simulator:
             if job.work:
                 insort(self._pending, _Waiting(job, place, self.grid))
 
-    def _run_from(self, start: int, end: int, every: Optional[Fraction]) -> None:
+    def _run_from(self, start: int, end: int, every: Any) -> None:
         """One stretch, or as many as are no longer than `every`."""
         now: Any = start
         while self._pending and now < end:
-            until: Any = end if every is None else min(now + every, end)
-            self._stretch(now, until - now)
+            until: Any = end if every is None else _plain(min(now + every, end))
+            self._stretch(now, _plain(until - now))
             now = until
 
-    def _stretch(self, now: Exact, length: Exact) -> None:
-        """What waits runs at the policy's speed, the earliest deadline first."""
-        self._rate = rate = self._rate_for(self._said(now), length)
-        could = Fraction(rate * length)
-        done = Fraction(0)
+    def _stretch(self, now: Any, length: Any) -> None:
+        """What waits runs at the policy's speed, the earliest deadline first: so many parts could be done in all."""
+        could = self._parts(self._said(now), length)
+        self._could, self._length = could, length
+        done: Any = 0
+        start = now
         while self._pending and done < could:
             first = self._pending[0]
-            part: Fraction = min(first.left, could - done)
-            self._run_one(first.job.name, now + _over(done, rate), now + _over(done + part, rate), part)
+            part: Any = min(first.left, could - done)
             done += part
+            end: Any = now + length if done == could else now + Fraction(length * done, could)
+            self._run_one(first.job.name, start, end, part)
+            start = end
             first.left -= part
             if not first.left:
                 del self._pending[0]
 
-    def _said(self, now: Exact) -> Union[int, float, Fraction]:
+    def _said(self, now: Any) -> Union[int, float, Fraction]:
         """The speed that the policy says."""
-        pending = [Pending(*one.job, self._number(_over(one.left, self.grid))) for one in self._pending]
-        said = self._policy(Moment(self._number(now), pending, tuple(self._released)))
+        pending = [Pending(*one.job, self._number(one.left, self.grid)) for one in self._pending]
+        said = self._policy(Moment(self._number(now, 1), pending, tuple(self._released)))
         if is_truth(said) or not isinstance(said, Real):
             raise TypeError(f"at {now} the policy says {said!r}, and a speed is an int, a Fraction or a float")
         if not 0 <= said < math.inf:
             raise ValueError(f"at {now} the policy says {said!r}, and a speed is a number of at least 0")
         return exact_number(said) if isinstance(said, Rational) else float(said)
 
-    def _number(self, value: Any) -> Any:
-        return Fraction(value) if self._exact else float(value)
+    def _number(self, parts: Any, whole: int) -> Any:
+        if self._exact:
+            return Fraction(parts, whole)
+        return parts / whole if type(parts) is int else float(Fraction(parts, whole))
 
-    def _rate_for(self, said: Union[int, float, Fraction], length: Exact) -> Any:
-        """The speed in parts of a unit for each unit of time, of the grid where the policy said a float."""
+    def _parts(self, said: Union[int, float, Fraction], length: Any) -> Any:
+        """How many parts of a unit of work could be done in the length, at the speed of the grid where it is a float."""
         if not isinstance(said, float):
-            return Fraction(said) * self.grid
-        rate = self._of_grid(said, Fraction(length))
-        if rate * length > sum(one.left for one in self._pending):
-            rate = self._of_grid(said, Fraction(1))
-        self.rounded += float(rate / self.grid) != said
-        return rate
+            return _plain(said * self.grid * length)
+        could, moved = self._of_grid(said, length)
+        if could > sum(one.left for one in self._pending):
+            rate, moved = self._of_grid(said, 1)
+            could = _plain(rate * length)
+        self.rounded += moved
+        return could
 
-    def _of_grid(self, said: float, span: Fraction) -> Fraction:
-        """The speed at which whole parts are done in the span: that to which the float is the nearest, or the next."""
-        wanted = Fraction(said) * self.grid * span
-        nearest = round(wanted) / span
-        return nearest if float(nearest / self.grid) == said else math.ceil(wanted) / span
+    def _of_grid(self, said: float, length: Any) -> Tuple[int, bool]:
+        """The whole parts in the length of which the float is the nearest speed, or the next more; and whether it is that.
+
+        A quotient of two ints is the nearest float to it.
+        """
+        numerator, denominator = said.as_integer_ratio()
+        below, rest = divmod(numerator * self.grid * length.numerator, denominator * length.denominator)
+        nearest = below + (2 * rest >= denominator * length.denominator)
+        if nearest * length.denominator / (self.grid * length.numerator) == said:
+            return nearest, False
+        return below + (rest > 0), True
 
     def _run_one(self, name: str, start: Any, end: Any, parts: Any) -> None:
         """A slot; the one before goes on where it has the same job and speed, and ends where this one starts."""
-        work = _over(parts, self.grid)
-        before = self.slots[-1] if self.slots else None
-        if before is not None and before.job == name and before.end == start and self._rates[-1] == self._rate:
-            self.slots[-1] = before._replace(end=Fraction(end), work=before.work + work)
+        could, length = self._could, self._length
+        before = self._ran[-1] if self._ran else None
+        if (
+            before is not None
+            and before.name == name
+            and before.end == start
+            and before.could * length == could * before.length
+        ):
+            self._ran[-1] = before._replace(end=end, parts=before.parts + parts)
             return
-        if len(self.slots) == _MOST_SLOTS:
+        if len(self._ran) == _MOST_SLOTS:
             raise ValueError("the run has more than 100,000 slots, and a document has no more: take a longer `every`")
-        self.slots.append(Slot(name, Fraction(start), Fraction(end), work))
-        self._rates.append(self._rate)
+        self._ran.append(_Ran(name, start, end, parts, could, length))
 
     def _miss(self, now: int) -> None:
         """The first job that is late runs on at the last speed, to its end or to the greatest time of a document."""
         first = self._pending[0]
         self.missed = first.job.name
-        if not self._rate:
+        if not self._could:
             return
-        end = min(now + _over(first.left, self._rate), Fraction(_LATEST))
+        end = min(now + Fraction(first.left * self._length, self._could), Fraction(_LATEST))
         if end > now:
-            self._run_one(self.missed, now, end, (end - now) * self._rate)
+            self._run_one(self.missed, now, end, (end - now) * self._could / self._length)
 
 
-def _over(parts: Any, whole: Any) -> Fraction:
-    return Fraction(parts, whole)
+def _plain(number: Any) -> Any:
+    """The number as an int, where it is whole."""
+    return number.numerator if number.denominator == 1 else number
 
 
 def _judged(document: Document, simulator: _Simulator) -> Simulation:
     """The answer, with the library's verdict."""
-    rows: Iterable[Tuple[str, Any, Any, Any]] = simulator.slots
-    made = Simulation._made(document._head + _spelling.joined(_spelling.slot_lines(list(rows))), written=True)
-    made.__dict__.update(jobs=document.jobs, points=document.points, slots=tuple(simulator.slots), levels=())
+    slots = simulator.slots()
+    rows: List[Tuple[str, Any, Any, Any]] = list(slots)
+    made = Simulation._made(document._head + _spelling.joined(_spelling.slot_lines(rows)), written=True)
+    made.__dict__.update(jobs=document.jobs, points=document.points, slots=tuple(slots), levels=())
     try:
         verdict = made.audit()
     except Refused as fault:
