@@ -3,12 +3,13 @@
 from __future__ import annotations
 
 from fractions import Fraction
+from functools import cached_property
 from typing import Any, ClassVar, Dict, List, Optional, Tuple, overload
 
 from yds import _drawn, pictures
 from yds._powers import By, Energy, Power, Span, Table, checked, is_exponent, of_spans
 from yds._tables import Profile, columns, profile, to_pandas
-from yds._turns import in_turn
+from yds._turns import Turn, in_turn
 from yds.errors import Refused
 from yds.rows import Job, Point, Slot
 
@@ -74,8 +75,16 @@ class Measured:
 
     def _spans(self, start: Optional[int], end: Optional[int]) -> List[Span]:
         """The slots' works and times, each between start and end."""
-        turns = in_turn(self._some_slots(), start, end)
-        return [Span(f"slots[{turn.place}]", turn.work, turn.length) for turn in turns]
+        turns, spans = self._own_turns
+        if turns and start is not None and end is not None and not start <= turns[0].start <= turns[-1].end <= end:
+            in_turn(self.slots, start, end)
+        return spans
+
+    @cached_property
+    def _own_turns(self) -> Tuple[List[Turn], List[Span]]:
+        """The slots in the order of their times, and their spans: kept, since one asks for several powers."""
+        turns = in_turn(self._some_slots())
+        return turns, [Span(f"slots[{turn.place}]", turn.work, turn.length) for turn in turns]
 
     def _some_slots(self) -> Tuple[Slot, ...]:
         """The slots; ValueError where there are none, and jobs want work."""

@@ -43,6 +43,8 @@ def turns_of(slots: Iterable[SlotLike], start: Optional[Exact] = None, end: Opti
 def in_turn(slots: Iterable[SlotLike], start: Optional[Exact] = None, end: Optional[Exact] = None) -> List[Turn]:
     """The slots in the order of their times; ValueError where they aren't one at a time, or not from start to end."""
     turns = turns_of(slots, start, end)
+    if all(before.end <= after.start for before, after in zip(turns, turns[1:])):
+        return turns
     turns.sort(key=lambda turn: (turn.start, turn.end))
     for before, after in zip(turns, turns[1:]):
         if after.start < before.end:
