@@ -9,7 +9,7 @@ from typing import Any, ClassVar, Dict, List, Optional, Tuple, overload
 from yds import _drawn, pictures
 from yds._powers import By, Energy, Power, Span, Table, checked, is_exponent, of_spans
 from yds._tables import Profile, columns, profile, to_pandas
-from yds._turns import Turn, in_turn
+from yds._turns import Turn, in_turn, own_in_turn
 from yds.errors import Refused
 from yds.rows import Job, Point, Slot
 
@@ -83,7 +83,7 @@ class Measured:
     @cached_property
     def _own_turns(self) -> Tuple[List[Turn], List[Span]]:
         """The slots in the order of their times, and their spans: kept, since one asks for several powers."""
-        turns = in_turn(self._some_slots())
+        turns = own_in_turn(self._some_slots())
         return turns, [Span(f"slots[{turn.place}]", turn.work, turn.length) for turn in turns]
 
     def _some_slots(self) -> Tuple[Slot, ...]:

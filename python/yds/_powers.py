@@ -48,11 +48,17 @@ def hull(table: Table) -> List[Tuple[Fraction, Fraction]]:
 _ROWS = Form("table", ("speed", "power"), (exact, exact))
 
 
-def checked(table: Table) -> List[Tuple[Fraction, Fraction]]:
+class Checked(List[Tuple[Fraction, Fraction]]):
+    """A table's rows in exact numbers, which were looked at."""
+
+
+def checked(table: Table) -> Checked:
     """The table's rows in exact numbers; ValueError where the first isn't of speed 0, or speeds don't rise."""
+    if isinstance(table, Checked):
+        return table
     if not isinstance(table, IterableType):
         raise TypeError(f"a power is an exponent, or a table's rows of speed and power, and not {table!r}")
-    rows = [(speed, power) for speed, power in read(_ROWS, table)]
+    rows = Checked((speed, power) for speed, power in read(_ROWS, table))
     if not rows or rows[0][0] != 0:
         raise ValueError("a table of powers begins with the power at speed 0, as the row (0, 30)")
     for place, (before, after) in enumerate(zip(rows, rows[1:])):
@@ -98,9 +104,37 @@ def _by_table(
     idle, powers, lower = rows[0][1], dict(rows), hull(rows)
     if idle and whole is None:
         raise ValueError(f"at speed 0 the table draws {idle}: say start and end, from when to when that is counted")
-    drawn = [span.length * _drawn(span, powers, lower, by) for span in spans]
-    rest = Fraction(0) if whole is None else whole - total(span.length for span in spans)
+    if by == "hull" or (by is None and len(lower) == len(rows)):
+        drawn = _mixed(spans, lower)
+    else:
+        drawn = [span.length * _drawn(span, powers, lower, by) for span in spans]
+    rest = Fraction(0) if not idle or whole is None else whole - total(span.length for span in spans)
     return total([*drawn, idle * rest])
+
+
+def _mixed(spans: Sequence[Span], lower: List[Tuple[Fraction, Fraction]]) -> List[Fraction]:
+    """What all spans between two neighbours of the hull draw, for each such pair: it hangs on their sums alone.
+
+    A speed's nearest float tells between which two it is, but where it is that of a point.
+    """
+    heads = [float(speed) for speed, _ in lower]
+    found: List[List[Span]] = [[] for _ in lower]
+    for span in spans:
+        work, length = span.work, span.length
+        speed = (work.numerator * length.denominator) / (work.denominator * length.numerator)
+        place = bisect_left(heads, speed)
+        if place < len(heads) and heads[place] == speed and work > lower[place][0] * length:
+            place += 1
+        if place == len(heads):
+            top = lower[-1][0]
+            raise ValueError(f"{span.named} has the speed {work / length}, above the last of the table, {top}")
+        found[place].append(span)
+    drawn = []
+    for (low, high), some in zip(zip([lower[0], *lower], lower), found):
+        length = total(span.length for span in some)
+        slope = Fraction(0) if low is high else (high[1] - low[1]) / (high[0] - low[0])
+        drawn.append(length * low[1] + (total(span.work for span in some) - low[0] * length) * slope)
+    return drawn
 
 
 def _drawn(span: Span, powers: Dict[Fraction, Fraction], lower: List[Tuple[Fraction, Fraction]], by: By) -> Fraction:

@@ -3,11 +3,11 @@
 from __future__ import annotations
 
 from fractions import Fraction
-from typing import Iterable, List, NamedTuple, Optional
+from typing import Iterable, List, NamedTuple, Optional, Sequence
 
 from yds._forms import FOREIGN_SLOTS, read
 from yds._numbers import exact
-from yds.rows import Exact, SlotLike
+from yds.rows import Exact, Slot, SlotLike
 
 
 class Turn(NamedTuple):
@@ -33,17 +33,24 @@ class Turn(NamedTuple):
 def turns_of(slots: Iterable[SlotLike], start: Optional[Exact] = None, end: Optional[Exact] = None) -> List[Turn]:
     """The slots in the given order; ValueError where one doesn't end after its start, or lies outside start and end."""
     turns = [Turn(place, *row) for place, row in enumerate(read(FOREIGN_SLOTS, slots))]
-    first = None if start is None else exact(start)
-    last = None if end is None else exact(end)
-    for turn in turns:
-        _check(turn, first, last)
+    _check(turns, None if start is None else exact(start), None if end is None else exact(end))
     return turns
 
 
 def in_turn(slots: Iterable[SlotLike], start: Optional[Exact] = None, end: Optional[Exact] = None) -> List[Turn]:
     """The slots in the order of their times; ValueError where they aren't one at a time, or not from start to end."""
-    turns = turns_of(slots, start, end)
-    if all(before.end <= after.start for before, after in zip(turns, turns[1:])):
+    return _ordered(turns_of(slots, start, end))
+
+
+def own_in_turn(slots: Sequence[Slot]) -> List[Turn]:
+    """The same of slots that a document has: their numbers are Fractions."""
+    turns = [Turn(place, *slot) for place, slot in enumerate(slots)]  # type: ignore[arg-type]
+    _check(turns, None, None)
+    return _ordered(turns)
+
+
+def _ordered(turns: List[Turn]) -> List[Turn]:
+    if all(before.end is after.start or before.end <= after.start for before, after in zip(turns, turns[1:])):
         return turns
     turns.sort(key=lambda turn: (turn.start, turn.end))
     for before, after in zip(turns, turns[1:]):
@@ -55,13 +62,14 @@ def in_turn(slots: Iterable[SlotLike], start: Optional[Exact] = None, end: Optio
     return turns
 
 
-def _check(turn: Turn, start: Optional[Fraction], end: Optional[Fraction]) -> None:
-    """Raises ValueError where the slot by itself is none, or isn't from start to end."""
-    if turn.end <= turn.start:
-        raise ValueError(f"slots[{turn.place}] ends at {turn.end}, and not after its start {turn.start}")
-    if turn.work < 0:
-        raise ValueError(f"slots[{turn.place}] has the work {turn.work}, and a work is at least 0")
-    if start is not None and turn.start < start:
-        raise ValueError(f"slots[{turn.place}] begins at {turn.start}, before the start {start} of what is counted")
-    if end is not None and turn.end > end:
-        raise ValueError(f"slots[{turn.place}] ends at {turn.end}, after the end {end} of what is counted")
+def _check(turns: Sequence[Turn], start: Optional[Fraction], end: Optional[Fraction]) -> None:
+    """Raises ValueError where a slot by itself is none, or isn't from start to end."""
+    for turn in turns:
+        if turn.end <= turn.start:
+            raise ValueError(f"slots[{turn.place}] ends at {turn.end}, and not after its start {turn.start}")
+        if turn.work.numerator < 0:
+            raise ValueError(f"slots[{turn.place}] has the work {turn.work}, and a work is at least 0")
+        if start is not None and turn.start < start:
+            raise ValueError(f"slots[{turn.place}] begins at {turn.start}, before the start {start} of what is counted")
+        if end is not None and turn.end > end:
+            raise ValueError(f"slots[{turn.place}] ends at {turn.end}, after the end {end} of what is counted")

@@ -71,12 +71,9 @@ class Document(Measured):
         slots: Iterable[SlotLike] = (),
         levels: Iterable[Level] = (),
     ) -> None:
-        self.__dict__["_text"] = _spelling.joined(
-            _spelling.lines("job", JOBS, jobs),
-            _spelling.lines("point", POINTS, points),
-            _spelling.slot_lines(list(read(SLOTS, slots))),
-            _spelling.level_lines(levels),
-        )
+        head = _spelling.joined(_spelling.lines("job", JOBS, jobs), _spelling.lines("point", POINTS, points))
+        rest = _spelling.joined(_spelling.slot_lines(list(read(SLOTS, slots))), _spelling.level_lines(levels))
+        self.__dict__.update(_text=head + rest, _head=head)
 
     @classmethod
     def from_text(cls: Type[D], text: Union[bytes, str]) -> D:

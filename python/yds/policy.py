@@ -171,12 +171,13 @@ def simulate(
 class _Waiting:
     """A job that waits, with what is left of its work in parts of a unit: an int, or a Fraction where speeds are."""
 
-    __slots__ = ("job", "order", "left")
+    __slots__ = ("job", "order", "left", "seen")
 
     def __init__(self, job: Job, place: int, grid: int) -> None:
         self.job = job
         self.order = (job.deadline, job.release, place)
         self.left: Any = job.work * grid
+        self.seen: Optional[Pending] = None
 
     def __lt__(self, other: _Waiting) -> bool:
         return self.order < other.order
@@ -256,18 +257,26 @@ class _Simulator:
             self._run_one(first.job.name, start, end, part)
             start = end
             first.left -= part
+            first.seen = None
             if not first.left:
                 del self._pending[0]
 
     def _said(self, now: Any) -> Union[int, float, Fraction]:
         """The speed that the policy says."""
-        pending = [Pending(*one.job, self._number(one.left, self.grid)) for one in self._pending]
+        pending = [one.seen or self._seen(one) for one in self._pending]
         said = self._policy(Moment(self._number(now, 1), pending, tuple(self._released)))
+        if type(said) is float and 0 <= said < math.inf:
+            return said
         if is_truth(said) or not isinstance(said, Real):
             raise TypeError(f"at {now} the policy says {said!r}, and a speed is an int, a Fraction or a float")
         if not 0 <= said < math.inf:
             raise ValueError(f"at {now} the policy says {said!r}, and a speed is a number of at least 0")
         return exact_number(said) if isinstance(said, Rational) else float(said)
+
+    def _seen(self, one: _Waiting) -> Pending:
+        """The job as a policy sees it, until more of its work is done."""
+        one.seen = Pending(*one.job, self._number(one.left, self.grid))
+        return one.seen
 
     def _number(self, parts: Any, whole: int) -> Any:
         if self._exact:
