@@ -27,6 +27,7 @@ PROOFS: Command = ("rt", "ci")
 CHECKS: List[Command] = [
     (sys.executable, "checks/test_checks.py"),
     (sys.executable, "docs/check.py"),
+    (sys.executable, "docs/api.py", "--check"),
     (sys.executable, "checks/test_edits.py"),
     (sys.executable, "docs/edits.py", "--check"),
 ]

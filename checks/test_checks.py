@@ -1,4 +1,4 @@
-"""test_checks.py: tries the gate with a stand-in for `rt`, and the check of the pages with faults that are planted.
+"""test_checks.py: tries the gate with a stand-in for `rt`, the checks of the pages with faults that are planted.
 
     python3 checks/test_checks.py
 
@@ -210,6 +210,73 @@ class Pages(InFolder):
     def test_no_page(self) -> None:
         lines, status = self.check()
         self.assertEqual((lines[-1], status), ("0 passed, 1 failed", 1))
+
+
+class Calls(InFolder):
+    """The page of the calls of a small package."""
+
+    SOURCE = """\"\"\"A package. It has a*b and `a*b`.\"\"\"
+
+from yds.more import Kind, call
+
+__all__ = ["Kind", "call"]
+"""
+    MORE = """class Base:
+    def told(self) -> int:
+        \"\"\"What is told.\"\"\"
+
+class Kind(Base):
+    \"\"\"A kind.\"\"\"
+
+    field: int
+    \"\"\"A field.\"\"\"
+
+    def _hidden(self) -> int:
+        return 1
+
+def call(number: int = 1) -> Kind:
+    \"\"\"A call.
+
+    >>> call()
+    Kind
+    \"\"\"
+"""
+
+    def setUp(self) -> None:
+        super().setUp()
+        self.write("python/yds/__init__.py", self.SOURCE)
+        self.write("python/yds/more.py", self.MORE)
+        (self.folder / "docs").mkdir()
+
+    def api(self, *words: str) -> Tuple[List[str], int]:
+        command = [sys.executable, str(ROOT / "docs" / "api.py"), *words, str(self.folder)]
+        done = subprocess.run(command, stdout=subprocess.PIPE, text=True)
+        return done.stdout.splitlines(), done.returncode
+
+    def test_the_page(self) -> None:
+        self.assertEqual(self.api(), ([], 0))
+        page = (self.folder / "docs" / "api.md").read_text(encoding="utf-8")
+        self.assertIn(
+            "\n## yds\n\nA package. It has a\\*b and `a*b`.\n\n### yds.Kind\n\n    class yds.Kind\n\nA kind.\n", page
+        )
+        self.assertIn("\n- `.field: int`  \n  A field.\n\n**`.told`**\n\n    .told() -> int\n\nWhat is told.\n", page)
+        self.assertIn("\n    yds.call(number: int=1) -> Kind\n\nA call.\n\n    >>> call()\n    Kind\n", page)
+        self.assertNotIn("hidden", page)
+        self.assertEqual(self.api("--check"), (["5 passed, 0 failed"], 0))
+
+    def test_a_page_that_isnt_there_or_isnt_made_again(self) -> None:
+        told = "docs/api.md isn't what the docstrings say: python3 docs/api.py writes it"
+        self.assertEqual(self.api("--check"), ([told, "4 passed, 1 failed"], 1))
+        self.api()
+        self.write("python/yds/more.py", self.MORE.replace("A kind.", "Another kind."))
+        self.assertEqual(self.api("--check"), ([told, "4 passed, 1 failed"], 1))
+
+    def test_no_docstring(self) -> None:
+        self.write("python/yds/more.py", self.MORE.replace('"""A kind."""', "").replace('"""What is told."""', "pass"))
+        self.api()
+        lines, status = self.api("--check")
+        self.assertEqual(lines[:2], ["yds.Kind class yds.Kind: no docstring", "yds.Kind .told() -> int: no docstring"])
+        self.assertEqual((lines[-1], status), ("3 passed, 2 failed", 1))
 
 
 def main() -> int:
