@@ -3,8 +3,8 @@
 from __future__ import annotations
 
 import math
+import re
 from fractions import Fraction
-from functools import lru_cache
 from typing import Any, Dict, Iterable, Iterator, List, Sequence, Tuple
 
 from yds._forms import LEVELS, Form, name, read
@@ -14,7 +14,11 @@ from yds.rows import Job, Level, Piece, Point, Slot
 
 def fraction(value: Fraction, denominator: int) -> str:
     """The spelling of a fraction, over a denominator that its own divides: W, or W+N/D."""
-    parts = value.numerator * (denominator // value.denominator)
+    parts, own = value.numerator, value.denominator
+    if own != denominator:
+        parts *= denominator // own
+    elif own == 1:
+        return str(parts)
     above, rest = divmod(parts, denominator)
     return f"{above}+{rest}/{denominator}" if rest else str(above)
 
@@ -78,12 +82,24 @@ def read_fraction(word: bytes) -> Fraction:
     >>> read_fraction(b"2+2/3")
     Fraction(8, 3)
     """
-    above, plus, rest = word.partition(b"+")
-    if not plus:
-        return Fraction(int(above))
-    numerator, _, denominator = rest.partition(b"/")
-    parts = int(denominator)
-    return Fraction(int(above) * parts + int(numerator), parts)
+    return _value(word.decode("ascii"))
+
+
+def _value(word: str) -> Fraction:
+    """The value of a word W or W+N/D. What Fraction(..) would look at is known, and so it is made without it."""
+    above, plus, rest = word.partition("+")
+    made: Fraction = object.__new__(Fraction)
+    if plus:
+        numerator, _, denominator = rest.partition("/")
+        whole = int(denominator)
+        parts = int(above) * whole + int(numerator)
+        divisor = math.gcd(parts, whole)
+        made._numerator = parts // divisor  # type: ignore[attr-defined]
+        made._denominator = whole // divisor  # type: ignore[attr-defined]
+    else:
+        made._numerator = int(above)  # type: ignore[attr-defined]
+        made._denominator = 1  # type: ignore[attr-defined]
+    return made
 
 
 def lines_of(text: bytes, *kinds: bytes) -> Iterator[List[bytes]]:
@@ -120,20 +136,33 @@ def read_points(text: bytes) -> Tuple[Point, ...]:
     return tuple(Point(int(speed), int(power)) for _, speed, power in lines_of(text, b"point"))
 
 
+_SLOT = re.compile(r"^[ \t\r]*slot" + 4 * r"[ \t\r]+([!-~]+)", re.MULTILINE)
+
+
 def read_slots(text: bytes) -> Tuple[Slot, ...]:
-    """The slots and runs of a text. Most ends of slots stand there twice, and are read once."""
-    read = lru_cache(maxsize=None)(read_fraction)
+    """The slots and runs of a text."""
+    if b"run" not in text and b"ticks" not in text:
+        return tuple(_slots(_SLOT.findall(text.decode("latin-1"))))
     slots: List[Slot] = []
     ticks = 1
     for kind, *rest in lines_of(text, b"slot", b"ticks", b"run"):
         if kind == b"slot":
             job, start, end, work = rest
-            slots.append(Slot(job.decode("ascii"), read(start), read(end), read(work)))
+            slots.append(Slot(job.decode("ascii"), *map(read_fraction, (start, end, work))))
         elif kind == b"ticks":
             ticks = int(rest[0])
         else:
             slots.append(_run(rest, ticks))
     return tuple(slots)
+
+
+def _slots(rows: Iterable[Tuple[str, str, str, str]]) -> Iterator[Slot]:
+    """The slots of these words. Most begin where the one before ends, and that is read once."""
+    made, last, end = tuple.__new__, "", Fraction(0)
+    for job, first, final, work in rows:
+        start = end if first == last else _value(first)
+        end, last = _value(final), final
+        yield made(Slot, (job, start, end, _value(work)))
 
 
 def _run(rest: Sequence[bytes], ticks: int) -> Slot:

@@ -11,7 +11,7 @@ from dataclasses import replace
 from fractions import Fraction
 from typing import Callable, Iterable, List, Optional, Sequence, Tuple, TypeVar
 
-from yds._forms import FOREIGN_SLOTS, read
+from yds._forms import FOREIGN_SLOTS, name, read
 from yds._near import Mended, Near
 from yds._near import near as _near
 from yds._numbers import Decimalish
@@ -20,7 +20,7 @@ from yds._tables import Profile, columns, profile, to_pandas
 from yds.document import Document
 from yds.errors import Refused
 from yds.results import Judgement, Verdict
-from yds.rows import Level, SlotLike
+from yds.rows import Level, Slot, SlotLike
 
 __all__ = ["DecimalSlot", "Mended", "Near", "Profile", "check", "columns", "judge", "near", "profile", "to_pandas"]
 
@@ -100,11 +100,26 @@ def near(document: Document, slots: Iterable[DecimalSlot], *, most: Decimalish) 
 
 def _in_time(slots: Iterable[SlotLike]) -> Tuple[Sequence[int], List[ExactSlot]]:
     """The slots in the order of their times, and the place of each in the given list."""
-    given: List[ExactSlot] = list(read(FOREIGN_SLOTS, slots))
-    if all(one[1] < other[1] for one, other in zip(given, given[1:])):
+    given = _given(slots)
+    if all(_is_before(one[1], other[1]) for one, other in zip(given, given[1:])):
         return range(len(given)), given
     order = sorted(range(len(given)), key=lambda place: (given[place][1], given[place][2]))
     return order, [given[place] for place in order]
+
+
+def _given(slots: Iterable[SlotLike]) -> List[ExactSlot]:
+    """The rows in exact numbers. Slots of a document's own have them already."""
+    if isinstance(slots, tuple) and all(type(slot) is Slot for slot in slots):
+        numbers = {type(number) for _, *rest in slots for number in rest}
+        if numbers <= {Fraction}:
+            for job in {slot[0] for slot in slots}:
+                name(job)
+            return list(slots)
+    return list(read(FOREIGN_SLOTS, slots))
+
+
+def _is_before(one: Fraction, other: Fraction) -> bool:
+    return one.numerator * other.denominator < other.numerator * one.denominator
 
 
 def _with(document: Document, slots: Sequence[ExactSlot], levels: Iterable[Level] = ()) -> Document:
