@@ -1,0 +1,81 @@
+//! The kinds of event, by their names.
+ghost use Rattle.std.specs.Prelude.{◌≡◌};
+ghost use Rattle.yds_kernel.specs.Form.{bare_name, is_marker, is_wake_up, kind_of, kind_of_name};
+ghost use Rattle.yds_kernel.specs.Line.{matters};
+
+use crate::parts::after;
+
+/// What an event is, by its name.
+#[derive(Clone, Copy)]
+pub(crate) enum Kind {
+    Switch,
+    WakeUp,
+    Speed,
+    Loss,
+    Marker,
+    Other,
+}
+
+impl Kind {
+    /// The kind of the event with this name.
+    pub(crate) fn of(word: &[u8]) -> Kind
+        ensures { result ≡ kind_of word.now }
+    {
+        let name = bare_name(word);
+        if name == b"sched_switch:".as_slice() {
+            Kind::Switch
+        } else if is_wake_up(name) {
+            Kind::WakeUp
+        } else if name == b"cpu_frequency:".as_slice() {
+            Kind::Speed
+        } else if name == b"PERF_RECORD_LOST".as_slice() {
+            Kind::Loss
+        } else if is_marker(name) {
+            Kind::Marker
+        } else {
+            Kind::Other
+        }
+    }
+
+    /// Whether events of this kind are read.
+    pub(crate) fn matters(self) -> bool
+        ensures { result ≡ matters self.entry }
+    {
+        match self {
+            Kind::Switch | Kind::WakeUp | Kind::Speed | Kind::Loss => true,
+            Kind::Marker | Kind::Other => false,
+        }
+    }
+}
+
+/// The name without the system that perf writes before it.
+fn bare_name(word: &[u8]) -> &[u8]
+    ensures { result.now ≡ bare_name word.now }
+{
+    if let Some(name) = after(word, b"sched:".as_slice()) {
+        return name;
+    }
+    if let Some(name) = after(word, b"power:".as_slice()) {
+        return name;
+    }
+    match after(word, b"ftrace:".as_slice()) {
+        Some(name) => name,
+        None => word,
+    }
+}
+
+fn is_wake_up(name: &[u8]) -> bool
+    ensures { result ≡ is_wake_up name.now }
+{
+    name == b"sched_waking:".as_slice()
+        || name == b"sched_wakeup:".as_slice()
+        || name == b"sched_wakeup_new:".as_slice()
+}
+
+fn is_marker(name: &[u8]) -> bool
+    ensures { result ≡ is_marker name.now }
+{
+    name == b"tracing_mark_write:".as_slice()
+        || name == b"print:".as_slice()
+        || name == b"bprint:".as_slice()
+}

@@ -1,0 +1,99 @@
+//! The states in which a thread leaves its processor.
+ghost use Rattle.std.specs.Prelude.{◌≡◌};
+ghost use Rattle.yds_kernel.specs.Form.{state_of, is_state, goes_on, is_state_letter, is_state_byte, is_state_number};
+
+/// In which state a thread leaves its processor.
+#[derive(Clone, Copy, Debug, PartialEq, Eq)]
+pub enum State {
+    /// Its job goes on: it was preempted, or waits for a disk.
+    GoesOn,
+    /// It sleeps, waits to be woken, or ends.
+    Sleeps,
+    /// A state that the kernel doesn't have.
+    Unknown,
+}
+
+impl State {
+    /// The state that is spelled so: a letter, perhaps with more letters, `|` and `+` behind it, or a number.
+    pub(crate) fn of(text: &[u8]) -> State
+        ensures { result ≡ state_of text.now }
+    {
+        if !is_state(text) {
+            State::Unknown
+        } else if goes_on(text) {
+            State::GoesOn
+        } else {
+            State::Sleeps
+        }
+    }
+}
+
+/// Whether the kernel or a tool writes such a state.
+fn is_state(text: &[u8]) -> bool
+    ensures { result ≡ is_state text.now }
+{
+    match text {
+        [] => false,
+        [first, more @ ..] => {
+            is_state_letter(*first) && more.iter().all(|byte| is_state_byte(*byte))
+                || is_state_number(text)
+        }
+    }
+}
+
+fn is_state_letter(byte: u8) -> bool
+    ensures { result ≡ is_state_letter byte }
+{
+    byte == b'R'
+        || byte == b'D'
+        || byte == b'S'
+        || byte == b'T'
+        || byte == b't'
+        || byte == b'X'
+        || byte == b'x'
+        || byte == b'Z'
+        || byte == b'P'
+        || byte == b'I'
+        || byte == b'W'
+        || byte == b'K'
+        || byte == b'N'
+}
+
+fn is_state_byte(byte: u8) -> bool
+    ensures { result ≡ is_state_byte byte }
+{
+    byte.is_ascii_alphabetic() || byte == b'|' || byte == b'+'
+}
+
+/// Whether it is one of the numbers that a raw trace has for the states.
+fn is_state_number(text: &[u8]) -> bool
+    ensures { result ≡ is_state_number text.now }
+{
+    text == b"0".as_slice()
+        || text == b"1".as_slice()
+        || text == b"2".as_slice()
+        || text == b"4".as_slice()
+        || text == b"8".as_slice()
+        || text == b"16".as_slice()
+        || text == b"32".as_slice()
+        || text == b"64".as_slice()
+        || text == b"128".as_slice()
+        || text == b"256".as_slice()
+}
+
+/// Whether a thread that leaves in this state goes on with its job.
+fn goes_on(text: &[u8]) -> bool
+    ensures { result ≡ goes_on text.now }
+{
+    match text {
+        [] => false,
+        [first, ..] => {
+            *first == b'R'
+                || *first == b'D'
+                || text[text.len() - 1] == b'+'
+                || text == b"0".as_slice()
+                || text == b"2".as_slice()
+                || text == b"256".as_slice()
+        }
+    }
+}
