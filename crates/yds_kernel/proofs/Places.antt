@@ -1,5 +1,5 @@
 -- What stands at the first of a line's places, as a loop over the places looks for it.
-use Rattle.yds_model.proofs.Common.{◌≡◌, ℕ, zero, suc, ◌+◌, ◌<◌, ◌≤◌, List, [], ◌∷◌, length, codes, get_or, take, drop, Bool, true, false, ◌==◌, ◌&&◌, ◌||◌, nat_le, if◌then◌else◌, Option, Some, None, sym, ap, ◌∙◌, arith, refl, drop_more, drop_all, le_refl}
+use Rattle.yds_model.proofs.Common.{◌≡◌, ℕ, zero, suc, ◌+◌, ◌<◌, ◌≤◌, List, [], ◌∷◌, length, codes, get_or, take, drop, Bool, true, false, ◌==◌, ◌&&◌, ◌||◌, nat_le, if◌then◌else◌, Option, Some, None, sym, ap, ◌∙◌, arith, refl, drop_more, drop_all, le_refl, ◌-◌, take_all, length-drop}
 use Rattle.std.specs.Str.{bytes_eq}
 use Rattle.memchr.specs.Find.{Nowhere, Passes, is_byte}
 use Rattle.yds_kernel.specs.declared.mark.Mark.{Mark}
@@ -8,21 +8,25 @@ use Rattle.yds_kernel.specs.Stamp.{Stamp, stamp_at, first_stamp}
 use Rattle.yds_kernel.specs.Form.{Marked, marked, placed, first_marked}
 use Rattle.yds_kernel.specs.Line.{opens, opens_somewhere}
 
+-- the bytes from a place on, as a slice has them
+pub whole_rest : (text : List ℕ) (place : ℕ) → take (length text - place) (drop place text) ≡ drop place text
+whole_rest text place = take_all (length text - place) (drop place text) (omega (arith, length-drop place text))
+
 -- # Stamps
 
 taken_if : {A : Type 0} (long same : Bool) (x : A) → same ≡ false → (if long && same then Some x else None) ≡ None
-taken_if true same x no = ap (λ (test : Bool). if test then Some x else None) no
-taken_if false same x no = refl
+taken_if true same x other = ap (λ (test : Bool). if test then Some x else None) other
+taken_if false same x other = refl
 
 no_bracket : (byte : ℕ) (bytes : List ℕ) → (byte == 91) ≡ false → after (codes "[") (byte ∷ bytes) ≡ None
-no_bracket byte bytes no =
+no_bracket byte bytes other =
     taken_if (nat_le (length (codes "[")) (length (byte ∷ bytes))) (bytes_eq (take (length (codes "[")) (byte ∷ bytes)) (codes "[")) (drop (length (codes "[")) (byte ∷ bytes))
-    (ap (λ test. test && true) no)
+    (ap (λ test. test && true) other)
 
 -- no stamp begins with another byte
 no_stamp : (byte : ℕ) (bytes : List ℕ) → (byte == 91) ≡ false → stamp_at (byte ∷ bytes) ≡ None
 unfolding stamp_at
-no_stamp byte bytes no = rw (no_bracket byte bytes no) refl
+no_stamp byte bytes other = rw (no_bracket byte bytes other) refl
 
 stamp_more : (bytes : List ℕ) (i : ℕ) → i < length bytes → stamp_at (drop i bytes) ≡ None → first_stamp (drop i bytes) ≡ first_stamp (drop (i + 1) bytes)
 unfolding first_stamp
@@ -37,8 +41,8 @@ stamp_here bytes i stamp within some =
     ∙ ap (λ found. or_else found (first_stamp (drop (i + 1) bytes))) (ap stamp_at (sym (drop_more bytes i 0 within)) ∙ some)
 
 not_true : (test : Bool) → (test ≡ true → ⊥) → test ≡ false
-not_true true no = absurd (no refl)
-not_true false no = refl
+not_true true never = absurd (never refl)
+not_true false never = refl
 
 -- bytes without a bracket are passed over
 pub stamps_from : (bytes : List ℕ) (i : ℕ) → i ≤ length bytes → Nowhere (Passes (is_byte 91) bytes) 0 i → first_stamp bytes ≡ first_stamp (drop i bytes)
@@ -83,11 +87,11 @@ no_mark mark bytes i over = ap (first_marked i mark) (drop_all i bytes over)
 -- # Processors
 
 pub opens_more : (bytes : List ℕ) (i : ℕ) → i < length bytes → opens (drop i bytes) ≡ false → opens_somewhere (drop i bytes) ≡ opens_somewhere (drop (i + 1) bytes)
-opens_more bytes i within no =
+opens_more bytes i within other =
     ap opens_somewhere (drop_more bytes i 0 within)
-    ∙ ap (λ found. found || opens_somewhere (drop (i + 1) bytes)) (ap opens (sym (drop_more bytes i 0 within)) ∙ no)
+    ∙ ap (λ found. found || opens_somewhere (drop (i + 1) bytes)) (ap opens (sym (drop_more bytes i 0 within)) ∙ other)
 
 pub opens_here : (bytes : List ℕ) (i : ℕ) → i < length bytes → opens (drop i bytes) ≡ true → opens_somewhere (drop i bytes) ≡ true
-opens_here bytes i within yes =
+opens_here bytes i within same =
     ap opens_somewhere (drop_more bytes i 0 within)
-    ∙ ap (λ found. found || opens_somewhere (drop (i + 1) bytes)) (ap opens (sym (drop_more bytes i 0 within)) ∙ yes)
+    ∙ ap (λ found. found || opens_somewhere (drop (i + 1) bytes)) (ap opens (sym (drop_more bytes i 0 within)) ∙ same)

@@ -76,11 +76,14 @@ dropped line = do
 abbrev pub is_hash : ℕ → Bool
 is_hash byte = byte == 35
 
+abbrev pub skip_hashes : List ℕ → List ℕ
+skip_hashes bytes = drop (prefix_len is_hash bytes) bytes
+
 -- `##### CPU 2 buffer started ####` of the kernel
 unfoldable pub started : List ℕ → Option ℕ
 started line = do
   more ← after (codes "#") line
-  a ← after (codes " CPU ") (drop (prefix_len is_hash more) more)
+  a ← after (codes " CPU ") (skip_hashes more)
   processor ← number a
   b ← after (codes " buffer started #") processor.1
   Some processor.0
@@ -142,10 +145,12 @@ abbrev pub is_half_name : Stamp → Bool
 is_half_name stamp = (length stamp.text == 0) && (bytes_eq stamp.word (codes "sched:") || bytes_eq stamp.word (codes "power:"))
 
 -- the line ends within its stamp: a processor stands in it, and no whole stamp with an event's name
-unfoldable pub is_cut : List ℕ → Bool
-is_cut line = elim (first_stamp line) [ | Some stamp ↦ is_half_name stamp | None ↦ opens_somewhere line ]
+unfoldable pub ends_in_stamp : List ℕ → Bool
+ends_in_stamp line = elim (first_stamp line) [ | Some stamp ↦ is_half_name stamp | None ↦ opens_somewhere line ]
+
+abbrev pub is_cut : List ℕ → Bool
+is_cut line = nat_le (length line) MAX_LINE && ends_in_stamp line
 
 -- what a last line says that no line feed ends
 unfoldable pub last_line_of : List ℕ → Result Said (Spot Reason)
-last_line_of line =
-    if nat_le (length line) MAX_LINE && is_cut line then refuse (column_at (length line) 0) reasons.Cut else line_of line
+last_line_of line = if is_cut line then refuse (length line + 1) reasons.Cut else line_of line

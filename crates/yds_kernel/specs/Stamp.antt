@@ -36,6 +36,12 @@ last_byte text = get_or text (length text - 1) 0
 abbrev pub is_word : List ℕ → Bool
 is_word text = ((last_byte text == 58) && list_all is_word_byte text) || bytes_eq text (codes "PERF_RECORD_LOST")
 
+-- the name of an event at the front
+unfoldable pub word_at : List ℕ → Option (List ℕ × List ℕ)
+word_at bytes = do
+  found ← field bytes
+  if is_word found.0 then Some found else None
+
 -- `SECONDS.FRACTION:` and the event's name
 unfoldable pub timed : ℕ → List ℕ → Option Stamp
 timed processor bytes = do
@@ -44,10 +50,8 @@ timed processor bytes = do
   fraction ← digits behind_point
   behind_colon ← after (codes ":") fraction.1
   here ← after_blanks behind_colon
-  word ← field here
-  if is_word word.0
-  then Some (record { processor = processor; left = length bytes; seconds = seconds.0; fraction = fraction.0; word = word.0; text = word.1 })
-  else None
+  word ← word_at here
+  Some (record { processor = processor; left = length bytes; seconds = seconds.0; fraction = fraction.0; word = word.0; text = word.1 })
 
 -- the same behind one field of flags
 unfoldable pub flagged : ℕ → List ℕ → Option Stamp

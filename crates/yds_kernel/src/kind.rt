@@ -39,7 +39,7 @@ impl Kind {
 
     /// Whether events of this kind are read.
     pub(crate) fn matters(self) -> bool
-        ensures { result ≡ matters self.entry }
+        ensures { result ≡ matters self }
     {
         match self {
             Kind::Switch | Kind::WakeUp | Kind::Speed | Kind::Loss => true,

@@ -8,19 +8,23 @@
 
 mod event;
 mod fault;
+mod find;
 mod form;
 mod kind;
 mod limits;
-mod line;
 mod loss;
 mod mark;
 mod parts;
+mod read;
 mod stamp;
 mod state;
 
 pub use event::{Event, Happening, Said, Thread};
 pub use fault::{LineFault, Reason};
 pub use limits::{MAX_LINE, MAX_NUMBER, MAX_U64};
-pub use line::{last_line, line};
+pub use read::{last_line, line};
 pub use loss::Since;
 pub use state::State;
+
+#[cfg(test)]
+mod tests;

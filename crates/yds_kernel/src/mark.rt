@@ -35,7 +35,7 @@ pub(crate) struct Marked<'a> {
 impl Mark {
     /// The mark at the front of these bytes.
     pub(crate) fn at(self, bytes: &[u8]) -> Option<Marked<'_>>
-        ensures { Reads marked_read result (spec.marked self.entry bytes.now) }
+        ensures { Reads marked_read result (spec.marked self bytes.now) }
     {
         match self {
             Mark::Leaves => leaves(bytes),

@@ -1,5 +1,5 @@
 //! What stands at the front of bytes, and the bytes after it.
-ghost use Rattle.std.specs.Prelude.{◌≡◌, ◌+◌, ◌*◌, ◌≤◌, length, true};
+ghost use Rattle.std.specs.Prelude.{◌≡◌, ◌+◌, ◌*◌, ◌^◌, ◌<◌, ◌≤◌, length, true, IfSome};
 ghost use Rattle.std.specs.Char.{digit_value};
 ghost use Rattle.std.specs.List.{list_all, position_or_len, prefix_len};
 ghost use Rattle.std.specs.Str.Parse.{digits_value};
@@ -26,6 +26,7 @@ pub(crate) fn after<'a>(bytes: &'a [u8], text: &[u8]) -> Option<&'a [u8]>
 /// The digits at the front, at least one, and the bytes after them.
 pub(crate) fn digits(bytes: &[u8]) -> Option<(&[u8], &[u8])>
     ensures value { Reads (λ x. (x.0.now, x.1.now)) result (spec.digits bytes.now) }
+    ensures digits { IfSome result (λ x. list_all is_digit x.0.now ≡ true) }
 {
     let len = digit_len(bytes);
     if len == 0 {
@@ -37,7 +38,7 @@ pub(crate) fn digits(bytes: &[u8]) -> Option<(&[u8], &[u8])>
 
 /// The bytes before the next blank, at least one, and the bytes after them.
 pub(crate) fn field(bytes: &[u8]) -> Option<(&[u8], &[u8])>
-    ensures value { Reads (λ x. (x.0.now, x.1.now)) result (spec.field bytes.now) }
+    ensures { Reads (λ x. (x.0.now, x.1.now)) result (spec.field bytes.now) }
 {
     let len = field_len(bytes);
     if len == 0 {
@@ -124,7 +125,8 @@ fn is_blank(byte: u8) -> bool
 /// The number that digits spell, the greatest of 64 bits where it is beyond.
 pub(crate) fn value_of(digits: &[u8]) -> u64
     requires { list_all is_digit digits.now ≡ true }
-    ensures { result ≡ capped (digits_value 10 digits.now) }
+    ensures value { result ≡ capped (digits_value 10 digits.now) }
+    ensures below { digits_value 10 digits.now < 10 ^ length digits.now }
 {
     let mut value: u64 = 0;
     for &byte in digits {

@@ -1,13 +1,7 @@
 //! A line's stamp: the processor, the time and the event's name.
-ghost use Rattle.std.specs.Prelude.{◌≡◌, ◌≤◌, ◌==◌, length, true};
+ghost use Rattle.std.specs.Prelude.{◌≡◌, true};
 ghost use Rattle.std.specs.List.{list_all};
 ghost use Rattle.yds_model.specs.Spelling.{is_digit};
-ghost use Rattle.yds_kernel.specs.Stamp as spec;
-ghost use Rattle.yds_kernel.specs.Stamp.{is_word, is_word_byte, last_byte, nanoseconds};
-ghost use Rattle.yds_kernel.specs.Views.{Reads, stamp_read};
-
-use crate::parts::{after, after_blanks, digits, field, number, value_of};
-use memchr::memchr;
 
 /// The stamp of a line.
 #[derive(Clone, Copy)]
@@ -24,113 +18,5 @@ pub(crate) struct Stamp<'a> {
     pub word: &'a [u8],
     /// The event's text.
     pub text: &'a [u8],
-}
-
-/// The stamp at the first place of the line at which one stands.
-pub(crate) fn first_stamp(line: &[u8]) -> Option<Stamp<'_>>
-    ensures { Reads stamp_read result (spec.first_stamp line.now) }
-{
-    let mut rest = line;
-    while let Some(place) = memchr(b'[', rest) {
-        let here = &rest[place..];
-        if let Some(stamp) = stamp_at(here) {
-            return Some(stamp);
-        }
-        rest = &here[1..];
-    }
-    None
-}
-
-/// `[CPU]`, perhaps a field of flags, the time and the event's name, at the front of these bytes.
-#[tactic(auto, unfolding(crate::specs::Stamp::stamp_at))]
-fn stamp_at(bytes: &[u8]) -> Option<Stamp<'_>>
-    ensures { Reads stamp_read result (spec.stamp_at bytes.now) }
-{
-    let inside = after(bytes, b"[".as_slice())?;
-    let (processor, rest) = number(inside)?;
-    let behind = after(rest, b"]".as_slice())?;
-    let here = after_blanks(behind)?;
-    match timed(processor, here) {
-        Some(stamp) => Some(stamp),
-        None => flagged(processor, here),
-    }
-}
-
-/// A field of flags, and a time and a name behind it.
-#[tactic(auto, unfolding(crate::specs::Stamp::flagged))]
-fn flagged(processor: u64, bytes: &[u8]) -> Option<Stamp<'_>>
-    ensures { Reads stamp_read result (spec.flagged processor bytes.now) }
-{
-    let (_, rest) = field(bytes)?;
-    let here = after_blanks(rest)?;
-    timed(processor, here)
-}
-
-/// `SECONDS.FRACTION:` and the event's name.
-#[tactic(auto, unfolding(crate::specs::Stamp::timed))]
-fn timed(processor: u64, bytes: &[u8]) -> Option<Stamp<'_>>
-    ensures { Reads stamp_read result (spec.timed processor bytes.now) }
-{
-    let (seconds, rest) = number(bytes)?;
-    let behind_point = after(rest, b".".as_slice())?;
-    let (fraction, rest) = digits(behind_point)?;
-    let behind_colon = after(rest, b":".as_slice())?;
-    let here = after_blanks(behind_colon)?;
-    let (word, text) = field(here)?;
-    if is_word(word) {
-        Some(Stamp {
-            processor,
-            left: bytes.len(),
-            seconds,
-            fraction,
-            word,
-            text,
-        })
-    } else {
-        None
-    }
-}
-
-/// Whether it is the name of an event, which ends with a colon, or what perf writes of lost events.
-fn is_word(text: &[u8]) -> bool
-    ensures { result ≡ is_word text.now }
-{
-    ends_with_colon(text) && text.iter().all(|byte| is_word_byte(*byte))
-        || text == b"PERF_RECORD_LOST".as_slice()
-}
-
-fn ends_with_colon(text: &[u8]) -> bool
-    ensures { result ≡ (last_byte text.now == 58) }
-{
-    !text.is_empty() && text[text.len() - 1] == b':'
-}
-
-/// Letters, digits, `_` and `:`.
-fn is_word_byte(byte: u8) -> bool
-    ensures { result ≡ is_word_byte byte }
-{
-    byte.is_ascii_alphabetic() || byte.is_ascii_digit() || byte == b'_' || byte == b':'
-}
-
-impl Stamp<'_> {
-    /// The time in nanoseconds, where its fraction has at most nine digits and it takes at most 64 bits.
-    pub(crate) fn time(&self) -> Option<u64>
-        requires { list_all is_digit self.now.fraction.now ≡ true }
-        ensures { result ≡ spec.time_of (stamp_read self.now) }
-    {
-        if self.fraction.len() > 9 {
-            return None;
-        }
-        let whole = self.seconds.checked_mul(1_000_000_000)?;
-        whole.checked_add(nanoseconds(self.fraction))
-    }
-}
-
-/// The digits of a fraction as nanoseconds.
-fn nanoseconds(fraction: &[u8]) -> u64
-    requires digits { list_all is_digit fraction.now ≡ true }
-    requires few { length fraction.now ≤ 9 }
-    ensures { result ≡ nanoseconds fraction.now }
-{
-    value_of(fraction) * 10_u64.pow(9 - fraction.len() as u32)
+    pub ghost digits: { list_all is_digit fraction.now ≡ true },
 }

@@ -1,5 +1,6 @@
 //! The states in which a thread leaves its processor.
 ghost use Rattle.std.specs.Prelude.{◌≡◌};
+ghost use Rattle.std.specs.List.{list_all};
 ghost use Rattle.yds_kernel.specs.Form.{state_of, is_state, goes_on, is_state_letter, is_state_byte, is_state_number};
 
 /// In which state a thread leaves its processor.
@@ -35,10 +36,15 @@ fn is_state(text: &[u8]) -> bool
     match text {
         [] => false,
         [first, more @ ..] => {
-            is_state_letter(*first) && more.iter().all(|byte| is_state_byte(*byte))
-                || is_state_number(text)
+            is_state_letter(*first) && has_state_bytes(more) || is_state_number(text)
         }
     }
+}
+
+fn has_state_bytes(text: &[u8]) -> bool
+    ensures { result ≡ list_all is_state_byte text.now }
+{
+    text.iter().all(|byte| is_state_byte(*byte))
 }
 
 fn is_state_letter(byte: u8) -> bool

@@ -2,20 +2,22 @@
 ghost use Rattle.std.specs.Prelude.{◌≡◌, ◌<◌, ◌≤◌, Option, length};
 ghost use Rattle.std.specs.List.{prefix_len};
 ghost use Rattle.yds_kernel.specs.Event as spec_event;
-ghost use Rattle.yds_kernel.specs.Line.{is_hash};
+ghost use Rattle.yds_kernel.specs.Line.{is_hash, skip_hashes};
 ghost use Rattle.yds_kernel.specs.Line as spec;
 ghost use Rattle.yds_kernel.specs.Views.{Knows, Reads, Says, stamp_read, happening_read};
 
 use crate::event::{Event, Happening, Said};
 use crate::fault::{LineFault, Reason};
+use crate::find::first_stamp;
 use crate::form::{speed_in, switch_in, wake_up_in};
 use crate::kind::Kind;
 use crate::limits::{MAX_LINE, MAX_NUMBER};
 use crate::loss::Since;
 use crate::parts::{after, digits, digit_len, number, skip_blanks};
-use crate::stamp::{Stamp, first_stamp};
+use crate::stamp::Stamp;
 
 /// What a line says that a line feed ends, given without that and without a carriage return before it.
+#[tactic(auto, unfolding(crate::specs::Line::line_of))]
 pub fn line(bytes: &[u8]) -> Result<Said<'_>, LineFault>
     ensures { Says result (spec.line_of bytes.now) }
 {
@@ -27,10 +29,11 @@ pub fn line(bytes: &[u8]) -> Result<Said<'_>, LineFault>
 }
 
 /// What the last line of a trace says where no line feed ends it: it may be cut short.
+#[tactic(auto, unfolding(crate::specs::Line::last_line_of))]
 pub fn last_line(bytes: &[u8]) -> Result<Said<'_>, LineFault>
     ensures { Says result (spec.last_line_of bytes.now) }
 {
-    if bytes.len() <= MAX_LINE && is_cut(bytes) {
+    if is_cut(bytes) {
         Err(LineFault {
             column: bytes.len() + 1,
             reason: Reason::Cut,
@@ -205,11 +208,18 @@ fn after_number(bytes: &[u8]) -> &[u8]
 fn started(bytes: &[u8]) -> Option<u64>
     ensures { Reads (λ processor. processor) result (spec.started bytes.now) }
 {
-    let more = after(bytes, b"#".as_slice())?;
-    let rest = after(&more[hash_len(more)..], b" CPU ".as_slice())?;
+    let rest = after(bytes, b"#".as_slice())?;
+    let rest = after(skip_hashes(rest), b" CPU ".as_slice())?;
     let (processor, rest) = number(rest)?;
     let _ = after(rest, b" buffer started #".as_slice())?;
     Some(processor)
+}
+
+/// What comes after the `#` at the front, if there are any.
+fn skip_hashes(bytes: &[u8]) -> &[u8]
+    ensures { result.now ≡ skip_hashes bytes.now }
+{
+    &bytes[hash_len(bytes)..]
 }
 
 /// How many `#` stand at the front.
@@ -225,10 +235,17 @@ fn hash_len(bytes: &[u8]) -> usize
     bytes.len()
 }
 
-/// Whether the line ends within its stamp: a processor stands in it, and no whole stamp with an event's name.
-#[tactic(auto, unfolding(crate::specs::Line::is_cut))]
+/// Whether the line is cut short, within the limit of a line.
 fn is_cut(bytes: &[u8]) -> bool
     ensures { result ≡ spec.is_cut bytes.now }
+{
+    bytes.len() <= MAX_LINE && ends_in_stamp(bytes)
+}
+
+/// Whether the line ends within its stamp: a processor stands in it, and no whole stamp with an event's name.
+#[tactic(auto, unfolding(crate::specs::Line::ends_in_stamp))]
+fn ends_in_stamp(bytes: &[u8]) -> bool
+    ensures { result ≡ spec.ends_in_stamp bytes.now }
 {
     match first_stamp(bytes) {
         Some(stamp) => is_half_name(stamp),
