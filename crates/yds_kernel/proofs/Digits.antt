@@ -1,5 +1,5 @@
 -- The digits at the front, and the number that they spell.
-use Rattle.yds_model.proofs.Common.{◌≡◌, ℕ, ◌+◌, ◌*◌, ◌<◌, ◌≤◌, ◌⊎◌, Bool, true, false, List, length, get_or, take, drop, All, nat_le, if◌then◌else◌, sym, ap, ◌∙◌, inl, inr, arith, list_all, prefix_len, leb-true, le-leb, get_or-take, length-take-le, prefix_len_passes, list_all-from_AllPass, is_digit, digit_value, ◌-◌, ◌^◌, common_steps, pow-le-pow_right, mul-le-mul_right}
+use Rattle.yds_model.proofs.Common.{◌≡◌, ℕ, ◌+◌, ◌*◌, ◌<◌, ◌≤◌, Bool, true, List, length, take, All, nat_le, sym, ap, ◌∙◌, arith, list_all, prefix_len, leb-true, le-leb, get_or-take, length-take-le, prefix_len_passes, list_all-from_AllPass, digit_value, ◌-◌, ◌^◌, common_steps, pow-le-pow_right, mul-le-mul_right}
 use Rattle.std.proofs.lemmas.Nat.{pow-add}
 use Rattle.yds_kernel.specs.Parts.{capped}
 

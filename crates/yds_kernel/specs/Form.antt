@@ -3,7 +3,7 @@
 -- Two spellings of a text are read: that of the kernel and perf, `prev_comm=NAME prev_pid=PID ..`, and the short one that
 -- trace-cmd makes of it, `NAME:PID [PRIORITY] STATE ==> ..`. A name may hold anything, so it ends at the first place behind which
 -- a whole mark stands, as ` prev_pid=PID prev_prio=PRIORITY prev_state=STATE ==> next_comm=`.
-use Rattle.std.specs.Prelude.{ℕ, ◌+◌, ◌-◌, List, [], ◌∷◌, length, codes, take, get_or, Bool, true, false, not, ◌==◌, ◌&&◌, ◌||◌, if◌then◌else◌, Option, Some, None}
+use Rattle.std.specs.Prelude.{ℕ, ◌+◌, List, [], ◌∷◌, codes, take, Bool, false, not, ◌==◌, ◌&&◌, ◌||◌, if◌then◌else◌, Option, Some, None}
 use Rattle.std.specs.List.{list_all}
 use Rattle.std.specs.Str.{bytes_eq}
 use Rattle.yds_model.specs.Lines.{is_blank}
@@ -13,7 +13,7 @@ use Rattle.yds_kernel.specs.declared.kind.Kind.{Kind}
 use Rattle.yds_kernel.specs.declared.kind.Kind.TheVariants as kinds
 use Rattle.yds_kernel.specs.declared.mark.Mark.{Mark}
 use Rattle.yds_kernel.specs.declared.mark.Mark.TheVariants as marks
-use Rattle.yds_kernel.specs.Parts.{◌>>=◌, or_else, after, field, skip_blanks, after_blanks, small_number, after_priority}
+use Rattle.yds_kernel.specs.Parts.{◌>>=◌, or_else, after, field, after_blanks, small_number, after_priority}
 use Rattle.yds_kernel.specs.Stamp.{is_letter, last_byte}
 use Rattle.yds_kernel.specs.Event.{Thread, Happening, Switch, WakeUp, Speed}
 
@@ -22,9 +22,9 @@ use Rattle.yds_kernel.specs.Event.{Thread, Happening, Switch, WakeUp, Speed}
 -- the name without the system that perf writes before it
 abbrev pub bare_name : List ℕ → List ℕ
 bare_name word = elim (or_else (after (codes "sched:") word) (or_else (after (codes "power:") word) (after (codes "ftrace:") word))) [
-    | Some rest ↦ rest
-    | None ↦ word
-  ]
+  | Some rest ↦ rest
+  | None ↦ word
+]
 
 abbrev pub is_wake_up : List ℕ → Bool
 is_wake_up name =
@@ -183,9 +183,9 @@ switch_by leaving coming text = do
 
 unfoldable pub switch_in : List ℕ → Option Happening
 switch_in text = elim (after (codes "prev_comm=") text) [
-    | Some names ↦ switch_by marks.Leaves marks.Comes names
-    | None ↦ switch_by marks.ShortLeaves marks.ShortComes text
-  ]
+  | Some names ↦ switch_by marks.Leaves marks.Comes names
+  | None ↦ switch_by marks.ShortLeaves marks.ShortComes text
+]
 
 unfoldable pub woken_by : Mark → List ℕ → Option Happening
 woken_by mark text = do
@@ -194,9 +194,9 @@ woken_by mark text = do
 
 unfoldable pub wake_up_in : List ℕ → Option Happening
 wake_up_in text = elim (after (codes "comm=") text) [
-    | Some names ↦ woken_by marks.Wakes names
-    | None ↦ woken_by marks.ShortWakes text
-  ]
+  | Some names ↦ woken_by marks.Wakes names
+  | None ↦ woken_by marks.ShortWakes text
+]
 
 -- `state=KHZ cpu_id=CPU`
 unfoldable pub speed_in : List ℕ → Option Happening

@@ -13,7 +13,7 @@ use Rattle.yds_kernel.specs.declared.fault.Reason.{Reason}
 use Rattle.yds_kernel.specs.declared.fault.Reason.TheVariants as reasons
 use Rattle.yds_kernel.specs.Parts.{◌>>=◌, or_else, after, digits, skip_blanks, number}
 use Rattle.yds_kernel.specs.Stamp.{Stamp, first_stamp, time_of}
-use Rattle.yds_kernel.specs.Event.{Happening, Loss, Marker, Other, Event, Said, Stamped, Lost, Nothing}
+use Rattle.yds_kernel.specs.Event.{Happening, Loss, Marker, Other, Said, Stamped, Lost, Nothing}
 use Rattle.yds_kernel.specs.Form.{kind_of, switch_in, wake_up_in, speed_in}
 
 -- what was read, or the reason for which the text is refused
@@ -53,12 +53,12 @@ event_of whole stamp =
 -- `[LOST 12 EVENTS]` of the kernel, `[12 EVENTS DROPPED]` of trace-cmd, each with the number or without it
 unfoldable pub after_number : List ℕ → List ℕ
 after_number bytes = elim (digits bytes) [
-    | Some found ↦ elim (after (codes " ") found.1) [ | Some rest ↦ rest | None ↦ found.1 ]
-    | None ↦ bytes
-  ]
+  | Some found ↦ elim (after (codes " ") found.1) [ Some rest ↦ rest | None ↦ found.1 ]
+  | None ↦ bytes
+]
 
 unfoldable pub after_lost : List ℕ → List ℕ
-after_lost bytes = elim (after (codes "LOST ") bytes) [ | Some rest ↦ rest | None ↦ bytes ]
+after_lost bytes = elim (after (codes "LOST ") bytes) [ Some rest ↦ rest | None ↦ bytes ]
 
 unfoldable pub tells_loss : List ℕ → Option (List ℕ)
 tells_loss bytes = do
@@ -93,17 +93,17 @@ lost_on processor from = if nat_le processor MAX_NUMBER then Ok (Lost processor 
 
 unfoldable pub loss_of : List ℕ → Result Said (Spot Reason)
 loss_of line = elim (dropped line) [
-    | Some processor ↦ lost_on processor since.ItsLastLine
-    | None ↦ elim (started line) [ | Some processor ↦ lost_on processor since.TheBegin | None ↦ Ok Nothing ]
-  ]
+  | Some processor ↦ lost_on processor since.ItsLastLine
+  | None ↦ elim (started line) [ Some processor ↦ lost_on processor since.TheBegin | None ↦ Ok Nothing ]
+]
 
 -- # Lines
 
 unfoldable pub short_line : List ℕ → Result Said (Spot Reason)
 short_line line = elim (first_stamp line) [
-    | Some stamp ↦ event_of (length line) stamp
-    | None ↦ loss_of line
-  ]
+  | Some stamp ↦ event_of (length line) stamp
+  | None ↦ loss_of line
+]
 
 -- whether the name is one of those that are read
 abbrev pub matters : Kind → Bool
@@ -117,9 +117,9 @@ matters kinds.Other = false
 -- A line that is too long is no event. Where it begins as one, it is refused.
 unfoldable pub long_line : List ℕ → Result Said (Spot Reason)
 long_line line = elim (first_stamp (take MAX_LINE line)) [
-    | Some stamp ↦ if matters (kind_of stamp.word) then refuse (MAX_LINE + 1) reasons.Long else Ok Nothing
-    | None ↦ Ok Nothing
-  ]
+  | Some stamp ↦ if matters (kind_of stamp.word) then refuse (MAX_LINE + 1) reasons.Long else Ok Nothing
+  | None ↦ Ok Nothing
+]
 
 -- what a line says that a line feed ends
 unfoldable pub line_of : List ℕ → Result Said (Spot Reason)
@@ -132,9 +132,9 @@ closes (byte ∷ rest) = byte == 93
 -- `[` and digits, with a bracket or nothing behind them
 unfoldable pub opens : List ℕ → Bool
 opens bytes = elim (after (codes "[") bytes) [
-    | Some inside ↦ closes (drop (prefix_len is_digit inside) inside)
-    | None ↦ false
-  ]
+  | Some inside ↦ closes (drop (prefix_len is_digit inside) inside)
+  | None ↦ false
+]
 
 abbrev pub opens_somewhere : List ℕ → Bool
 opens_somewhere [] = false
@@ -146,7 +146,7 @@ is_half_name stamp = (length stamp.text == 0) && (bytes_eq stamp.word (codes "sc
 
 -- the line ends within its stamp: a processor stands in it, and no whole stamp with an event's name
 unfoldable pub ends_in_stamp : List ℕ → Bool
-ends_in_stamp line = elim (first_stamp line) [ | Some stamp ↦ is_half_name stamp | None ↦ opens_somewhere line ]
+ends_in_stamp line = elim (first_stamp line) [ Some stamp ↦ is_half_name stamp | None ↦ opens_somewhere line ]
 
 abbrev pub is_cut : List ℕ → Bool
 is_cut line = nat_le (length line) MAX_LINE && ends_in_stamp line

@@ -1,5 +1,5 @@
 -- What the lines of a trace say, up to its first fault.
-use Rattle.std.specs.Prelude.{ℕ, List, [], ◌∷◌, Bool, true, false, ◌==◌, if◌then◌else◌, Option, Some, None, Result, Ok, Err}
+use Rattle.std.specs.Prelude.{ℕ, List, [], ◌∷◌, Bool, ◌==◌, if◌then◌else◌, Option, Some, None, Result, Ok, Err}
 use Rattle.yds_model.specs.Lines.{Line, lines_of}
 use Rattle.yds_model.specs.Fields.{Spot, Fault}
 use Rattle.yds_kernel.specs.declared.fault.Reason.{Reason}

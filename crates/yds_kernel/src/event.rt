@@ -24,7 +24,10 @@ pub enum Happening<'a> {
     /// A thread is woken.
     WakeUp(Thread<'a>),
     /// A processor's new speed, in kilohertz.
-    Speed { processor: u64, khz: u64 },
+    Speed {
+        processor: u64,
+        khz: u64,
+    },
     /// Events of the processor were lost.
     Loss,
     /// What an application wrote.

@@ -22,8 +22,8 @@ mod state;
 pub use event::{Event, Happening, Said, Thread};
 pub use fault::{LineFault, Reason};
 pub use limits::{MAX_LINE, MAX_NUMBER, MAX_U64};
-pub use read::{last_line, line};
 pub use loss::Since;
+pub use read::{last_line, line};
 pub use state::State;
 
 #[cfg(test)]

@@ -60,11 +60,7 @@ pub(crate) fn after_blanks(bytes: &[u8]) -> Option<&[u8]>
     ensures { Reads (λ rest. rest.now) result (spec.after_blanks bytes.now) }
 {
     let len = blank_len(bytes);
-    if len == 0 {
-        None
-    } else {
-        Some(&bytes[len..])
-    }
+    if len == 0 { None } else { Some(&bytes[len..]) }
 }
 
 /// The number that the digits at the front spell, leading zeros too, and the bytes after them. One beyond 64 bits counts

@@ -13,7 +13,7 @@ use crate::form::{speed_in, switch_in, wake_up_in};
 use crate::kind::Kind;
 use crate::limits::{MAX_LINE, MAX_NUMBER};
 use crate::loss::Since;
-use crate::parts::{after, digits, digit_len, number, skip_blanks};
+use crate::parts::{after, digit_len, digits, number, skip_blanks};
 use crate::stamp::Stamp;
 
 /// What a line says that a line feed ends, given without that and without a carriage return before it.

@@ -13,10 +13,10 @@ returns-in-Some-stamp_at c =
 pub loop-place-preserved : goal.loop-place-preserved
 loop-place-preserved c = record {
   same =
-    ap first_stamp (whole_rest c.loop-place.rest.now (c.in-Some.place + 1))
-    ∙ sym (stamps_after c.loop-place.rest.now c.in-Some.place c.in-Some.ensures.0.high c.in-Some.ensures.0.before
-    (ap stamp_at (sym (whole_rest c.loop-place.rest.now c.in-Some.place)) ∙ c.in_default-stamp_at.ensures))
-    ∙ c.loop-place.invariant.same;
+      ap first_stamp (whole_rest c.loop-place.rest.now (c.in-Some.place + 1))
+      ∙ sym (stamps_after c.loop-place.rest.now c.in-Some.place c.in-Some.ensures.0.high c.in-Some.ensures.0.before
+      (ap stamp_at (sym (whole_rest c.loop-place.rest.now c.in-Some.place)) ∙ c.in_default-stamp_at.ensures))
+      ∙ c.loop-place.invariant.same;
   shorter = rw (whole_rest c.loop-place.rest.now (c.in-Some.place + 1)) (omega (arith, length-drop (c.in-Some.place + 1) c.loop-place.rest.now, c.loop-place.invariant.shorter));
 }
 

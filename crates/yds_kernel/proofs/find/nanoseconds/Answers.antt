@@ -1,5 +1,4 @@
-use Rattle.yds_model.proofs.Common.{◌≡◌, ◌<◌, ◌*◌, ◌^◌, ◌-◌, ℕ, length, arith, refl, ◌∙◌, digits_value}
-use Rattle.yds_kernel.specs.Parts.{capped}
+use Rattle.yds_model.proofs.Common.{◌≡◌, length, arith, refl, ◌∙◌, digits_value}
 use Rattle.yds_kernel.proofs.Digits.{below_a_second, small_capped}
 use Rattle.yds_kernel.proofs.find.nanoseconds.Goals as goal
 

@@ -1,4 +1,4 @@
-use Rattle.yds_model.proofs.Common.{◌≡◌, ◌+◌, ◌*◌, ◌-◌, ◌^◌, ◌≤◌, ℕ, take, get_or, true, sym, ap, ◌∙◌, arith, rules, digit_value, digits_value, common_steps, digits_value_more, is_digit, digit_range}
+use Rattle.yds_model.proofs.Common.{◌≡◌, ◌+◌, ◌*◌, ◌-◌, ℕ, take, get_or, true, sym, ap, ◌∙◌, arith, rules, digit_value, digits_value, common_steps, digits_value_more, is_digit, digit_range}
 use Rattle.std.proofs.lemmas.Grind.{pow_more}
 use Rattle.yds_kernel.specs.Parts.{capped}
 use Rattle.yds_kernel.proofs.Digits.{capped_more, digit_says}
@@ -14,9 +14,9 @@ loop-byte-preserved c =
     digits_value_more 10 c.args.digits.now c.loop-byte.byte-index (omega arith) in
     record {
       value =
-        c.with_digit-value.ensures
-        ∙ ap (λ (number : ℕ). capped (number * 10 + digit_value (get_or c.args.digits.now c.loop-byte.byte-index 0))) c.loop-byte.invariant.value
-        ∙ capped_more (digits_value 10 (take c.loop-byte.byte-index c.args.digits.now)) (digit_value (get_or c.args.digits.now c.loop-byte.byte-index 0))
-        ∙ sym (ap capped more);
+          c.with_digit-value.ensures
+          ∙ ap (λ (number : ℕ). capped (number * 10 + digit_value (get_or c.args.digits.now c.loop-byte.byte-index 0))) c.loop-byte.invariant.value
+          ∙ capped_more (digits_value 10 (take c.loop-byte.byte-index c.args.digits.now)) (digit_value (get_or c.args.digits.now c.loop-byte.byte-index 0))
+          ∙ sym (ap capped more);
       below = omega (arith, more, says, c.loop-byte.invariant.below, pow_more 10 c.loop-byte.byte-index);
     }
