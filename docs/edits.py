@@ -24,7 +24,9 @@ from typing import Dict, Iterator, List, NamedTuple, Optional, Set, Tuple
 ROOT = Path(__file__).resolve().parent.parent
 PAGE = ROOT / "docs" / "edits.md"
 WIDTH = 120
+# Of all crates but the later ones, which bring theirs besides.
 MOST = 260
+LATER = ["yds_kernel", "yds_kernel_examples"]
 MOST_OF_CRATE = 8
 MOST_OF = {"yds_run": 12, "yds_admit": 12, "yds_document": 12}
 NEEDED = [
@@ -334,7 +336,7 @@ def tried_edits(crates: Dict[str, Crate]) -> Iterator[List[str]]:
 def tried_counts(crates: Dict[str, Crate]) -> Iterator[List[str]]:
     """Tells for each crate, and for all together, whether there are too many edits."""
     counts = [(f"crates/{it.name}", len(it.edits), MOST_OF.get(it.name, MOST_OF_CRATE)) for it in crates.values()]
-    counts.append(("crates", sum(count for _, count, _ in counts), MOST))
+    counts.append(("crates", sum(len(it.edits) for it in crates.values() if it.name not in LATER), MOST))
     for at, count, most in counts:
         yield [f"{at}: {count} edits, and at most {most} are wanted"] if count > most else []
 
