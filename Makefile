@@ -17,8 +17,9 @@
 #   make wheel      the Python package with the shared object as a wheel, in build/dist
 #   make install    copies build/yds_cli to PREFIX/bin, its manual page, completion, recipes and examples to PREFIX/share,
 #                   and links the commands of the recipes (yds-trace, yds-plot, ..) into PREFIX/bin; and the library, where it was built
-#   make install-program, make install-library   the one or the other alone
-#   make uninstall  removes just these; so do uninstall-program and uninstall-library
+#                   with the Python package and its commands (yds-scale, ..) in PREFIX/lib/python3/dist-packages and PREFIX/bin
+#   make install-program, make install-tools, make install-library   one of them alone
+#   make uninstall  removes just these; so do uninstall-program, uninstall-tools and uninstall-library
 #   make map        draws docs/pictures/crates.svg from crates.txt
 #   make deb        Debian packages of what is built, in build/dist
 #   make dist       the sources and a static program as archives, with their sums, in build/dist
@@ -48,9 +49,12 @@ RECIPES = $(SHARE)/$(PROGRAM)/recipes
 EXAMPLES = $(SHARE)/$(PROGRAM)/examples
 VERSION := $(shell cat VERSION)
 INSTALLED ?= $(BINARY)
+# The commands of the Python package: each module of its folder that has a table of words.
+TOOLS := $(patsubst python/yds/commands/%.py,yds-%,$(shell grep -l '^COMMAND = ' python/yds/commands/*.py))
+START := lib/python3/dist-packages/yds/commands/_start.py
 # Every recipe in the folder, and a command for each file of recipes/bin: there is no other list.
 RECIPE_FILES := $(filter-out test.sh,$(notdir $(wildcard recipes/*.awk recipes/*.sh recipes/*.jq)))
-COMMANDS := $(notdir $(wildcard recipes/bin/*))
+COMMANDS = $(filter-out $(TOOLS),$(notdir $(wildcard recipes/bin/*)))
 EXAMPLE_FILES := $(notdir $(wildcard examples/*.txt))
 SAMPLE_FILES := $(shell cd recipes/samples && find . -path ./bad -prune -o -type f ! -name '*.awk' -print | sort)
 EXAMPLE ?= examples/three-jobs.txt
@@ -63,7 +67,7 @@ LIBRARY := build/libyds.so
 PACKAGE_FILES := $(patsubst python/yds/%,%,$(wildcard python/yds/*.py python/yds/commands/*.py)) py.typed
 LIBRARY_FILES := libyds.so libyds.so.$(firstword $(subst ., ,$(VERSION))) libyds.so.$(VERSION) libyds.a
 
-.PHONY: all run try test check recipes faults fuzz costly bench bench-library library library-test wheel install install-program install-library uninstall uninstall-program uninstall-library map deb dist check-build record-build packages-test clean tool
+.PHONY: all run try test check recipes faults fuzz costly bench bench-library library library-test wheel install install-program install-tools install-library uninstall uninstall-program uninstall-tools uninstall-library map deb dist check-build record-build packages-test clean tool
 
 all: $(BINARY) build/proved
 
@@ -150,7 +154,7 @@ wheel: $(if $(wildcard $(LIBRARY)),,$(LIBRARY))
 bench-library: $(BINARY) $(LIBRARY)
 	@CC=$(CC) sh bench/library.sh
 
-install: install-program $(if $(wildcard $(LIBRARY)),install-library)
+install: install-program install-tools $(if $(wildcard $(LIBRARY)),install-library)
 
 install-program: $(BINARY)
 	install -d $(BIN) $(MAN) $(COMPLETIONS) $(RECIPES) $(EXAMPLES)
@@ -170,6 +174,18 @@ install-program: $(BINARY)
 	for file in $(SAMPLE_FILES); do install -D -m 644 recipes/samples/$$file $(RECIPES)/samples/$$file || exit 1; done
 	install -m 644 $(EXAMPLE_FILES:%=examples/%) $(EXAMPLES)
 
+# The Python package and its commands, which need no shared object but for answers.
+install-tools:
+	install -d $(BIN) $(MAN) $(COMPLETIONS) $(PACKAGE)/commands
+	for file in $(PACKAGE_FILES); do install -m 644 python/yds/$$file $(PACKAGE)/$$file || exit 1; done
+	chmod 755 $(DESTDIR)$(PREFIX)/$(START)
+	for command in $(TOOLS); do \
+		ln -sf ../$(START) $(BIN)/$$command || exit 1; \
+		ln -sf $(PROGRAM) $(COMPLETIONS)/$$command || exit 1; \
+		PYTHONDONTWRITEBYTECODE=1 python3 python/yds/commands/_start.py $$command --man >$(MAN)/$$command.1 || exit 1; \
+	done
+	chmod 644 $(TOOLS:%=$(MAN)/%.1)
+
 install-library: $(LIBRARY)
 	install -d $(LIB)/pkgconfig $(INCLUDE)
 	install -m 755 $(LIBRARY) $(LIB)/libyds.so.$(VERSION)
@@ -179,14 +195,15 @@ install-library: $(LIBRARY)
 	install -m 644 library/yds.h $(INCLUDE)
 	sed 's|@PREFIX@|$(PREFIX)|; s|@VERSION@|$(VERSION)|' library/yds.pc.in >$(LIB)/pkgconfig/yds.pc
 	chmod 644 $(LIB)/pkgconfig/yds.pc
-	install -d $(PACKAGE)/commands
-	for file in $(PACKAGE_FILES); do install -m 644 python/yds/$$file $(PACKAGE)/$$file || exit 1; done
 	@test -n "$(DESTDIR)" || ldconfig 2>/dev/null || echo "ldconfig, run by root, lets programs find $(LIB)/libyds.so.1"
 
-uninstall: uninstall-program uninstall-library
+uninstall: uninstall-program uninstall-tools uninstall-library
 
 uninstall-library:
-	rm -f $(LIBRARY_FILES:%=$(LIB)/%) $(LIB)/pkgconfig/yds.pc $(INCLUDE)/yds.h $(PACKAGE_FILES:%=$(PACKAGE)/%)
+	rm -f $(LIBRARY_FILES:%=$(LIB)/%) $(LIB)/pkgconfig/yds.pc $(INCLUDE)/yds.h
+
+uninstall-tools:
+	rm -f $(TOOLS:%=$(BIN)/%) $(TOOLS:%=$(COMPLETIONS)/%) $(TOOLS:%=$(MAN)/%.1) $(PACKAGE_FILES:%=$(PACKAGE)/%)
 	rm -rf $(PACKAGE)/__pycache__ $(PACKAGE)/commands/__pycache__
 	for folder in $(PACKAGE)/commands $(PACKAGE); do test ! -d $$folder || rmdir --ignore-fail-on-non-empty $$folder; done
 

@@ -20,12 +20,12 @@ _yds_recipe() {
 }
 complete -o default -F _yds_cli yds_cli
 # The recipes' commands are those on the PATH that lead to the recipes: links to command.sh, or the files of
-# recipes/bin.
+# recipes/bin; and those that lead to the start of the Python package's commands.
 _yds_complete_recipes() {
 	local command
 	for command in $(compgen -c yds- | sort -u); do
 		case $(readlink -f "$(type -P "$command")") in
-		*/recipes/command.sh | */recipes/bin/"$command") complete -o default -F _yds_recipe "$command" ;;
+		*/recipes/command.sh | */recipes/bin/"$command" | */yds/commands/_start.py) complete -o default -F _yds_recipe "$command" ;;
 		esac
 	done
 }

@@ -3,7 +3,7 @@
 #
 #   yds-cli        the program, its manual page, completion, recipes and examples
 #   libyds         the C library, where build/libyds.so is there (`make library`)
-#   python3-yds    the Python module over it
+#   python3-yds    the commands that are written in Python, and the module yds over the library
 #
 # Two builds of one commit are the same bytes: each file has the time of the commit, and gzip writes neither name nor time.
 
@@ -61,6 +61,7 @@ close() {
 		echo "Priority: optional"
 		echo "Installed-Size: $(find "$tree/usr" -type f -exec cat {} + | wc -c | awk '{ print int(($1 + 1023) / 1024) }')"
 		[ -z "$3" ] || echo "Depends: $3"
+		[ -z "$recommends" ] || echo "Recommends: $recommends"
 		[ -z "$4" ] || echo "Suggests: $4"
 		echo "Description: $5"
 		sed 's/^/ /; s/^ $/ ./'
@@ -84,6 +85,7 @@ compiled() {
 
 make --no-print-directory install-program DESTDIR="$PWD/$stage/yds-cli" PREFIX=/usr >/dev/null || die "make install failed"
 compress $stage/yds-cli
+recommends="python3-yds (= $version)"
 is_static && needs= || needs="libc6 (>= 2.34)"
 close yds-cli amd64 "$needs" "jq, gnuplot-nox, parallel, trace-cmd, bash-completion" \
 	"planner and auditor for jobs on a processor of variable speed" <<'TEXT'
@@ -92,18 +94,20 @@ can be changed, so that every deadline is met and the least energy is spent,
 and audits plans and traces of others. What the program writes is proved.
 TEXT
 
-# The library and the module are packages of their own: a user of the program needs neither.
+recommends=
+# The commands and the module are a package of their own. Those that need no answer work without the shared library.
+make --no-print-directory install-tools DESTDIR="$PWD/$stage/python3-yds" PREFIX=/usr >/dev/null || die "make install-tools failed"
+compress $stage/python3-yds
+compiled python3-yds
+close python3-yds all "python3 (>= 3.9)" "libyds (= $version), yds-cli (= $version), python3-matplotlib, python3-pandas" \
+	"planner and auditor for jobs of variable speed, for Python" <<'TEXT'
+The Python module yds, over the shared library of the package libyds, and the
+commands yds-scale, yds-summary and others, which need Python alone.
+TEXT
+
+# The library is a package of its own, too: a user of the program doesn't need it.
 if [ -f build/libyds.so ]; then
 	make --no-print-directory -o build/libyds.so install-library DESTDIR="$PWD/$stage/libyds" PREFIX=/usr >/dev/null || die "make install-library failed"
-	if [ -d $stage/libyds/usr/lib/python3 ]; then
-		mkdir -p $stage/python3-yds/usr/lib
-		mv $stage/libyds/usr/lib/python3 $stage/python3-yds/usr/lib/python3
-		compiled python3-yds
-		close python3-yds all "python3 (>= 3.8), libyds (= $version)" "python3-matplotlib, python3-pandas" \
-			"planner and auditor for jobs of variable speed, for Python" <<'TEXT'
-The Python module yds, over the shared library of the package libyds.
-TEXT
-	fi
 	close libyds amd64 "libc6 (>= 2.14)" "" "planner and auditor for jobs of variable speed, for C" <<'TEXT'
 The shared library, the static library, the header and the file for
 pkg-config. It answers what the program yds_cli answers, over bytes in memory.

@@ -2,7 +2,7 @@
 # dist.sh: makes the archives of a release, in build/dist (`make dist`).
 #
 #   yds_cli-VERSION.tar.gz                       the sources of the commit
-#   yds_cli-VERSION-linux-x86_64.tar.gz          the static program, with its manual page, completion, recipes and examples
+#   yds_cli-VERSION-linux-x86_64.tar.gz          the static program, with its manual pages, completion, recipes, examples and the commands in Python
 #   yds-VERSION-py3-none-manylinux2014_x86_64.whl    the Python package, where build/libyds.so is there (`make library`)
 #   SHA256SUMS                                   the sums of these, and of the packages where they are there
 #
@@ -20,7 +20,7 @@ git archive --prefix="$name/" HEAD | gzip -9n >"$out/$name.tar.gz"
 stage=build/stage
 folder=$stage/$name-linux-x86_64
 rm -rf $stage
-make --no-print-directory install-program DESTDIR="$PWD/$folder" PREFIX= >/dev/null || die "make install failed"
+make --no-print-directory install-program install-tools DESTDIR="$PWD/$folder" PREFIX= >/dev/null || die "make install failed"
 cp README.md CHANGELOG.md LICENSE-MIT LICENSE-APACHE VERSION "$folder"
 {
 	echo "This program, bin/yds_cli, is one file that needs no library. It runs on any Linux, on a processor of x86-64-v2 or later."

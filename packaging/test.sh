@@ -66,15 +66,17 @@ try_suite() {
 		debootstrap --variant=minbase "$suite" "$root" "$MIRROR" >"$work/log" 2>&1 || { fail "$suite: debootstrap"; tail -n 3 "$work/log"; return; }
 		: >"$root.done"
 	fi
+	inside apt-get install -y --no-install-recommends python3 >/dev/null 2>&1
 	files >"$work/before"
 	cp build/dist/yds-cli_"$version"_amd64.deb "$root/srv/yds-cli.deb"
-	try "$suite: install" inside apt-get install -y --no-install-recommends /srv/yds-cli.deb
+	cp build/dist/python3-yds_"$version"_all.deb "$root/srv/python3-yds.deb"
+	try "$suite: install" inside apt-get install -y --no-install-recommends /srv/yds-cli.deb /srv/python3-yds.deb
 	try "$suite: rows" rows "$root" /usr/bin/yds_cli
 	try "$suite: README" readme
 	try "$suite: the manual page has the version" inside sh -c "zcat /usr/share/man/man1/yds_cli.1.gz | grep '^.Os yds_cli $version\$'"
 	if [ -f build/dist/libyds_"$version"_amd64.deb ]; then library; fi
-	try "$suite: remove" inside apt-get purge -y yds-cli
-	rm -f "$root/srv/yds-cli.deb"
+	try "$suite: remove" inside apt-get purge -y yds-cli python3-yds
+	rm -f "$root/srv/yds-cli.deb" "$root/srv/python3-yds.deb"
 	files >"$work/after"
 	try "$suite: nothing is left" sh -c 'diff "$1" "$2" && echo "$(wc -l <"$1") lines of files and sums are as before"' sh "$work/before" "$work/after"
 }

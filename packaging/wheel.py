@@ -20,7 +20,7 @@ Summary: Planner and auditor for jobs on one processor of variable speed
 License: MIT OR Apache-2.0
 License-File: LICENSE-MIT
 License-File: LICENSE-APACHE
-Requires-Python: >=3.8
+Requires-Python: >=3.9
 Classifier: Operating System :: POSIX :: Linux
 Classifier: Programming Language :: Python :: 3
 Classifier: Typing :: Typed
@@ -47,17 +47,25 @@ def shared_object(path: Path) -> bytes:
     return data
 
 
+def entry_points() -> str:
+    """What pip makes the commands of: each module of yds.commands that has a table of words."""
+    places = sorted(Path("python/yds/commands").glob("[a-z]*.py"))
+    names = [place.stem for place in places if "\nCOMMAND = " in place.read_text(encoding="utf-8")]
+    return "".join(["[console_scripts]\n", *(f"yds-{name} = yds.commands._start:start\n" for name in names)])
+
+
 def contents(version: str) -> Dict[str, bytes]:
     """The files of the wheel by their names, all but its record."""
     package = Path("python/yds")
     info = f"yds-{version}.dist-info"
     places = [path for path in package.rglob("*") if path.suffix in (".py", ".typed")]
     files = {path.relative_to(package.parent).as_posix(): path.read_bytes() for path in places}
-    if f'__version__ = "{version}"\n'.encode() not in files["yds/__init__.py"]:
-        sys.exit(f"wheel.py: python/yds/__init__.py doesn't say __version__ = {version!r}, which VERSION says")
+    if f'VERSION = "{version}"\n'.encode() not in files["yds/_version.py"]:
+        sys.exit(f"wheel.py: python/yds/_version.py doesn't say VERSION = {version!r}, which VERSION says")
     files["yds/libyds.so.1"] = shared_object(Path("build/libyds.so"))
     description = Path("python/README.md").read_text(encoding="utf-8")
     files[f"{info}/METADATA"] = METADATA.format(version=version, description=description).encode()
+    files[f"{info}/entry_points.txt"] = entry_points().encode()
     files[f"{info}/WHEEL"] = WHEEL.format(platform=PLATFORM).encode()
     for licence in ("LICENSE-MIT", "LICENSE-APACHE"):
         files[f"{info}/{licence}"] = Path(licence).read_bytes()

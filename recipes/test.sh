@@ -4,7 +4,7 @@
 #   sh recipes/test.sh [PART ..]      parts: trace points comma energy rtapp plot folder page manual readme,
 #                               and the files of tests/; all without one
 #
-# Environment: YDS (the program; build/yds_cli beside this folder), AWK (awk), HOUR (with any value the manual's trace of
+# Environment: YDS (the program; build/yds_cli beside this folder), AWK (awk), PYTHON (python3), HOUR (with any value the manual's trace of
 # an hour is tried too, which takes minutes; without it that section is left out and counted). The last line is
 # 'N passed, M failed', and the exit status is 1 where M isn't 0. What wants a missing package, or a command that
 # the program doesn't have, is left out and counted on a line of its own.
@@ -13,6 +13,9 @@ here=$(cd "$(dirname "$0")" && pwd)
 YDS=${YDS:-$here/../build/yds_cli}
 case $YDS in /*) ;; *) YDS=$(pwd)/$YDS ;; esac
 AWK=${AWK:-awk}
+PYTHON=${PYTHON:-python3}
+PYTHONDONTWRITEBYTECODE=1
+export PYTHONDONTWRITEBYTECODE
 LC_ALL=C
 export LC_ALL
 work=$(mktemp -d) || exit 1
@@ -85,6 +88,8 @@ answers() {
 # from FILE COMMAND ..: with FILE as standard input.
 from() { input=$1; shift; "$@" <"$input"; }
 recipe() { program=$1; shift; $AWK -f "$here/$program" "$@"; }
+# tool NAME ..: a command of the package yds, as yds-NAME.
+tool() { command=$1; shift; "$PYTHON" "$here/bin/yds-$command" "$@"; }
 
 trace() { recipe trace.awk "$@"; }
 points() { recipe points.awk "$@"; }

@@ -20,29 +20,35 @@ What is proved is the library under this package: yds.answer hands words and byt
 This package spells documents and reads answers, and is only tested.
 """
 
-from yds import energy, pictures, schedule
-from yds._library import Answer, Status, answer
-from yds._many import map
-from yds.document import Admission, Document, Expansion, OneLevel, Plan, Rounded, Run, expand, trial
-from yds.errors import OutOfMemory, Refused, UsageError, YdsError
-from yds.policy import Moment, Pending, Policy, Simulation, simulate
-from yds.results import (
-    Break,
-    Comparison,
-    Curve,
-    Judgement,
-    Overload,
-    Refusal,
-    Report,
-    ReportLevel,
-    Side,
-    TooSlow,
-    Trial,
-    Verdict,
-)
-from yds.rows import Exact, Job, Level, Piece, Point, Rows, Slot, Task
+from __future__ import annotations
 
-__version__ = "1.0.0"
+from importlib import import_module
+from typing import TYPE_CHECKING, Any, List
+
+from yds._version import VERSION as __version__
+
+if TYPE_CHECKING:
+    from yds import energy, pictures, schedule
+    from yds._library import Answer, Status, answer
+    from yds._many import map
+    from yds.document import Admission, Document, Expansion, OneLevel, Plan, Rounded, Run, expand, trial
+    from yds.errors import OutOfMemory, Refused, UsageError, YdsError
+    from yds.policy import Moment, Pending, Policy, Simulation, simulate
+    from yds.results import (
+        Break,
+        Comparison,
+        Curve,
+        Judgement,
+        Overload,
+        Refusal,
+        Report,
+        ReportLevel,
+        Side,
+        TooSlow,
+        Trial,
+        Verdict,
+    )
+    from yds.rows import Exact, Job, Level, Piece, Point, Rows, Slot, Task
 
 __all__ = [
     "Admission",
@@ -91,3 +97,34 @@ __all__ = [
     "simulate",
     "trial",
 ]
+
+_FROM = {
+    "yds._library": "Answer Status answer",
+    "yds._many": "map",
+    "yds.document": "Admission Document Expansion OneLevel Plan Rounded Run expand trial",
+    "yds.errors": "OutOfMemory Refused UsageError YdsError",
+    "yds.policy": "Moment Pending Policy Simulation simulate",
+    "yds.results": "Break Comparison Curve Judgement Overload Refusal Report ReportLevel Side TooSlow Trial Verdict",
+    "yds.rows": "Exact Job Level Piece Point Rows Slot Task",
+}
+"""The names of each module, which is read when one of them is asked for. So a command that moves text alone starts at
+once, and where there is no shared object."""
+
+_PLACES = {name: module for module, names in _FROM.items() for name in names.split()}
+_MODULES = frozenset("document energy errors parts pictures policy results rows schedule tables tasks".split())
+
+
+def __getattr__(name: str) -> Any:
+    """A name of the package."""
+    if name in _PLACES:
+        value = getattr(import_module(_PLACES[name]), name)
+    elif name in _MODULES:
+        value = import_module(f"yds.{name}")
+    else:
+        raise AttributeError(f"module 'yds' has no attribute {name!r}")
+    globals()[name] = value
+    return value
+
+
+def __dir__() -> List[str]:
+    return sorted({*globals(), *__all__})

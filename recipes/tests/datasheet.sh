@@ -249,7 +249,7 @@ avr	0	1	0	0	-	-	-	-
 oa	0	1	0	0	-	-	-	-
 flat-out	1	0	0	0	2.00000	2.00000	2.00000	lines
 trace	0	0	1	0	-	-	-	-
-# 1 documents, 1 compared" recipe summary.awk "$work/lines.tsv"
+# 1 documents, 1 compared" tool summary "$work/lines.tsv"
 	seed=1
 	while [ $seed -le 40 ]; do
 		(printf 'point 0 1\npoint 3 9\n' && recipe draw.awk -v seed=$seed -v jobs=12 -v release=60 -v window=20 -v work=9) >"$work/drawn"
@@ -315,21 +315,21 @@ avr	3	1	0	0	1.20000	1.10000	1.50000	a
 oa	4	0	0	0	1.13750	1.02500	1.50000	c
 own	2	0	1	1	1.30000	1.30000	1.40000	d
 # 8 documents, 4 compared, 1 refused, 1 too fast for their points, by any schedule, 1 with a plan that spends nothing, 1 without an answer
-# in 1 of them a policy was rounded to the grid, so its energy isn't quite the policy's own; see the column rounded" recipe summary.awk "$work/energies"
+# in 1 of them a policy was rounded to the grid, so its energy isn't quite the policy's own; see the column rounded" tool summary "$work/energies"
 	text "summary: only what all sides serve" 0 "side	documents	too slow	misses	without	mean	median	greatest	in
 avr	2	0	0	0	1.30000	1.30000	1.50000	a
 oa	2	0	0	0	1.00000	1.00000	1.00000	a
 own	2	0	0	0	1.30000	1.30000	1.40000	d
 # 8 documents, 2 compared, 1 refused, 1 too fast for their points, by any schedule, 1 with a plan that spends nothing, 2 in which a side has no energy, 1 without an answer" \
-		recipe summary.awk -v common=1 "$work/energies"
+		tool summary --common "$work/energies"
 	printf 'flat energy 9\nflat time 0 3\n' >"$work/alone.txt"
 	text "collect: no answer of compare beside another side" 0 "document	plan	avr	oa	flat	rounded	answer
 alone	-	-	-	9.000000	-	no answer" recipe collect.awk "$work/alone.txt"
-	refuses "summary: another table" 1 "" "summary.awk: line 1: no columns document, plan and answer; is this the table of collect.awk?" recipe summary.awk workload.json
-	refuses "summary: no table" 1 "" "summary.awk: no table; is this the table of collect.awk?" recipe summary.awk /dev/null
+	refuses "summary: another table" 1 "" "yds-summary: workload.json, line 1: no columns document, plan and answer; is this the table of yds-collect?" tool summary workload.json
+	refuses "summary: no table" 1 "" "yds-summary: no table; is this the table of yds-collect?" tool summary /dev/null
 	# The mean of many is that of a sum in a loop, and the median that of sort.
 	$AWK 'BEGIN { print "document\tplan\tavr\toa\trounded\tanswer"; for (i = 0; i < 501; i++) printf "d%d\t1000\t%d\t1000\t0\tok\n", i, 1000 + (i * 7919) % 501 }' >"$work/many"
-	answers "summary: of many" 0 "avr	501	0	0	0	1.25000	1.25000	1.50000" eval "recipe summary.awk '$work/many' | sed 1d | cut -f1-8"
+	answers "summary: of many" 0 "avr	501	0	0	0	1.25000	1.25000	1.50000" eval "tool summary '$work/many' | sed 1d | cut -f1-8"
 }
 
 draws() {
@@ -353,19 +353,19 @@ more_work() {
 horizon 1000
 task sample 0 10 10 29
 task filter 0 100 50 1080
-task radio 40 500 100 2400" recipe scale.awk -v work=1.2 sensor-tasks.txt
+task radio 40 500 100 2400" tool scale --work 1.2 sensor-tasks.txt
 	text "scale: jobs" 0 "# work times 3/2, rounded up in 0 of 3 lines: the plan's peak is 3/2 times what it was
 # three jobs, each window inside the one before
 job a 0 12 6
 job b 2 10 12
-job c 4 6 9" recipe scale.awk -v work=3/2 "$here/../examples/three-jobs.txt"
+job c 4 6 9" tool scale --work 3/2 "$here/../examples/three-jobs.txt"
 	printf 'job a 0 9 4\nslot a 0 9 4\n' >"$work/slot"
-	refuses "scale: slots" 1 failed 'scale.awk: line 2: "slot" doesn'"'"'t grow with the work; give jobs or tasks alone' recipe scale.awk -v work=2 "$work/slot"
-	refuses "scale: no factor" 2 failed "scale.awk: work=20% is no factor up to 1000, as 1.2 or 6/5" recipe scale.awk -v work=20% sensor-tasks.txt
+	refuses "scale: slots" 1 failed "yds-scale: $work/slot, line 2, column 1: "'"slot" doesn'"'"'t grow with the work; give jobs or tasks alone' tool scale --work 2 "$work/slot"
+	refuses "scale: no factor" 2 failed "yds-scale: --work 20% is no factor up to 1000, as 1.2 or 6/5; see yds-scale --help" tool scale --work 20% sensor-tasks.txt
 	printf 'job a 0 9 900000\n' >"$work/much"
-	refuses "scale: too much work" 1 failed "scale.awk: line 1: the work becomes 1080000, above 1000000; take a coarser unit of work" recipe scale.awk -v work=1.2 "$work/much"
+	refuses "scale: too much work" 1 failed "yds-scale: $work/much, line 1, column 11: the work becomes 1080000, above 1000000; take a coarser unit of work" tool scale --work 1.2 "$work/much"
 	if want report; then
-		recipe scale.awk -v work=3/2 "$here/../examples/three-jobs.txt" | "$YDS" report | $AWK 'NR > 1 { print $4 }' | head -n 3 | tr '\n' ' ' >"$work/speeds"
+		tool scale --work 3/2 "$here/../examples/three-jobs.txt" | "$YDS" report | $AWK 'NR > 1 { print $4 }' | head -n 3 | tr '\n' ' ' >"$work/speeds"
 		if [ "$(cat "$work/speeds")" = "4+1/2 2 1+1/2 " ]; then pass; else fail "scale: the speeds grow with the work: $(cat "$work/speeds")"; fi
 	fi
 	# 400, 200, 400, 200, 400, 200 and the end; no time without a slot.

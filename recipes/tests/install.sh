@@ -13,6 +13,9 @@ test_install() {
 	for link in "$work"/stage/usr/bin/yds-*; do
 		[ -x "$link" ] || { fail "install: $link leads nowhere"; return; }
 	done
+	answers "install: an installed command of the package" 0 "# work times 2, rounded up in 0 of 3 lines: the plan's peak is 2 times what it was" \
+		"$work/stage/usr/bin/yds-scale" --work 2 ../../examples/three-jobs.txt
+	if [ "$(head -n 1 "$work/stage/usr/share/man/man1/yds-scale.1" | cut -c1-14)" = '.TH YDS-SCALE ' ]; then pass; else fail "install: no page of yds-scale"; fi
 	in_root uninstall
 	left=$(find "$work/stage" -type f -o -type l | head -n 3)
 	if [ -z "$left" ] && [ ! -d "$work/stage/usr/share/yds_cli" ]; then pass; else fail "uninstall: left $left"; fi

@@ -60,6 +60,8 @@ faulty() {
 # Each tool that reads a document refuses two units in it.
 reads_together() {
 	kind=$1 text=$2
+	dashed=$(echo "$text" | sed 's/\([a-z]*\)=$/--\1/')
+	case $kind in time) column=15 ;; speed) column=32 ;; power) column=54 ;; esac
 	printf '%s\n' '# table: speed unit 10000 kHz, power unit 1000 uW' 'point 0 0' 'point 10 20' '# time unit 10 us' 'job a 0 10 10' 'slot a 0 1 10' >"$work/one"
 	{
 		cat "$work/one"
@@ -74,7 +76,7 @@ reads_together() {
 	refuses "units: jobs, $kind" 1 "" "jobs.awk: line 7: $text" recipe jobs.awk "$work/two"
 	refuses "units: changes, $kind" 1 "" "changes.awk: line 7: $text" recipe changes.awk "$work/two"
 	refuses "units: slots, $kind" 1 failed "slots.awk: line 7: $text" recipe slots.awk "$work/two"
-	refuses "units: scale, $kind" 1 failed "scale.awk: line 6: $text" recipe scale.awk -v work=2 "$work/two-jobs"
+	refuses "units: scale, $kind" 1 failed "yds-scale: $work/two-jobs, line 6, column $column: $dashed" tool scale --work 2 "$work/two-jobs"
 	refuses "units: battery, $kind" 1 "" "battery.awk: line 7: $text" recipe battery.awk -v mah=1 -v volts=1 -v period=1 "$work/two"
 	refuses "units: answer, $kind" 1 "" "answer.awk: line 7: $text" from "$work/two" recipe answer.awk
 	refuses "units: misses, $kind" 1 "" "misses.sh: line 7: ${text%%;*}; give texts of the same us=, khz= and uw=" env YDS="$YDS" AWK="$AWK" sh "$here/misses.sh" "$work/two"

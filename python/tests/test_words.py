@@ -1,0 +1,143 @@
+"""The words of the commands: one table for what is read, the help, the completion and the manual page."""
+
+import io
+import os
+import subprocess
+import sys
+import tempfile
+import unittest
+from pathlib import Path
+from unittest import mock
+
+from called import ROOT, SAMPLES, call
+from yds import _words
+from yds._words import Command, Files, Option, WordsError, parse
+
+TABLE = Command(
+    "yds-try", "tries words", "Some text.",
+    [Option("most", "how many", "N", "-m"), Option("all", "each of them"), Option("from", "since when", "T", before="since")],
+    Files("FILE", 1, 2),
+)  # fmt: skip
+TASKS = SAMPLES / "sensor-tasks.txt"
+START = ROOT / "python" / "yds" / "commands" / "_start.py"
+MODULES = sorted(path for path in START.parent.glob("[a-z]*.py") if "\nCOMMAND = " in path.read_text(encoding="utf-8"))
+
+
+def started(*words: object, **named: object) -> "subprocess.CompletedProcess[bytes]":
+    environment = {**os.environ, "YDS_LIBRARY": "/nowhere"}
+    command = [sys.executable, str(START), *map(str, words)]
+    return subprocess.run(command, env=environment, stdout=subprocess.PIPE, stderr=subprocess.PIPE, check=False, **named)  # type: ignore[call-overload,no-any-return]
+
+
+class ParseTest(unittest.TestCase):
+    def test_options_and_files_in_any_order(self) -> None:
+        for words in (["a", "--most", "3", "b", "--all"], ["--most=3", "--all", "a", "b"], ["-m", "3", "a", "--all", "--", "b"]):
+            given = parse(TABLE, words)
+            self.assertEqual((given.most, given.all, given.files), ("3", True, ["a", "b"]))
+        self.assertEqual(parse(TABLE, ["-", "--", "--most"]).files, ["-", "--most"])
+
+    def test_words_that_are_refused(self) -> None:
+        for words, told in [
+            (["--mos", "3", "a"], "unrecognized arguments: --mos"),
+            (["a", "--most"], "argument -m/--most: expected one argument"),
+            (["most=3", "a"], "most=3 is no word of this command: write --most 3; a file of this name is ./most=3"),
+            (["since=3", "a"], "since=3 is no word of this command: write --from 3; a file of this name is ./since=3"),
+            (["all=1", "a"], "all=1 is no word of this command: write --all; a file of this name is ./all=1"),
+            (["-v", "most=3"], "-v is no word of this command: write --NAME VALUE in place of -v NAME=VALUE"),
+            ([], "no file: yds-try [-m N] [--all] [--from T] FILE .."),
+            (["a", "b", "c"], "more than 2 files"),
+        ]:
+            with self.subTest(words), self.assertRaises(WordsError) as raised:
+                parse(TABLE, words)
+            self.assertIn(told.replace(" FILE ..", ""), str(raised.exception))
+        self.assertEqual(parse(TABLE, ["./most=3"]).files, ["./most=3"])
+        self.assertEqual(parse(TABLE, ["--from", "most=3", "a"]).files, ["a"])
+
+
+class EveryCommandTest(unittest.TestCase):
+    """What holds of each command that has a table."""
+
+    def test_help_completion_and_manual_page(self) -> None:
+        self.assertGreater(len(MODULES), 1)
+        for path in MODULES:
+            name = path.stem
+            with self.subTest(name):
+                shown, listed, page = (call(name, word) for word in ("--help", "--options", "--man"))
+                self.assertEqual([shown.status, listed.status, page.status], [0, 0, 0])
+                self.assertEqual([shown.err, listed.err, page.err], ["", "", ""])
+                for word in listed.out.split():
+                    if word not in ("--help", "--version"):
+                        self.assertIn(word.rstrip("="), shown.out)
+                        self.assertIn(word.rstrip("=").replace("-", "\\-"), page.out)
+                self.assertLessEqual(max(map(len, shown.out.split("\n"))), 120)
+                self.assertIn(f"yds-{name}", shown.out)
+                self.assertEqual(call(name, "--version").out.split("\n")[0], f"yds-{name} {_words.VERSION}, of the package yds")
+
+    def test_words_that_no_command_takes(self) -> None:
+        for path in MODULES:
+            for words in (["--nothing"], ["--hel"], ["-v", "a=b"]):
+                with self.subTest(name=path.stem, words=words):
+                    called = call(path.stem, *words)
+                    self.assertEqual(called.status, 2)
+                    self.assertEqual(called.err.count("\n"), 1)
+                    self.assertIn(called.out, ("", "failed\n"))
+
+    def test_main_is_short(self) -> None:
+        for path in MODULES:
+            body = path.read_text(encoding="utf-8").split("\ndef main(", 1)[1].split("\n\n\n")[0]
+            self.assertLessEqual(body.count("\n"), 60, path.stem)
+
+
+class EndsTest(unittest.TestCase):
+    """How a command ends that is a process of its own, and has no shared object."""
+
+    def test_it_starts_where_there_is_no_shared_object(self) -> None:
+        done = started("yds-scale", "--work", "1", TASKS)
+        self.assertEqual((done.returncode, done.stderr), (0, b""))
+        done = started("yds-nothing")
+        self.assertEqual((done.returncode, done.stderr), (2, b"yds-nothing: there is no command of this name\n"))
+
+    def test_no_module_of_answers_or_pictures_is_loaded(self) -> None:
+        told = "import sys; sys.path[0] = sys.argv[1]; import yds.commands.scale, yds.commands.summary; print(sorted(sys.modules))"
+        done = subprocess.run([sys.executable, "-c", told, str(ROOT / "python")], stdout=subprocess.PIPE, check=True)
+        for name in (b"'ctypes'", b"'yds._library'", b"'matplotlib'", b"'yds.document'"):
+            self.assertNotIn(name, done.stdout)
+
+    def test_a_closed_output(self) -> None:
+        source, target = os.pipe()
+        os.close(source)
+        with os.fdopen(target, "wb") as closed, tempfile.TemporaryFile() as errors:
+            command = [sys.executable, str(START), "yds-scale", "--work", "1", str(TASKS)]
+            done = subprocess.run(command, stdout=closed, stderr=errors, check=False)
+            errors.seek(0)
+            self.assertEqual((done.returncode, errors.read()), (141, b""))
+
+    @unittest.skipUnless(Path("/dev/full").exists(), "there is no full device")
+    def test_a_full_disk(self) -> None:
+        with open("/dev/full", "wb") as full:
+            command = [sys.executable, str(START), "yds-scale", "--work", "1", str(TASKS)]
+            done = subprocess.run(command, stdout=full, stderr=subprocess.PIPE, check=False)
+        self.assertEqual(done.returncode, 1)
+        self.assertEqual(done.stderr, b"yds-scale: the output can't be written: No space left on device\n")
+
+    def test_an_interrupt(self) -> None:
+        def interrupted(given: object, write: object) -> int:
+            raise KeyboardInterrupt
+
+        table = TABLE._replace(writes_document=True, files=Files("FILE"))
+        with mock.patch("sys.stdout", io.TextIOWrapper(io.BytesIO())) as out:
+            self.assertEqual(_words.run(table, [], interrupted), 130)
+            self.assertEqual(out.buffer.getvalue(), b"failed\n")  # type: ignore[attr-defined]
+
+    def test_want_of_memory_and_control_signs(self) -> None:
+        def wanting(given: object, write: object) -> int:
+            raise MemoryError
+
+        with mock.patch("sys.stderr", io.TextIOWrapper(io.BytesIO())) as err:
+            self.assertEqual(_words.run(TABLE, ["a"], wanting), 1)
+            self.assertEqual(err.buffer.getvalue(), b"yds-try: there isn't memory enough\n")  # type: ignore[attr-defined]
+        self.assertEqual(call("scale", "--work", "2", "no\x1b[2Jwhere").err, "yds-scale: no?[2Jwhere can't be read: No such file or directory\n")
+
+
+if __name__ == "__main__":
+    unittest.main()
