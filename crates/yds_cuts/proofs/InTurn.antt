@@ -1,6 +1,7 @@
 -- Slots of parts run one at a time exactly where each part's do and the parts follow one another, whatever windows are open.
 use Rattle.yds_model.proofs.Common.{◌≡◌, ℕ, ◌+◌, ◌*◌, ◌≤◌, List, [], ◌∷◌, ◌++◌, length, map, refl, sym, subst, arith, fold, All, ◌∣◌, one-dvd, All-nil, All-cons, All-head, All-tail, mul-zero, le_of_mul-le-mul_left, mul-le-mul_left, mul-lt-mul_of_pos_left, Fraction, of_whole, at_scale, WrittenSlot, WholeSlot, IsScale, IsSolid, IsDivided, slots_at, RunFrom, finer, finer_slots, IsKept, one_scale_of, scale_exists, at_most_of_values, run_earlier}
 use Rattle.std.proofs.Math.Nat.{lt_of_mul-lt-mul_left}
+use Rattle.yds_model.proofs.Scale.{run_finer, run_coarser}
 use Rattle.yds_parts.specs.Parts.{moved}
 use Rattle.yds_parts.proofs.WrittenParts.{together_is, scale_of_first, scale_of_second, solid_of_both}
 use Rattle.yds_cuts.specs.Cuts.{Part, all_slots, end_of_last, BeginsAt, FollowFrom}
@@ -95,15 +96,6 @@ solid_of_all (part ∷ parts) each =
     (solid_of_all parts (All-tail (λ part. All IsSolid part.slots) part parts each))
 
 -- # One scale decides
-
-run_finer : (k start : ℕ) (slots : List WholeSlot) → 1 ≤ k → RunFrom start slots → RunFrom (k * start) (map (finer k) slots)
-run_finer k start [] some run = tt
-run_finer k start (slot ∷ slots) some run = (mul-le-mul_left k run.0, mul-lt-mul_of_pos_left run.1 some, run_finer k slot.to slots some run.2)
-
-run_coarser : (k start : ℕ) (slots : List WholeSlot) → 1 ≤ k → RunFrom (k * start) (map (finer k) slots) → RunFrom start slots
-run_coarser k start [] some run = tt
-run_coarser k start (slot ∷ slots) some run =
-    (le_of_mul-le-mul_left run.0 some, lt_of_mul-lt-mul_left k run.1, run_coarser k slot.to slots some run.2)
 
 -- slots that run one at a time at a scale do so at each multiple of it, and back
 run_kept : (slots : List WrittenSlot) → IsKept slots (λ scale whole. RunFrom 0 whole)

@@ -4,7 +4,7 @@ use Rattle.yds_model.proofs.Common.{◌≡◌, ℕ, zero, suc, ◌+◌, ◌*◌,
 use Rattle.yds_model.specs.declared.limits.TheConstants.{MAX_TIME}
 use Rattle.yds_events.specs.Stretch.{no_stretch, IsOutside}
 use Rattle.yds_events.specs.Window.{length_at}
-use Rattle.yds_events.proofs.InOrder.{has_length, later_start}
+use Rattle.yds_events.proofs.InOrder.{has_length, later_start, starts_rise}
 use Rattle.yds_events.proofs.Rising.{Rises, rises_times}
 use Rattle.yds_events.proofs.Times.{not_later, release_at, deadline_at, few_times, events_in_range}
 
@@ -37,7 +37,8 @@ neighbours_run low (time ∷ next ∷ times) rises =
 pub count_stretches : (jobs : List Job) → 1 ≤ length jobs → length (event_points jobs) ≡ length (stretches jobs) + 1
 count_stretches jobs some = counted (event_points jobs) (omega (arith, (release_at jobs 0 some).1))
 
-some_jobs : (jobs : List Job) (k : ℕ) → k < length (stretches jobs) → 1 ≤ length jobs
+-- jobs with a stretch are some
+pub some_jobs : (jobs : List Job) (k : ℕ) → k < length (stretches jobs) → 1 ≤ length jobs
 some_jobs [] k within = absurd (omega arith)
 some_jobs (job ∷ jobs) k within = omega arith
 
@@ -70,6 +71,9 @@ stretch_forward jobs k within = has_length 0 k (stretches jobs) (stretches_run j
 
 pub stretch_order : (jobs : List Job) (i k : ℕ) → i < k → k < length (stretches jobs) → (stretch_at jobs i).to ≤ (stretch_at jobs k).from
 stretch_order jobs i k order within = later_start 0 i k (stretches jobs) (stretches_run jobs) order within
+
+pub stretch_starts_rise : (jobs : List Job) (i k : ℕ) → i ≤ k → k < length (stretches jobs) → (stretch_at jobs i).from ≤ (stretch_at jobs k).from
+stretch_starts_rise jobs i k order within = starts_rise i k (stretches jobs) (stretches_run jobs) order within
 
 -- # Their lengths
 

@@ -96,7 +96,7 @@ line_of_fractions x y z g h k b q d nx dx ny dy nz dz of_x of_y of_z on_line =
     rw (of_x, of_y, of_z) (omega (arith, ap (λ n. n * (dx * dy * dz)) on_line))
 
 -- the excess of a plan's levels above a speed, as a value
-excess_value : (jobs : List Job) (slots : List WrittenSlot) (levels : List Level) (p q : ℕ) → IsPlan jobs slots levels → 1 ≤ q →
+pub excess_value : (jobs : List Job) (slots : List WrittenSlot) (levels : List Level) (p q : ℕ) → IsPlan jobs slots levels → 1 ≤ q →
     HasValue (curve p q levels) q (least_above p q levels)
 excess_value jobs slots levels p q plan some =
     subst (λ (n : ℕ). HasValue n q (least_above p q levels)) (above_curve p q levels (plan_falls jobs slots levels plan)) (lowest_value _ q some)

@@ -150,6 +150,12 @@ at_most_all : (b : Bool) (n : ℕ) → cond b n 0 ≤ n
 at_most_all true n = omega arith
 at_most_all false n = omega arith
 
+-- the stretch that a slot lies in
+pub stretch_of_slot : (jobs : List Job) (scale : ℕ) (slot : WholeSlot) → IsUncut jobs scale slot →
+    (i : ℕ) × (i < length (stretches jobs)) × LiesIn scale slot (stretch_at jobs i)
+stretch_of_slot jobs scale slot (i, stretch, within, is, lies) =
+    (i, within, subst (LiesIn scale slot) (sym is ∙ get_or_default (stretches jobs) i stretch no_stretch within) lies)
+
 module _ (jobs : List Job) (scale : ℕ) (slots : List WholeSlot) (forward : All (λ slot. slot.from < slot.to) slots) (uncut : All (IsUncut jobs scale) slots) where
   -- the work of the slots that end by a time
   abbrev done : ℕ → ℕ
@@ -161,16 +167,11 @@ module _ (jobs : List Job) (scale : ℕ) (slots : List WholeSlot) (forward : All
   abbrev part_in : ℕ → WholeSlot → ℕ
   part_in k slot = cond (nat_le ((stretch_at jobs k).from * scale) slot.from && nat_le slot.to ((stretch_at jobs k).to * scale)) slot.work 0
 
-  -- the stretch that a slot lies in
-  place_of : (slot : WholeSlot) → IsUncut jobs scale slot → (i : ℕ) × (i < length (stretches jobs)) × LiesIn scale slot (stretch_at jobs i)
-  place_of slot (i, stretch, within, is, lies) =
-      (i, within, subst (LiesIn scale slot) (sym is ∙ get_or_default (stretches jobs) i stretch no_stretch within) lies)
-
   -- a slot that ends by a stretch's end ends by its start, or lies in it
   slot_next : (k : ℕ) → k < length (stretches jobs) → (slot : WholeSlot) → slot.from < slot.to → IsUncut jobs scale slot →
       done_part (stretch_at jobs k).to slot ≤ done_part (stretch_at jobs k).from slot + part_in k slot
   slot_next k here slot takes cut =
-      let place = place_of slot cut in
+      let place = stretch_of_slot jobs scale slot cut in
       let from = (stretch_at jobs k).from * scale in
       let to = (stretch_at jobs k).to * scale in
       let work = at_most_all (nat_le slot.to to) slot.work in
@@ -209,7 +210,7 @@ module _ (jobs : List Job) (scale : ℕ) (slots : List WholeSlot) (forward : All
   none_done =
       sum_by-filter (λ slot. nat_le slot.to ((stretch_at jobs 0).from * scale)) (λ (slot : WholeSlot). slot.work) slots
       ∙ sum_by_zero (done_part (stretch_at jobs 0).from) slots (λ i d within.
-      let place = place_of (get_or slots i d) (uncut i d within) in
+      let place = stretch_of_slot jobs scale (get_or slots i d) (uncut i d within) in
       let later : (stretch_at jobs 0).from * scale < (get_or slots i d).to =
       omega (arith, forward i d within, place.2.from, mul-le-mul_right scale (first_start place.0 place.1)) in
       cond-false {A = ℕ} _ (get_or slots i d).work 0 (lt-leb (get_or slots i d).to ((stretch_at jobs 0).from * scale) later))

@@ -73,13 +73,13 @@ pub excess_scaled : ScaleMultipliesExcess
 excess_scaled slots scale k p q is = ap (excess p q) (finer_slots k scale slots is) ∙ finer_excess k p q (slots_at scale slots)
 
 -- Feasible at a scale is feasible at k times it, and back.
-run_finer : (k start : ℕ) (slots : List WholeSlot) → 1 ≤ k → RunFrom start slots → RunFrom (k * start) (map (finer k) slots)
+pub run_finer : (k start : ℕ) (slots : List WholeSlot) → 1 ≤ k → RunFrom start slots → RunFrom (k * start) (map (finer k) slots)
 run_finer k start [] some run = tt
 run_finer k start (slot ∷ slots) some run =
     (mul-le-mul_left k run.0, mul-lt-mul_of_pos_left run.1 some, run_finer k slot.to slots some run.2)
 
 -- and did before
-run_coarser : (k start : ℕ) (slots : List WholeSlot) → 1 ≤ k → RunFrom (k * start) (map (finer k) slots) → RunFrom start slots
+pub run_coarser : (k start : ℕ) (slots : List WholeSlot) → 1 ≤ k → RunFrom (k * start) (map (finer k) slots) → RunFrom start slots
 run_coarser k start [] some run = tt
 run_coarser k start (slot ∷ slots) some run =
     (le_of_mul-le-mul_left run.0 some, lt_of_mul-lt-mul_left k run.1, run_coarser k slot.to slots some run.2)

@@ -67,7 +67,7 @@ grows weight from to (x ∷ xs) now =
     ))
 
 -- slots that begin later don't run now
-none_running : (weight : WholeSlot → ℕ) (start now : ℕ) (slots : List WholeSlot) → RunFrom start slots → now < start →
+pub none_running : (weight : WholeSlot → ℕ) (start now : ℕ) (slots : List WholeSlot) → RunFrom start slots → now < start →
     sum_by (λ slot. weight slot * here slot.from slot.to now) slots ≡ 0
 none_running weight start now [] run early = refl
 none_running weight start now (slot ∷ slots) run early =
@@ -78,7 +78,7 @@ none_running weight start now (slot ∷ slots) run early =
     ))
 
 -- at most one slot runs at a time
-one_running : (weight : WholeSlot → ℕ) (start now most : ℕ) (slots : List WholeSlot) → RunFrom start slots →
+pub one_running : (weight : WholeSlot → ℕ) (start now most : ℕ) (slots : List WholeSlot) → RunFrom start slots →
     All (λ slot. weight slot * here slot.from slot.to now ≤ most) slots →
     sum_by (λ slot. weight slot * here slot.from slot.to now) slots ≤ most
 one_running weight start now most [] run each = omega arith

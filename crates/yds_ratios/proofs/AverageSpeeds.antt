@@ -9,12 +9,12 @@ use Rattle.yds_laws.specs.RunLaws.{HasWholeTerms, DoesItsTerms}
 use Rattle.yds_laws.proofs.Group.{group, group-nil, group-cons, group_at_most}
 use Rattle.yds_laws.proofs.Served.{all_numbers, counted_once}
 use Rattle.yds_laws.proofs.JobNumbers.{sum_by_number}
+use Rattle.yds_laws.proofs.ExactRates.{stretch_of_slot}
 use Rattle.std.proofs.Math.Nat.{pow-le-pow_left}
-use Rattle.yds_model.proofs.Time.{before, here}
+use Rattle.yds_model.proofs.Time.{before, here, one_running}
 use Rattle.yds_energy.proofs.SpentEnergy.{IsEven}
 use Rattle.yds_energy.proofs.EvenStretches.{run_even}
 use Rattle.yds_energy.proofs.StretchSlots.{lies, lies_passes}
-use Rattle.yds_ratios.proofs.Borrowed.{place_of, one_running}
 use Rattle.yds_ratios.proofs.Below.{sum_below_list, count_here}
 use Rattle.yds_ratios.proofs.Telescoped.{after, is_since, is_until, left, right}
 use Rattle.yds_ratios.proofs.Balanced.{once, here_few, here_told}
@@ -254,7 +254,7 @@ module _ (n grid scale base windows : ℕ) (jobs : List Job) (slots others : Lis
       speed (whole scale base windows) (get_or slots i d) ^ suc n * here (get_or slots i d).from (get_or slots i d).to unit ≤ stands unit ^ suc n
   slot_stands unit i d within =
       let slot = get_or slots i d in
-      let (k, inside, lie) = place_of jobs scale slot (run.served.uncut i d within) in
+      let (k, inside, lie) = stretch_of_slot jobs scale slot (run.served.uncut i d within) in
       let there = here_few slot.from slot.to unit in
       once_more (here slot.from slot.to unit) (speed (whole scale base windows) slot ^ suc n) (stands unit ^ suc n) there
       (once (here slot.from slot.to unit) (speed (whole scale base windows) slot ^ suc n) (stands unit ^ suc n) there (λ is.

@@ -12,8 +12,8 @@ use Rattle.yds_events.proofs.Times.{not_later, release_at}
 use Rattle.yds_events.proofs.Neighbours.{stretch_begins, stretch_forward, release_outside}
 use Rattle.yds_laws.proofs.Group.{work_served}
 use Rattle.yds_laws.proofs.Served.{all_numbers}
+use Rattle.yds_laws.proofs.ExactRates.{stretch_of_slot}
 use Rattle.yds_energy.proofs.StretchSlots.{lies, lies_told, lies_passes}
-use Rattle.yds_ratios.proofs.Borrowed.{place_of}
 use Rattle.yds_ratios.proofs.PassingTests.{one_at_most, one_or_none, counted_kept}
 use Rattle.yds_ratios.proofs.StretchPoints.{point, ends_at, points_order}
 use Rattle.yds_ratios.proofs.LaterWork.{later_part, later_work, part_at_most, part_whole}
@@ -207,7 +207,7 @@ module _ (jobs : List Job) (scale : ℕ) (slots : List WholeSlot) (run : IsExact
     stands_in s within from to =
         let slot = slot_at slots s in
         let takes = takes_time jobs scale slots run s within in
-        let place = place_of jobs scale slot (run.uncut s no_slot within) in
+        let place = stretch_of_slot jobs scale slot (run.uncut s no_slot within) in
         let l = place.0 in
         let not_before : i ≤ l = elim (cases_lt l i) [
           | inr later ↦ later

@@ -8,12 +8,12 @@ use Rattle.yds_model.proofs.Common.{◌≡◌, ℕ, zero, suc, ◌+◌, ◌-◌,
 use Rattle.yds_events.specs.Stretch.{no_stretch}
 use Rattle.yds_events.specs.Window.{length_at}
 use Rattle.yds_events.proofs.Times.{not_later, deadline_at}
-use Rattle.yds_events.proofs.Neighbours.{count_stretches, stretch_begins, stretch_forward, stretch_order}
+use Rattle.yds_events.proofs.Neighbours.{count_stretches, stretch_begins, stretch_forward, stretch_order, stretch_starts_rise}
+use Rattle.yds_laws.proofs.ExactRates.{stretch_of_slot}
 use Rattle.yds_energy.proofs.RoundedRuns.{all_work}
 use Rattle.yds_energy.proofs.StretchSlots.{lies, lies_passes}
-use Rattle.yds_ratios.proofs.Borrowed.{place_of}
 use Rattle.yds_ratios.proofs.PassingTests.{factor_some, sum_by_one_less}
-use Rattle.yds_ratios.proofs.StretchPoints.{point, starts_rise}
+use Rattle.yds_ratios.proofs.StretchPoints.{point}
 use Rattle.yds_ratios.proofs.LaterWork.{later_part, later_work, part_at_most, part_whole}
 use Rattle.yds_ratios.proofs.EarliestLater.{due_later}
 use Rattle.yds_ratios.proofs.ExactRun.{IsExactRun, work_at, IsFast, IsSlow, part_in, work_is, in_part, takes_time, known}
@@ -85,7 +85,7 @@ module _ (jobs : List Job) (scale : ℕ) (slots : List WholeSlot) (run : IsExact
     term_within : (D : ℕ) → D ≤ point jobs j → (t : ℕ) → t < length slots → later_part jobs (begin * scale) begin D (slot_at slots t) ≤ part_in jobs scale k (slot_at slots t)
     term_within D by t inside =
         let slot = slot_at slots t in
-        let place = place_of jobs scale slot (run.uncut t no_slot inside) in
+        let place = stretch_of_slot jobs scale slot (run.uncut t no_slot inside) in
         part_at_most jobs (begin * scale) begin D (part_in jobs scale k slot) slot
         (λ from released due. elim (cases_order place.0 k) [
           | inl same ↦ omega (arith, in_part jobs scale k slot (subst (λ (l : ℕ). LiesIn scale slot (stretch_at jobs l)) same place.2))
@@ -99,7 +99,7 @@ module _ (jobs : List Job) (scale : ℕ) (slots : List WholeSlot) (run : IsExact
     term_beyond D some t inside =
         let slot = slot_at slots t in
         let next = (stretch_at jobs j).from in
-        let place = place_of jobs scale slot (run.uncut t no_slot inside) in
+        let place = stretch_of_slot jobs scale slot (run.uncut t no_slot inside) in
         part_at_most jobs (begin * scale) begin D (part_in jobs scale k slot + later_part jobs (next * scale) next D slot) slot
         (λ from released due. elim (cases_order place.0 k) [
           | inl same ↦ omega (arith, in_part jobs scale k slot (subst (λ (l : ℕ). LiesIn scale slot (stretch_at jobs l)) same place.2))
@@ -108,8 +108,8 @@ module _ (jobs : List Job) (scale : ℕ) (slots : List WholeSlot) (run : IsExact
             | inl in_block ↦
                 absurd (omega (arith, rest place.0 t later in_block inside place.2, later_late t place.0 inside later place.1 place.2 released))
             | inr past ↦
-                let begun : next * scale ≤ slot.from = omega (arith, place.2.from, mul-le-mul_right scale (starts_rise jobs j place.0 past place.1)) in
-                let released_there : release slot ≤ next = omega (arith, released, starts_rise jobs k j (omega (arith, before)) some) in
+                let begun : next * scale ≤ slot.from = omega (arith, place.2.from, mul-le-mul_right scale (stretch_starts_rise jobs j place.0 past place.1)) in
+                let released_there : release slot ≤ next = omega (arith, released, stretch_starts_rise jobs k j (omega (arith, before)) some) in
                 omega (arith, part_whole jobs (next * scale) next D slot begun released_there due)
           ]
         ])

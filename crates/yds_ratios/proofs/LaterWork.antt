@@ -2,12 +2,11 @@
 -- that time. In a run of Optimal Available that never rounded, no such quotient is above the stretch's speed, whatever the time, and
 -- where something is done one attains it.
 use Rattle.yds_model.proofs.Common.{◌≡◌, ℕ, zero, suc, ◌+◌, ◌-◌, ◌*◌, ◌<◌, ◌≤◌, ◌⊎◌, List, length, get_or, cond, Bool, true, false, ◌==◌, ◌&&◌, nat_le, nat_lt, if◌then◌else◌, refl, sym, ap, subst, ◌∙◌, arith, inl, inr, All, filter, sum_by, cases_lt, cases_eq, cases_Bool, le-leb, lt-leb, lt-ltb, leb-true, ltb-true, eqb-true, eq-eqb, true≢false, and_parts, and_from, All-contains, All-filter, filter_passes, get_or-map, length-map, mul-le-mul_right, le_of_mul-le-mul_left, eq_of_mul-eq-mul_left, count, Job, job_at, WholeSlot, work_given, Piece, IsInWindow, IsFeasibleAt, stretches, IsUncut, pending_at, numbers_of, pending_jobs, due_units, pending_deadlines, units_asked, work_in, stretch_at, contains_filter, sum_by-filter, found_or_none, sum_by-add, sum_by_same, sum_by_zero, run_forward}
-use Rattle.yds_events.proofs.Neighbours.{stretch_order, deadline_outside}
+use Rattle.yds_events.proofs.Neighbours.{stretch_order, stretch_starts_rise, deadline_outside}
 use Rattle.yds_laws.specs.RunLaws.{HasGreatestSpeed}
 use Rattle.yds_laws.proofs.Group.{given_together}
 use Rattle.yds_laws.proofs.Served.{all_numbers, is_number}
-use Rattle.yds_ratios.proofs.Borrowed.{place_of}
-use Rattle.yds_ratios.proofs.StretchPoints.{starts_rise}
+use Rattle.yds_laws.proofs.ExactRates.{stretch_of_slot}
 use Rattle.yds_ratios.proofs.PassingTests.{two_at_most, both_pass, either_part, one_or_none, contains_map, counted_kept}
 
 -- # Slots from a time on
@@ -85,12 +84,12 @@ module _ (jobs : List Job) (scale : ℕ) (positive : 1 ≤ scale) (slots : List 
   -- and one that hasn't ended begins there or later
   begins_else : (slot : WholeSlot) → slot.from < slot.to → IsUncut jobs scale slot → ended slot ≡ false → begins slot ≡ true
   begins_else slot takes cut isnt =
-      let place = place_of jobs scale slot cut in
+      let place = stretch_of_slot jobs scale slot cut in
       elim (cases_lt place.0 k) [
         | inl before ↦
             let ends : slot.to ≤ time * scale = omega (arith, place.2.to, mul-le-mul_right scale (stretch_order jobs place.0 k before here)) in
             absurd (true≢false (sym (le-leb slot.to (time * scale) ends) ∙ isnt))
-        | inr not_before ↦ le-leb (time * scale) slot.from (omega (arith, place.2.from, mul-le-mul_right scale (starts_rise jobs k place.0 not_before place.1)))
+        | inr not_before ↦ le-leb (time * scale) slot.from (omega (arith, place.2.from, mul-le-mul_right scale (stretch_starts_rise jobs k place.0 not_before place.1)))
       ]
 
   -- what a job gets is what it got before and what it gets later

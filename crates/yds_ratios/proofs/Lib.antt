@@ -1,4 +1,3 @@
-pub mod Borrowed
 pub mod PassingTests
 pub mod Powers
 pub mod Below

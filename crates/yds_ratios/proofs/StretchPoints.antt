@@ -1,8 +1,7 @@
 -- Stretches and the event points around them.
 use Rattle.yds_model.proofs.Common.{◌≡◌, ℕ, suc, ◌+◌, ◌<◌, ◌≤◌, List, length, get_or, ap, arith, inl, inr, add-one, cases_eq, Job, event_points, stretches, stretch_at}
 use Rattle.yds_events.proofs.Times.{not_later}
-use Rattle.yds_events.proofs.Neighbours.{count_stretches, stretch_begins, stretch_ends}
-use Rattle.yds_ratios.proofs.Borrowed.{some_jobs}
+use Rattle.yds_events.proofs.Neighbours.{count_stretches, some_jobs, stretch_ends}
 
 -- the event point at a place: the k-th stretch is from the k-th to the next
 abbrev pub point : List Job → ℕ → ℕ
@@ -22,8 +21,3 @@ points_order jobs i j order upto = elim (cases_eq i j) [
   | inl same ↦ omega (arith, ap (point jobs) same)
   | inr other ↦ not_later jobs i j order (omega (arith, points_are jobs i (omega (arith, order, other, upto)), upto))
 ]
-
--- nor do the stretches' beginnings
-pub starts_rise : (jobs : List Job) (i k : ℕ) → i ≤ k → k < length (stretches jobs) → (stretch_at jobs i).from ≤ (stretch_at jobs k).from
-starts_rise jobs i k order within =
-    omega (arith, stretch_begins jobs i (omega (arith, order, within)), stretch_begins jobs k within, points_order jobs i k order (omega (arith, within)))

@@ -1,6 +1,7 @@
 use Rattle.yds_model.proofs.Common.{◌∙◌, arith, ap, Piece}
 use Rattle.yds_avr.proofs.Terms.{deadlines_outside}
-use Rattle.yds_avr.proofs.Standing.{all_rates, live_few, are_live, live_terms_are, live_rounds_are, stands_later, starts_later}
+use Rattle.yds_events.proofs.Neighbours.{stretch_starts_rise}
+use Rattle.yds_avr.proofs.Standing.{all_rates, live_few, are_live, live_terms_are, live_rounds_are, stands_later}
 use Rattle.yds_avr.proofs.average_rate.AverageRatePolicy.set.Goals as goal
 
 pub go_to-requires-clause-rates : goal.go_to-requires-clause-rates
@@ -34,5 +35,5 @@ returns-clause-keeps c = record {
   grid_in_range = c.requires.told.kept.grid_in_range;
   same = rw c.go_to.ensures.same c.requires.told.kept.same;
   stands = λ later from less. stands_later _ _ _ _ _ _ _ c.go_to.ensures.stands
-      (omega (arith, starts_later c.args.queue.now.jobs c.args._number later (omega (arith, from)) less, ap (λ (piece : Piece). piece.from) c.stretch.view_is, ap (λ (piece : Piece). piece.from) c.requires.nth));
+      (omega (arith, stretch_starts_rise c.args.queue.now.jobs c.args._number later (omega (arith, from)) less, ap (λ (piece : Piece). piece.from) c.stretch.view_is, ap (λ (piece : Piece). piece.from) c.requires.nth));
 }
