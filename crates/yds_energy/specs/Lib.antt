@@ -1,3 +1,4 @@
 pub mod EnergyLaws
 pub mod RoundingLaws
+pub mod SplitLaws
 pub mod ComparisonLaws

@@ -13,7 +13,7 @@ use Rattle.yds_model.specs.Audit.{IsOnTable}
 use Rattle.yds_model.specs.Table.{Point, point_at, AreRising, IsTable, hull_of, gaps_of}
 use Rattle.yds_model.specs.Energy.{horizon, busy, product, interpolated_energy, SpendsAtPoints, IsEnergyOnPoints}
 use Rattle.yds_model.specs.Event.{stretches}
-use Rattle.yds_model.specs.Rounding.{top_of, IsTooFast, HasPointSpeed, AreNeighbours, IsSplitAt, RoundsStretches, IsEnergyOf, IsRounding}
+use Rattle.yds_model.specs.Rounding.{top_of, IsTooFast, HasPointSpeed, AreNeighbours, RoundsStretches, IsEnergyOf, IsRounding}
 use Rattle.yds_model.specs.Admission.{IsWithinTop, CanServe}
 
 -- Energy: a fraction that is the schedule's energy on the points at one scale is so at each.
@@ -26,14 +26,6 @@ OneScaleDecidesEnergy = (jobs : List Job) (points : List Point) (slots : List Wr
 abbrev pub EnergyIsOne : Type 0
 EnergyIsOne = (jobs : List Job) (points : List Point) (slots : List WrittenSlot) (energy other : Fraction) → AreRising points → IsFeasible jobs slots →
     IsEnergyOf jobs points slots energy → IsEnergyOf jobs points slots other → IsSame energy other
-
--- Rounding: slots that are a split at one scale of the planned and the written ones are so at each.
-abbrev pub OneScaleDecidesSplit : Type 0
-OneScaleDecidesSplit = (level : Level) (low high : Point) (stretch : Piece) (planned fast slow : List WrittenSlot) (scale : ℕ) →
-    IsScale scale (planned ++ fast ++ slow) →
-    IsSplitAt scale level low high stretch (slots_at scale planned) (slots_at scale fast) (slots_at scale slow) →
-    AtEachScale (planned ++ fast ++ slow) (λ scale whole.
-    IsSplitAt scale level low high stretch (slots_at scale planned) (slots_at scale fast) (slots_at scale slow))
 
 -- The schedule is feasible, and each of its slots runs at the speed of one of the points, so none is faster than the top.
 pub record IsFeasibleOnPoints (jobs : List Job) (points : List Point) (slots : List WrittenSlot) : Type 0 where

@@ -1,7 +1,7 @@
 //! The laws of schedules on the operating points of a table, each as the contract of a call that does nothing.
 //!
 //! Two points around a level's speed are enough: Ishihara and Yasuura (ISLPED 1998).
-ghost use Rattle.yds_energy.specs.RoundingLaws.{OneScaleDecidesEnergy, OneScaleDecidesSplit, EnergyIsOne, LevelsFitTheHorizon, RoundedAttainsTheHull, RoundedCostsItsLevel, RoundedCostsItsLevels, RoundedIsCheapest, RoundedIsFeasible, TooSlowIsExact};
+ghost use Rattle.yds_energy.specs.RoundingLaws.{OneScaleDecidesEnergy, EnergyIsOne, LevelsFitTheHorizon, RoundedAttainsTheHull, RoundedCostsItsLevel, RoundedCostsItsLevels, RoundedIsCheapest, RoundedIsFeasible, TooSlowIsExact};
 
 /// A fraction that is a written schedule's energy on the points at one of its scales is so at each.
 pub fn one_scale_decides_energy()
@@ -11,11 +11,6 @@ pub fn one_scale_decides_energy()
 /// A feasible schedule has one energy on the points of a table.
 pub fn energy_is_one()
     ensures { EnergyIsOne }
-{}
-
-/// Written slots that split a stretch between two points at one scale do so at each.
-pub fn one_scale_decides_split()
-    ensures { OneScaleDecidesSplit }
 {}
 
 /// The slots of a plan, rounded to a table's operating points, are a feasible schedule in which each slot runs at
