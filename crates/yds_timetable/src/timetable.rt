@@ -1,4 +1,4 @@
-ghost use Rattle.std.specs.Prelude.{◌≡◌, ◌<◌, ◌≤◌, [], ◌∷◌, ◌++◌, length, map, IfOk, OnOk, OnErr};
+ghost use Rattle.std.specs.Prelude.{◌≡◌, ◌^◌, ◌<◌, ◌≤◌, [], ◌∷◌, ◌++◌, length, map, IfOk, IfErr, OnOk, OnErr};
 ghost use Rattle.std.specs.List.{All, range_with_len};
 ghost use Rattle.yds_model.specs.declared.limits.TheConstants.{MAX_SLOTS};
 ghost use Rattle.yds_events.specs.Stretch.{IsStretch};
@@ -165,7 +165,8 @@ impl Timetable {
 
 /// A place in a list, or want of memory where there are more than 32 bits count.
 fn place_of(count: usize) -> Result<u32, Memory>
-    ensures { IfOk result (λ place. place ≡ count) }
+    ensures place { IfOk result (λ place. place ≡ count) }
+    ensures full { IfErr result (λ _. 2 ^ 32 ≤ count) }
 {
     if count > u32::MAX as usize {
         return Err(Memory);
