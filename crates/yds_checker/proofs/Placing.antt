@@ -1,7 +1,7 @@
 -- The pieces of levels in one list.
 use Rattle.yds_model.proofs.Common.{◌≡◌, ℕ, ◌+◌, ◌<◌, ◌≤◌, ◌&&◌, cond, List, [], ◌∷◌, ◌++◌, length, get_or, take, min, ap, sym, ◌∙◌, arith, inl, inr, add-one, length-take, nat_lt, All, IsPermutation, take_more, take-take, All-push, All-permutation, sum_by-IsPermutation, sum_by_push, sum_by-append, cases_Bool, cases_lt, lt-ltb, le-ltb, Piece, IsForward, Level, no_level, level_at, all_pieces, flat_map-take}
 use Rattle.yds_checker.specs.declared.placed.Placed.{Placed}
-use Rattle.yds_checker.specs.Placed.{has_unit, covering, holding, IsPlaced, PlacesMore, ArePlaced}
+use Rattle.yds_checker.specs.Placed.{has_unit, covering, holding, IsPlacedPiece, PlacesMore, ArePlaced}
 
 -- the piece, with its level
 abbrev pub placed_in : ℕ → Piece → Placed
@@ -18,7 +18,7 @@ next_placed level old now pieces i piece within is forward more =
     let joined : take (i + 1) pieces ≡ take i pieces ++ piece ∷ [] =
     take_more pieces i piece within ∙ ap (λ one. take i pieces ++ one ∷ []) (sym is) in
     record {
-      each = λ levels low each. All-push (IsPlaced levels) now (placed_in level piece) (more.each levels low each) (low, forward);
+      each = λ levels low each. All-push (IsPlacedPiece levels) now (placed_in level piece) (more.each levels low each) (low, forward);
       same = λ levels time.
           let before = more.same levels time in
           let one = sum_by_push (λ (p : Placed). cond (nat_lt p.level levels && has_unit time p.from p.to) 1 0) now (placed_in level piece) in
@@ -31,7 +31,7 @@ next_placed level old now pieces i piece within is forward more =
 
 -- the first levels are gathered, as far as they are among so many
 pub record AreGathered (levels : List Level) (i : ℕ) (placed : List Placed) : Type 0 where
-  pub each : All (IsPlaced (length levels)) placed
+  pub each : All (IsPlacedPiece (length levels)) placed
   pub same : (n time : ℕ) → n ≤ length levels → holding n time placed ≡ covering time (all_pieces (take (min n i) levels))
 
 -- one level more
@@ -61,7 +61,7 @@ next_gathered levels i placed longer inside are more = record {
 pub sorted_placed : (levels : List Level) (count : ℕ) (placed sorted : List Placed) → ArePlaced levels count placed → IsPermutation placed sorted →
     ArePlaced levels count sorted
 sorted_placed levels count placed sorted are same = record {
-  each = All-permutation (IsPlaced count) placed sorted same are.each;
+  each = All-permutation (IsPlacedPiece count) placed sorted same are.each;
   same = λ n time within.
       sum_by-IsPermutation (λ (p : Placed). cond (nat_lt p.level n && has_unit time p.from p.to) 1 0) placed sorted same ∙ are.same n time within;
 }

@@ -23,17 +23,17 @@ abbrev pub AreApartBelow : ℕ → List Placed → Type 0
 AreApartBelow levels placed = (time : ℕ) → holding levels time placed ≤ 1
 
 -- the piece takes time, and its level is one of the first so many
-abbrev pub IsPlaced : ℕ → Placed → Type 0
-IsPlaced levels piece = (piece.level < levels) × (piece.from < piece.to)
+abbrev pub IsPlacedPiece : ℕ → Placed → Type 0
+IsPlacedPiece levels piece = (piece.level < levels) × (piece.from < piece.to)
 
 -- the longer list has the pieces of one level more
 pub record PlacesMore (placed longer : List Placed) (pieces : List Piece) (level : ℕ) : Type 0 where
-  pub each : (levels : ℕ) → level < levels → All (IsPlaced levels) placed → All (IsPlaced levels) longer
+  pub each : (levels : ℕ) → level < levels → All (IsPlacedPiece levels) placed → All (IsPlacedPiece levels) longer
   pub same : (levels time : ℕ) → holding levels time longer ≡ holding levels time placed + cond (nat_lt level levels) (covering time pieces) 0
 
 -- the list has the pieces of the first so many levels: it holds each unit of time as often as they cover it
 pub record ArePlaced (levels : List Level) (count : ℕ) (placed : List Placed) : Type 0 where
-  pub each : All (IsPlaced count) placed
+  pub each : All (IsPlacedPiece count) placed
   pub same : (n time : ℕ) → n ≤ count → holding n time placed ≡ covering time (all_pieces (take n levels))
 
 -- they begin in rising order

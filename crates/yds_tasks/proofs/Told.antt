@@ -10,7 +10,7 @@ use Rattle.yds_tasks.specs.declared.draft.Draft.{Draft}
 use Rattle.yds_tasks.specs.declared.field_fault.FieldFault.{FieldFault}
 use Rattle.yds_tasks.specs.declared.line_fault.LineFault.{LineFault}
 use Rattle.yds_tasks.specs.declared.line_fault.LineFault.TheVariants as faults
-use Rattle.yds_tasks.specs.Fields.{Fails, line_fault_of, has_name, task_name_of, task_of, task_within}
+use Rattle.yds_tasks.specs.Fields.{Fails, task_fault_of, has_name, task_name_of, task_of, task_within}
 use Rattle.yds_tasks.specs.Lines.{Holds, Takes, Tells}
 
 -- # The horizon and the tasks that were said
@@ -149,8 +149,8 @@ passed r e read draft es told failed =
 
 -- one of a field
 pub passed_on : (r : Result (Unit {0}) LineFault) (field : FieldFault) (read : Result TaskEntry (Spot TaskReason)) (draft : Draft) (es : List TaskEntry)
-    → (y : LineFault) × (r ≡ Err y) × (y ≡ line_fault_of field) → read ≡ Err (record { column = field.column; reason = field.reason }) → Tells r read draft es
-passed_on r field read draft es told refused = passed r (line_fault_of field) read draft es told refused
+    → (y : LineFault) × (r ≡ Err y) × (y ≡ task_fault_of field) → read ≡ Err (record { column = field.column; reason = field.reason }) → Tells r read draft es
+passed_on r field read draft es told refused = passed r (task_fault_of field) read draft es told refused
 
 -- the fields of a task are refused
 pub task_refused : (earlier : List TaskEntry) (fields : List Field) (set : TaskSet) (k a b c d e : Field) (spot : Spot TaskReason) → tasks_said earlier ≡ set → is_some set.horizon ≡ true →

@@ -27,8 +27,8 @@ Gives view (Ok x) read = read ≡ Ok (view x)
 Gives view (Err fault) read = read ≡ Err (record { column = fault.column; reason = fault.reason })
 
 -- the fault of a line whose fields have this one
-abbrev pub line_fault_of : FieldFault → LineFault
-line_fault_of field = faults.At field.column field.reason
+abbrev pub task_fault_of : FieldFault → LineFault
+task_fault_of field = faults.At field.column field.reason
 
 -- the fault of a line of too many or too few fields
 abbrev pub task_count_fault : FieldCount → FieldFault

@@ -37,9 +37,9 @@ impl<T: Drop> From<AllocFailed<T>> for LineFault {
 
 impl From<FieldFault> for LineFault {
     ghost use Rattle.std.specs.Prelude.{◌≡◌};
-    ghost use Rattle.yds_tasks.specs.Fields.{line_fault_of};
+    ghost use Rattle.yds_tasks.specs.Fields.{task_fault_of};
 
-    ghost from_gives = { λ field fault. fault ≡ line_fault_of field };
+    ghost from_gives = { λ field fault. fault ≡ task_fault_of field };
 
     fn from(field: FieldFault) -> LineFault {
         LineFault::at(field.column, field.reason)
@@ -48,9 +48,9 @@ impl From<FieldFault> for LineFault {
 
 impl From<FieldCount> for LineFault {
     ghost use Rattle.std.specs.Prelude.{◌≡◌};
-    ghost use Rattle.yds_tasks.specs.Fields.{task_count_fault, line_fault_of};
+    ghost use Rattle.yds_tasks.specs.Fields.{task_count_fault, task_fault_of};
 
-    ghost from_gives = { λ count fault. fault ≡ line_fault_of (task_count_fault count) };
+    ghost from_gives = { λ count fault. fault ≡ task_fault_of (task_count_fault count) };
 
     fn from(count: FieldCount) -> LineFault {
         LineFault::at(count.column, TaskReason::FieldCount)

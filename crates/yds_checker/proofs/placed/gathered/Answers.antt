@@ -1,5 +1,5 @@
 use Rattle.yds_model.proofs.Common.{◌≡◌, ◌∙◌, length, min, ap, refl, arith, get_or_read, All-nil, Level, no_level, level_at}
-use Rattle.yds_checker.specs.Placed.{IsPlaced}
+use Rattle.yds_checker.specs.Placed.{IsPlacedPiece}
 use Rattle.yds_checker.proofs.Placing.{next_gathered}
 use Rattle.yds_checker.proofs.placed.gathered.Goals as goal
 
@@ -14,7 +14,7 @@ place-requires c =
 
 pub loop-i-init : goal.loop-i-init
 loop-i-init c = rw c.new-placed.ensures.items (record {
-  each = All-nil (IsPlaced (length c.args.levels.now));
+  each = All-nil (IsPlacedPiece (length c.args.levels.now));
   same = λ n time within.
       let none : min n 0 ≡ 0 = omega arith in
       rw none refl;
