@@ -5,7 +5,7 @@ use Rattle.yds_texts.proofs.Answered.{answered, done_not_refused}
 use Rattle.yds_texts.proofs.Within.{read_is_within_limits}
 use Rattle.yds_report.specs.JsonText.{HoldsReport}
 use Rattle.yds_report.proofs.JsonRead.{text_read}
-use Rattle.yds_run.specs.TableText.{HoldsTable}
+use Rattle.yds_report.specs.TableText.{HoldsTable}
 
 pub report_held : (input text : List ℕ) → AnswersRequest (Some (OfDocument AskReportAsJson)) input text Done → HoldsReport input text
 report_held input text answers =

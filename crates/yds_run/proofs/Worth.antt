@@ -21,7 +21,7 @@ use Rattle.yds_texts.proofs.RunText.{runs_are_read}
 use Rattle.yds_texts.proofs.TaskTexts.{expansions_are_read}
 use Rattle.yds_run.specs.Words.{asked}
 use Rattle.yds_run.specs.Endings.{IsWhole, WritesWhole, AnswersBytes}
-use Rattle.yds_run.specs.TableText.{HoldsTable}
+use Rattle.yds_report.specs.TableText.{HoldsTable}
 use Rattle.yds_run.specs.Worth.{IsWorth, IsInputOf}
 use Rattle.yds_run.proofs.Complete.{whole_outcome}
 use Rattle.yds_run.proofs.Reported.{report_held, table_held}

@@ -13,5 +13,4 @@ pub mod Compare
 pub mod Trial
 pub mod Admit
 pub mod Policies
-pub mod TableText
 pub mod Worth

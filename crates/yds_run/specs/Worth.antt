@@ -21,7 +21,7 @@ use Rattle.yds_texts.specs.RoundText.{HoldsLeastEnergy, HoldsTooSlow}
 use Rattle.yds_texts.specs.RunText.{HoldsAverageRate, HoldsOptimalAvailable}
 use Rattle.yds_texts.specs.TaskLaws.{HoldsExpansion}
 use Rattle.yds_run.specs.Words.{asked}
-use Rattle.yds_run.specs.TableText.{HoldsTable}
+use Rattle.yds_report.specs.TableText.{HoldsTable}
 
 -- The input is within the limits, and is read as this document.
 pub record IsInputOf (document : Document) (input : List ℕ) : Type 0 where
