@@ -1,6 +1,7 @@
-ghost use Rattle.std.specs.Prelude.{◌≡◌, ℕ, ◌<◌, ◌≤◌, IfOk, length, slice_index};
+ghost use Rattle.std.specs.Prelude.{◌≡◌, ℕ, ◌<◌, ◌≤◌, IfOk, OnOk, length, slice_index};
 ghost use Rattle.std.specs.List.{All};
 ghost use Rattle.yds_model.specs.declared.limits.TheConstants.{MAX_TIME};
+ghost use Rattle.yds_model.specs.Job.{IsJob};
 ghost use Rattle.yds_model.specs.Event.{neighbours, stretches as job_stretches};
 
 use crate::event_points::rising_times;
@@ -53,7 +54,8 @@ impl Stretch {
 
 /// The stretches of the jobs, in order of time: from each event point to the next.
 pub fn stretches(alloc: Global, rows: &[JobRow]) -> Result<Vec<Stretch>, Memory>
-    ensures { IfOk result (λ stretches. stretches.items ≡ job_stretches rows.now) }
+    ensures stretches { IfOk result (λ stretches. stretches.items ≡ job_stretches rows.now) }
+    ensures jobs { OnOk result (All IsJob rows.now) }
 {
     let times = rising_times(alloc, rows)?;
     between(alloc, &times)

@@ -13,7 +13,7 @@ loop-number-init g c = record {
   seen = rw (c.in_ok-queue.ensures, c.from.ensures, c.new-shares.ensures.items) (seen_none (λ (before : JobQueue). g.P.Policy.keeps c.args.policy.now before 0) (new_queue c.args.rows.now c.args.grid) c.requires.keeps);
   units_stay = refl;
   rounds_stay = refl;
-  timeline = c.deref-stretch-items.ensures.value ∙ c.in_ok-stretches.ensures;
+  timeline = c.deref-stretch-items.ensures.value ∙ c.in_ok-stretches.ensures.stretches;
 }
 
 pub overflow_cast-number : goal.overflow_cast-number
