@@ -4,7 +4,7 @@ use Rattle.yds_model.specs.declared.limits.TheConstants.{MAX_JOBS, MAX_WORK}
 use Rattle.yds_model.proofs.SumsBelow.{sum_below_same}
 use Rattle.yds_admit.specs.Chain.{IsFalling, IsEnd, HasRoomOver}
 use Rattle.yds_admit.specs.Pieces.{went, AreDue, IsCount, AreBounds, AreExact, AreUsed, AreMore, IsAdded, IsLeastBound, HasTooMuch}
-use Rattle.yds_admit.specs.Idle.{HasIdle, IsIdleFrom, IsTaken, IsTakenFrom, Fits, idle_before}
+use Rattle.yds_admit.specs.Idle.{HasIdle, IsIdleFrom, IsTakenFrom, Fits, idle_before}
 use Rattle.yds_admit.proofs.Cutting.{next_went, went_fits, went_grows, yes}
 use Rattle.yds_admit.proofs.Idleness.{fewer_between, later_idle, same_before, count_from}
 use Rattle.yds_admit.proofs.Least.{at_most, time_of}
@@ -416,11 +416,6 @@ fits_over top times rising all idle row end is_end due from fits to beyond deadl
     )
 
 -- # What one job more takes of what is idle
-
-pub taken_gain : (old new : List ℕ) (begin end units : ℕ) → IsTaken old new begin end units → (a : ℕ) → a < begin + 1 →
-    idle_before new end + idle_before old a + units ≤ idle_before old end + idle_before new a
-taken_gain old new begin end units taken a before =
-    omega (arith, taken.sum, same_before old new a (λ q less. taken.early q (omega (arith, less, before))))
 
 pub before_gain : (old new : List ℕ) (end units after : ℕ) → IsTakenFrom old new end units after → (a : ℕ) → a < after →
     idle_before new end + idle_before old a + units ≤ idle_before old end + idle_before new a

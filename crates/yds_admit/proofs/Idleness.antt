@@ -5,7 +5,7 @@ use Rattle.yds_laws.specs.AdmissionLaws.{HasRoom}
 use Rattle.yds_admit.specs.Chain.{IsFalling, due_work}
 use Rattle.yds_admit.specs.Board.{AreGaps}
 use Rattle.yds_admit.specs.Pieces.{went, IsCount, IsCutting, AreDue}
-use Rattle.yds_admit.specs.Idle.{HasIdle, IsTaken, IsTakenFrom, Fits, idle_before}
+use Rattle.yds_admit.specs.Idle.{HasIdle, IsIdleFrom, IsTakenFrom, Fits, idle_before}
 use Rattle.yds_admit.proofs.Overfull.{jobs_work, any_of_all}
 use Rattle.yds_admit.proofs.Sweep.{step_is}
 use Rattle.yds_admit.proofs.Cutting.{next_went}
@@ -27,7 +27,7 @@ pub later_idle : (idle : List ℕ) (a b : ℕ) → a ≤ b → idle_before idle 
 later_idle idle a b = sum_below_front a b (λ k. get_or idle k 0)
 
 -- one gap has another number
-pub set_early : (idle : List ℕ) (at v q : ℕ) → q ≤ at → idle_before (set idle at v) q ≡ idle_before idle q
+set_early : (idle : List ℕ) (at v q : ℕ) → q ≤ at → idle_before (set idle at v) q ≡ idle_before idle q
 set_early idle at v q most = sum_below_same q (λ k. get_or (set idle at v) k 0) (λ k. get_or idle k 0)
     (λ k below. get_or-set_other idle at k v 0 (λ e. omega (arith, e, below, most)))
 
@@ -105,52 +105,6 @@ module _ (top : ℕ) (times : List ℕ) (jobs : List Job) (old : List ℕ) (risi
   has_with : HasIdle top times (jobs ++ row ∷ []) new
   has_with = grind (arith, cases_lt, fewer_between, later_idle, part_early, part_inside, part_late, part_within, sum_by_push)
 
-module _ (top : ℕ) (times : List ℕ) (jobs : List Job) (old : List ℕ) (rising : IsNonDecreasing times) (has : HasIdle top times jobs old) (row : Job) (begin end : ℕ) (new : List ℕ)
-    (taken : IsTaken old new begin end row.work) (order : begin ≤ end) (within : end < length times) (is_end : get_or times end 0 ≡ row.deadline)
-    (first : begin < end → row.release ≤ get_or times begin 0) (window : row.release < row.deadline) where
-  released : row.release ≤ get_or times begin 0
-  released = grind (arith, cases_lt)
-
-  same_early : (q : ℕ) → q ≤ begin → idle_before new q ≡ idle_before old q
-  same_early q most = sum_below_same q (λ k. get_or new k 0) (λ k. get_or old k 0) (λ k below. taken.early k (omega (arith, below, most)))
-
-  less_late : (more : ℕ) → idle_before new (end + more) + row.work ≡ idle_before old (end + more)
-  less_late zero =
-      let e : end + zero ≡ end = omega arith in
-      omega (arith, taken.sum, ap (λ k. idle_before new k) e, ap (λ k. idle_before old k) e)
-  less_late (suc more) =
-      let e : end + suc more ≡ suc (end + more) = omega arith in
-      omega (arith, less_late more, ap (λ k. idle_before new k) e, ap (λ k. idle_before old k) e, taken.late (end + more) (omega arith))
-
-  -- with the job, over an interval that holds its window
-  holds : (from a b : ℕ) → end ≤ b → b < length times → a ≤ b → from ≤ row.release → from ≤ get_or times a 0 →
-      work_within jobs from (get_or times b 0) + row.work + idle_before new b ≤ top * (get_or times b 0 - from) + idle_before new a
-  holds from a b later below forward counts ahead =
-      let e : end + (b - end) ≡ b = omega (arith, later) in
-      let less = less_late (b - end) in
-      elim (cases_lt begin a) [
-        | inr most ↦ omega (
-          arith,
-          has.room from a b forward below ahead,
-          less,
-          same_early a most,
-          ap (λ k. idle_before new k) e,
-          ap (λ k. idle_before old k) e,
-        )
-        | inl more ↦ omega (
-          arith,
-          has.room from begin b (omega (arith, order, later)) below (omega (arith, counts, released)),
-          less,
-          same_early begin (omega arith),
-          later_idle new begin a (omega (arith, more)),
-          ap (λ k. idle_before new k) e,
-          ap (λ k. idle_before old k) e,
-        )
-      ]
-
-  pub has_more : HasIdle top times (jobs ++ row ∷ []) new
-  has_more = has_with top times jobs old rising has row end new within is_end taken.as_long taken.less holds
-
 -- what is idle before a place where no gap before it changed
 pub same_before : (old new : List ℕ) (place : ℕ) → ((q : ℕ) → q < place → get_or new q 0 ≡ get_or old q 0) → idle_before new place ≡ idle_before old place
 same_before old new place same = sum_below_same place (λ k. get_or new k 0) (λ k. get_or old k 0) same
@@ -182,6 +136,15 @@ module _ (top : ℕ) (times : List ℕ) (jobs : List Job) (old : List ℕ) (risi
 
   pub has_before : HasIdle top times (jobs ++ row ∷ []) new
   has_before = has_with top times jobs old rising has row end new within is_end taken.as_long taken.less holds_before
+
+-- One job more fits where so much is idle, from a place that isn't before its release, as it takes.
+pub fits_inside : (top : ℕ) (times : List ℕ) (jobs : List Job) (idle : List ℕ) → HasIdle top times jobs idle → (row : Job) (begin end : ℕ) →
+    IsIdleFrom idle end row.work begin → row.release ≤ get_or times begin 0 → (from : ℕ) → from ≤ row.release → Fits top times jobs row end idle from
+fits_inside top times jobs idle has row begin end is inside from before b later below = omega (
+  arith,
+  has.room from begin b (omega (arith, is.order, later)) below (omega (arith, before, inside)),
+  is.enough,
+)
 
 -- # Room
 

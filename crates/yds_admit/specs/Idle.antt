@@ -15,14 +15,6 @@ pub record HasIdle (top : ℕ) (times : List ℕ) (jobs : List Job) (idle : List
   pub room : (from a b : ℕ) → a ≤ b → b < length times → from ≤ slice_index times a →
       work_within jobs from (slice_index times b) + idle_before idle b ≤ top * (slice_index times b - from) + idle_before idle a
 
--- so many units were taken from what is idle between two places
-pub record IsTaken (old new : List ℕ) (begin end units : ℕ) : Type 0 where
-  pub as_long : length new ≡ length old
-  pub less : (q : ℕ) → slice_index new q ≤ slice_index old q
-  pub early : (q : ℕ) → q < begin → slice_index new q ≡ slice_index old q
-  pub late : (q : ℕ) → end ≤ q → slice_index new q ≡ slice_index old q
-  pub sum : idle_before new end + units ≡ idle_before old end
-
 -- so many units were taken from what is idle before `end`: from the gap before the place `after` and later ones, or all that was idle where `after` is 0
 pub record IsTakenFrom (old new : List ℕ) (end units after : ℕ) : Type 0 where
   pub as_long : length new ≡ length old

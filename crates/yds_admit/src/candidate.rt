@@ -1,14 +1,14 @@
-ghost use Rattle.std.specs.Prelude.{◌≡◌, ℕ, ◌+◌, ◌<◌, ◌≤◌, ◌++◌, ◌∷◌, [], true, None, IfOk, IfSome, MatchOption, List, length, slice_index};
+ghost use Rattle.std.specs.Prelude.{◌≡◌, ℕ, ◌+◌, ◌<◌, ◌≤◌, ◌++◌, ◌∷◌, [], true, None, IfOk, IfSome, MatchOption, List, length};
 ghost use Rattle.yds_admit.specs.Interval.{HasRoomFrom, IsFirstWith};
 ghost use Rattle.yds_admit.specs.Chain.{IsEnd};
-ghost use Rattle.yds_admit.specs.Idle.{Fits, IsIdleFrom};
+ghost use Rattle.yds_admit.specs.Idle.{Fits};
 ghost use Rattle.yds_admit.specs.Pieces.{IsLeastBound};
 ghost use Rattle.yds_admit.specs.Orders.{AreOrdered};
 ghost use Rattle.yds_admit.specs.State.{IsState, next_job};
 ghost use Rattle.yds_admit.specs.Room.{IsRoom};
 
 use crate::board::Board;
-use crate::idle::{idle_place, take_before, take_between};
+use crate::idle::{idle_place, take_before};
 use crate::interval::{Overfull, overfull_from};
 use crate::pieces::least_from_pieces;
 use crate::room::Room;
@@ -60,7 +60,7 @@ fn settle_next(board: &Board, state: &mut State, room: &mut Room) -> Result<Opti
     let near = idle_place(&room.idle, &mut room.links, end, u64::from(row.work));
     if let Some(begin) = near {
         if row.release <= board.times[begin] {
-            admit_inside(board, state, room, begin, end)?;
+            admit_beside(board, state, room, end)?;
             return Ok(Some(true));
         }
     }
@@ -73,40 +73,6 @@ fn settle_next(board: &Board, state: &mut State, room: &mut Room) -> Result<Opti
     };
     state.refuse_next(overfull)?;
     Ok(Some(false))
-}
-
-/// Admits the next job where so much is idle from one place up to that of its deadline, inside its window, as it takes.
-fn admit_inside(
-    board: &Board,
-    state: &mut State,
-    room: &mut Room,
-    begin: usize,
-    end: usize,
-) -> Result<(), Memory>
-    requires state { IsState board.now state.old }
-    requires more { state.old.next < length board.now.rows.now }
-    requires room { IsRoom board.now state.old.jobs.items room.old }
-    requires end { IsEnd board.now.times.items (next_job board.now state.old).deadline end }
-    requires idle { IsIdleFrom room.old.idle.items end (next_job board.now state.old).work begin }
-    requires inside { (next_job board.now state.old).release ≤ slice_index board.now.times.items begin }
-    ensures state { IfOk result (λ _. IsState board.now state.new) }
-    ensures next { IfOk result (λ _. state.new.next ≡ state.old.next + 1) }
-    ensures room { IfOk result (λ _. IsRoom board.now state.new.jobs.items room.new) }
-{
-    let row = state.next_row(board);
-    take_between(
-        &mut room.idle,
-        &mut room.links,
-        begin,
-        end,
-        u64::from(row.work),
-    );
-    room.pieces.add(row, begin + 1)?;
-    room.fresh = false;
-    let due = deadline_place(&room.by_deadline, row);
-    room.by_deadline.insert(due, *row)?;
-    state.admit_next(board)?;
-    Ok(())
 }
 
 /// Admits the next job, with which no interval from its release or before is overfull, nor from there to a later deadline if all that is

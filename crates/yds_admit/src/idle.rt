@@ -1,6 +1,6 @@
 ghost use Rattle.std.specs.Prelude.{◌≡◌, ℕ, ◌+◌, ◌-◌, ◌<◌, ◌≤◌, List, length, slice_index, slice_set, min, MatchOption};
 ghost use Rattle.yds_admit.specs.Chain.{AreLinks, AreEmpty};
-ghost use Rattle.yds_admit.specs.Idle.{IsIdleFrom, IsTaken, IsTakenFrom, idle_before};
+ghost use Rattle.yds_admit.specs.Idle.{IsIdleFrom, IsTakenFrom, idle_before};
 
 use crate::chain::last_open;
 
@@ -21,29 +21,6 @@ pub(crate) fn idle_place(idle: &[u64], links: &mut [usize], end: usize, units: u
         wanted -= wanted.min(idle[place]);
     }
     Some(place)
-}
-
-/// Takes so many units from what is idle between two places, from the last gap on.
-pub(crate) fn take_between(
-    idle: &mut [u64],
-    links: &mut [usize],
-    begin: usize,
-    end: usize,
-    units: u64,
-)
-    requires order { begin ≤ end }
-    requires within { end ≤ length idle.old }
-    requires enough { idle_before idle.old begin + units ≤ idle_before idle.old end }
-    requires links { AreLinks idle.old links.old }
-    ensures taken { IsTaken idle.old idle.new begin end units }
-    ensures links { AreLinks idle.new links.new }
-{
-    let mut left = units;
-    let mut place = end;
-    while left > 0 && place > begin {
-        place = last_idle(links, place);
-        left -= take_part(idle, links, place, left);
-    }
 }
 
 /// Takes so many units from what is idle before `end`, or all of it where that is less. Answers the place after the earliest gap from which
