@@ -1,0 +1,72 @@
+-- What is asked of a trace: whose jobs, on which processor, in which units, from when to when. All times are nanoseconds.
+use Rattle.std.specs.Prelude.{ℕ, List, [], Bool, true, false, ◌==◌, nat_le, Option, Some, None, position}
+use Rattle.std.specs.List.{slice_index_or}
+use Rattle.std.specs.Str.{bytes_eq}
+use Rattle.yds_kernel.specs.Parts.{or_else}
+use Rattle.yds_kernel.specs.Event.{Thread}
+
+-- a thread, by its name or by its number
+pub data Which : Type 0 where
+  Named : (name : List ℕ) → Which
+  Numbered : (pid : ℕ) → Which
+
+-- a task: a thread, and the time within which each of its jobs is to end
+pub record Task : Type 0 where
+  -- how its jobs are called
+  pub label : List ℕ
+  pub thread : Which
+  -- from a job's begin
+  pub deadline : ℕ
+  -- A wake-up that comes less than so long after a job's begin goes on with that job; with 0 none does.
+  pub apart : ℕ
+
+abbrev pub no_task : Task
+no_task = record { label = []; thread = Numbered 0; deadline = 0; apart = 0 }
+
+pub record Asked : Type 0 where
+  pub tasks : List Task
+  pub processor : ℕ
+  -- so many nanoseconds are a unit of time
+  pub unit : ℕ
+  -- so many kilohertz are a unit of speed
+  pub khz : ℕ
+  -- the speed before its first change, in kilohertz
+  pub start : Option ℕ
+  pub from : Option ℕ
+  pub to : Option ℕ
+  -- jobs begin at their first run, and wake-ups aren't read
+  pub begin_at_run : Bool
+
+abbrev pub task_at : Asked → ℕ → Task
+task_at asked number = slice_index_or asked.tasks number no_task
+
+abbrev pub is_numbered : ℕ → Which → Bool
+is_numbered pid (Named name) = false
+is_numbered pid (Numbered number) = number == pid
+
+abbrev pub is_named : List ℕ → Which → Bool
+is_named name (Named wanted) = bytes_eq wanted name
+is_named name (Numbered number) = false
+
+-- The number of the task that a thread is: the one with its number, or else the one with its name.
+abbrev pub task_of : List Task → Thread → Option ℕ
+task_of tasks thread =
+    or_else (position (λ task. is_numbered thread.pid task.thread) tasks) (position (λ task. is_named thread.name task.thread) tasks)
+
+abbrev pub is_number : ℕ → Option ℕ → Bool
+is_number number None = false
+is_number number (Some other) = other == number
+
+-- whether the thread is the task of this number
+abbrev pub is_of : Asked → ℕ → Thread → Bool
+is_of asked number thread = is_number number (task_of asked.tasks thread)
+
+-- not after `to`
+abbrev pub is_before_to : Option ℕ → ℕ → Bool
+is_before_to None time = true
+is_before_to (Some to) time = nat_le time to
+
+-- not before `from`
+abbrev pub is_after_from : Option ℕ → ℕ → Bool
+is_after_from None time = true
+is_after_from (Some from) time = nat_le from time

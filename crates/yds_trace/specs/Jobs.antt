@@ -1,0 +1,271 @@
+-- The jobs of a task: when each began and ended, and where its thread ran, by the lines of a trace.
+--
+-- A job begins where its thread is woken, and ends where that leaves a processor to sleep. Preemption and waiting for a disk go on with it.
+-- Of a job whose begin or end the trace doesn't show it is said what is known.
+use Rattle.std.specs.Prelude.{ℕ, ◌+◌, List, [], ◌∷◌, map, min, length, Bool, true, false, not, ◌==◌, ◌&&◌, ◌||◌, nat_lt, if◌then◌else◌, Option, Some, None, is_none}
+use Rattle.yds_kernel.specs.declared.state.State.{State}
+use Rattle.yds_kernel.specs.declared.state.State.TheVariants as states
+use Rattle.yds_kernel.specs.declared.loss.Since.TheVariants as since
+use Rattle.yds_kernel.specs.Event.{Thread, Happening, Switch, WakeUp, Speed, Loss, Marker, Other, Event, Said, Stamped, Lost, Nothing}
+use Rattle.yds_trace.specs.declared.job.End.{End}
+use Rattle.yds_trace.specs.declared.job.End.TheVariants as ends
+use Rattle.yds_trace.specs.declared.job.Stretch.{Stretch}
+use Rattle.yds_trace.specs.declared.job.Standing.{Standing}
+use Rattle.yds_trace.specs.Asked.{Task, Asked, task_at, is_of, is_before_to}
+use Rattle.yds_trace.specs.Past.{is_loss, lost_since, whole_since, has_switched, speed_after}
+
+pub record Job : Type 0 where
+  -- its begin; where that isn't known, a time before which it began, or at which
+  pub begin : ℕ
+  pub begin_known : Bool
+  pub end : End
+  -- in which its thread ran, the last one first
+  pub stretches : List Stretch
+  -- how many wake-ups came while it was open
+  pub wake_ups : ℕ
+  -- a switch of its thread is missing, so not all that it ran is known
+  pub switch_missing : Bool
+
+-- what is known of a task's thread after some lines
+pub record Known : Type 0 where
+  -- its jobs, the last one first; no other is open
+  pub jobs : List Job
+  -- where it runs
+  pub on : Option Standing
+  -- whether a wake-up came after its last switch
+  pub woken : Bool
+
+abbrev pub unknown : Known
+unknown = record { jobs = []; on = None; woken = false }
+
+-- # A job begins, goes on, or ends
+
+abbrev pub began : ℕ → Bool → List Job → List Job
+began time certain jobs =
+    record { begin = time; begin_known = certain; end = ends.Open; stretches = []; wake_ups = 0; switch_missing = false } ∷ jobs
+
+-- open again, and its end forgotten
+abbrev pub reopened : Job → Job
+reopened job = record job { end = ends.Open }
+
+-- A wake-up less than `apart` after the last job's begin goes on with it. Where that begin isn't known, neither is whether another job begins here.
+abbrev pub woken_after : ℕ → ℕ → Job → List Job → List Job
+woken_after apart time job jobs =
+    if not (nat_lt time (job.begin + apart)) then began time true (job ∷ jobs)
+    else (if job.begin_known then reopened job ∷ jobs else began time false (job ∷ jobs))
+
+-- A wake-up begins a job where none is open. Where one is, it counts it, the first time since the thread's last switch.
+abbrev pub woken_jobs : ℕ → ℕ → Bool → List Job → List Job
+woken_jobs apart time again [] = began time true []
+woken_jobs apart time again (job ∷ jobs) = elim job.end [
+  | ends.Open ↦ record job { wake_ups = if again then job.wake_ups else job.wake_ups + 1 } ∷ jobs
+  | ends.Ended end ↦ woken_after apart time job jobs
+  | ends.Unseen last goes_on ↦ began time true (job ∷ jobs)
+  | ends.Lost last ↦ began time true (job ∷ jobs)
+]
+
+-- A thread is found awake: its open job goes on. Without one it began before, or just here. One that left its processor unseen and wasn't
+-- woken since then hasn't slept.
+abbrev pub awake_jobs : ℕ → List Job → List Job
+awake_jobs time [] = began time false []
+awake_jobs time (job ∷ jobs) = elim job.end [
+  | ends.Open ↦ job ∷ jobs
+  | ends.Ended end ↦ began time false (job ∷ jobs)
+  | ends.Unseen last goes_on ↦ if goes_on then reopened job ∷ jobs else began time false (job ∷ jobs)
+  | ends.Lost last ↦ began time false (job ∷ jobs)
+]
+
+-- The same where jobs begin at their first run: what is open goes on, and else a job begins here as by a wake-up.
+abbrev pub running_jobs : ℕ → ℕ → List Job → List Job
+running_jobs apart time [] = began time true []
+running_jobs apart time (job ∷ jobs) = elim job.end [
+  | ends.Open ↦ job ∷ jobs
+  | ends.Ended end ↦ woken_after apart time job jobs
+  | ends.Unseen last goes_on ↦ began time false (job ∷ jobs)
+  | ends.Lost last ↦ began time false (job ∷ jobs)
+]
+
+-- the last job, changed
+abbrev pub changed_last : (Job → Job) → List Job → List Job
+changed_last change [] = []
+changed_last change (job ∷ jobs) = change job ∷ jobs
+
+abbrev pub ended : ℕ → Job → Job
+ended time job = record job { end = ends.Ended time }
+
+abbrev pub missing : Job → Job
+missing job = record job { switch_missing = true }
+
+-- a stretch more
+abbrev pub ran : Stretch → Job → Job
+ran stretch job = record job { stretches = stretch ∷ job.stretches }
+
+-- # A thread's switches
+
+-- Its thread is not where it was last seen to come: it left unseen, and whether its job has ended isn't known.
+abbrev pub left_unseen : ℕ → Bool → Job → Job
+left_unseen came goes_on job = record job { end = ends.Unseen came goes_on; switch_missing = true }
+
+abbrev pub vanished : Bool → Known → Known
+vanished wakes known = elim known.on [
+  | None ↦ known
+  | Some standing ↦ record {
+    jobs = changed_last (left_unseen standing.came (wakes && not known.woken)) known.jobs;
+    on = None;
+    woken = known.woken;
+  }
+]
+
+abbrev pub stands_on : ℕ → Option Standing → Bool
+stands_on processor None = false
+stands_on processor (Some standing) = standing.processor == processor
+
+-- Another thread leaves this processor. Where this one was seen to come there, a switch between is missing.
+abbrev pub passed_by : Bool → ℕ → Known → Known
+passed_by wakes processor known = if stands_on processor known.on then vanished wakes known else known
+
+-- it comes to a processor, at a time
+abbrev pub comes : Task → Bool → ℕ → ℕ → Known → Known
+comes task wakes processor time known = record {
+  jobs = if wakes then awake_jobs time (vanished wakes known).jobs else running_jobs task.apart time (vanished wakes known).jobs;
+  on = Some (record { processor = processor; came = time; since = time });
+  woken = false;
+}
+
+-- Nothing was seen of the thread's switches since the trace's begin, or since events were lost.
+abbrev pub has_no_switch : List Job → Bool
+has_no_switch [] = true
+has_no_switch (job ∷ jobs) = elim job.end [
+  | ends.Open ↦ (length job.stretches == 0) && not job.switch_missing
+  | ends.Ended end ↦ false
+  | ends.Unseen last goes_on ↦ false
+  | ends.Lost last ↦ true
+]
+
+-- the open job began by this time, or one did
+abbrev pub begun_by : ℕ → List Job → List Job
+begun_by time [] = began time false []
+begun_by time (job ∷ jobs) = elim job.end [
+  | ends.Open ↦ record job { begin = time; begin_known = false } ∷ jobs
+  | _ ↦ began time false (job ∷ jobs)
+]
+
+-- Its jobs where it leaves a processor:
+-- it was seen to come there; or it was there when the trace began, or when events were last lost; or its coming is missing.
+pub record Leaving : Type 0 where
+  pub processor : ℕ
+  pub time : ℕ
+  -- the processor's speed, in kilohertz
+  pub khz : Option ℕ
+  -- whether the processor has switched before
+  pub has_switched : Bool
+  -- since when no event was lost
+  pub whole_since : ℕ
+
+abbrev pub stretch_of : Leaving → ℕ → Stretch
+stretch_of leaving from = record { processor = leaving.processor; from = from; to = leaving.time; khz = leaving.khz }
+
+abbrev pub left_from : Bool → Leaving → Known → List Job
+left_from wakes leaving known =
+    if stands_on leaving.processor known.on then elim known.on [
+      | None ↦ known.jobs
+      | Some standing ↦ changed_last (ran (stretch_of leaving standing.since)) known.jobs
+    ]
+    else (if is_none known.on && not leaving.has_switched && has_no_switch known.jobs
+    then changed_last (ran (stretch_of leaving leaving.whole_since)) (begun_by leaving.whole_since known.jobs)
+    else changed_last missing (awake_jobs leaving.time (vanished wakes known).jobs))
+
+-- preempted, or waiting for a disk
+abbrev pub goes_on : State → Bool
+goes_on states.GoesOn = true
+goes_on states.Sleeps = false
+goes_on states.Unknown = false
+
+abbrev pub leaves : Bool → State → Leaving → Known → Known
+leaves wakes state leaving known = record {
+  jobs = if goes_on state then left_from wakes leaving known else changed_last (ended leaving.time) (left_from wakes leaving known);
+  on = None;
+  woken = false;
+}
+
+-- # Other events
+
+abbrev pub wakes_up : Task → ℕ → Known → Known
+wakes_up task time known = record {
+  jobs = woken_jobs task.apart time known.woken known.jobs;
+  on = known.on;
+  woken = true;
+}
+
+-- the speed of its processor changes: what it ran at the speed before is a stretch
+abbrev pub speeds : ℕ → ℕ → Option ℕ → Known → Known
+speeds processor time khz known = elim known.on [
+  | None ↦ known
+  | Some standing ↦ if standing.processor == processor then record {
+    jobs = changed_last (ran (record { processor = processor; from = standing.since; to = time; khz = khz })) known.jobs;
+    on = Some (record standing { since = time });
+    woken = known.woken;
+  } else known
+]
+
+-- Events were lost after this time: a job that was open then, or ended since, has no known end.
+abbrev pub lost_end : ℕ → End → End
+lost_end time ends.Open = ends.Lost time
+lost_end time (ends.Ended end) = if nat_lt time end then ends.Lost time else ends.Ended end
+lost_end time (ends.Unseen last goes_on) = ends.Lost (min time last)
+lost_end time (ends.Lost last) = ends.Lost (min time last)
+
+abbrev pub lost_job : ℕ → Job → Job
+lost_job time job = record job { end = lost_end time job.end }
+
+abbrev pub loses : ℕ → Known → Known
+loses time known = record {
+  jobs = map (lost_job time) known.jobs;
+  on = None;
+  woken = false;
+}
+
+-- # The lines of a trace
+
+abbrev pub leaving_at : Asked → List Said → Event → Leaving
+leaving_at asked past event = record {
+  processor = event.processor;
+  time = event.time;
+  khz = speed_after asked.start event.processor past;
+  has_switched = has_switched event.processor past;
+  whole_since = whole_since event.time past;
+}
+
+-- of a switch, who leaves first
+abbrev pub left_by : Asked → ℕ → List Said → Event → Thread → State → Known → Known
+left_by asked number past event previous state known =
+    if is_of asked number previous then leaves (not asked.begin_at_run) state (leaving_at asked past event) known
+    else passed_by (not asked.begin_at_run) event.processor known
+
+abbrev pub came_to : Asked → ℕ → Event → Thread → Known → Known
+came_to asked number event next known =
+    if is_of asked number next then comes (task_at asked number) (not asked.begin_at_run) event.processor event.time known else known
+
+-- what is known of the task's thread after an event
+abbrev pub after_event : Asked → ℕ → List Said → Event → Happening → Known → Known
+after_event asked number past event (Switch previous state next) known =
+    came_to asked number event next (left_by asked number past event previous state known)
+after_event asked number past event (WakeUp thread) known =
+    if is_of asked number thread && not asked.begin_at_run then wakes_up (task_at asked number) event.time known else known
+after_event asked number past event (Speed processor khz) known =
+    speeds processor event.time (speed_after asked.start processor past) known
+after_event asked number past event Loss known = loses (lost_since event.processor since.ItsLastLine past) known
+after_event asked number past event Marker known = known
+after_event asked number past event Other known = known
+
+-- Of what comes after `to` only that events were lost counts, since they may be lost from before.
+abbrev pub counts : Asked → Event → Bool
+counts asked event = is_before_to asked.to event.time || is_loss event.happening
+
+-- what is known of the task of this number after these lines, of which the last one stands first
+abbrev pub known_after : Asked → ℕ → List Said → Known
+known_after asked number [] = unknown
+known_after asked number (Stamped event ∷ past) =
+    if counts asked event then after_event asked number past event event.happening (known_after asked number past) else known_after asked number past
+known_after asked number (Lost processor reach ∷ past) = loses (lost_since processor reach past) (known_after asked number past)
+known_after asked number (Nothing ∷ past) = known_after asked number past

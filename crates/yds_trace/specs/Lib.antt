@@ -1,0 +1,6 @@
+pub mod Asked
+pub mod Past
+pub mod Jobs
+pub mod Late
+pub mod WrittenTime
+pub mod Document
