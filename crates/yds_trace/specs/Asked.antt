@@ -1,6 +1,6 @@
 -- What is asked of a trace: whose jobs, on which processor, in which units, from when to when. All times are nanoseconds.
-use Rattle.std.specs.Prelude.{ℕ, List, [], Bool, true, false, ◌==◌, nat_le, Option, Some, None, position}
-use Rattle.std.specs.List.{slice_index_or}
+use Rattle.std.specs.Prelude.{ℕ, ◌≤◌, List, [], Bool, true, false, ◌==◌, nat_le, Option, Some, None, position}
+use Rattle.std.specs.List.{slice_index_or, All}
 use Rattle.std.specs.Str.{bytes_eq}
 use Rattle.yds_kernel.specs.Parts.{or_else}
 use Rattle.yds_kernel.specs.Event.{Thread}
@@ -70,3 +70,9 @@ is_before_to (Some to) time = nat_le time to
 abbrev pub is_after_from : Option ℕ → ℕ → Bool
 is_after_from None time = true
 is_after_from (Some from) time = nat_le from time
+
+-- What the words are refused without: units are at least 1, and each deadline is at least a unit of time, so that each window has one.
+pub record IsAsked (asked : Asked) : Type 0 where
+  pub has_unit : 1 ≤ asked.unit
+  pub has_speed_unit : 1 ≤ asked.khz
+  pub deadlines : All (λ task. asked.unit ≤ task.deadline) asked.tasks

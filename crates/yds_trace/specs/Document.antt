@@ -1,5 +1,5 @@
 -- The document of one processor: which jobs of the tasks it has, with their windows, works and runs, and which are left out.
-use Rattle.std.specs.Prelude.{ℕ, zero, suc, ◌+◌, List, [], ◌∷◌, ◌++◌, map, reverse, max, codes, decimal, Bool, true, false, not, ◌==◌, ◌&&◌, ◌||◌, nat_le, nat_lt, if◌then◌else◌, Option, Some, None, is_some, is_none}
+use Rattle.std.specs.Prelude.{ℕ, zero, suc, ◌+◌, List, [], ◌∷◌, ◌++◌, map, reverse, max, min, codes, decimal, Bool, true, false, not, ◌==◌, ◌&&◌, ◌||◌, nat_le, nat_lt, if◌then◌else◌, Option, Some, None, is_some, is_none}
 use Rattle.std.specs.List.{list_any, flat_map, filter_map, enumerate_from}
 use Rattle.yds_kernel.specs.Event.{Said}
 use Rattle.yds_trace.specs.declared.job.End.{End}
@@ -8,7 +8,7 @@ use Rattle.yds_trace.specs.declared.job.Stretch.{Stretch}
 use Rattle.yds_trace.specs.declared.reason.Reason.{Reason}
 use Rattle.yds_trace.specs.declared.reason.Reason.TheVariants as reasons
 use Rattle.yds_trace.specs.Asked.{Task, Asked, task_at, is_after_from}
-use Rattle.yds_trace.specs.Past.{first_time, last_time, speed_after}
+use Rattle.yds_trace.specs.Past.{first_time, last_time, up_to, speed_after}
 use Rattle.yds_trace.specs.Jobs.{Job, Known, changed_last, ran, known_after}
 use Rattle.yds_trace.specs.Late.{last_asked, due, is_open, lateness}
 use Rattle.yds_trace.specs.WrittenTime.{Units, Run, written_time, runs_of, work_of_runs, runs_end}
@@ -23,13 +23,13 @@ closed asked past known = elim known.on [
     processor = standing.processor;
     from = standing.since;
     to = last_asked asked past;
-    khz = speed_after asked.start standing.processor past;
+    khz = speed_after asked.start standing.processor (up_to asked.to past);
   })) known.jobs
 ]
 
 -- in order of their begins
 abbrev pub jobs_of : Asked → List Said → ℕ → List Job
-jobs_of asked past number = reverse (closed asked past (known_after asked number past))
+jobs_of asked past number = reverse (closed asked past (known_after asked number (up_to asked.to past)))
 
 -- # What becomes of a job
 
@@ -120,16 +120,20 @@ all_judged asked past = in_order (λ judged. judged.job.begin) (judged_from aske
 abbrev pub stands : Judged → Bool
 stands judged = is_none judged.reason
 
--- the begin of the first job that stands as it is
-abbrev pub first_begin : List Judged → Option ℕ
-first_begin [] = None
-first_begin (judged ∷ more) = if stands judged then Some judged.job.begin else first_begin more
+-- the least begin of these jobs that stand as they are
+abbrev pub least_of : Option ℕ → ℕ → ℕ
+least_of None time = time
+least_of (Some least) time = min least time
 
--- Time 0 is `from`, or else the begin of the first job that stands as it is, or else that of the trace.
+abbrev pub least_begin : List Judged → Option ℕ
+least_begin [] = None
+least_begin (judged ∷ more) = if stands judged then Some (least_of (least_begin more) judged.job.begin) else least_begin more
+
+-- Time 0 is `from`, or else the first begin of a job that stands as it is, or else that of the trace.
 abbrev pub time_zero : Asked → List Said → ℕ
 time_zero asked past = elim asked.from [
   | Some from ↦ from
-  | None ↦ elim (first_begin (all_judged asked past)) [ Some begin ↦ begin | None ↦ first_time 0 past ]
+  | None ↦ elim (least_begin (all_judged asked past)) [ Some begin ↦ begin | None ↦ first_time 0 past ]
 ]
 
 abbrev pub units_of : Asked → List Said → Units

@@ -11,8 +11,8 @@ use Rattle.yds_trace.specs.declared.job.End.{End}
 use Rattle.yds_trace.specs.declared.job.End.TheVariants as ends
 use Rattle.yds_trace.specs.declared.job.Stretch.{Stretch}
 use Rattle.yds_trace.specs.declared.job.Standing.{Standing}
-use Rattle.yds_trace.specs.Asked.{Task, Asked, task_at, is_of, is_before_to}
-use Rattle.yds_trace.specs.Past.{is_loss, lost_since, whole_since, has_switched, speed_after}
+use Rattle.yds_trace.specs.Asked.{Task, Asked, task_at, is_of}
+use Rattle.yds_trace.specs.Past.{lost_since, whole_since, has_switched, speed_after}
 
 pub record Job : Type 0 where
   -- its begin; where that isn't known, a time before which it began, or at which
@@ -175,15 +175,16 @@ left_from wakes leaving known =
     then changed_last (ran (stretch_of leaving leaving.whole_since)) (begun_by leaving.whole_since known.jobs)
     else changed_last missing (awake_jobs leaving.time (vanished wakes known).jobs))
 
--- preempted, or waiting for a disk
-abbrev pub goes_on : State → Bool
-goes_on states.GoesOn = true
-goes_on states.Sleeps = false
-goes_on states.Unknown = false
+-- Who is preempted or waits for a disk goes on with its job, and who sleeps ends it. In a state that the kernel doesn't have, which is a fault of
+-- the trace for a listed thread, nothing is known of its end.
+abbrev pub left_in : Bool → State → ℕ → List Job → List Job
+left_in wakes states.GoesOn time jobs = jobs
+left_in wakes states.Sleeps time jobs = changed_last (ended time) jobs
+left_in wakes states.Unknown time jobs = changed_last (left_unseen time wakes) jobs
 
 abbrev pub leaves : Bool → State → Leaving → Known → Known
 leaves wakes state leaving known = record {
-  jobs = if goes_on state then left_from wakes leaving known else changed_last (ended leaving.time) (left_from wakes leaving known);
+  jobs = left_in wakes state leaving.time (left_from wakes leaving known);
   on = None;
   woken = false;
 }
@@ -258,14 +259,9 @@ after_event asked number past event Loss known = loses (lost_since event.process
 after_event asked number past event Marker known = known
 after_event asked number past event Other known = known
 
--- Of what comes after `to` only that events were lost counts, since they may be lost from before.
-abbrev pub counts : Asked → Event → Bool
-counts asked event = is_before_to asked.to event.time || is_loss event.happening
-
 -- what is known of the task of this number after these lines, of which the last one stands first
 abbrev pub known_after : Asked → ℕ → List Said → Known
 known_after asked number [] = unknown
-known_after asked number (Stamped event ∷ past) =
-    if counts asked event then after_event asked number past event event.happening (known_after asked number past) else known_after asked number past
+known_after asked number (Stamped event ∷ past) = after_event asked number past event event.happening (known_after asked number past)
 known_after asked number (Lost processor reach ∷ past) = loses (lost_since processor reach past) (known_after asked number past)
 known_after asked number (Nothing ∷ past) = known_after asked number past

@@ -29,7 +29,7 @@ is_open (ends.Ended end) = false
 is_open (ends.Unseen since goes_on) = true
 is_open (ends.Lost since) = true
 
--- the deadline lies within what is asked for
+-- The deadline lies within what is asked for: after `from`, and not after the end. What is due just at `from` is of the time before it.
 abbrev pub is_judged : Option ℕ → ℕ → ℕ → Bool
 is_judged None last deadline = nat_le deadline last
 is_judged (Some from) last deadline = nat_lt from deadline && nat_le deadline last

@@ -4,3 +4,4 @@ pub mod Jobs
 pub mod Late
 pub mod WrittenTime
 pub mod Document
+pub mod Faults

@@ -1,8 +1,8 @@
 -- What the lines of a trace said before: the last one stands first. A line's past is what the lines before it said.
-use Rattle.std.specs.Prelude.{ℕ, List, [], ◌∷◌, Bool, true, false, ◌==◌, if◌then◌else◌, Option, Some, None, unwrap_or}
+use Rattle.std.specs.Prelude.{ℕ, List, [], ◌∷◌, Bool, true, false, ◌==◌, if◌then◌else◌, Option, Some, None, unwrap_or, nat_lt, nat_le}
 use Rattle.yds_kernel.specs.declared.loss.Since.{Since}
 use Rattle.yds_kernel.specs.declared.loss.Since.TheVariants as since
-use Rattle.yds_kernel.specs.Event.{Happening, Switch, Speed, Loss, Said, Stamped, Lost, Nothing}
+use Rattle.yds_kernel.specs.Event.{Happening, Switch, Speed, Loss, Said, Stamped, Lost, Nothing, Event}
 
 -- # Times
 
@@ -57,6 +57,24 @@ has_switched processor (Stamped event ∷ past) =
     else (if is_switch event.happening then (if event.processor == processor then true else has_switched processor past) else has_switched processor past)
 has_switched processor (Lost other reach ∷ past) = false
 has_switched processor (Nothing ∷ past) = has_switched processor past
+
+-- # What is asked for
+
+-- Of the lines after `to` only those count that tell of a loss which reaches back before it.
+abbrev pub counts : ℕ → Event → List Said → Bool
+counts to event past = if is_loss event.happening then nat_lt (lost_since event.processor since.ItsLastLine past) to else nat_le event.time to
+
+abbrev pub up_to_time : ℕ → List Said → List Said
+up_to_time to [] = []
+up_to_time to (Stamped event ∷ past) = if counts to event past then Stamped event ∷ up_to_time to past else up_to_time to past
+up_to_time to (Lost processor reach ∷ past) =
+    if nat_lt (lost_since processor reach past) to then Lost processor reach ∷ up_to_time to past else up_to_time to past
+up_to_time to (Nothing ∷ past) = up_to_time to past
+
+-- the lines that count
+abbrev pub up_to : Option ℕ → List Said → List Said
+up_to None past = past
+up_to (Some to) past = up_to_time to past
 
 -- # Speeds
 

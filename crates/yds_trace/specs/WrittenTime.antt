@@ -38,7 +38,7 @@ run_of units stretch = record {
   speed = written_speed units (unwrap_or stretch.khz 0);
 }
 
--- Two that meet at one speed are one run: less than a unit may have gone to another thread between them.
+-- A run before others. Two that meet at one speed are one run: less than a unit may have gone to another thread between them.
 abbrev pub before : Run → List Run → List Run
 before run [] = run ∷ []
 before run (next ∷ runs) =

@@ -5,8 +5,10 @@
 //! only what is open, is proved against them.
 #![tactic(auto)]
 
+mod fault;
 mod job;
 mod reason;
 
+pub use fault::Cause;
 pub use job::{End, Standing, Stretch};
 pub use reason::Reason;

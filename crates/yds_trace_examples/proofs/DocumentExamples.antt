@@ -1,0 +1,140 @@
+-- The documents of small traces. A unit of time is 10 nanoseconds, a job is due 100 after its begin, and time 0 is where the first whole job begins.
+use Rattle.yds_model.proofs.Common.{◌≡◌, ℕ, ◌≤◌, All, List, [], ◌∷◌, map, codes, reverse, Option, Some, None, refl, arith, All-cons, All-nil}
+use Rattle.std.specs.Fmt.{digits}
+use Rattle.yds_kernel.specs.Event.{Said}
+use Rattle.yds_trace.specs.declared.reason.Reason.{Reason}
+use Rattle.yds_trace.specs.declared.reason.Reason.TheVariants as reasons
+use Rattle.yds_trace.specs.Asked.{Task, Asked, IsAsked, no_task}
+use Rattle.yds_trace.specs.WrittenTime.{Run}
+use Rattle.yds_trace.specs.Document.{Written, Document, document_of, all_judged, Judged}
+use Rattle.yds_trace_examples.proofs.Lines.{woken, comes, sleeps, preempted, back, other_leaves, marker, lost, task, of_task, asked, up_to, from}
+
+abbrev document : Asked → List Said → Document
+document asked lines = document_of asked (reverse lines)
+
+-- of each job, how late it is and why it isn't written as it stands
+abbrev told : Judged → Option ℕ × Option Reason
+told judged = (judged.late, judged.reason)
+
+abbrev judgements : Asked → List Said → List (Option ℕ × Option Reason)
+judgements asked lines = map told (all_judged asked (reverse lines))
+
+abbrev run : ℕ → ℕ → Run
+run from to = record { from = from; to = to; speed = 5 }
+
+abbrev written : List ℕ → ℕ → ℕ → ℕ → List Run → Written
+written name release deadline work runs = record { name = name; release = release; deadline = deadline; work = work; runs = runs }
+
+-- A job in time, from 1000 to 1040.
+in_time : document asked (woken 1000 ∷ comes 0 1020 ∷ sleeps 0 1040 ∷ []) ≡
+    record { jobs = written (codes "t.0") 0 10 10 (run 2 4 ∷ []) ∷ []; runs = record { job = 0; run = run 2 4 } ∷ [] }
+unfolding digits
+in_time = refl
+
+-- It ends in the unit after its deadline's: its run does, and so it is late in the document.
+late_by_a_unit : document asked (woken 1000 ∷ comes 0 1020 ∷ sleeps 0 1110 ∷ []) ≡
+    record { jobs = written (codes "t.0") 0 10 45 (run 2 11 ∷ []) ∷ []; runs = record { job = 0; run = run 2 11 } ∷ [] }
+unfolding digits
+late_by_a_unit = refl
+
+-- Near miss: late by a unit less a nanosecond, which the document can't show.
+late_by_less : document asked (woken 1000 ∷ comes 0 1020 ∷ sleeps 0 1109 ∷ []) ≡
+    record { jobs = written (codes "t.0") 0 10 40 (run 2 10 ∷ []) ∷ []; runs = record { job = 0; run = run 2 10 } ∷ [] }
+unfolding digits
+late_by_less = refl
+
+but_it_is_known : judgements asked (woken 1000 ∷ comes 0 1020 ∷ sleeps 0 1109 ∷ []) ≡ (Some 9, None) ∷ []
+but_it_is_known = refl
+
+-- Late in a run within one unit, from 1112 to 1118: that isn't written, so the work is one unit above what the runs give.
+late_in_a_short_run : document asked (woken 1000 ∷ comes 0 1020 ∷ preempted 0 1030 ∷ back 0 1112 ∷ sleeps 0 1118 ∷ []) ≡
+    record { jobs = written (codes "t.0") 0 10 6 (run 2 3 ∷ []) ∷ []; runs = record { job = 0; run = run 2 3 } ∷ [] }
+unfolding digits
+late_in_a_short_run = refl
+
+-- It hasn't ended, and its deadline is over when the trace ends.
+never_ended : document asked (woken 1000 ∷ comes 0 1020 ∷ preempted 0 1030 ∷ marker 1 1200 ∷ []) ≡
+    record { jobs = written (codes "t.0") 0 10 6 (run 2 3 ∷ []) ∷ []; runs = record { job = 0; run = run 2 3 } ∷ [] }
+unfolding digits
+never_ended = refl
+
+-- It starves: it never ran, on any processor.
+starved : document asked (woken 1000 ∷ marker 1 1200 ∷ []) ≡ record { jobs = written (codes "t.0") 0 10 1 [] ∷ []; runs = [] }
+unfolding digits
+starved = refl
+
+-- Near miss: its deadline isn't over when the trace ends, so it is left out.
+not_due_yet : document asked (woken 1000 ∷ marker 1 1099 ∷ []) ≡ record { jobs = []; runs = [] }
+unfolding digits
+not_due_yet = refl
+
+its_reason : judgements asked (woken 1000 ∷ marker 1 1099 ∷ []) ≡ (None, Some reasons.NotEnded) ∷ []
+its_reason = refl
+
+-- It moved, and was late: its work is 1, and it has no run. Time 0 is the trace's begin, as no job is whole.
+moved_and_late : document asked (woken 1000 ∷ comes 1 1020 ∷ sleeps 1 1111 ∷ []) ≡ record { jobs = written (codes "t.0") 0 10 1 [] ∷ []; runs = [] }
+unfolding digits
+moved_and_late = refl
+
+-- Near miss: it moved, and was in time. It is left out.
+moved_in_time : document asked (woken 1000 ∷ comes 1 1020 ∷ sleeps 1 1040 ∷ []) ≡ record { jobs = []; runs = [] }
+unfolding digits
+moved_in_time = refl
+
+why_moved : judgements asked (woken 1000 ∷ comes 1 1020 ∷ sleeps 1 1040 ∷ []) ≡ (None, Some reasons.Moved) ∷ []
+why_moved = refl
+
+-- A begin that isn't known, and late: it is released at 0, and due as late as can be.
+unseen_and_late : document asked (marker 0 1000 ∷ comes 0 1020 ∷ sleeps 0 1131 ∷ []) ≡ record { jobs = written (codes "t.before") 0 12 1 [] ∷ []; runs = [] }
+unfolding digits
+unseen_and_late = refl
+
+-- Begun before `from`, and late. The next one is in time.
+begun_before_from : document (from 1050) (woken 1000 ∷ comes 0 1020 ∷ sleeps 0 1150 ∷ woken 1200 ∷ comes 0 1210 ∷ sleeps 0 1220 ∷ []) ≡
+    record { jobs = written (codes "t.0") 0 5 1 [] ∷ written (codes "t.1") 15 25 5 (run 16 17 ∷ []) ∷ []; runs = record { job = 1; run = run 16 17 } ∷ [] }
+unfolding digits
+begun_before_from = refl
+
+-- Near miss: due before `from`. It isn't asked for.
+due_before_from : judgements (from 1100) (woken 1000 ∷ comes 0 1020 ∷ sleeps 0 1150 ∷ []) ≡ (None, Some reasons.BeforeFrom) ∷ []
+due_before_from = refl
+
+-- Events were lost over its end, after its deadline: it is known to be late, and has no run.
+lost_and_late : document asked (woken 1000 ∷ comes 0 1020 ∷ marker 1 1110 ∷ sleeps 0 1120 ∷ lost 1 ∷ marker 0 1200 ∷ []) ≡
+    record { jobs = written (codes "t.0") 0 10 1 [] ∷ []; runs = [] }
+unfolding digits
+lost_and_late = refl
+
+-- Near miss: lost before its deadline. Nothing is known.
+lost_in_time : judgements asked (woken 1000 ∷ comes 0 1020 ∷ marker 1 1099 ∷ sleeps 0 1120 ∷ lost 1 ∷ marker 0 1200 ∷ []) ≡
+    (None, Some reasons.EventsLost) ∷ []
+lost_in_time = refl
+
+-- A switch is missing, and its end is known: in time, and late.
+missing_in_time : judgements asked (woken 1000 ∷ other_leaves 0 1010 ∷ sleeps 0 1040 ∷ []) ≡ (None, Some reasons.SwitchMissing) ∷ []
+missing_in_time = refl
+
+missing_and_late : document asked (woken 1000 ∷ other_leaves 0 1010 ∷ sleeps 0 1140 ∷ []) ≡ record { jobs = written (codes "t.0") 0 10 1 [] ∷ []; runs = [] }
+unfolding digits
+missing_and_late = refl
+
+-- Its speed isn't known.
+unknown_speed : judgements (record asked { start = None }) (woken 1000 ∷ comes 0 1020 ∷ sleeps 0 1040 ∷ []) ≡ (None, Some reasons.SpeedUnknown) ∷ []
+unknown_speed = refl
+
+-- Up to a time at which it runs, before its deadline.
+cut_off : judgements (up_to 1030) (woken 1000 ∷ comes 0 1020 ∷ sleeps 0 1040 ∷ []) ≡ (None, Some reasons.AfterTo) ∷ []
+cut_off = refl
+
+-- # What is asked for
+
+-- A deadline of a unit of time is one.
+a_unit_each : All (λ (each : Task). 10 ≤ each.deadline) (record task { deadline = 10 } ∷ [])
+a_unit_each = All-cons (λ (each : Task). 10 ≤ each.deadline) (record task { deadline = 10 }) [] (omega arith) (All-nil (λ (each : Task). 10 ≤ each.deadline))
+
+a_deadline_of_a_unit : IsAsked (of_task (record task { deadline = 10 }))
+a_deadline_of_a_unit = record { has_unit = omega arith; has_speed_unit = omega arith; deadlines = λ i default within. a_unit_each i default within }
+
+-- Near miss: a shorter one isn't.
+a_shorter_deadline : IsAsked (of_task (record task { deadline = 9 })) → ⊥
+a_shorter_deadline is_asked = absurd (omega (arith, is_asked.deadlines 0 no_task (omega arith)))

@@ -1,0 +1,189 @@
+-- The jobs of a task, by lines of a trace.
+use Rattle.yds_model.proofs.Common.{◌≡◌, List, [], ◌∷◌, reverse, true, Some, None, refl}
+use Rattle.yds_kernel.specs.declared.state.State.TheVariants as states
+use Rattle.yds_kernel.specs.declared.loss.Since.TheVariants as since
+use Rattle.yds_kernel.specs.Event.{Switch, WakeUp, Said, Lost}
+use Rattle.yds_trace.specs.declared.job.End.TheVariants as ends
+use Rattle.yds_trace.specs.Asked.{Asked}
+use Rattle.yds_trace.specs.Jobs.{Job}
+use Rattle.yds_trace.specs.Document.{jobs_of}
+use Rattle.yds_trace_examples.proofs.Lines.{t, other, idle, line, woken, comes, sleeps, preempted, back, other_leaves, speed, marker, lost, asked, with_apart, at_run, up_to, stretch, job, begun_by}
+
+-- the task's jobs by these lines, which stand in order of time
+abbrev jobs : Asked → List Said → List Job
+jobs asked lines = jobs_of asked (reverse lines) 0
+
+-- # A job begins and ends
+
+-- It is woken, comes to a processor, and leaves it to sleep.
+a_job : jobs asked (woken 10 ∷ comes 0 12 ∷ sleeps 0 40 ∷ []) ≡ job 10 (ends.Ended 40) (stretch 0 12 40 ∷ []) ∷ []
+a_job = refl
+
+-- It is preempted, and goes on. The same is so of one that waits for a disk.
+a_preemption : jobs asked (woken 10 ∷ comes 0 12 ∷ preempted 0 20 ∷ back 0 30 ∷ sleeps 0 40 ∷ []) ≡
+    job 10 (ends.Ended 40) (stretch 0 30 40 ∷ stretch 0 12 20 ∷ []) ∷ []
+a_preemption = refl
+
+-- It moves to another processor.
+a_move : jobs asked (woken 10 ∷ comes 0 12 ∷ preempted 0 20 ∷ comes 1 30 ∷ sleeps 1 40 ∷ []) ≡
+    job 10 (ends.Ended 40) (stretch 1 30 40 ∷ stretch 0 12 20 ∷ []) ∷ []
+a_move = refl
+
+-- Near miss: it leaves to sleep, and a wake-up begins another job.
+two_jobs : jobs asked (woken 10 ∷ comes 0 12 ∷ sleeps 0 20 ∷ woken 25 ∷ comes 0 30 ∷ sleeps 0 40 ∷ []) ≡
+    job 10 (ends.Ended 20) (stretch 0 12 20 ∷ []) ∷ job 25 (ends.Ended 40) (stretch 0 30 40 ∷ []) ∷ []
+two_jobs = refl
+
+-- A wake-up less than 50 after the job's begin goes on with it.
+a_sleep_within_a_job : jobs with_apart (woken 10 ∷ comes 0 12 ∷ sleeps 0 20 ∷ woken 59 ∷ comes 0 60 ∷ sleeps 0 70 ∷ []) ≡
+    job 10 (ends.Ended 70) (stretch 0 60 70 ∷ stretch 0 12 20 ∷ []) ∷ []
+a_sleep_within_a_job = refl
+
+-- Near miss: 50 after it, another job begins.
+a_sleep_between_jobs : jobs with_apart (woken 10 ∷ comes 0 12 ∷ sleeps 0 20 ∷ woken 60 ∷ comes 0 60 ∷ sleeps 0 70 ∷ []) ≡
+    job 10 (ends.Ended 20) (stretch 0 12 20 ∷ []) ∷ job 60 (ends.Ended 70) (stretch 0 60 70 ∷ []) ∷ []
+a_sleep_between_jobs = refl
+
+-- Where the first job's begin isn't known, it isn't known either whether the wake-up begins another one: it may have begun long before.
+a_sleep_after_an_unknown_begin : jobs with_apart (comes 0 12 ∷ sleeps 0 20 ∷ woken 59 ∷ comes 0 60 ∷ sleeps 0 70 ∷ []) ≡
+    begun_by 12 (ends.Ended 20) (stretch 0 12 20 ∷ []) ∷ begun_by 59 (ends.Ended 70) (stretch 0 60 70 ∷ []) ∷ []
+a_sleep_after_an_unknown_begin = refl
+
+-- A wake-up while it runs is counted.
+a_second_wake_up : jobs asked (woken 10 ∷ comes 0 12 ∷ woken 20 ∷ sleeps 0 40 ∷ []) ≡
+    record (job 10 (ends.Ended 40) (stretch 0 12 40 ∷ [])) { wake_ups = 1 } ∷ []
+a_second_wake_up = refl
+
+-- Near miss: two lines tell of one wake-up, before it runs.
+one_wake_up_twice : jobs asked (woken 10 ∷ woken 11 ∷ comes 0 12 ∷ sleeps 0 40 ∷ []) ≡ job 10 (ends.Ended 40) (stretch 0 12 40 ∷ []) ∷ []
+one_wake_up_twice = refl
+
+-- A thread that is new is woken the first time, and ends its last job when it exits.
+a_fork_and_an_exit : jobs asked (line 2 10 (WakeUp t) ∷ comes 0 12 ∷ line 0 40 (Switch t states.Sleeps other) ∷ other_leaves 0 50 ∷ []) ≡
+    job 10 (ends.Ended 40) (stretch 0 12 40 ∷ []) ∷ []
+a_fork_and_an_exit = refl
+
+-- Of a wake-up and a switch of one time the order of lines decides.
+a_wake_up_first : jobs asked (woken 10 ∷ comes 0 10 ∷ sleeps 0 40 ∷ []) ≡ job 10 (ends.Ended 40) (stretch 0 10 40 ∷ []) ∷ []
+a_wake_up_first = refl
+
+a_switch_first : jobs asked (comes 0 10 ∷ woken 10 ∷ sleeps 0 40 ∷ []) ≡
+    record (begun_by 10 (ends.Ended 40) (stretch 0 10 40 ∷ [])) { wake_ups = 1 } ∷ []
+a_switch_first = refl
+
+-- A marker of an application is nothing, and neither is another thread.
+a_marker : jobs asked (woken 10 ∷ comes 0 12 ∷ marker 0 20 ∷ line 0 30 (WakeUp other) ∷ sleeps 0 40 ∷ []) ≡
+    job 10 (ends.Ended 40) (stretch 0 12 40 ∷ []) ∷ []
+a_marker = refl
+
+-- # Begins that aren't seen
+
+-- It comes without a wake-up: its job began before, or just here.
+an_unseen_begin : jobs asked (comes 0 12 ∷ sleeps 0 40 ∷ []) ≡ begun_by 12 (ends.Ended 40) (stretch 0 12 40 ∷ []) ∷ []
+an_unseen_begin = refl
+
+-- It leaves as the first on its processor: it was there when the trace began, at 5.
+there_from_the_begin : jobs asked (marker 1 5 ∷ sleeps 0 40 ∷ []) ≡ begun_by 5 (ends.Ended 40) (stretch 0 5 40 ∷ []) ∷ []
+there_from_the_begin = refl
+
+-- So it was where a wake-up came meanwhile: that begins no job.
+woken_while_there : jobs asked (marker 1 5 ∷ woken 10 ∷ sleeps 0 40 ∷ []) ≡ begun_by 5 (ends.Ended 40) (stretch 0 5 40 ∷ []) ∷ []
+woken_while_there = refl
+
+-- Near miss: the processor has switched before, so a switch is missing between.
+not_there_from_the_begin : jobs asked (other_leaves 0 5 ∷ sleeps 0 40 ∷ []) ≡ record (begun_by 40 (ends.Ended 40) []) { switch_missing = true } ∷ []
+not_there_from_the_begin = refl
+
+-- Jobs that begin at their first run, where wake-ups aren't read.
+begins_at_its_run : jobs at_run (woken 10 ∷ comes 0 12 ∷ preempted 0 20 ∷ back 0 30 ∷ sleeps 0 40 ∷ comes 0 50 ∷ sleeps 0 60 ∷ []) ≡
+    job 12 (ends.Ended 40) (stretch 0 30 40 ∷ stretch 0 12 20 ∷ []) ∷ job 50 (ends.Ended 60) (stretch 0 50 60 ∷ []) ∷ []
+begins_at_its_run = refl
+
+-- # Missing switches
+
+-- It came at 12, and another thread leaves there at 30: it left unseen, and was open at 12.
+left_unseen : jobs asked (woken 10 ∷ comes 0 12 ∷ other_leaves 0 30 ∷ []) ≡
+    record (job 10 (ends.Unseen 12 true) []) { switch_missing = true } ∷ []
+left_unseen = refl
+
+-- It comes again without a wake-up: it hasn't slept, and the job goes on.
+seen_again : jobs asked (woken 10 ∷ comes 0 12 ∷ other_leaves 0 30 ∷ comes 0 50 ∷ sleeps 0 60 ∷ []) ≡
+    record (job 10 (ends.Ended 60) (stretch 0 50 60 ∷ [])) { switch_missing = true } ∷ []
+seen_again = refl
+
+-- Near miss: with a wake-up between, another job begins.
+woken_again : jobs asked (woken 10 ∷ comes 0 12 ∷ other_leaves 0 30 ∷ woken 40 ∷ comes 0 50 ∷ sleeps 0 60 ∷ []) ≡
+    record (job 10 (ends.Unseen 12 true) []) { switch_missing = true } ∷ job 40 (ends.Ended 60) (stretch 0 50 60 ∷ []) ∷ []
+woken_again = refl
+
+-- Its coming is missing: it is woken, and leaves a processor that another thread had. Its end is known.
+came_unseen : jobs asked (woken 10 ∷ line 0 12 (Switch idle states.GoesOn other) ∷ sleeps 0 40 ∷ []) ≡
+    record (job 10 (ends.Ended 40) []) { switch_missing = true } ∷ []
+came_unseen = refl
+
+-- It leaves another processor than that to which it came: both switches between are missing.
+left_elsewhere : jobs asked (woken 10 ∷ comes 0 12 ∷ line 1 15 (Switch idle states.GoesOn other) ∷ sleeps 1 40 ∷ []) ≡
+    record (job 10 (ends.Ended 40) []) { switch_missing = true } ∷ []
+left_elsewhere = refl
+
+-- Near miss: a missing switch of other threads is none of it.
+missing_of_others : jobs asked (woken 10 ∷ comes 0 12 ∷ other_leaves 1 20 ∷ other_leaves 1 30 ∷ sleeps 0 40 ∷ []) ≡
+    job 10 (ends.Ended 40) (stretch 0 12 40 ∷ []) ∷ []
+missing_of_others = refl
+
+-- A state that the kernel doesn't have is no end.
+a_strange_state : jobs asked (woken 10 ∷ comes 0 12 ∷ line 0 40 (Switch t states.Unknown idle) ∷ []) ≡
+    record (job 10 (ends.Unseen 40 true) (stretch 0 12 40 ∷ [])) { switch_missing = true } ∷ []
+a_strange_state = refl
+
+-- # Lost events
+
+-- Events of processor 1 were lost since its last line, at 5: nothing is known of the job after that, nor of the speed. It is found awake at 40.
+a_loss : jobs asked (marker 1 5 ∷ woken 10 ∷ comes 0 12 ∷ lost 1 ∷ sleeps 0 40 ∷ []) ≡
+    job 10 (ends.Lost 5) [] ∷ begun_by 40 (ends.Ended 40) (record (stretch 0 40 40) { khz = None } ∷ []) ∷ []
+a_loss = refl
+
+-- A job that ended after the loss began has no known end either. One that ended before it has.
+a_loss_over_an_end : jobs asked (woken 10 ∷ comes 0 12 ∷ sleeps 0 20 ∷ marker 1 25 ∷ woken 30 ∷ comes 0 30 ∷ sleeps 0 40 ∷ lost 1 ∷ []) ≡
+    job 10 (ends.Ended 20) (stretch 0 12 20 ∷ []) ∷ job 30 (ends.Lost 25) (stretch 0 30 40 ∷ []) ∷ []
+a_loss_over_an_end = refl
+
+-- A buffer that starts here has lost everything since the trace's begin.
+a_buffer_that_starts : jobs asked (woken 10 ∷ comes 0 12 ∷ sleeps 0 20 ∷ Lost 1 since.TheBegin ∷ []) ≡ job 10 (ends.Lost 10) (stretch 0 12 20 ∷ []) ∷ []
+a_buffer_that_starts = refl
+
+-- # Speeds
+
+-- A change of its processor's speed cuts a stretch.
+a_change_of_speed : jobs asked (woken 10 ∷ comes 0 12 ∷ speed 0 20 8 ∷ sleeps 0 40 ∷ []) ≡
+    job 10 (ends.Ended 40) (record (stretch 0 20 40) { khz = Some 8 } ∷ stretch 0 12 20 ∷ []) ∷ []
+a_change_of_speed = refl
+
+-- One with the stamp of the switch before it counts from that stamp on: the stretch before it takes no time.
+a_change_at_a_switch : jobs asked (woken 10 ∷ comes 0 12 ∷ speed 0 12 8 ∷ sleeps 0 40 ∷ []) ≡
+    job 10 (ends.Ended 40) (record (stretch 0 12 40) { khz = Some 8 } ∷ stretch 0 12 12 ∷ []) ∷ []
+a_change_at_a_switch = refl
+
+-- Near miss: that of another processor.
+a_change_elsewhere : jobs asked (woken 10 ∷ comes 0 12 ∷ speed 1 20 8 ∷ sleeps 0 40 ∷ []) ≡ job 10 (ends.Ended 40) (stretch 0 12 40 ∷ []) ∷ []
+a_change_elsewhere = refl
+
+-- Lost events may tell of a change: the speed isn't known after them.
+a_speed_after_a_loss : jobs asked (marker 1 5 ∷ lost 1 ∷ woken 10 ∷ comes 0 12 ∷ sleeps 0 40 ∷ []) ≡
+    job 10 (ends.Ended 40) (record (stretch 0 12 40) { khz = None } ∷ []) ∷ []
+a_speed_after_a_loss = refl
+
+-- # Up to a time
+
+-- What it has at the end is a stretch up to there.
+still_running : jobs (up_to 30) (woken 10 ∷ comes 0 12 ∷ sleeps 0 40 ∷ []) ≡ job 10 ends.Open (stretch 0 12 30 ∷ []) ∷ []
+still_running = refl
+
+-- A loss told after it counts where it reaches back before it.
+a_loss_told_later : jobs (up_to 30) (marker 1 5 ∷ woken 10 ∷ comes 0 12 ∷ sleeps 0 40 ∷ lost 1 ∷ []) ≡ job 10 (ends.Lost 5) [] ∷ []
+a_loss_told_later = refl
+
+-- Near miss: nothing before it was lost, and the speed of later is none of it.
+a_loss_of_later : jobs (up_to 30) (woken 10 ∷ comes 0 12 ∷ marker 1 35 ∷ speed 0 36 8 ∷ sleeps 0 40 ∷ lost 1 ∷ []) ≡
+    job 10 ends.Open (stretch 0 12 30 ∷ []) ∷ []
+a_loss_of_later = refl

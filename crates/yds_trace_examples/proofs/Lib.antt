@@ -1,0 +1,5 @@
+pub mod Lines
+mod JobExamples
+mod LateExamples
+mod DocumentExamples
+mod FaultExamples

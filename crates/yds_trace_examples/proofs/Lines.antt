@@ -1,0 +1,98 @@
+-- Lines of a trace in few words, in order of time: each of one processor, at so many nanoseconds.
+use Rattle.yds_model.proofs.Common.{ℕ, List, [], ◌∷◌, codes, true, false, Some, None}
+use Rattle.yds_kernel.specs.declared.state.State.TheVariants as states
+use Rattle.yds_kernel.specs.declared.loss.Since.TheVariants as since
+use Rattle.yds_kernel.specs.Event.{Thread, Happening, Switch, WakeUp, Speed, Marker, Said, Stamped, Lost}
+use Rattle.yds_trace.specs.declared.job.End.{End}
+use Rattle.yds_trace.specs.declared.job.Stretch.{Stretch}
+use Rattle.yds_trace.specs.Asked.{Named, Task, Asked}
+use Rattle.yds_trace.specs.Jobs.{Job}
+
+-- # Threads
+
+-- the thread that is asked for
+abbrev pub t : Thread
+t = record { name = codes "t"; pid = 7 }
+
+-- another one, and the idle one
+abbrev pub other : Thread
+other = record { name = codes "other"; pid = 9 }
+
+abbrev pub idle : Thread
+idle = record { name = codes "swapper"; pid = 0 }
+
+-- # Lines
+
+abbrev pub line : ℕ → ℕ → Happening → Said
+line processor time happening = Stamped (record { processor = processor; time = time; happening = happening })
+
+abbrev pub woken : ℕ → Said
+woken time = line 3 time (WakeUp t)
+
+-- it comes to the idle processor
+abbrev pub comes : ℕ → ℕ → Said
+comes processor time = line processor time (Switch idle states.GoesOn t)
+
+-- it leaves it to sleep
+abbrev pub sleeps : ℕ → ℕ → Said
+sleeps processor time = line processor time (Switch t states.Sleeps idle)
+
+-- it is preempted by another thread, and that gives the processor back
+abbrev pub preempted : ℕ → ℕ → Said
+preempted processor time = line processor time (Switch t states.GoesOn other)
+
+abbrev pub back : ℕ → ℕ → Said
+back processor time = line processor time (Switch other states.Sleeps t)
+
+-- another thread leaves
+abbrev pub other_leaves : ℕ → ℕ → Said
+other_leaves processor time = line processor time (Switch other states.Sleeps idle)
+
+abbrev pub speed : ℕ → ℕ → ℕ → Said
+speed processor time khz = line processor time (Speed processor khz)
+
+abbrev pub marker : ℕ → ℕ → Said
+marker processor time = line processor time Marker
+
+-- events of a processor were lost since its last line
+abbrev pub lost : ℕ → Said
+lost processor = Lost processor since.ItsLastLine
+
+-- # What is asked for
+
+-- The jobs of `t` on processor 0, each due 100 after its begin. A unit of time is 10, and one of speed 1.
+abbrev pub task : Task
+task = record { label = codes "t"; thread = Named (codes "t"); deadline = 100; apart = 0 }
+
+abbrev pub of_task : Task → Asked
+of_task task = record { tasks = task ∷ []; processor = 0; unit = 10; khz = 1; start = Some 5; from = None; to = None; begin_at_run = false }
+
+abbrev pub asked : Asked
+asked = of_task task
+
+-- with wake-ups less than 50 after a job's begin going on with it
+abbrev pub with_apart : Asked
+with_apart = of_task (record task { apart = 50 })
+
+abbrev pub at_run : Asked
+at_run = record asked { begin_at_run = true }
+
+abbrev pub up_to : ℕ → Asked
+up_to time = record asked { to = Some time }
+
+abbrev pub from : ℕ → Asked
+from time = record asked { from = Some time }
+
+-- # Jobs
+
+-- in which it ran, at 5 kHz
+abbrev pub stretch : ℕ → ℕ → ℕ → Stretch
+stretch processor from to = record { processor = processor; from = from; to = to; khz = Some 5 }
+
+abbrev pub job : ℕ → End → List Stretch → Job
+job begin end stretches =
+    record { begin = begin; begin_known = true; end = end; stretches = stretches; wake_ups = 0; switch_missing = false }
+
+-- of a job that began by this time
+abbrev pub begun_by : ℕ → End → List Stretch → Job
+begun_by begin end stretches = record (job begin end stretches) { begin_known = false }

@@ -1,0 +1,4 @@
+//! Worked examples of the definitions of a trace's jobs, and near misses.
+//!
+//! They are proved in `proofs/`, and nothing stands on this crate. It stands on `yds_trace`, whose definitions it tries.
+#![tactic(auto)]
