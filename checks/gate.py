@@ -30,6 +30,8 @@ CHECKS: List[Command] = [
     (sys.executable, "docs/api.py", "--check"),
     (sys.executable, "checks/test_edits.py"),
     (sys.executable, "docs/edits.py", "--check"),
+    (sys.executable, "checks/test_uncalled.py"),
+    (sys.executable, "docs/uncalled.py", "--check"),
 ]
 
 COUNTS = re.compile(rb"(\d+) passed, (\d+) failed\s*")
