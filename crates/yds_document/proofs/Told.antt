@@ -13,7 +13,7 @@ use Rattle.yds_document.specs.Job.{job_of}
 use Rattle.yds_document.specs.Slot.{slot_of}
 use Rattle.yds_document.specs.Run.{run_of}
 use Rattle.yds_document.specs.Point.{point_of, point_after, read_point_after}
-use Rattle.yds_document.specs.Draft.{Holds, HoldsMore, Takes, Tells, count_and_read, items_of, points_of}
+use Rattle.yds_document.specs.Draft.{Holds, HoldsMore, Takes, Tells, TellsFields, count_and_read, items_of, points_of}
 
 -- an error that is passed on
 pub passed : (r : Result (Unit {0}) LineFault) (e : LineFault) (read : Result Entry (Spot Reason)) (draft : Draft) (es : List Entry)
@@ -25,6 +25,13 @@ passed r e read draft es told failed =
 pub passed_on : (r : Result (Unit {0}) LineFault) (field : FieldFault) (read : Result Entry (Spot Reason)) (draft : Draft) (es : List Entry)
     → (y : LineFault) × (r ≡ Err y) × (y ≡ line_fault_of field) → read ≡ Err (record { column = field.column; reason = field.reason }) → Tells r read draft es
 passed_on r field read draft es told refused = passed r (line_fault_of field) read draft es told refused
+
+-- the same of a line that takes no memory
+pub field_passed_on : (r : Result (Unit {0}) FieldFault) (field : FieldFault) (read : Result Entry (Spot Reason)) (draft : Draft) (es : List Entry)
+    → (y : FieldFault) × (r ≡ Err y) × (y ≡ field) → read ≡ Err (record { column = field.column; reason = field.reason }) → TellsFields r read draft es
+field_passed_on r field read draft es told refused =
+    subst (λ (t : Result (Unit {0}) FieldFault). TellsFields t read draft es) (sym told.1)
+    (subst (λ (f : FieldFault). read ≡ Err (record { column = f.column; reason = f.reason })) (sym told.2) refused)
 
 counted_read : (kind : Kind) (earlier : List Entry) (fields cells : List Field) → (fields ≡ cells) × (count_fields no_reason (fields_wanted kind) fields ≡ Ok true)
     → count_and_read kind earlier fields ≡ read_kind kind earlier cells

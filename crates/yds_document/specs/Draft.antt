@@ -12,6 +12,7 @@ use Rattle.yds_model.specs.Entry.{Entry, piece_said, member_said, ticks_said, do
 use Rattle.yds_model.specs.Fields.{Spot, ◌>>=◌, count_fields}
 use Rattle.yds_model.specs.Reading.{Kind, fields_wanted, read_kind}
 use Rattle.yds_document.specs.declared.draft.Draft.{Draft}
+use Rattle.yds_document.specs.declared.field_fault.FieldFault.{FieldFault}
 use Rattle.yds_document.specs.declared.line_fault.LineFault.{LineFault}
 use Rattle.yds_document.specs.Fields.{Fails}
 
@@ -67,6 +68,11 @@ abbrev pub Tells : Result (Unit {0}) LineFault → Result Entry (Spot Reason) �
 Tells (Ok done) read draft earlier = HoldsMore read draft earlier
 Tells (Err fault) read draft earlier = Fails fault read
 
+-- the same of a line that takes no memory
+abbrev pub TellsFields : Result (Unit {0}) FieldFault → Result Entry (Spot Reason) → Draft → List Entry → Type 0
+TellsFields (Ok done) read draft earlier = HoldsMore read draft earlier
+TellsFields (Err fault) read draft earlier = read ≡ Err (record { column = fault.column; reason = fault.reason })
+
 -- the count of the fields, and then the fields of a line of this kind
 abbrev pub count_and_read : Kind → List Entry → List Field → Result Entry (Spot Reason)
 count_and_read kind earlier fields = do
@@ -76,3 +82,7 @@ count_and_read kind earlier fields = do
 -- a line of this kind is told after whatever entries the draft held
 abbrev pub Reads : Kind → List Field → Result (Unit {0}) LineFault → Draft → Draft → Type 0
 Reads kind fields result old new = (earlier : List Entry) → Holds old earlier → Tells result (count_and_read kind earlier fields) new earlier
+
+-- the same of a line that takes no memory
+abbrev pub ReadsFields : Kind → List Field → Result (Unit {0}) FieldFault → Draft → Draft → Type 0
+ReadsFields kind fields result old new = (earlier : List Entry) → Holds old earlier → TellsFields result (count_and_read kind earlier fields) new earlier

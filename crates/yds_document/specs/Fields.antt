@@ -32,8 +32,8 @@ abbrev pub line_fault_of : FieldFault → LineFault
 line_fault_of field = faults.At field.column field.reason
 
 -- the fault of a line of too many or too few fields
-abbrev pub count_fault : FieldCount → LineFault
-count_fault count = faults.At count.column reasons.FieldCount
+abbrev pub count_fault : FieldCount → FieldFault
+count_fault count = record { column = count.column; reason = reasons.FieldCount }
 
 -- a name that is none of these
 abbrev pub new_name_of : List (List ℕ) → Field → Result (List ℕ) (Spot Reason)

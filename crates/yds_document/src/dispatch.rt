@@ -68,10 +68,10 @@ impl<'a> Draft<'a> {
             LineKind::Level => level::read(self, alloc, first, rest),
             LineKind::Piece => piece::read(self, first, rest),
             LineKind::Member => member::read(self, first, rest),
-            LineKind::Ticks => ticks::read(self, first, rest),
+            LineKind::Ticks => Ok(ticks::read(self, first, rest)?),
             LineKind::Run => run::read(self, first, rest),
-            LineKind::Grid => grid::read(self, first, rest),
-            LineKind::Energy => energy::read(self, first, rest),
+            LineKind::Grid => Ok(grid::read(self, first, rest)?),
+            LineKind::Energy => Ok(energy::read(self, first, rest)?),
         }
     }
 

@@ -10,14 +10,13 @@ ghost use Rattle.yds_model.specs.Text.{line, fraction_text, energy_lines};
 ghost use Rattle.yds_model.specs.Within.{IsFraction};
 ghost use Rattle.yds_port.specs.Sink.{Puts};
 ghost use Rattle.yds_text.specs.Read.{field_read};
-ghost use Rattle.yds_document.specs.Draft.{IsDraft, Reads, Takes};
+ghost use Rattle.yds_document.specs.Draft.{IsDraft, ReadsFields, Takes};
 ghost use Rattle.yds_document.specs.Fields.{Gives};
 
 use crate::draft::Draft;
 use crate::field_fault::FieldFault;
 use crate::fields::fraction_in;
 use crate::kept_text::{NumberText, put_fraction};
-use crate::line_fault::LineFault;
 use crate::tail_buffer::Line;
 use yds_fraction::Amount;
 use yds_model::limits::MAX_ENERGY;
@@ -29,11 +28,11 @@ pub(crate) fn read<'a>(
     draft: &mut Draft<'a>,
     kind: Field<'a>,
     fields: Fields<'a>,
-) -> Result<(), LineFault>
+) -> Result<(), FieldFault>
     requires kept { IsDraft draft.old }
     requires first { draft.old.energy ≡ None }
     ensures kept { OnOk result (IsDraft draft.new) }
-    ensures reads { Reads EnergyLine (field_read kind.entry ∷ fields.entry.fields) result draft.old draft.new }
+    ensures reads { ReadsFields EnergyLine (field_read kind.entry ∷ fields.entry.fields) result draft.old draft.new }
 {
     let energy = one_field(kind, fields)?;
     let energy = energy_in(energy)?;

@@ -2,6 +2,7 @@ ghost use Rattle.std.specs.Prelude.{◌≡◌};
 ghost use Rattle.yds_model.specs.Reading.{reason_of};
 
 use yds_model::{NumberFault, Reason};
+use yds_text::FieldCount;
 
 /// Why the fields of a line weren't taken. They are read without memory, so want of it is no cause.
 #[derive(Clone, Copy, Debug, PartialEq, Eq)]
@@ -9,6 +10,17 @@ pub(crate) struct FieldFault {
     // The place of the field in its line, counted from 1 in bytes.
     pub(crate) column: u32,
     pub(crate) reason: Reason,
+}
+
+impl From<FieldCount> for FieldFault {
+    ghost use Rattle.std.specs.Prelude.{◌≡◌};
+    ghost use Rattle.yds_document.specs.Fields.{count_fault};
+
+    ghost from_gives = { λ count fault. fault ≡ count_fault count };
+
+    fn from(count: FieldCount) -> FieldFault {
+        FieldFault::at(count.column, Reason::FieldCount)
+    }
 }
 
 impl FieldFault {

@@ -7,13 +7,12 @@ ghost use Rattle.yds_model.specs.Text.{line, grid_lines};
 ghost use Rattle.yds_model.specs.Within.{IsGrid};
 ghost use Rattle.yds_port.specs.Sink.{Puts};
 ghost use Rattle.yds_text.specs.Read.{field_read};
-ghost use Rattle.yds_document.specs.Draft.{IsDraft, Reads, Takes};
+ghost use Rattle.yds_document.specs.Draft.{IsDraft, ReadsFields, Takes};
 ghost use Rattle.yds_document.specs.Fields.{Gives};
 
 use crate::draft::Draft;
 use crate::field_fault::FieldFault;
 use crate::fields::small_in;
-use crate::line_fault::LineFault;
 use crate::tail_buffer::Line;
 use std::marker::Model;
 use yds_model::limits::{MAX_GRID, MAX_ROUNDED};
@@ -49,11 +48,11 @@ pub(crate) fn read<'a>(
     draft: &mut Draft<'a>,
     kind: Field<'a>,
     fields: Fields<'a>,
-) -> Result<(), LineFault>
+) -> Result<(), FieldFault>
     requires kept { IsDraft draft.old }
     requires first { draft.old.grid ≡ None }
     ensures kept { OnOk result (IsDraft draft.new) }
-    ensures reads { Reads GridLine (field_read kind.entry ∷ fields.entry.fields) result draft.old draft.new }
+    ensures reads { ReadsFields GridLine (field_read kind.entry ∷ fields.entry.fields) result draft.old draft.new }
 {
     let (grid, rounded) = two_fields(kind, fields)?;
     let grid = grid_in(grid, rounded)?;

@@ -37,9 +37,9 @@ impl From<FieldFault> for LineFault {
 
 impl From<FieldCount> for LineFault {
     ghost use Rattle.std.specs.Prelude.{◌≡◌};
-    ghost use Rattle.yds_document.specs.Fields.{count_fault};
+    ghost use Rattle.yds_document.specs.Fields.{count_fault, line_fault_of};
 
-    ghost from_gives = { λ count fault. fault ≡ count_fault count };
+    ghost from_gives = { λ count fault. fault ≡ line_fault_of (count_fault count) };
 
     fn from(count: FieldCount) -> LineFault {
         LineFault::at(count.column, Reason::FieldCount)

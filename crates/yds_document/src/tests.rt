@@ -112,3 +112,16 @@ fn fractions_as_they_are_written(rt: HostRuntime) -> Result<(), Fail> {
     assert_eq!(rt; sink.bytes(), b"701+4/6".as_slice());
     Ok(())
 }
+
+/// As many jobs as a document holds: with ample memory all are read, on plain lines and on others.
+#[test]
+fn four_thousand_jobs_are_read(rt: HostRuntime) -> Result<(), Fail> {
+    let mut text = String::new(rt.alloc());
+    for job in 0..2_000 {
+        write!(text, "job  a{job} 0 4 8\njob b{job} 0 4 8\n")?;
+    }
+    assert!(rt; text.len() <= MAX_BYTES);
+    let document = read_document(rt.alloc(), RandomState::new(&rt)?, text.as_bytes())?;
+    assert_eq!(rt; document.instance.rows().len(), 4_000);
+    Ok(())
+}

@@ -6,13 +6,12 @@ ghost use Rattle.yds_model.specs.Entry.{TicksEntry};
 ghost use Rattle.yds_model.specs.Fields.{no_field};
 ghost use Rattle.yds_model.specs.Reading.{TicksLine, read_ticks};
 ghost use Rattle.yds_text.specs.Read.{field_read};
-ghost use Rattle.yds_document.specs.Draft.{IsDraft, Reads, Takes};
+ghost use Rattle.yds_document.specs.Draft.{IsDraft, ReadsFields, Takes};
 ghost use Rattle.yds_document.specs.Fields.{Gives};
 
 use crate::draft::Draft;
 use crate::field_fault::FieldFault;
 use crate::fields::small_in;
-use crate::line_fault::LineFault;
 use yds_model::limits::MAX_TICKS;
 use yds_text::{Field, Fields, one_field};
 
@@ -21,11 +20,11 @@ pub(crate) fn read<'a>(
     draft: &mut Draft<'a>,
     kind: Field<'a>,
     fields: Fields<'a>,
-) -> Result<(), LineFault>
+) -> Result<(), FieldFault>
     requires kept { IsDraft draft.old }
     requires first { draft.old.ticks ≡ None }
     ensures kept { OnOk result (IsDraft draft.new) }
-    ensures reads { Reads TicksLine (field_read kind.entry ∷ fields.entry.fields) result draft.old draft.new }
+    ensures reads { ReadsFields TicksLine (field_read kind.entry ∷ fields.entry.fields) result draft.old draft.new }
 {
     let ticks = one_field(kind, fields)?;
     let ticks = ticks_in(ticks)?;
