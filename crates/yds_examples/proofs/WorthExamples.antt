@@ -6,6 +6,8 @@ use Rattle.yds_laws.specs.AdmissionLaws.{IsForced}
 use Rattle.yds_laws.proofs.Forced.{refusals_are_forced}
 use Rattle.yds_texts.specs.CurveText.{LeastCurve, HoldsCurve}
 use Rattle.yds_texts.proofs.CurveText.{curves_are_least}
+use Rattle.yds_examples.proofs.Tests.{proved}
+use Rattle.yds_examples.proofs.TestedSchedules.{feasible_at}
 use Rattle.yds_examples.proofs.ThreeJobs.{jobs, slots, third}
 use Rattle.yds_examples.proofs.CurveExamples.{bend, answer, five, feasible}
 use Rattle.yds_texts.specs.AdmitText.{ReadAdmission, HoldsAdmission}
@@ -40,6 +42,15 @@ break_left_out input text document same curve =
 -- One of no break tells nothing.
 no_breaks : (input text : List ℕ) (document : Document) → LeastCurve input text document [] → ⊥
 no_breaks input text document curve = absurd (omega (arith, curve.some))
+
+-- Without jobs nothing is above any speed, so a break at 1 beside that at 0 is none: behind it nothing leaves the line.
+no_bend : (input text : List ℕ) (document : Document) → document.jobs ≡ [] →
+    LeastCurve input text document (bend (of_whole 0) (of_whole 0) ∷ bend (of_whole 1) (of_whole 0) ∷ []) → ⊥
+no_bend input text document none curve =
+    let leaves = curve.bends 0 (of_whole 2) (omega arith) (omega arith) (omega arith) in
+    let least : IsLeastExcess [] 2 1 leaves.excess = subst (λ all. IsLeastExcess all 2 1 leaves.excess) none leaves.least in
+    let nothing : numerator leaves.excess ≡ 0 = omega (arith, least.least 1 [] (omega arith) (proved (feasible_at [] 1 []) refl)) in
+    leaves.off_line (omega (arith, ap (λ n. n * 1) nothing))
 
 -- # `admit`
 

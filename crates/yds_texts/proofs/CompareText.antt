@@ -1,5 +1,5 @@
 -- What the answer of `compare` is worth: it ends as `round` does and tells the same energy of a plan, and no policy's energy is less.
-use Rattle.yds_model.proofs.Common.{lowest_is_lowest, scale_exists, IsLowest, Job, All-map, length-map, ◌≡◌, ℕ, ◌*◌, ◌≤◌, length, Bool, true, false, List, [], ◌∷◌, ◌++◌, Some, Result, Ok, Err, sym, ap, subst, ◌∙◌, append_assoc, inl, inr, mul-pos, codes, decimal, flat_map, zip, All, Fraction, WrittenSlot, WholeSlot, AtEachScale, slots_at, Piece, Point, IsTable, hull_multiple, IsPlan, IsRounding, IsRunAt, average_rate, optimal_available, Document, Fault, reading, line, fraction_text, canonical_text, Side, Spends, TooSlowFor, IsSide, Spent, IsSpent, in_parts, all_time_at, side_lines, rounded_line, ComparedAnswer, CompareAnswer, TooSlowAnswer, RoundedAnswer, RoundAnswer, AskRound, AskCompare, OfDocument, OnPoints, AnswersReading, UnlessTooLong, is_too_long, AnswersRequest}
+use Rattle.yds_model.proofs.Common.{lowest_is_lowest, scale_exists, top_of, CanServe, IsLowest, Job, All-map, length-map, ◌≡◌, ℕ, ◌*◌, ◌≤◌, length, Bool, true, false, List, [], ◌∷◌, ◌++◌, Some, Result, Ok, Err, sym, ap, subst, ◌∙◌, append_assoc, inl, inr, mul-pos, codes, decimal, flat_map, zip, All, Fraction, WrittenSlot, WholeSlot, AtEachScale, slots_at, Piece, Point, IsTable, hull_multiple, IsPlan, IsRounding, IsRunAt, average_rate, optimal_available, Document, Fault, reading, line, fraction_text, canonical_text, Side, Spends, TooSlowFor, IsSide, Spent, IsSpent, in_parts, all_time_at, side_lines, rounded_line, ComparedAnswer, CompareAnswer, TooSlowAnswer, RoundedAnswer, RoundAnswer, AskRound, AskCompare, OfDocument, OnPoints, AnswersReading, UnlessTooLong, is_too_long, AnswersRequest}
 use Rattle.yds_model.specs.declared.reason.Reason.{Reason}
 use Rattle.yds_model.specs.declared.status.Status.{Status}
 use Rattle.yds_model.specs.declared.status.Status.TheVariants.{Done, No}
@@ -135,6 +135,13 @@ done_and_slow : (document : Document) (grid : ℕ) (text other : List ℕ) (stat
 done_and_slow document grid text other status end compared slow =
     (too_slow_is_exact.first document.jobs document.points slow.slots slow.level slow.others slow.plan).0 slow.too_fast
     ((too_slow_is_exact.none document.jobs document.points compared.planned compared.levels compared.plan).0 compared.fast_enough)
+
+-- a comparison says no where no schedule stays at or below the top speed
+pub compare_refuses : (document : Document) (grid : ℕ) (text : List ℕ) (status : Status) → CompareAnswer document grid text status → (CanServe (top_of document.points) document.jobs → ⊥) →
+    status ≡ No
+compare_refuses document grid text status (inl slow) unserved = slow.ended
+compare_refuses document grid text status (inr compared) unserved =
+    absurd (unserved ((too_slow_is_exact.none document.jobs document.points compared.planned compared.levels compared.plan).0 compared.fast_enough))
 
 -- the answers about a document
 ends_alike : (document : Document) (grid : ℕ) (text other : List ℕ) (status end : Status) → CompareAnswer document grid text status → RoundAnswer document other end → status ≡ end

@@ -7,7 +7,8 @@ use Rattle.yds_laws.proofs.CurveLine.{curve_is_straight}
 use Rattle.yds_laws.proofs.LeastAbove.{levels_tell_least_excess}
 use Rattle.yds_laws.proofs.Plans.{plan_falls}
 use Rattle.yds_laws.proofs.SameSpeed.{least_same, above_same}
-use Rattle.yds_texts.specs.CurveText.{bend_at, speed_at, as_quotient, IsLeastAbove, GoesStraight, CurvesAreLeast, no_bend}
+use Rattle.yds_texts.specs.CurveText.{bend_at, speed_at, as_quotient, IsLeastAbove, GoesStraight, LeavesLine, CurvesAreLeast, no_bend}
+use Rattle.yds_texts.proofs.CurveBends.{leaves_line}
 
 -- # Values
 
@@ -165,6 +166,29 @@ module _ (jobs : List Job) (slots : List WrittenSlot) (levels : List Level) (pla
             })));
       }
 
+  -- the level whose speed a break has
+  speed_of_level : (i : ℕ) → i < length levels →
+      numerator (speed_at breaks (i + 1)) * (level_at levels (length levels - 1 - i)).length ≡ (level_at levels (length levels - 1 - i)).work * (speed_at breaks (i + 1)).den
+  speed_of_level i within =
+      rw add-one (subst (λ x. numerator x * (level_at levels (length levels - 1 - i)).length ≡ (level_at levels (length levels - 1 - i)).work * x.den)
+      (sym (speed_is (suc i) (omega (arith, within)))) (value_at (suc i) (omega (arith, within))).same)
+
+  leaves : (i : ℕ) (speed : Fraction) → i + 1 < suc (length levels) → 1 ≤ speed.den → IsLess (speed_at breaks (i + 1)) speed →
+      LeavesLine jobs (bend_at breaks i) (bend_at breaks (i + 1)) speed
+  leaves i speed within some beyond =
+      let slow = as_quotient (speed_at breaks i) in
+      let bend = as_quotient (speed_at breaks (i + 1)) in
+      let first : i < suc (length levels) = omega (arith, within) in
+      let excess = excess_of levels (as_quotient speed) in
+      record {
+        excess = excess;
+        least = levels_tell_least_excess jobs slots levels (numerator speed) speed.den plan some;
+        off_line = subst (λ one. IsOnLine slow bend (as_quotient speed) one (bend_at breaks (i + 1)).excess excess → ⊥) (excess_at i first)
+            (subst (λ other. IsOnLine slow bend (as_quotient speed) (excess_of levels slow) other excess → ⊥) (excess_at (i + 1) within)
+            (leaves_line jobs slots levels slow bend (as_quotient speed) (length levels - 1 - i) plan (least_at i first).is_speed (least_at (i + 1) within).is_speed some
+            (rising_at i within) beyond (omega (arith, within)) (speed_of_level i (omega (arith, within)))));
+      }
+
   none_above : (i : ℕ) (speed : Fraction) → i + 1 ≡ suc (length levels) → 1 ≤ speed.den → IsAtMost (speed_at breaks i) speed →
       IsLeastAbove jobs speed (of_whole 0)
   none_above i speed last some from =
@@ -199,6 +223,7 @@ curves_are_least input text answers =
         least = All-from_get_or (λ bend. IsLeastAbove jobs bend.speed bend.excess) breaks no_bend (λ i within.
             least_at jobs answer.slots levels plan i (omega (arith, within, count)));
         straight = λ i speed within. goes_straight jobs answer.slots levels plan i speed (omega (arith, within, count));
+        bends = λ i speed within. leaves jobs answer.slots levels plan i speed (omega (arith, within, count));
         none_above = λ i speed last. none_above jobs answer.slots levels plan i speed (omega (arith, last, count));
       },
     )

@@ -16,6 +16,7 @@ pub mod RoundText
 pub mod RunText
 pub mod JudgedText
 pub mod AdmitText
+pub mod CurveBends
 pub mod CurveText
 pub mod OneLevel
 pub mod TaskLimits

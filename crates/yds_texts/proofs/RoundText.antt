@@ -1,6 +1,6 @@
 -- What the answer of `round` is worth: its text is read again as the document with the least energy, and `audit` answers it with
 -- 'feasible', with the points and without. Where it says no, no schedule stays at or below the top speed.
-use Rattle.yds_model.proofs.Common.{◌≡◌, ℕ, ◌≤◌, List, [], ◌∷◌, length, Some, Ok, refl, sym, arith, inl, inr, codes, Point, IsTable, Feasible, Document, reading, ArePoints, RoundedAnswer, RoundAnswer, AuditAnswer, AskRound, AskAuditOnPoints, OfDocument, OnPoints, AnswersRequest, table_verdict_is_exact}
+use Rattle.yds_model.proofs.Common.{◌≡◌, ℕ, ◌≤◌, List, [], ◌∷◌, length, Some, Ok, refl, sym, arith, inl, inr, codes, Point, IsTable, top_of, CanServe, Feasible, Document, reading, ArePoints, RoundedAnswer, RoundAnswer, AuditAnswer, AskRound, AskAuditOnPoints, OfDocument, OnPoints, AnswersRequest, table_verdict_is_exact}
 use Rattle.yds_model.specs.declared.limits.TheConstants.{MAX_JOBS}
 use Rattle.yds_model.specs.declared.status.Status.{Status}
 use Rattle.yds_model.specs.declared.status.Status.TheVariants.{Done, No}
@@ -109,6 +109,12 @@ slow_answer input text document read (inl slow) = (
   },
 )
 slow_answer input text document read (inr answer) = absurd (done_not_no (sym answer.ended))
+
+-- it says no where no schedule stays at or below the top speed
+pub round_refuses : (document : Document) (text : List ℕ) (status : Status) → RoundAnswer document text status → (CanServe (top_of document.points) document.jobs → ⊥) → status ≡ No
+round_refuses document text status (inl slow) unserved = slow.ended
+round_refuses document text status (inr answer) unserved =
+    absurd (unserved ((too_slow_is_exact.none document.jobs document.points answer.planned answer.levels answer.plan).0 answer.rounded.fast_enough))
 
 -- the law of it
 pub refused_is_too_slow : RefusedIsTooSlow

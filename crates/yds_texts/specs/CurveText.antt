@@ -36,9 +36,15 @@ pub record GoesStraight (jobs : List Job) (slow fast : Break) (speed : Fraction)
   pub least : IsLeastAbove jobs speed excess
   pub on_line : IsOnLine (as_quotient slow.speed) (as_quotient speed) (as_quotient fast.speed) slow.excess excess fast.excess
 
+-- Above a speed beyond the second of two neighbouring breaks the least excess isn't on the line through both: the curve bends there.
+pub record LeavesLine (jobs : List Job) (slow bend : Break) (speed : Fraction) : Type 0 where
+  pub excess : Fraction
+  pub least : IsLeastAbove jobs speed excess
+  pub off_line : IsOnLine (as_quotient slow.speed) (as_quotient bend.speed) (as_quotient speed) slow.excess bend.excess excess → ⊥
+
 -- The curve of least excess: the input is a document, and what was written are the breaks of its jobs' curve, from the speed 0 on, by rising
 -- speeds. At each break the excess is the least of any feasible schedule, between two neighbours the least excess goes in a
--- straight line, and above the last break it is 0.
+-- straight line, behind which it bends, and above the last break it is 0.
 pub record LeastCurve (input text : List ℕ) (document : Document) (breaks : List Break) : Type 0 where
   pub read : reading input ≡ Ok document
   pub written : text ≡ flat_map break_line breaks
@@ -49,6 +55,8 @@ pub record LeastCurve (input text : List ℕ) (document : Document) (breaks : Li
   pub least : All (λ bend. IsLeastAbove document.jobs bend.speed bend.excess) breaks
   pub straight : (i : ℕ) (speed : Fraction) → i + 1 < length breaks → 1 ≤ speed.den → IsAtMost (speed_at breaks i) speed →
       IsAtMost speed (speed_at breaks (i + 1)) → GoesStraight document.jobs (bend_at breaks i) (bend_at breaks (i + 1)) speed
+  pub bends : (i : ℕ) (speed : Fraction) → i + 1 < length breaks → 1 ≤ speed.den → IsLess (speed_at breaks (i + 1)) speed →
+      LeavesLine document.jobs (bend_at breaks i) (bend_at breaks (i + 1)) speed
   pub none_above : (i : ℕ) (speed : Fraction) → i + 1 ≡ length breaks → 1 ≤ speed.den → IsAtMost (speed_at breaks i) speed →
       IsLeastAbove document.jobs speed (of_whole 0)
 
