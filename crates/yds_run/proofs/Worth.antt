@@ -12,11 +12,11 @@ use Rattle.yds_texts.specs.RoundText.{HoldsLeastEnergy, HoldsTooSlow}
 use Rattle.yds_texts.specs.RunText.{HoldsAverageRate, HoldsOptimalAvailable}
 use Rattle.yds_texts.specs.TaskLaws.{HoldsExpansion}
 use Rattle.yds_texts.proofs.AdmitText.{admission_held}
-use Rattle.yds_texts.proofs.CompareText.{comparison_holds, compared_is_too_slow}
+use Rattle.yds_texts.proofs.CompareText.{comparison_holds, compare_refuses, compared_is_too_slow}
 use Rattle.yds_texts.proofs.CurveText.{curves_are_least}
 use Rattle.yds_texts.proofs.JudgedText.{judgements_tell_proper, verdicts_tell_feasible}
 use Rattle.yds_texts.proofs.PlanText.{plans_hold_the_headline}
-use Rattle.yds_texts.proofs.RoundText.{rounded_holds_least_energy, refused_is_too_slow}
+use Rattle.yds_texts.proofs.RoundText.{rounded_holds_least_energy, round_refuses, refused_is_too_slow}
 use Rattle.yds_texts.proofs.RunText.{runs_are_read}
 use Rattle.yds_texts.proofs.TaskTexts.{expansions_are_read}
 use Rattle.yds_run.specs.Words.{asked}
@@ -47,14 +47,21 @@ module _ (words : List (List ℕ)) (input text : List ℕ) (status : Status) (an
   plan_done : (document : Document) → words ≡ codes "plan" ∷ [] → IsInputOf document input → status ≡ statuses.Done
   plan_done document plan given = (about AskPlan document (ap asked plan) given).ended
 
-  -- where there are points, one to `round` and to `compare` says yes or no
+  -- where there are points, so is one to `round` and to `compare`
+  round_answer : (document : Document) → asked words ≡ Some (OfDocument AskRound) → IsInputOf document input → 1 ≤ length document.points → RoundAnswer document text status
+  round_answer document asks given some = answer_on_points (RoundAnswer document) document.points text status some (about AskRound document asks given)
+
+  compare_answer : (grid : ℕ) (document : Document) → asked words ≡ Some (OfDocument (AskCompare grid)) → IsInputOf document input → 1 ≤ length document.points
+      → CompareAnswer document grid text status
+  compare_answer grid document asks given some =
+      answer_on_points (CompareAnswer document grid) document.points text status some (about (AskCompare grid) document asks given)
+
+  -- it says yes or no
   round_judged : (document : Document) → asked words ≡ Some (OfDocument AskRound) → IsInputOf document input → 1 ≤ length document.points → IsJudged status
-  round_judged document asks given some =
-      round_ends document text status (answer_on_points (RoundAnswer document) document.points text status some (about AskRound document asks given))
+  round_judged document asks given some = round_ends document text status (round_answer document asks given some)
 
   compare_judged : (grid : ℕ) (document : Document) → asked words ≡ Some (OfDocument (AskCompare grid)) → IsInputOf document input → 1 ≤ length document.points → IsJudged status
-  compare_judged grid document asks given some =
-      compare_ends document grid text status (answer_on_points (CompareAnswer document grid) document.points text status some (about (AskCompare grid) document asks given))
+  compare_judged grid document asks given some = compare_ends document grid text status (compare_answer grid document asks given some)
 
   pub answers_are_worth : IsWorth words input text status
   answers_are_worth = record {
@@ -84,9 +91,11 @@ module _ (words : List (List ℕ)) (input text : List ℕ) (status : Status) (an
     rounded_or_not = λ document round given some. round_judged document (ap asked round) given some;
     rounded = λ document round given some served. served_ends document input text status given (round_judged document (ap asked round) given some)
         (λ no. holds _ _ HoldsTooSlow refused_is_too_slow (ap asked round) no) served;
+    not_rounded = λ document round given some unserved. round_refuses document text status (round_answer document (ap asked round) given some) unserved;
     compared_or_not = λ grid document compare given some. compare_judged grid document compare given some;
     compared = λ grid document compare given some served. served_ends document input text status given (compare_judged grid document compare given some)
         (λ no. holds _ _ HoldsTooSlow (compared_is_too_slow grid) compare no) served;
+    not_compared = λ grid document compare given some unserved. compare_refuses document grid text status (compare_answer grid document compare given some) unserved;
     average_rate_run = λ grid document avr given. (about (AskAverageRate grid) document avr given).ended;
     optimal_available_run = λ grid document oa given. (about (AskOptimalAvailable grid) document oa given).ended;
     curve_told = λ document curve given. (about AskCurve document (ap asked curve) given).ended;

@@ -74,15 +74,19 @@ pub record IsWorth (words : List (List ℕ)) (input text : List ℕ) (status : S
   pub audited : (document : Document) → words ≡ codes "audit" ∷ [] → IsInputOf document input → (status ≡ statuses.Done) ⊎ (status ≡ statuses.No)
   pub audited_on_points : (document : Document) → words ≡ codes "audit" ∷ codes "--points" ∷ [] → IsInputOf document input
       → 1 ≤ length document.points → (status ≡ statuses.Done) ⊎ (status ≡ statuses.No)
-  -- Where there are points `round` and `compare` are done or say no, and they are done where the top point's speed suffices for the jobs.
+  -- Where there are points `round` and `compare` are done where the top point's speed suffices for the jobs, and say no where it doesn't.
   pub rounded_or_not : (document : Document) → words ≡ codes "round" ∷ [] → IsInputOf document input
       → 1 ≤ length document.points → (status ≡ statuses.Done) ⊎ (status ≡ statuses.No)
   pub rounded : (document : Document) → words ≡ codes "round" ∷ [] → IsInputOf document input
       → 1 ≤ length document.points → CanServe (top_of document.points) document.jobs → status ≡ statuses.Done
+  pub not_rounded : (document : Document) → words ≡ codes "round" ∷ [] → IsInputOf document input
+      → 1 ≤ length document.points → (CanServe (top_of document.points) document.jobs → ⊥) → status ≡ statuses.No
   pub compared_or_not : (grid : ℕ) (document : Document) → asked words ≡ Some (OfDocument (AskCompare grid)) → IsInputOf document input
       → 1 ≤ length document.points → (status ≡ statuses.Done) ⊎ (status ≡ statuses.No)
   pub compared : (grid : ℕ) (document : Document) → asked words ≡ Some (OfDocument (AskCompare grid)) → IsInputOf document input
       → 1 ≤ length document.points → CanServe (top_of document.points) document.jobs → status ≡ statuses.Done
+  pub not_compared : (grid : ℕ) (document : Document) → asked words ≡ Some (OfDocument (AskCompare grid)) → IsInputOf document input
+      → 1 ≤ length document.points → (CanServe (top_of document.points) document.jobs → ⊥) → status ≡ statuses.No
   -- The policies, the curve, both reports and the admission of such a document are done.
   pub average_rate_run : (grid : ℕ) (document : Document) → asked words ≡ Some (OfDocument (AskAverageRate grid)) → IsInputOf document input
       → status ≡ statuses.Done
