@@ -29,3 +29,16 @@ fn the_third_job_is_refused(rt: HostRuntime) -> Result<(), Fail> {
     );
     Ok(())
 }
+
+/// With ample memory the room that was cut before the first two jobs is cut anew for the third: under the top speed 1 it fits too.
+#[test]
+fn a_job_after_the_room_was_cut(rt: HostRuntime) -> Result<(), Fail> {
+    let rows = [
+        JobRow::new(4, 10, 5),
+        JobRow::new(1, 7, 2),
+        JobRow::new(7, 15, 6),
+    ];
+    let admission = admit(rt.alloc(), &rows, 1)?;
+    assert_eq!(rt; admission.taken.as_slice(), [0, 1, 2].as_slice());
+    Ok(())
+}

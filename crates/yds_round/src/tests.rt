@@ -2,6 +2,7 @@ use super::*;
 use std::test::Fail;
 use yds_fraction::Amount;
 use yds_model::JobRow;
+use yds_model::limits::MAX_JOBS;
 use yds_plan::plan;
 use yds_table::{Point, Table};
 
@@ -37,5 +38,25 @@ fn a_top_that_is_too_slow(rt: HostRuntime) -> Result<(), Fail> {
         top: 3,
     };
     assert_eq!(rt; refused, Some(fault));
+    Ok(())
+}
+
+/// As many levels as a document's jobs have at most: with ample memory their plan is rounded. Below the speed 2 a job takes one slot and
+/// the energy of half its work, and above it, below 4, two slots and its work less 1,000.
+#[test]
+fn four_thousand_levels_are_rounded(rt: HostRuntime) -> Result<(), Fail> {
+    let mut rows = Vec::new(rt.alloc());
+    for job in 0..4_000 {
+        rows.push(JobRow::new(1_000 * job, 1_000 * job + 1_000, job + 1))?;
+    }
+    assert!(rt; rows.len() <= MAX_JOBS);
+    let mut table = Table::new(rt.alloc(), Point::new(0, 0))?;
+    table.push(Point::new(2, 1))?;
+    table.push(Point::new(4, 3))?;
+    let planned = plan(rt.alloc(), &rows)?;
+    assert_eq!(rt; planned.certificate.levels().len(), 4_000);
+    let rounded = round(rt.alloc(), &rows, &planned, &table)?;
+    assert_eq!(rt; rounded.schedule.slots().len(), 5_999);
+    assert_eq!(rt; rounded.energy, Amount::from_whole(5_001_500));
     Ok(())
 }
