@@ -6,7 +6,7 @@
 # Environment: YDS (the program; build/yds_cli beside this folder), CC (cc), CXX (c++). Each table's first lines say what it shows. Times
 # are milliseconds of the processor, the least of the runs; those of an empty document, which are the start of a process, are taken
 # off before growth and ratios are told. The last line is 'N passed, M failed': a document fails where the two programs' plans aren't the
-# same text. The exit status is 1 where M isn't 0.
+# same text, or where the program asks for more memory than it may. The exit status is 1 where M isn't 0.
 
 here=$(cd "$(dirname "$0")" && pwd)
 YDS=${YDS:-$here/../build/yds_cli}
@@ -20,6 +20,7 @@ trap 'rm -rf "$work"' EXIT
 "${CC:-cc}" -std=gnu11 -O2 -Wall -o "$work/measure" "$here/../robustness/measure.c" || exit 1
 "${CXX:-c++}" -std=c++17 -O2 -Wall -o "$work/textbook" "$here/textbook.cpp" || exit 1
 cd "$work" || exit 1
+most=16384
 kinds="drawn short long nested rising together coarse cut"
 for kind in $kinds; do
 	for jobs in 500 1000 4000; do
@@ -81,6 +82,32 @@ for words in plan audit check round report "report --json" curve "avr --grid 100
 					few = ms[2] - ms[1] > 0.01 ? ms[2] - ms[1] : 0.01
 					printf "%-24s %-10s %9.2f %9.2f %9.2f%s\n", words, kind, ms[2], ms[3], log((ms[3] - ms[1]) / few) / log(8), wrong ? "  not done" : ""
 				}'
+	done
+done
+
+cat <<TEXT
+
+Room for 4,000 jobs: the least kilobytes of memory, its own code among them, in which the program ends well. More than $most are a failure
+words                    kind       kilobytes
+TEXT
+for words in plan round "admit 100"; do
+	for kind in $kinds; do
+		cp $kind.4000 in.4000
+		[ "$words" = round ] && awk '$5 > 4000 { $5 = 1 + $5 % 1000 } 1' points $kind.4000 >in.4000
+		few=0
+		many=$most
+		while [ $((many - few)) -gt 64 ]; do
+			middle=$(((few + many) / 2))
+			# shellcheck disable=SC2086
+			if (ulimit -v $middle && "$YDS" $words <in.4000 >text 2>&1); then many=$middle; else few=$middle; fi
+		done
+		if [ "$many" = "$most" ]; then
+			failed=$((failed + 1))
+			many="more than $most"
+		else
+			passed=$((passed + 1))
+		fi
+		printf '%-24s %-10s %9s\n' "$words" $kind "$many"
 	done
 done
 echo
