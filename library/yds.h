@@ -56,7 +56,7 @@ enum yds_status {
  *
  *   - No pointer is null, not even one to no bytes or no words.
  *   - words, input and needed, and the bytes of each word, can be read whole, room and needed can be written whole, and no other thread writes any
- *     of them meanwhile.
+ *     of them meanwhile. words and needed are aligned as C asks. What stands in the room before is of no account.
  *   - room and needed overlap neither each other nor anything that is read. words, input and the words' bytes may overlap each other.
  *   - Each length in bytes is below 2^63, that of the array of words too.
  *   - malloc, realloc and free are from one allocator and align as C asks. The call isn't made by a signal handler, nor in the child of a fork
