@@ -2,9 +2,9 @@
 use Rattle.yds_model.proofs.Common.{◌≡◌, ◌≢◌, ◌++◌, ℕ, List, [], Some, None, ap, refl, subst, sym, ◌∙◌, AnswersRequest}
 use Rattle.yds_model.specs.declared.status.Status.{Status}
 use Rattle.yds_model.specs.declared.status.Status.TheVariants as statuses
-use Rattle.yds_run.specs.Words.{asked}
-use Rattle.yds_run.specs.Endings.{IsWhole, Writes, WritesWhole}
-use Rattle.yds_run.proofs.Complete.{whole_outcome}
+use Rattle.yds_words.specs.Words.{asked}
+use Rattle.yds_answer.specs.Endings.{IsWhole, Writes, WritesWhole}
+use Rattle.yds_answer.proofs.Complete.{whole_outcome}
 use Rattle.yds_run.proofs.Worth.{answers_are_worth}
 use Rattle.yds_c.specs.Answered.{IsAnswer}
 

@@ -3,8 +3,8 @@ use Rattle.std.specs.Prelude.{◌≡◌, ℕ, List}
 use Rattle.yds_model.specs.declared.status.Status.{Status}
 use Rattle.yds_model.specs.Answer.{AnswersRequest}
 use Rattle.yds_model.specs.Status.{status_code}
-use Rattle.yds_run.specs.Words.{asked}
-use Rattle.yds_run.specs.Endings.{IsWhole}
+use Rattle.yds_words.specs.Words.{asked}
+use Rattle.yds_answer.specs.Endings.{IsWhole}
 use Rattle.yds_run.specs.Worth.{IsWorth}
 use Rattle.yds_c.specs.Put.{IsPut}
 

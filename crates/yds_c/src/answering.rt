@@ -1,5 +1,5 @@
 ghost use Rattle.std.specs.Prelude.{IfOk};
-ghost use Rattle.yds_run.specs.Words.{words_of};
+ghost use Rattle.yds_words.specs.Words.{words_of};
 ghost use Rattle.yds_c.specs.Answered.{IsAnswer};
 
 use crate::text::Text;

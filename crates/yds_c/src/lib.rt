@@ -8,6 +8,7 @@
 #![tactic(auto)]
 
 ghost use Rattle.std.specs.Prelude.{◌≡◌, ◌≢◌, ◌↔◌, ◌⊎◌};
+ghost use Rattle.yds_model.specs.Status.{status_code};
 ghost use Rattle.yds_c.specs.Given.{bytes_of, AreText};
 ghost use Rattle.yds_c.specs.Answered.{IsAnswered, IsUntouched};
 
@@ -23,12 +24,7 @@ use crate::room::put;
 use crate::words::{are_text, owned};
 use std::alloc::Global;
 use yds_model::Status;
-
-/// What is returned where a word isn't UTF-8, as the program ends with it.
-const NOT_TEXT: u8 = 7;
-
-/// What is returned for want of memory, as the program ends with it.
-const NO_MEMORY: u8 = 6;
+use yds_words::codes::NO_WORDS;
 
 /// Answers the words of a command line from the input. Returned is the program's status. The room gets the text, if it holds it
 /// whole, and `needed` the number of its bytes, whether or not the room holds them.
@@ -45,31 +41,31 @@ pub extern "C" fn yds_answer(
     needed: &mut usize,
 ) -> u8
     // Words that aren't text are told as the program tells them, before any memory is taken.
-    ensures not_text { (result ≡ NOT_TEXT) ↔ ¬ AreText words.now }
+    ensures not_text { (result ≡ NO_WORDS) ↔ ¬ AreText words.now }
 
     // Without an answer there is nothing in the room.
-    ensures nothing { (result ≡ NOT_TEXT) ⊎ (result ≡ NO_MEMORY) → IsUntouched room.old room.new needed.new }
+    ensures nothing { (result ≡ NO_WORDS) ⊎ (result ≡ status_code Status.Memory) → IsUntouched room.old room.new needed.new }
 
     // Any other return is the status of an answer. A read or a write that failed isn't among them.
-    ensures answer { result ≢ NOT_TEXT → result ≢ NO_MEMORY
+    ensures answer { result ≢ NO_WORDS → result ≢ status_code Status.Memory
         → IsAnswered (bytes_of words.now) input.now result room.old room.new needed.new }
 {
     *needed = 0;
     if !are_text(words) {
-        return NOT_TEXT;
+        return NO_WORDS;
     }
     let Ok(words) = owned(alloc, words) else {
-        return NO_MEMORY;
+        return Status::Memory.code();
     };
     let Ok(keys) = hash_keys(first_key, second_key) else {
-        return NO_MEMORY;
+        return Status::Memory.code();
     };
     match answer_in_memory(alloc, keys, &words, input) {
         Ok(answer) => {
             *needed = put(answer.text.bytes(), room);
             answer.status.code()
         }
-        Err(_) => NO_MEMORY,
+        Err(_) => Status::Memory.code(),
     }
 }
 

@@ -1,6 +1,6 @@
 ghost use Rattle.std.specs.Prelude.{◌≡◌, ◌↔◌, IsTrue, IfOk};
 ghost use Rattle.std.specs.Str.{IsUtf8};
-ghost use Rattle.yds_run.specs.Words.{words_of};
+ghost use Rattle.yds_words.specs.Words.{words_of};
 ghost use Rattle.yds_c.specs.Given.{bytes_of, AreText};
 
 use std::alloc::{AllocError, Global};

@@ -4,8 +4,9 @@ use Rattle.std.specs.declared.io.ErrorKind.{ErrorKind}
 use Rattle.std.specs.declared.io.ErrorKind.TheVariants.{OutOfMemory}
 use Rattle.yds_model.specs.declared.status.Status.TheVariants.{Memory}
 use Rattle.yds_model.specs.Status.{status_code}
+use Rattle.yds_words.specs.declared.codes.TheConstants.{NO_WORDS}
 
--- where the words of the command line can't be taken, by the cause: that of want of memory, or 7, as for a word that is no text
+-- where the words of the command line can't be taken, by the cause: that of want of memory, or `NO_WORDS`, as for a word that is no text
 abbrev pub code_without_words : ErrorKind → ℕ
 code_without_words OutOfMemory = status_code Memory
-code_without_words _ = 7
+code_without_words _ = NO_WORDS

@@ -2,7 +2,7 @@
 //!
 //! It stands on `yds_run`, whose `run` does what the words ask for and answers with a status, and on
 //! `yds_port` for the two streams. It carries the promise that the program ends with the number of that
-//! status, and where the words can't be taken with that of want of memory or, for another cause, with 7.
+//! status, and where the words can't be taken with that of want of memory or, for another cause, with `NO_WORDS`.
 //! Nothing is written to standard error.
 #![tactic(auto)]
 
@@ -20,6 +20,7 @@ use std::{env, io};
 use yds_model::Status;
 use yds_port::{StdSink, StdSource};
 use yds_run::run;
+use yds_words::codes::NO_WORDS;
 
 /// How many bytes of the output are gathered before they are written, at most.
 const OUTPUT_BUFFER: usize = 65_536;
@@ -72,6 +73,6 @@ fn exit_code(ended: Result<Status, ErrorKind>) -> u8
     match ended {
         Ok(status) => status.code(),
         Err(ErrorKind::OutOfMemory) => Status::Memory.code(),
-        Err(_) => 7,
+        Err(_) => NO_WORDS,
     }
 }

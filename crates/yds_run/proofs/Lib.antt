@@ -1,12 +1,4 @@
-pub mod AskedWords
-pub mod SpacedLine
-pub mod Drawn
-pub mod Replied
-pub mod Complete
-pub mod Comments
-pub mod Admitting
-pub mod TooSlow
-pub mod Compared
+mod AskedQuestion
 pub mod Reported
 pub mod Ended
 pub mod Worth

@@ -19,11 +19,11 @@ use Rattle.yds_texts.proofs.PlanText.{plans_hold_the_headline}
 use Rattle.yds_texts.proofs.RoundText.{rounded_holds_least_energy, round_refuses, refused_is_too_slow}
 use Rattle.yds_texts.proofs.RunText.{runs_are_read}
 use Rattle.yds_texts.proofs.TaskTexts.{expansions_are_read}
-use Rattle.yds_run.specs.Words.{asked}
-use Rattle.yds_run.specs.Endings.{IsWhole, WritesWhole, AnswersBytes}
+use Rattle.yds_words.specs.Words.{asked}
+use Rattle.yds_answer.specs.Endings.{IsWhole, WritesWhole, AnswersBytes}
 use Rattle.yds_report.specs.TableText.{HoldsTable}
 use Rattle.yds_run.specs.Worth.{IsWorth, IsInputOf}
-use Rattle.yds_run.proofs.Complete.{whole_outcome}
+use Rattle.yds_answer.proofs.Complete.{whole_outcome}
 use Rattle.yds_run.proofs.Reported.{report_held, table_held}
 use Rattle.yds_run.proofs.Ended.{answer_about, answer_of_tasks, answer_on_points, audit_ends, check_ends, round_ends, compare_ends, served_ends}
 

@@ -3,7 +3,7 @@ use Rattle.yds_model.proofs.Common.{◌≡◌, ℕ, List, [], ◌∷◌, Option,
 use Rattle.yds_model.specs.declared.status.Status.{Status}
 use Rattle.yds_model.specs.declared.status.Status.TheVariants as statuses
 use Rattle.yds_texts.specs.PlanText.{HoldsHeadline}
-use Rattle.yds_run.specs.Endings.{IsWhole}
+use Rattle.yds_answer.specs.Endings.{IsWhole}
 use Rattle.yds_run.specs.Worth.{IsInputOf, IsWorth}
 
 -- # A field of the clause

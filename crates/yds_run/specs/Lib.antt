@@ -1,16 +1,1 @@
-pub mod Words
-pub mod Endings
-pub mod WithPoints
-pub mod Told
-pub mod VerdictLine
-pub mod Plan
-pub mod Check
-pub mod Report
-pub mod Round
-pub mod ReportJson
-pub mod Curve
-pub mod Compare
-pub mod Trial
-pub mod Admit
-pub mod Policies
 pub mod Worth

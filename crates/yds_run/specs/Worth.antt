@@ -20,7 +20,7 @@ use Rattle.yds_texts.specs.PlanText.{HoldsHeadline}
 use Rattle.yds_texts.specs.RoundText.{HoldsLeastEnergy, HoldsTooSlow}
 use Rattle.yds_texts.specs.RunText.{HoldsAverageRate, HoldsOptimalAvailable}
 use Rattle.yds_texts.specs.TaskLaws.{HoldsExpansion}
-use Rattle.yds_run.specs.Words.{asked}
+use Rattle.yds_words.specs.Words.{asked}
 use Rattle.yds_report.specs.TableText.{HoldsTable}
 
 -- The input is within the limits, and is read as this document.

@@ -1,4 +1,4 @@
-ghost use Rattle.std.specs.Prelude.{◌≡◌, ◌≢◌, ◌⊎◌, ◌<◌, ◌≤◌, ℕ, List, length, Some, None, IfSome, MatchResult};
+ghost use Rattle.std.specs.Prelude.{◌≡◌, ◌≢◌, ◌⊎◌, ◌<◌, ◌≤◌, ℕ, List, length, Some, None, IfSome};
 ghost use Rattle.yds_model.specs.declared.limits.TheConstants.{MAX_INPUT};
 ghost use Rattle.std.specs.Io.KnownBytes.{Appends, IsAtEnd};
 ghost use Rattle.yds_model.specs.Answer.{AnswersReading, AnswersQuestion};
@@ -6,32 +6,25 @@ ghost use Rattle.yds_model.specs.Reading.{reading};
 ghost use Rattle.yds_model.specs.Request.{usage_line, OfDocument};
 ghost use Rattle.yds_port.specs.Count.{Rose, next_count};
 ghost use Rattle.yds_document.specs.Documents.{document_view};
-ghost use Rattle.yds_run.specs.Words.{words_of, asked, IsTrial, ReadsInput, question_view, IsAskable};
-ghost use Rattle.yds_run.specs.Endings.{Outcome, IsWhole, CountTells, IsDelivered, Replies, AnswersBytes, AnswersTaken, IsTooLong};
+ghost use Rattle.yds_words.specs.Words.{words_of, asked, IsTrial, ReadsInput, question_view, IsAskable};
+ghost use Rattle.yds_answer.specs.Endings.{Outcome, IsWhole, CountTells, IsDelivered, Replies, AnswersBytes, AnswersTaken, IsTooLong};
 ghost use Rattle.yds_run.specs.Worth.{IsWorth};
 
-use crate::admit::admit_document;
-use crate::answer::Answer;
-use crate::audit::{audit_document, audit_on_points};
-use crate::check::check_document;
-use crate::command::{Command, Question};
-use crate::compare::compare_document;
-use crate::curve::curve_document;
-use crate::deliver::deliver;
-use crate::expand::expand_input;
-use crate::plan::plan_document;
-use crate::policies::{average_rate_document, optimal_available_document};
-use crate::refusal::{RefusedAt, TooLong, Usage};
-use crate::report::report_document;
-use crate::report_json::json_document;
-use crate::round::round_document;
-use crate::trial::try_plan;
 use std::alloc::Global;
 use std::hash::RandomState;
+use yds_answer::{RefusedAt, TooLong, Usage, deliver};
+use yds_answer_jobs::{answer_admit, answer_tasks};
+use yds_answer_plans::{
+    answer_average_rate, answer_curve, answer_optimal_available, answer_plan, answer_report,
+    answer_report_as_json,
+};
+use yds_answer_points::{answer_compare, answer_round};
+use yds_answer_verdicts::{answer_audit, answer_audit_on_points, answer_check, answer_trial};
 use yds_document::{DocFault, Document, read_document};
+use yds_model::Status;
 use yds_model::limits::MAX_INPUT;
-use yds_model::{Memory, Status};
 use yds_port::{ReadAllFault, Sink, Source, read_all};
+use yds_words::{Command, Question};
 
 /// Runs the command that the words name: reads the source to its end, computes the answer, writes its
 /// text and flushes the sink, once. Words that name no command are answered by the usage line, and no memory
@@ -91,8 +84,8 @@ pub fn run<S: Source, K: Sink>(
 {
     match Command::of(words) {
         Some(Command::Document(question)) => answer_input(alloc, keys, question, source, sink),
-        Some(Command::Expand) => expand_input(alloc, keys, source, sink),
-        Some(Command::Trial { seed, jobs }) => reply(try_plan(alloc, seed, jobs), sink),
+        Some(Command::Expand) => answer_tasks(alloc, keys, source, sink),
+        Some(Command::Trial { seed, jobs }) => answer_trial(alloc, seed, jobs, sink),
         None => deliver(&Usage, sink),
     }
 }
@@ -164,31 +157,19 @@ fn answer_document<K: Sink>(
     ensures { Replies K.written K.flushed K.flushes K.faults (AnswersQuestion (question_view question) (document_view document.entry)) result sink.old sink.new }
 {
     match question {
-        Question::Plan => reply(plan_document(alloc, document), sink),
-        Question::Round => reply(round_document(alloc, document), sink),
-        Question::AverageRate { grid } => reply(average_rate_document(alloc, document, grid), sink),
-        Question::OptimalAvailable { grid } => {
-            reply(optimal_available_document(alloc, document, grid), sink)
-        }
-        Question::Check => reply(check_document(alloc, &document), sink),
-        Question::Report { json: false } => reply(report_document(alloc, document), sink),
-        Question::Report { json: true } => reply(json_document(alloc, &document), sink),
-        Question::Curve => reply(curve_document(alloc, &document), sink),
-        Question::Compare { grid } => reply(compare_document(alloc, document, grid), sink),
-        Question::Admit { top } => reply(admit_document(alloc, document, top), sink),
-        // Last what takes no memory.
-        Question::Audit { points: false } => deliver(&audit_document(&document), sink),
-        Question::Audit { points: true } => deliver(&audit_on_points(&document), sink),
-    }
-}
-
-/// Delivers an answer, where memory sufficed for it.
-pub fn reply<A: Answer + Drop, K: Sink>(made: Result<A, Memory>, sink: &mut K) -> Status
-    ensures { MatchResult made (λ answer. IsDelivered K.written K.flushed K.flushes K.faults (A.text answer) (A.ends answer) result sink.old sink.new)
-        (λ error. (result ≡ Status.Memory) × (sink.new ≡ sink.old)) }
-{
-    match made {
-        Ok(answer) => deliver(&answer, sink),
-        Err(Memory) => Status::Memory,
+        Question::Plan => answer_plan(alloc, document, sink),
+        Question::Round => answer_round(alloc, document, sink),
+        Question::AverageRate { grid } => answer_average_rate(alloc, document, grid, sink),
+        Question::OptimalAvailable { grid } => answer_optimal_available(
+            alloc, document, grid, sink,
+        ),
+        Question::Check => answer_check(alloc, document, sink),
+        Question::Audit { points: false } => answer_audit(document, sink),
+        Question::Audit { points: true } => answer_audit_on_points(document, sink),
+        Question::Report { json: false } => answer_report(alloc, document, sink),
+        Question::Report { json: true } => answer_report_as_json(alloc, document, sink),
+        Question::Curve => answer_curve(alloc, document, sink),
+        Question::Compare { grid } => answer_compare(alloc, document, grid, sink),
+        Question::Admit { top } => answer_admit(alloc, document, top, sink),
     }
 }

@@ -1,5 +1,5 @@
 use Rattle.yds_model.proofs.Common.{ap, subst, ◌∙◌}
-use Rattle.yds_run.specs.Words.{words_of}
+use Rattle.yds_words.specs.Words.{words_of}
 use Rattle.yds_c.specs.Answered.{IsAnswer}
 use Rattle.yds_c.specs.Put.{IsPut}
 use Rattle.yds_c.proofs.yds_answer.Goals as goal

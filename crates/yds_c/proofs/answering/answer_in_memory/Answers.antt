@@ -1,5 +1,5 @@
 use Rattle.yds_model.proofs.Common.{ap}
-use Rattle.yds_run.specs.Words.{words_of}
+use Rattle.yds_words.specs.Words.{words_of}
 use Rattle.yds_c.specs.Text.{TextState}
 use Rattle.yds_c.proofs.Answered.{ended_whole, whole_is_answer}
 use Rattle.yds_c.proofs.answering.answer_in_memory.Goals as goal

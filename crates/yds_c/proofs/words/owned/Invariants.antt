@@ -1,5 +1,5 @@
 use Rattle.yds_model.proofs.Common.{◌≡◌, take}
-use Rattle.yds_run.specs.Words.{words_of}
+use Rattle.yds_words.specs.Words.{words_of}
 use Rattle.yds_c.specs.Given.{bytes_of}
 use Rattle.yds_c.proofs.words.owned.Given as goal
 

@@ -1,6 +1,6 @@
 use Rattle.yds_model.proofs.Common.{subst, sym, AnswersReading}
-use Rattle.yds_run.specs.Words.{question_view}
-use Rattle.yds_run.specs.Endings.{Replies}
+use Rattle.yds_words.specs.Words.{question_view}
+use Rattle.yds_answer.specs.Endings.{Replies}
 use Rattle.yds_run.proofs.running.answer_bytes.Goals as goal
 
 pub returns-in-Ok : goal.returns-in-Ok

@@ -1,7 +1,7 @@
 use Rattle.yds_model.proofs.Common.{subst, inl, arith, AnswersReading, reading}
-use Rattle.yds_run.specs.Words.{question_view}
-use Rattle.yds_run.specs.Endings.{Writes}
-use Rattle.yds_run.proofs.Complete.{short_answers}
+use Rattle.yds_words.specs.Words.{question_view}
+use Rattle.yds_answer.specs.Endings.{Writes}
+use Rattle.yds_answer.proofs.Complete.{short_answers}
 use Rattle.yds_run.proofs.running.answer_input.Goals as goal
 
 pub returns-in-Ok-clause-answer : goal.returns-in-Ok-clause-answer

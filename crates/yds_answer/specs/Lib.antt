@@ -1,0 +1,4 @@
+pub mod Endings
+pub mod Told
+pub mod WithPoints
+pub mod Spaced

@@ -1,0 +1,2 @@
+pub mod Admit
+pub mod Expand

@@ -1,0 +1,2 @@
+mod TooSlow
+mod Compared

@@ -1,0 +1,3 @@
+pub mod VerdictLine
+pub mod Check
+pub mod Trial
