@@ -1,7 +1,7 @@
 # Builds, tries, tests and installs yds_cli.
 #
 #   make            proves every crate and builds build/yds_cli
-#   make run        proves the crates that the program is made of, builds it, and plans the document EXAMPLE with it
+#   make run        plans the document EXAMPLE with the program unproved, says so, proves what it is made of, builds it, and plans it again
 #   make try        runs the program on DOCUMENT with the words of COMMAND, unproved, after a minute or two
 #   make test       the gate: every proof, test, refused edit and stored run, and the checks that checks/gate.py lists
 #   make check      the built program answers every example and stored row byte for byte, within seconds
@@ -76,35 +76,24 @@ HAS_TOOL = command -v rt >/dev/null 2>&1 || { echo "make: the command 'rt' of th
 tool:
 	@$(HAS_TOOL)
 
-# A line for each crate that was checked, well or not.
-TELL = awk '/^== / && $$2 != "summary" { printf "crate %d: %s\n", ++k, $$2; fflush() }'
-
 # What the program is made of: the crate on which all others stand comes first, on all processors; then the others side by side; then the program
-# itself. How long it took is kept for the next time. Where the program is built, no tool is wanted.
+# itself. How long each took is kept for the next time. Where the program is built, no tool is wanted.
 $(BINARY): $(SOURCES)
 	@$(HAS_TOOL)
-	@mkdir -p build
-	@echo "Proving the program's crates, $(JOBS) side by side$$(test -f build/seconds && echo "; the last time this took $$(cat build/seconds) seconds")."
-	@set -o pipefail; began=$$(date +%s); \
-	(cd crates/yds_model && rt lib) >build/log 2>&1 \
-	&& (cd crates/yds_run && rt all check --jobs $(JOBS)) 2>&1 | tee build/log | $(TELL) \
-	&& echo "Building $(PROGRAM)." \
-	&& (cd crates/$(PROGRAM) && rt run $(PROGRAM) -- plan </dev/null) >>build/log 2>&1 \
-	|| { tail -n 40 build/log >&2; exit 1; }; \
-	echo $$(($$(date +%s) - began)) >build/seconds
+	@python3 packaging/prove.py program --jobs $(JOBS) $(SHOWN)
 	@cp crates/$(PROGRAM)/out/$(PROGRAM).o build/
 	@cp crates/$(PROGRAM)/out/$(PROGRAM) build/$(PROGRAM)-dynamic
 	@CC=$(CC) LINK=$(LINK) sh packaging/link.sh
-	@echo "Built $@ in $$(cat build/seconds) seconds."
 
 # All crates: what the program is made of is kept, so the library's, the textbook's, the law of parts and the examples are left.
 build/proved: $(SOURCES) | $(BINARY)
 	@$(HAS_TOOL)
-	@echo "Proving the other crates."
-	@set -o pipefail; rt all check --jobs $(JOBS) 2>&1 | tee build/log | $(TELL) || { tail -n 40 build/log >&2; exit 1; }
+	@python3 packaging/prove.py others --jobs $(JOBS)
 	@touch $@
 
-run: $(BINARY)
+# Where the program has to be built first, its sources answer before that, unproved.
+run:
+	@$(MAKE) --no-print-directory $(BINARY) SHOWN='--example $(EXAMPLE)'
 	@echo "$(BINARY) plan < $(EXAMPLE)"
 	@$(BINARY) plan <$(EXAMPLE)
 

@@ -26,6 +26,7 @@ PROOFS: Command = ("rt", "ci")
 # The checks beside the proofs, in the order in which they run. A new one is a line here.
 CHECKS: List[Command] = [
     (sys.executable, "checks/test_checks.py"),
+    (sys.executable, "checks/test_prove.py"),
     (sys.executable, "docs/check.py"),
     (sys.executable, "docs/api.py", "--check"),
     (sys.executable, "checks/test_edits.py"),

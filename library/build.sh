@@ -4,8 +4,9 @@
 #   build/libyds.a     one object file, of which one name can be seen: yds_answer
 #   build/libyds.so    the same as a shared object, with the soname libyds.so.1
 #
-# `rt lib` proves and compiles the crate yds_c, or takes what an earlier check has kept. Its archive wants the toolchain's small one for
-# malloc, realloc and free, so both are joined: who links the library needs no toolchain. Two builds of one object are the same bytes.
+# packaging/prove.py proves and compiles the crate yds_c, or takes what an earlier check has kept. Its archive needs the
+# toolchain's small one for malloc, realloc and free, so both are joined: who links the library needs no toolchain. Two
+# builds of one object are the same bytes.
 # CC names another compiler.
 
 cd "$(dirname "$0")/.." || exit 1
@@ -21,7 +22,7 @@ for tool in "$CC" ld ar objcopy; do
 done
 kit=$(dirname "$(dirname "$(readlink -f "$(command -v rt)")")")
 mkdir -p build
-(cd crates/yds_c && rt lib) >build/library.log 2>&1 || { tail -n 40 build/library.log >&2; exit 1; }
+python3 packaging/prove.py library || exit 1
 
 ld -r -o build/yds.o --whole-archive crates/yds_c/out/libyds_c.a --no-whole-archive "$kit/c/liblibc_c.a" &&
 	objcopy --keep-global-symbol=yds_answer build/yds.o || die "the archives couldn't be joined"
