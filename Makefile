@@ -15,6 +15,7 @@
 #   make library-test   the library answers every stored row, and DOCUMENTS drawn documents (20,000), as the program does; refused memory, threads, examples;
 #                       the Python package does so too, and as a wheel; and the commands of docs/library.md write what stands there
 #   make wheel      the Python package with the shared object as a wheel, in build/dist
+#   make sdist      the sources of the Python package alone, in build/dist
 #   make install    copies build/yds_cli to PREFIX/bin, its manual page, completion, recipes and examples to PREFIX/share,
 #                   and links the commands of the recipes (yds-trace, yds-plot, ..) into PREFIX/bin; and the library, where it was built
 #                   with the Python package and its commands (yds-scale, ..) in PREFIX/lib/python3/dist-packages and PREFIX/bin
@@ -67,7 +68,7 @@ LIBRARY := build/libyds.so
 PACKAGE_FILES := $(patsubst python/yds/%,%,$(wildcard python/yds/*.py python/yds/commands/*.py)) py.typed
 LIBRARY_FILES := libyds.so libyds.so.$(firstword $(subst ., ,$(VERSION))) libyds.so.$(VERSION) libyds.a
 
-.PHONY: all run try test check recipes faults fuzz costly bench bench-library library library-test wheel install install-program install-tools install-library uninstall uninstall-program uninstall-tools uninstall-library map deb dist check-build record-build packages-test clean tool
+.PHONY: all run try test check recipes faults fuzz costly bench bench-library library library-test wheel sdist install install-program install-tools install-library uninstall uninstall-program uninstall-tools uninstall-library map deb dist check-build record-build packages-test clean tool
 
 all: $(BINARY) build/proved
 
@@ -140,6 +141,10 @@ library-test: $(BINARY) $(LIBRARY)
 wheel: $(if $(wildcard $(LIBRARY)),,$(LIBRARY))
 	@sh packaging/wheel.sh
 
+# Sources alone: no toolchain and no library is wanted.
+sdist:
+	@sh packaging/sdist.sh
+
 bench-library: $(BINARY) $(LIBRARY)
 	@CC=$(CC) sh bench/library.sh
 
@@ -181,7 +186,7 @@ install-library: $(LIBRARY)
 	ln -sf libyds.so.$(VERSION) $(LIB)/libyds.so.1
 	ln -sf libyds.so.1 $(LIB)/libyds.so
 	install -m 644 build/libyds.a $(LIB)
-	install -m 644 library/yds.h $(INCLUDE)
+	install -m 644 library/yds.h library/yds.hpp $(INCLUDE)
 	sed 's|@PREFIX@|$(PREFIX)|; s|@VERSION@|$(VERSION)|' library/yds.pc.in >$(LIB)/pkgconfig/yds.pc
 	chmod 644 $(LIB)/pkgconfig/yds.pc
 	@test -n "$(DESTDIR)" || ldconfig 2>/dev/null || echo "ldconfig, run by root, lets programs find $(LIB)/libyds.so.1"
@@ -189,7 +194,7 @@ install-library: $(LIBRARY)
 uninstall: uninstall-program uninstall-tools uninstall-library
 
 uninstall-library:
-	rm -f $(LIBRARY_FILES:%=$(LIB)/%) $(LIB)/pkgconfig/yds.pc $(INCLUDE)/yds.h
+	rm -f $(LIBRARY_FILES:%=$(LIB)/%) $(LIB)/pkgconfig/yds.pc $(INCLUDE)/yds.h $(INCLUDE)/yds.hpp
 
 uninstall-tools:
 	rm -f $(TOOLS:%=$(BIN)/%) $(TOOLS:%=$(COMPLETIONS)/%) $(TOOLS:%=$(MAN)/%.1) $(PACKAGE_FILES:%=$(PACKAGE)/%)

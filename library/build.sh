@@ -1,12 +1,12 @@
 #!/bin/sh
 # build.sh: makes the C library, in build (`make library`).
 #
-#   build/libyds.a     one object file, of which one name can be seen: yds_answer
+#   build/libyds.a     one object file, of which two names can be seen: yds_answer and yds_version
 #   build/libyds.so    the same as a shared object, with the soname libyds.so.1
 #
 # packaging/prove.py proves and compiles the crate yds_c, or takes what an earlier check has kept. Its archive needs the
-# toolchain's small one for malloc, realloc and free, so both are joined: who links the library needs no toolchain. Two
-# builds of one object are the same bytes.
+# toolchain's small one for malloc, realloc and free, so both are joined, with version.c: who links the library needs no
+# toolchain. Two builds of one object by one compiler are the same bytes.
 # CC names another compiler.
 
 cd "$(dirname "$0")/.." || exit 1
@@ -24,11 +24,13 @@ kit=$(dirname "$(dirname "$(readlink -f "$(command -v rt)")")")
 mkdir -p build
 python3 packaging/prove.py library || exit 1
 
-ld -r -o build/yds.o --whole-archive crates/yds_c/out/libyds_c.a --no-whole-archive "$kit/c/liblibc_c.a" &&
-	objcopy --keep-global-symbol=yds_answer build/yds.o || die "the archives couldn't be joined"
+grep -q "^#define YDS_VERSION \"$(cat VERSION)\"\$" library/yds.h || die "library/yds.h doesn't say YDS_VERSION \"$(cat VERSION)\", which VERSION says"
+"$CC" -std=c99 -O2 -fPIC -fno-asynchronous-unwind-tables -c -o build/version.o library/version.c || die "version.c couldn't be compiled"
+ld -r -o build/yds.o --whole-archive crates/yds_c/out/libyds_c.a --no-whole-archive build/version.o "$kit/c/liblibc_c.a" &&
+	objcopy --keep-global-symbol=yds_answer --keep-global-symbol=yds_version build/yds.o || die "the archives couldn't be joined"
 rm -f build/libyds.a
 ar rcD build/libyds.a build/yds.o && ar sD build/libyds.a || die "the archive couldn't be made"
 "$CC" -shared -o build/libyds.so build/yds.o -Wl,-soname,libyds.so.1 -Wl,--version-script,library/yds.map \
 	-Wl,-z,defs -Wl,-z,now -Wl,-z,noexecstack -Wl,--build-id=none -Wl,-s || die "the link failed"
-rm -f build/yds.o
+rm -f build/yds.o build/version.o
 echo "Built build/libyds.a and build/libyds.so."

@@ -67,7 +67,7 @@ close() {
 		sed 's/^/ /; s/^ $/ ./'
 	} >"$tree/DEBIAN/control"
 	# Where a library comes or goes, the list of the dynamic linker is made anew.
-	if ls "$tree"/usr/lib/*.so* "$tree"/usr/lib/*/*.so* >/dev/null 2>&1; then echo "activate-noawait ldconfig" >"$tree/DEBIAN/triggers"; fi
+	if find "$tree" -name '*.so*' | grep -q .; then echo "activate-noawait ldconfig" >"$tree/DEBIAN/triggers"; fi
 	same_times "$tree"
 	dpkg-deb --root-owner-group -Zgzip -z9 --build "$tree" "$out/${name}_${version}_$2.deb" >/dev/null || die "dpkg-deb failed"
 }

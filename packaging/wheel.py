@@ -21,6 +21,8 @@ License: MIT OR Apache-2.0
 License-File: LICENSE-MIT
 License-File: LICENSE-APACHE
 Requires-Python: >=3.9
+Provides-Extra: plot
+Requires-Dist: matplotlib; extra == 'plot'
 Classifier: Operating System :: POSIX :: Linux
 Classifier: Programming Language :: Python :: 3
 Classifier: Typing :: Typed
@@ -54,17 +56,27 @@ def entry_points() -> str:
     return "".join(["[console_scripts]\n", *(f"yds-{name} = yds.commands._start:start\n" for name in names)])
 
 
-def contents(version: str) -> Dict[str, bytes]:
-    """The files of the wheel by their names, all but its record."""
+def module_files(version: str) -> Dict[str, bytes]:
+    """The files of the package's folder by their names."""
     package = Path("python/yds")
-    info = f"yds-{version}.dist-info"
     places = [path for path in package.rglob("*") if path.suffix in (".py", ".typed")]
     files = {path.relative_to(package.parent).as_posix(): path.read_bytes() for path in places}
     if f'VERSION = "{version}"\n'.encode() not in files["yds/_version.py"]:
         sys.exit(f"wheel.py: python/yds/_version.py doesn't say VERSION = {version!r}, which VERSION says")
+    return files
+
+
+def metadata(version: str) -> bytes:
+    """What the package says of itself. python/pyproject.toml says the same to who builds it from its sources."""
+    return METADATA.format(version=version, description=Path("python/README.md").read_text(encoding="utf-8")).encode()
+
+
+def contents(version: str) -> Dict[str, bytes]:
+    """The files of the wheel by their names, all but its record."""
+    info = f"yds-{version}.dist-info"
+    files = module_files(version)
     files["yds/libyds.so.1"] = shared_object(Path("build/libyds.so"))
-    description = Path("python/README.md").read_text(encoding="utf-8")
-    files[f"{info}/METADATA"] = METADATA.format(version=version, description=description).encode()
+    files[f"{info}/METADATA"] = metadata(version)
     files[f"{info}/entry_points.txt"] = entry_points().encode()
     files[f"{info}/WHEEL"] = WHEEL.format(platform=PLATFORM).encode()
     for licence in ("LICENSE-MIT", "LICENSE-APACHE"):

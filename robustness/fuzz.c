@@ -344,9 +344,9 @@ static void empty(int file) {
 }
 
 #ifdef LIBRARY
-enum { OTHERWISE = 1000 };
+enum { OTHERWISE = 1000, TOO_LONG };
 
-/* Asks the library what the program was asked. Where it answers otherwise, the status tells it. */
+/* Asks the library what the program was asked. Where it answers otherwise, or more than yds.h says, the status tells it. */
 static void compare_with_library(struct answer *answer, char *const *words, size_t count, const struct text *input) {
 	static char room[MOST_BYTES];
 	struct yds_word given[6];
@@ -354,7 +354,9 @@ static void compare_with_library(struct answer *answer, char *const *words, size
 	for (size_t i = 0; i < count; i++)
 		given[i] = (struct yds_word){words[i], strlen(words[i])};
 	int status = yds_answer(given, count, input->bytes, input->length, input->length, 17, room, sizeof room, &needed);
-	if (status != answer->status || needed != answer->written.length || memcmp(room, answer->written.bytes, needed) != 0)
+	if (needed > (count > 0 && strcmp(words[0], "expand") == 0 ? YDS_MOST_EXPANDED : YDS_ROOM(input->length)))
+		answer->status = TOO_LONG;
+	else if (status != answer->status || needed != answer->written.length || memcmp(room, answer->written.bytes, needed) != 0)
 		answer->status = OTHERWISE;
 }
 #endif
@@ -452,6 +454,8 @@ static const char *holds_ending(const struct answer *answer, const char *line, c
 #ifdef LIBRARY
 	if (answer->status == OTHERWISE)
 		return "the library answers otherwise";
+	if (answer->status == TOO_LONG)
+		return "the library's text is longer than yds.h says";
 #endif
 	if (answer->status != 0 && answer->status != 1 && answer->status != 3)
 		return "a status that no document gives";

@@ -3,7 +3,7 @@
  *
  *   answers rows ROWS       each worked row in rooms of several sizes, one byte too small among them
  *   answers threads ROWS    every row, and documents of 4,000 jobs, in four threads at once, each with a stack of 64 KiB
- *   answers words           words that aren't UTF-8, no words, odd words
+ *   answers words           words that aren't UTF-8, no words, odd words, null pointers to nothing, and the version
  *   answers memory ROWS     each allocation for every row, and for documents of 200 jobs, refused in turn, alone and with all after it
  *
  * ROWS is the folder of worked rows. `memory` wants REFUSING to be defined, and the static library linked with
@@ -124,6 +124,12 @@ static int all_are(const char *bytes, size_t length, char byte) {
 	return 1;
 }
 
+/* The room that yds.h tells for the row. */
+static size_t room_for(const struct row *row) {
+	int expands = row->word_count > 0 && row->words[0].length == 6 && memcmp(row->words[0].bytes, "expand", 6) == 0;
+	return expands ? YDS_MOST_EXPANDED : YDS_ROOM(row->input.length);
+}
+
 /* Makes the call over a room of this size, and looks at what it returned, at the room, and at what lies before and behind it. The room
  * begins at any address. */
 static const char *call(const struct row *row, int status, const struct text *answer, size_t size, char *space) {
@@ -135,6 +141,8 @@ static const char *call(const struct row *row, int status, const struct text *an
 		return "another status";
 	if (needed != answer->length)
 		return "another length";
+	if (needed > room_for(row))
+		return "a longer text than yds.h says";
 	if (memcmp(room, answer->bytes, front) != 0)
 		return "another text";
 	if (!all_are(space, (size_t)(room - space), fill) || !all_are(room + front, all - (size_t)(room - space) - front, fill))
@@ -212,6 +220,51 @@ static void try_words(void) {
 		else
 			judge(name, needed < sizeof room && needed > sizeof usage && memcmp(room, usage, sizeof usage - 1) == 0 && room[needed - 1] == '\n' ? NULL : "another text");
 	}
+}
+
+/* Null pointers, each to nothing, and what is told beside the answer. */
+static void try_nulls(void) {
+	static const struct yds_word plan = {"plan", 4}, null_word = {NULL, 0};
+	static const char job[] = "job a 0 4 8\n", text[] = "job a 0 4 8\nslot a 0 4 8\nlevel 8 4\npiece 0 4\nmember a\n";
+	static const char usage[] = "usage: yds_cli ";
+	static char room[400];
+	size_t needed = 4711;
+	memset(room, '.', sizeof room);
+	judge("no words, null", yds_answer(NULL, 0, job, sizeof job - 1, 1, 2, room, sizeof room, &needed) == YDS_USAGE && memcmp(room, usage, sizeof usage - 1) == 0 ? NULL : "another answer");
+	memset(room, '.', sizeof room);
+	judge("a word of no bytes, null", yds_answer(&null_word, 1, job, sizeof job - 1, 1, 2, room, sizeof room, &needed) == YDS_USAGE && memcmp(room, usage, sizeof usage - 1) == 0 ? NULL : "another answer");
+	memset(room, '.', sizeof room);
+	judge("no input, null", yds_answer(&plan, 1, NULL, 0, 1, 2, room, sizeof room, &needed) == YDS_DONE && needed == 0 && all_are(room, sizeof room, '.') ? NULL : "another answer");
+	needed = 4711;
+	judge("no room, null", yds_answer(&plan, 1, job, sizeof job - 1, 1, 2, NULL, 0, &needed) == YDS_DONE && needed == sizeof text - 1 ? NULL : "another answer");
+	needed = 4711;
+	judge("no input and no room, both null", yds_answer(&plan, 1, NULL, 0, 1, 2, NULL, 0, &needed) == YDS_DONE && needed == 0 ? NULL : "another answer");
+	needed = 4711;
+	judge("nothing at all", yds_answer(NULL, 0, NULL, 0, 1, 2, NULL, 0, &needed) == YDS_USAGE && needed > sizeof usage ? NULL : "another answer");
+	judge("the version", strcmp(yds_version(), YDS_VERSION) == 0 ? NULL : "another version than the header's");
+}
+
+/* Documents whose texts are as long as can be for their inputs: one job to a line of 12 bytes, and names of 64 bytes. */
+static void try_rooms(void) {
+	static char input[MOST_JOBS * 110], name[64];
+	static const char *const commands[] = {"plan", "round", "avr --grid 720719", "oa --grid 999983", "compare --grid 999983", "admit 1", "admit 1000000", "report", "report --json", "curve"};
+	memset(name, '~', sizeof name);
+	for (int width = 0; width <= 60; width += 60)
+		for (int jobs = 1; jobs <= MOST_JOBS; jobs = jobs * 5 / 2 + 1) {
+			size_t length = (size_t)sprintf(input, "point 0 1\npoint 1 2\npoint 4000 1000000\n");
+			for (int i = 0; i < jobs; i++)
+				length += (size_t)sprintf(input + length, "job %.*s%x %d %d %d\n", width, name, (unsigned)i, i % 97, i % 97 + 1 + i % 89 * 7, i * 31 % 1009);
+			for (size_t i = 0; i < sizeof commands / sizeof commands[0]; i++) {
+				char line[40], *rest = line;
+				struct yds_word words[MOST_WORDS];
+				size_t count = 0, needed = 0;
+				strcpy(line, commands[i]);
+				for (char *word; (word = strsep(&rest, " ")) != NULL;)
+					words[count++] = (struct yds_word){word, strlen(word)};
+				int status = yds_answer(words, count, input, length, 1, 2, NULL, 0, &needed);
+				judge(commands[i], status <= YDS_NO && needed <= YDS_ROOM(length) ? NULL : "a longer text than yds.h says");
+			}
+		}
 }
 
 /* Threads */
@@ -341,8 +394,11 @@ int main(int count, char **words) {
 		try_rows();
 	else if (count == 3 && strcmp(words[1], "threads") == 0)
 		try_threads();
-	else if (count == 2 && strcmp(words[1], "words") == 0)
+	else if (count == 2 && strcmp(words[1], "words") == 0) {
 		try_words();
+		try_nulls();
+		try_rooms();
+	}
 #ifdef REFUSING
 	else if (count == 3 && strcmp(words[1], "memory") == 0)
 		try_memory();

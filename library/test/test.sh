@@ -1,15 +1,16 @@
 #!/bin/sh
 # test.sh: whether the C library answers as the program does (`make library-test`).
 #
-#   sh library/test/test.sh [PART ..]      parts: names rows words threads memory examples install fuzz; all without one
+#   sh library/test/test.sh [PART ..]      parts: names rows words threads memory examples earlier install fuzz; all without one
 #
-# It wants build/yds_cli, build/libyds.a and build/libyds.so, compilers for C and C++, nm, readelf and pkg-config. DOCUMENTS drawn documents
-# (20,000 without it) of SEED (1) are answered by the library and by the program. CC and CXX name other compilers.
+# It wants build/yds_cli, build/libyds.a and build/libyds.so, compilers for C and C++, nm, readelf and pkg-config. The example in Rust is
+# tried where rustc is. DOCUMENTS drawn documents (20,000 without it) of SEED (1) are answered by the library and by the program. CC, CXX
+# and RUSTC name other compilers.
 # The last line is 'N passed, M failed'; the exit status is 1 where M isn't 0.
 
 cd "$(dirname "$0")/../.." || exit 1
 here=$(pwd)
-CC=${CC:-gcc} CXX=${CXX:-g++}
+CC=${CC:-gcc} CXX=${CXX:-g++} RUSTC=${RUSTC:-rustc}
 SEED=${SEED:-1} DOCUMENTS=${DOCUMENTS:-20000}
 LC_ALL=C
 export LC_ALL
@@ -52,7 +53,7 @@ LD_LIBRARY_PATH=$work
 export LD_LIBRARY_PATH
 
 c() { "$CC" -std=c11 -Wall -Wextra -Werror -O2 -Ilibrary "$@"; }
-cxx() { "$CXX" -std=c++11 -Wall -Wextra -Werror -O2 -Ilibrary "$@"; }
+cxx() { "$CXX" -std=c++17 -Wall -Wextra -pedantic-errors -Werror -O2 -Ilibrary "$@"; }
 
 answers() {
 	[ -x "$work/shared" ] || try "answers.c with the shared object" c -o "$work/shared" library/test/answers.c build/libyds.so -pthread
@@ -61,8 +62,8 @@ answers() {
 }
 
 part_names() {
-	try "the archive shows one name" sh -c '[ "$(nm -g --defined-only build/libyds.a | awk "NF == 3 { print \$3 }")" = yds_answer ]'
-	try "the shared object shows one name" sh -c '[ "$(nm -D --defined-only build/libyds.so | awk "\$2 == \"T\" { print \$3 }")" = yds_answer@@YDS_1 ]'
+	try "the archive shows two names" sh -c '[ "$(nm -g --defined-only build/libyds.a | awk "NF == 3 { print \$3 }" | sort | xargs)" = "yds_answer yds_version" ]'
+	try "the shared object shows two names" sh -c '[ "$(nm -D --defined-only build/libyds.so | awk "\$2 == \"T\" { print \$3 }" | sort | xargs)" = "yds_answer@@YDS_1 yds_version@@YDS_1.1" ]'
 	try "the soname" sh -c 'readelf -d build/libyds.so | grep -q "SONAME.*\[libyds.so.1\]"'
 	try "the shared object wants the C library alone" sh -c '[ "$(readelf -d build/libyds.so | grep -c NEEDED)" = 1 ] && readelf -d build/libyds.so | grep -q "NEEDED.*\[libc.so.6\]"'
 	try "no relocation of code" sh -c '! readelf -d build/libyds.so | grep -q TEXTREL'
@@ -71,6 +72,9 @@ part_names() {
 	done
 	for standard in c++98 c++11 c++20; do
 		try "the header in $standard" "$CXX" -std=$standard -Wall -Wextra -pedantic-errors -Werror -Wno-long-long -fsyntax-only -x c++ library/yds.h
+	done
+	for standard in c++17 c++20; do
+		try "the header for C++ in $standard" "$CXX" -std=$standard -Wall -Wextra -pedantic-errors -Werror -fsyntax-only -x c++ library/yds.hpp
 	done
 }
 
@@ -111,6 +115,35 @@ part_examples() {
 	counted "the example in C++" sh examples/check.sh "$work/answer"
 	"$work/answer" "$(printf '\377')" </dev/null >"$work/out" 2>/dev/null
 	if [ $? -gt 7 ]; then pass; else fail "the example in C++ throws where a word isn't UTF-8"; fi
+	try "slots.cpp" cxx -o "$work/slots" library/examples/slots.cpp build/libyds.so
+	example "the example of jobs and slots" library/examples/slots.txt "$work/slots"
+	try "rows.cpp" cxx -o "$work/typed" library/test/rows.cpp build/libyds.so
+	counted "the header for C++" "$work/typed"
+	if ! command -v "$RUSTC" >/dev/null 2>&1; then
+		echo "the example in Rust is left out; on Debian: apt-get install rustc"
+		return
+	fi
+	try "answer.rs" "$RUSTC" -O -D warnings -o "$work/rust" library/examples/answer.rs -L build
+	counted "the example in Rust" sh examples/check.sh "$work/rust"
+}
+
+# A program that was linked against an earlier version runs with this one. What it was linked against is an object with the name and the
+# symbols of that version, made of the header and the map that it had. Its call does nothing, so this library's has to be the one that answers.
+part_earlier() {
+	for version in library/test/[0-9]*; do
+		stub=$work/${version##*/}
+		mkdir -p "$stub"
+		echo '#include "yds.h"
+uint8_t yds_answer(const struct yds_word *words, size_t word_count, const void *input, size_t input_length, uint64_t first_key, uint64_t second_key,
+	void *room, size_t room_length, size_t *needed) {
+	(void)words, (void)word_count, (void)input, (void)input_length, (void)first_key, (void)second_key, (void)room, (void)room_length, (void)needed;
+	return 255;
+}' >"$stub/stub.c"
+		try "an object of ${version##*/}" "$CC" -shared -fPIC -I"$version" -o "$stub/libyds.so" "$stub/stub.c" -Wl,-soname,libyds.so.1 -Wl,--version-script,"$version/yds.map"
+		try "a program of ${version##*/}" "$CC" -std=c11 -O2 -I"$version" -o "$stub/slack" library/examples/slack.c "$stub/libyds.so"
+		if LD_LIBRARY_PATH=$stub "$stub/slack" >/dev/null 2>&1; then fail "the stub of ${version##*/} answers"; else pass; fi
+		example "a program of ${version##*/} with this library" library/examples/slack.txt "$stub/slack"
+	done
 }
 
 # What `make install-library` puts somewhere serves a compiler through pkg-config, and `make uninstall` takes all of it away.
@@ -145,7 +178,7 @@ part_fuzz() {
 for file in build/yds_cli build/libyds.a build/libyds.so; do
 	[ -f $file ] || { echo "test.sh: $file isn't there; make library builds it" >&2; exit 1; }
 done
-for part in ${*:-names rows words threads memory examples install fuzz}; do
+for part in ${*:-names rows words threads memory examples earlier install fuzz}; do
 	before=$passed
 	"part_$part" || fail "the part $part"
 	echo "$part: $((passed - before)) passed"
