@@ -42,13 +42,13 @@ int main() {
 	const yds::Verdict late = yds::audit({{"a", 0, 4, 2}}, {{"a", {3}, {5}, {2}}});
 	judge("a late slot", !late && late.text == "late slot 1 a 5 deadline 4");
 	const std::optional<yds::Rounded> rounded = yds::round({{"a", 0, 4, 6}}, {{0, 0}, {1, 1}, {2, 3}});
-	judge("rounded to points", rounded && to_string(rounded->energy) == "8" && told(rounded->slots) == "a 0 2 2;a 2 4 4;");
+	judge("rounded to points", rounded && to_string(rounded->energy) == "8" && told(rounded->slots) == "a 0 2 4;a 2 4 2;");
 	judge("too slow a top point", !yds::round({{"a", 0, 2, 5}}, {{0, 1}, {2, 9}}));
 
 	const std::vector<yds::Job> arrivals{{"a", 0, 3, 2}, {"b", 1, 2, 1}};
 	const yds::Run coarse = yds::optimal_available(arrivals, 1), fine = yds::optimal_available(arrivals);
 	judge("a coarse grid", coarse.grid == 1 && coarse.rounded == 1 && told(coarse.slots) == "a 0 1 1;b 1 2 1;a 2 3 1;");
-	judge("the fine grid", fine.grid == 720720 && fine.rounded == 0 && fine.slots.size() == 3);
+	judge("the fine grid", fine.grid == 720720 && fine.rounded == 0 && fine.slots.size() == 4);
 	judge("Average Rate", yds::average_rate({{"a", 0, 4, 4}, {"b", 2, 4, 2}}, 1).rounded == 0 && told(yds::average_rate({{"a", 0, 4, 4}, {"b", 2, 4, 2}}, 1).slots) == "a 0 2 2;a 2 3 2;b 3 4 2;");
 
 	judge("a refusal", throws<yds::Refused>([] { yds::plan({{"a", 0, 4, 8}, {"b", 4, 4, 1}}); }, "refused 2 9 EmptyWindow"));

@@ -41,6 +41,42 @@ def drawn_table(draw: random.Random) -> List[Tuple[int, int]]:
     return [(speed, draw.randrange(0, 200)) for speed in speeds]
 
 
+class NearTies(unittest.TestCase):
+    """Speeds that no float tells apart."""
+
+    def test_points_and_speeds_within_one_float(self) -> None:
+        """Four points, 2^-70 apart, and speeds at and between them: all have the float 1.0, and powers that differ."""
+        tiny = Fraction(1, 2**70)
+        table = [(0, 0), *((1 + place * tiny, 1 + place * place) for place in range(4)), (2, 2**80)]
+        for place in range(4):
+            self.assertEqual(energy.of_slots([("a", 0, 1, 1 + place * tiny)], table), 1 + place * place)
+        for place in range(3):
+            between = 1 + (place + Fraction(1, 4)) * tiny
+            self.assertEqual(energy.of_slots([("a", 0, 1, between)], table), 1 + place**2 + Fraction(2 * place + 1, 4))
+        self.assertLess(energy.of_slots([("a", 0, 1, 1 - tiny)], table), 1)
+        top = [(0, 0), (1, 1)]
+        self.assertEqual(energy.of_slots([("a", 0, 1, 1)], top), 1)
+        with self.assertRaisesRegex(ValueError, "above the last of the table, 1"):
+            energy.of_slots([("a", 0, 1, 1 + tiny)], top)
+
+    def test_drawn_speeds_beside_points(self) -> None:
+        """Beside points of thirds, which no float is: each of a few slots has the power that all pairs of points give."""
+        draw = random.Random(5)
+        table: Any = [(0, 2), (Fraction(1, 3), 3), (Fraction(2, 3), 5), (Fraction(10**17 + 1, 10**17), 9), (40, 2000)]
+        for _ in range(300):
+            speed = table[draw.randrange(1, 4)][0] + Fraction(draw.randrange(-2, 3), 10 ** draw.randrange(15, 30))
+            length = Fraction(draw.randrange(1, 99), draw.randrange(1, 99))
+            found = energy.of_slots([("a", 0, length, speed * length)], table, 0, length)
+            self.assertEqual(found, least_power(table, speed) * length)
+
+    def test_numbers_beyond_floats(self) -> None:
+        huge = 10**400
+        self.assertEqual(energy.of_slots([("a", 0, 1, huge)], [(0, 0), (1, 1), (2 * huge, 2 * huge)]), huge)
+        self.assertEqual(energy.of_slots([("a", 0, huge, 1)], [(0, 0), (1, 1)]), 1)
+        with self.assertRaisesRegex(ValueError, "above the last of the table"):
+            energy.of_slots([("a", 0, 1, huge)], [(0, 0), (1, 1)])
+
+
 class ByHand(unittest.TestCase):
     def test_exponents(self) -> None:
         self.assertEqual(energy.of_slots(SLOTS, 1), 2 + Fraction(8, 3))

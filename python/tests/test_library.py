@@ -5,7 +5,8 @@ import subprocess
 import sys
 import threading
 import unittest
-from typing import Dict, List
+from contextlib import contextmanager
+from typing import Dict, Iterator, List
 from unittest import mock
 
 import yds
@@ -14,6 +15,13 @@ from yds import _library
 
 JOB = b"job a 0 4 8\n"
 PLAN = b"job a 0 4 8\nslot a 0 4 8\nlevel 8 4\npiece 0 4\nmember a\n"
+
+
+@contextmanager
+def first_room(size: int) -> Iterator[None]:
+    """The first room has this size, and none is kept."""
+    with mock.patch.object(_library, "_first_room", return_value=size), mock.patch.object(_library, "_KEPT_ROOM", 0):
+        yield
 
 
 class Finding(unittest.TestCase):
@@ -42,16 +50,38 @@ class Calling(unittest.TestCase):
     def test_rooms(self) -> None:
         """The first room may have any size: the answer is the same, after a second call where it was too small."""
         for size in (1, len(PLAN) - 1, len(PLAN), len(PLAN) + 1):
-            with self.subTest(size), mock.patch.object(_library, "_first_room", return_value=size):
+            with self.subTest(size), first_room(size):
                 self.assertEqual(yds.answer(["plan"], JOB), (yds.Status.DONE, PLAN))
 
     def test_a_second_call_only_where_it_is_wanted(self) -> None:
         library = _library.LIBRARY
         for size, calls in ((1, 2), (len(PLAN) - 1, 2), (len(PLAN), 1)):
-            with mock.patch.object(library, "_call", wraps=library._call) as call:
-                with mock.patch.object(_library, "_first_room", return_value=size):
-                    yds.answer(["plan"], JOB)
+            with mock.patch.object(library, "_call", wraps=library._call) as call, first_room(size):
+                yds.answer(["plan"], JOB)
                 self.assertEqual(call.call_count, calls)
+
+    def test_a_call_within_a_call_has_a_room_of_its_own(self) -> None:
+        """As by a signal's handler, that comes between the library's return and the reading of the text."""
+        library = _library.LIBRARY
+        calling = library._call
+
+        def interrupted(*given: object) -> int:
+            status: int = calling(*given)
+            with mock.patch.object(library, "_call", calling):
+                self.assertEqual(yds.answer(["plan"], b"job b 1 2 3\n").text.split()[1], b"b")
+            return status
+
+        yds.answer(["plan"], JOB)
+        with mock.patch.object(library, "_call", interrupted):
+            self.assertEqual(yds.answer(["plan"], JOB), (yds.Status.DONE, PLAN))
+
+    def test_rooms_are_kept_and_no_more_than_calls_at_once(self) -> None:
+        library = _library.Library(str(_library.LIBRARY.place))
+        for _ in range(3):
+            library.answer(["plan"], JOB)
+        self.assertEqual(len(library._rooms), 1)
+        library.answer(["plan"], b"".join(b"job j%d 0 9 1\n" % number for number in range(4000)))
+        self.assertEqual([room.size for room in library._rooms], [_library._KEPT_ROOM])
 
     def test_want_of_memory(self) -> None:
         nothing = yds.Answer(yds.Status.MEMORY, b"")

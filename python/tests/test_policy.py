@@ -140,11 +140,18 @@ class Rounding(unittest.TestCase):
         self.assertEqual((run.slots[0].speed, run.rounded), (Fraction(13, 10), 1))
         self.assertEqual(yds.simulate(yds.Document([("a", 0, 1000, 3)]), lambda moment: 1.5, grid=10).rounded, 0)
 
-    def test_the_float_of_a_speed_of_the_grid_is_that_speed(self) -> None:
+    def test_the_float_nearest_to_a_speed_of_the_grid_becomes_that_speed_and_is_counted(self) -> None:
+        """No float is 3/7 or 1/3: the nearest ones are below 3/7 and 1/3, by less than a float can tell."""
         run = yds.simulate(yds.Document([("a", 0, 7, 3)]), lambda moment: 3 / 7)
-        self.assertEqual((run.slots, run.rounded), ((("a", 0, 7, 3),), 0))
+        self.assertEqual((run.slots, run.rounded, run.exact), ((("a", 0, 7, 3),), 1, False))
         third = yds.simulate(yds.Document([("a", 0, 7, 1)]), lambda moment: 1 / 3)
-        self.assertEqual((third.slots[0].speed, third.rounded), (Fraction(1, 3), 0))
+        self.assertEqual((third.slots[0].speed, third.rounded), (Fraction(1, 3), 1))
+
+    def test_a_float_that_is_just_a_speed_of_the_grid_is_not_counted(self) -> None:
+        run = yds.simulate(yds.Document([("a", 0, 8, 3)]), lambda moment: 0.375)
+        self.assertEqual((run.slots, run.rounded, run.exact), ((("a", 0, 8, 3),), 0, True))
+        near = yds.simulate(yds.Document([("a", 0, 8, 3)]), lambda moment: math.nextafter(0.375, 1))
+        self.assertEqual((near.rounded, near.exact), (1, False))
 
     def test_kinds_of_numbers(self) -> None:
         for speed in (2, 2.0, Fraction(2)):

@@ -113,19 +113,16 @@ def _by_table(
 
 
 def _mixed(spans: Sequence[Span], lower: List[Tuple[Fraction, Fraction]]) -> List[Fraction]:
-    """What all spans between two neighbours of the hull draw, for each such pair: it hangs on their sums alone.
-
-    A speed's nearest float tells between which two it is, but where it is that of a point.
-    """
-    heads = [float(speed) for speed, _ in lower]
+    """What all spans between two neighbours of the hull draw, for each such pair: it hangs on their sums alone."""
+    heads = [_float(speed.numerator, speed.denominator) for speed, _ in lower]
     found: List[List[Span]] = [[] for _ in lower]
     for span in spans:
         work, length = span.work, span.length
-        speed = (work.numerator * length.denominator) / (work.denominator * length.numerator)
+        speed = _float(work.numerator * length.denominator, work.denominator * length.numerator)
         place = bisect_left(heads, speed)
-        if place < len(heads) and heads[place] == speed and work > lower[place][0] * length:
+        while place < len(lower) and heads[place] == speed and work > lower[place][0] * length:
             place += 1
-        if place == len(heads):
+        if place == len(lower):
             top = lower[-1][0]
             raise ValueError(f"{span.named} has the speed {work / length}, above the last of the table, {top}")
         found[place].append(span)
@@ -135,6 +132,17 @@ def _mixed(spans: Sequence[Span], lower: List[Tuple[Fraction, Fraction]]) -> Lis
         slope = Fraction(0) if low is high else (high[1] - low[1]) / (high[0] - low[0])
         drawn.append(length * low[1] + (total(span.work for span in some) - low[0] * length) * slope)
     return drawn
+
+
+def _float(numerator: int, denominator: int) -> float:
+    """The float nearest to the quotient; infinity where it is greater than all floats.
+
+    Quotients whose floats differ are in the order of these. Where two come to one float, only the exact numbers tell.
+    """
+    try:
+        return numerator / denominator
+    except OverflowError:
+        return math.inf
 
 
 def _drawn(span: Span, powers: Dict[Fraction, Fraction], lower: List[Tuple[Fraction, Fraction]], by: By) -> Fraction:

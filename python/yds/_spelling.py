@@ -2,10 +2,12 @@
 
 from __future__ import annotations
 
+import gc
 import math
 import re
+from contextlib import contextmanager
 from fractions import Fraction
-from typing import Any, Dict, Iterable, Iterator, List, Sequence, Tuple
+from typing import Any, Callable, Dict, Iterable, Iterator, List, Sequence, Tuple
 
 from yds._forms import LEVELS, Form, name, read
 from yds._numbers import whole
@@ -86,20 +88,42 @@ def read_fraction(word: bytes) -> Fraction:
 
 
 def _value(word: str) -> Fraction:
-    """The value of a word W or W+N/D. What Fraction(..) would look at is known, and so it is made without it."""
+    """The value of a word W or W+N/D."""
     above, plus, rest = word.partition("+")
-    made: Fraction = object.__new__(Fraction)
-    if plus:
-        numerator, _, denominator = rest.partition("/")
-        whole = int(denominator)
-        parts = int(above) * whole + int(numerator)
-        divisor = math.gcd(parts, whole)
-        made._numerator = parts // divisor  # type: ignore[attr-defined]
-        made._denominator = whole // divisor  # type: ignore[attr-defined]
-    else:
-        made._numerator = int(above)  # type: ignore[attr-defined]
-        made._denominator = 1  # type: ignore[attr-defined]
-    return made
+    if not plus:
+        return _reduced(int(above), 1)
+    numerator, _, denominator = rest.partition("/")
+    whole = int(denominator)
+    parts = int(above) * whole + int(numerator)
+    divisor = math.gcd(parts, whole)
+    return _reduced(parts, whole) if divisor == 1 else _reduced(parts // divisor, whole // divisor)
+
+
+def _without_looking(numerator: int, denominator: int, _new: Any = object.__new__) -> Fraction:
+    """The Fraction of two whole numbers without a common divisor, made without what Fraction(..) would look at.
+
+    Half of the time in which slots are read went there. It sets the two names in which Fraction keeps its numbers, which
+    are its own business: so `_quickest` tries whether they are still these.
+    """
+    made: Any = _new(Fraction)
+    made._numerator = numerator
+    made._denominator = denominator
+    return made  # type: ignore[no-any-return]
+
+
+def _quickest(quick: Callable[[int, int], Fraction]) -> Callable[[int, int], Fraction]:
+    """The quick way to make a Fraction, where this Python's Fractions can be made so; else Fraction itself."""
+    try:
+        for parts in ((8, 3), (0, 1), (2**70, 3**50)):
+            made, wanted = quick(*parts), Fraction(*parts)
+            if (made, hash(made), repr(made)) != (wanted, hash(wanted), repr(wanted)) or made + 1 - made != 1:
+                return Fraction
+    except Exception:
+        return Fraction
+    return quick
+
+
+_reduced = _quickest(_without_looking)
 
 
 def lines_of(text: bytes, *kinds: bytes) -> Iterator[List[bytes]]:
@@ -142,7 +166,8 @@ _SLOT = re.compile(r"^[ \t\r]*slot" + 4 * r"[ \t\r]+([!-~]+)", re.MULTILINE)
 def read_slots(text: bytes) -> Tuple[Slot, ...]:
     """The slots and runs of a text."""
     if b"run" not in text and b"ticks" not in text:
-        return tuple(_slots(_SLOT.findall(text.decode("latin-1"))))
+        with _without_collector():
+            return tuple(_slots(_SLOT.findall(text.decode("latin-1"))))
     slots: List[Slot] = []
     ticks = 1
     for kind, *rest in lines_of(text, b"slot", b"ticks", b"run"):
@@ -154,6 +179,19 @@ def read_slots(text: bytes) -> Tuple[Slot, ...]:
         else:
             slots.append(_run(rest, ticks))
     return tuple(slots)
+
+
+@contextmanager
+def _without_collector() -> Iterator[None]:
+    """Python's collector of cycles looks at all that is made, again and again, and Fractions make no cycle."""
+    if not gc.isenabled():
+        yield
+        return
+    gc.disable()
+    try:
+        yield
+    finally:
+        gc.enable()
 
 
 def _slots(rows: Iterable[Tuple[str, str, str, str]]) -> Iterator[Slot]:

@@ -97,12 +97,12 @@ class Simulation(_Answered):
 
     @property
     def rounded(self) -> int:
-        """How many of the speeds that the policy said were floats that had to be rounded up."""
+        """How many of the speeds that the policy said were floats that are no speed of the grid, and were moved."""
         return self._rounded
 
     @property
     def exact(self) -> bool:
-        """Whether the slots run at just the speeds that the policy said: none was rounded."""
+        """Whether the slots run at just the speeds that the policy said: none was moved."""
         return self._rounded == 0
 
     def audit(self, points: bool = False) -> Verdict:
@@ -137,11 +137,11 @@ def simulate(
     The policy is asked at each release and each deadline, and, where `every` is given, again after so many units of
     time, as long as a job waits. In between, its speed stays. Where no job waits, nothing runs.
 
-    A speed that is an int or a Fraction is taken as it is. A float is a speed of the grid: what is done until the
+    A speed that is an int or a Fraction is taken as it is. A float becomes a speed of the grid: what is done until the
     policy is asked again is a multiple of 1/grid (1 to 1,000,000) of a unit of work, or, where all that waits gets
-    done, the speed itself is one. It is the speed to which the float is the nearest one, and where there is none, the
-    next higher; the answer tells how many were rounded up so. The policy sees floats, each the nearest to the exact
-    number; Fractions where exact is True.
+    done, the speed itself is one. It becomes the speed to which it is the nearest float, and where there is none, the
+    next higher. `rounded` counts the floats that weren't exactly that speed, however near. The policy sees floats, each
+    the nearest to the exact number; Fractions where exact is True.
 
     Too slow a policy is late, and nothing is mended: at the first deadline that is missed it isn't asked any more. That
     job runs on at the last speed to its end, so that the verdict names it, and the run ends there.
@@ -295,7 +295,7 @@ class _Simulator:
         return could
 
     def _of_grid(self, said: float, length: Any) -> Tuple[int, bool]:
-        """The whole parts in the length of which the float is the nearest speed, or the next more; and whether it is that.
+        """The whole parts in the length of which the float is the nearest speed, or the next more; whether it was moved.
 
         A quotient of two ints is the nearest float to it.
         """
@@ -303,8 +303,8 @@ class _Simulator:
         below, rest = divmod(numerator * self.grid * length.numerator, denominator * length.denominator)
         nearest = below + (2 * rest >= denominator * length.denominator)
         if nearest * length.denominator / (self.grid * length.numerator) == said:
-            return nearest, False
-        return below + (rest > 0), True
+            return nearest, rest > 0
+        return below + (rest > 0), rest > 0
 
     def _run_one(self, name: str, start: Any, end: Any, parts: Any) -> None:
         """A slot; the one before goes on where it has the same job and speed, and ends where this one starts."""
