@@ -7,7 +7,7 @@ import math
 import re
 from contextlib import contextmanager
 from fractions import Fraction
-from typing import Any, Callable, Dict, Iterable, Iterator, List, Sequence, Tuple
+from typing import Any, Callable, Dict, Iterable, Iterator, List, Optional, Sequence, Tuple
 
 from yds._forms import LEVELS, Form, name, read
 from yds._numbers import whole
@@ -87,43 +87,50 @@ def read_fraction(word: bytes) -> Fraction:
     return _value(word.decode("ascii"))
 
 
-def _value(word: str) -> Fraction:
+def _plainly(word: str) -> Fraction:
     """The value of a word W or W+N/D."""
     above, plus, rest = word.partition("+")
+    return Fraction(above) + Fraction(rest) if plus else Fraction(above)
+
+
+def _quickly(word: str, _new: Any = object.__new__, _gcd: Callable[[int, int], int] = math.gcd) -> Fraction:
+    """The same, made without what Fraction(..) would look at, in a third of the time.
+
+    It sets the two names in which Fraction keeps its numbers. These are Fraction's own business, and so `_quickest` asks
+    whether this Python still has them.
+    """
+    made: Any = _new(Fraction)
+    above, plus, rest = word.partition("+")
     if not plus:
-        return _reduced(int(above), 1)
+        made._numerator, made._denominator = int(above), 1
+        return made  # type: ignore[no-any-return]
     numerator, _, denominator = rest.partition("/")
     whole = int(denominator)
     parts = int(above) * whole + int(numerator)
-    divisor = math.gcd(parts, whole)
-    return _reduced(parts, whole) if divisor == 1 else _reduced(parts // divisor, whole // divisor)
-
-
-def _without_looking(numerator: int, denominator: int, _new: Any = object.__new__) -> Fraction:
-    """The Fraction of two whole numbers without a common divisor, made without what Fraction(..) would look at.
-
-    Half of the time in which slots are read went there. It sets the two names in which Fraction keeps its numbers, which
-    are its own business: so `_quickest` tries whether they are still these.
-    """
-    made: Any = _new(Fraction)
-    made._numerator = numerator
-    made._denominator = denominator
+    divisor = _gcd(parts, whole)
+    if divisor != 1:
+        parts //= divisor
+        whole //= divisor
+    made._numerator, made._denominator = parts, whole
     return made  # type: ignore[no-any-return]
 
 
-def _quickest(quick: Callable[[int, int], Fraction]) -> Callable[[int, int], Fraction]:
-    """The quick way to make a Fraction, where this Python's Fractions can be made so; else Fraction itself."""
+def _quickest(quick: Callable[[str], Fraction]) -> Callable[[str], Fraction]:
+    """The quick way, where it makes what Fraction itself does; else that."""
     try:
-        for parts in ((8, 3), (0, 1), (2**70, 3**50)):
-            made, wanted = quick(*parts), Fraction(*parts)
-            if (made, hash(made), repr(made)) != (wanted, hash(wanted), repr(wanted)) or made + 1 - made != 1:
-                return Fraction
+        for word in ("0", "7", "2+2/3", "1+4/6", f"{2**70}+{3**40}/{3**50}"):
+            made, wanted = quick(word), _plainly(word)
+            same = (made, hash(made), repr(made), made + 1, 1 / (made + 1)) == (
+                wanted, hash(wanted), repr(wanted), wanted + 1, 1 / (wanted + 1)
+            )
+            if not same:
+                return _plainly
     except Exception:
-        return Fraction
+        return _plainly
     return quick
 
 
-_reduced = _quickest(_without_looking)
+_value = _quickest(_quickly)
 
 
 def lines_of(text: bytes, *kinds: bytes) -> Iterator[List[bytes]]:
@@ -163,6 +170,27 @@ def read_points(text: bytes) -> Tuple[Point, ...]:
 _SLOT = re.compile(r"^[ \t\r]*slot" + 4 * r"[ \t\r]+([!-~]+)", re.MULTILINE)
 
 
+class Own(Tuple[Slot, ...]):
+    """The slots of an answer, in the order of their times, and the lines in which they stand there."""
+
+    lines: Optional[bytes] = None
+
+    def __reduce__(self) -> Tuple[Any, ...]:
+        """What is pickled and copied: the slots alone."""
+        return tuple, (tuple(self),)
+
+
+def own_slots(text: bytes) -> Tuple[Slot, ...]:
+    """The slots of an answer. Its lines stand together, but where a stored text has comments between them, or blanks."""
+    slots = Own(read_slots(text))
+    start = 0 if text.startswith(b"slot ") else text.find(b"\nslot ") + 1
+    lines = text[start : text.find(b"\n", text.rfind(b"\nslot ") + 1) + 1] if slots else b""
+    if lines.count(b"\n") != len(slots) or (b"\n" + lines).count(b"\nslot ") != len(slots):
+        return tuple(slots)
+    slots.lines = lines
+    return slots
+
+
 def read_slots(text: bytes) -> Tuple[Slot, ...]:
     """The slots and runs of a text."""
     if b"run" not in text and b"ticks" not in text:
@@ -194,13 +222,15 @@ def _without_collector() -> Iterator[None]:
         gc.enable()
 
 
-def _slots(rows: Iterable[Tuple[str, str, str, str]]) -> Iterator[Slot]:
+def _slots(rows: Iterable[Tuple[str, str, str, str]]) -> List[Slot]:
     """The slots of these words. Most begin where the one before ends, and that is read once."""
-    made, last, end = tuple.__new__, "", Fraction(0)
+    made, value = tuple.__new__, _value
+    last, end, found = "", Fraction(0), []
     for job, first, final, work in rows:
-        start = end if first == last else _value(first)
-        end, last = _value(final), final
-        yield made(Slot, (job, start, end, _value(work)))
+        start = end if first == last else value(first)
+        end, last = value(final), final
+        found.append(made(Slot, (job, start, end, value(work))))
+    return found
 
 
 def _run(rest: Sequence[bytes], ticks: int) -> Slot:

@@ -154,7 +154,7 @@ class Document(Measured):
     @cached_property
     def slots(self) -> Tuple[Slot, ...]:
         """The slots and runs in the order of their lines."""
-        return _spelling.read_slots(self._readable)
+        return _spelling.own_slots(self._text) if self._written else _spelling.read_slots(self._readable)
 
     @cached_property
     def levels(self) -> Tuple[Level, ...]:

@@ -15,7 +15,7 @@ from yds._forms import FOREIGN_SLOTS, name, read
 from yds._near import Mended, Near
 from yds._near import near as _near
 from yds._numbers import Decimalish
-from yds._spelling import joined, level_lines, slot_lines
+from yds._spelling import Own, joined, level_lines, slot_lines
 from yds._tables import Profile, columns, profile, to_pandas
 from yds.document import Document
 from yds.errors import Refused
@@ -47,8 +47,8 @@ def judge(document: Document, slots: Iterable[SlotLike], points: bool = False) -
     >>> verdict.cause, verdict.job, verdict.index, verdict.slot.end - verdict.deadline
     ('late', 'b', 0, Fraction(1, 3))
     """
-    order, given = _in_time(slots)
-    judged = _with(document, given)
+    order, lines = _lines(slots)
+    judged = Document.from_text(document._head + lines)
     return _placed(_told(lambda: judged.audit(points), judged, order), order)
 
 
@@ -63,8 +63,9 @@ def check(document: Document, slots: Iterable[SlotLike], levels: Optional[Sequen
     >>> check(document, [("a", 0, 1, 2), ("a", 1, 4, 2)]).condition
     'K7'
     """
-    order, given = _in_time(slots)
-    judged = _with(document, given, document.plan().levels if levels is None else levels)
+    order, lines = _lines(slots)
+    own = document.plan().levels if levels is None else levels
+    judged = Document.from_text(document._head + lines + joined(level_lines(own)))
     judgement = _placed(_told(judged.check, judged, order), order)
     if judgement.verdict is None:
         return judgement
@@ -98,9 +99,16 @@ def near(document: Document, slots: Iterable[DecimalSlot], *, most: Decimalish) 
     return _near(document.jobs, [point.speed for point in document.points], slots, most)
 
 
-def _in_time(slots: Iterable[SlotLike]) -> Tuple[Sequence[int], List[ExactSlot]]:
+def _lines(slots: Iterable[SlotLike]) -> Tuple[Sequence[int], bytes]:
+    """The lines of the slots in the order of their times, and the place of each in the given list."""
+    if isinstance(slots, Own) and slots.lines is not None:
+        return range(len(slots)), slots.lines
+    order, given = _in_time(_given(slots))
+    return order, joined(slot_lines(given))
+
+
+def _in_time(given: List[ExactSlot]) -> Tuple[Sequence[int], List[ExactSlot]]:
     """The slots in the order of their times, and the place of each in the given list."""
-    given = _given(slots)
     if all(_is_before(one[1], other[1]) for one, other in zip(given, given[1:])):
         return range(len(given)), given
     order = sorted(range(len(given)), key=lambda place: (given[place][1], given[place][2]))
@@ -120,11 +128,6 @@ def _given(slots: Iterable[SlotLike]) -> List[ExactSlot]:
 
 def _is_before(one: Fraction, other: Fraction) -> bool:
     return one.numerator * other.denominator < other.numerator * one.denominator
-
-
-def _with(document: Document, slots: Sequence[ExactSlot], levels: Iterable[Level] = ()) -> Document:
-    """The document's jobs and points, with these slots and levels in place of its own."""
-    return Document.from_text(document._head + joined(slot_lines(slots), level_lines(levels)))
 
 
 def _told(call: Callable[[], Told], judged: Document, order: Sequence[int]) -> Told:
