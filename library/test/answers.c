@@ -239,6 +239,19 @@ static void try_nulls(void) {
 	judge("no room, null", yds_answer(&plan, 1, job, sizeof job - 1, 1, 2, NULL, 0, &needed) == YDS_DONE && needed == sizeof text - 1 ? NULL : "another answer");
 	needed = 4711;
 	judge("no input and no room, both null", yds_answer(&plan, 1, NULL, 0, 1, 2, NULL, 0, &needed) == YDS_DONE && needed == 0 ? NULL : "another answer");
+	static const char *const commands[] = {"plan", "round", "avr --grid 7", "oa --grid 7", "check", "audit", "audit --points", "report", "report --json", "trial 5 7", "expand", "admit 3", "curve", "compare --grid 7"};
+	for (size_t i = 0; i < sizeof commands / sizeof commands[0]; i++) {
+		static char other[400];
+		char line[40], *rest = line;
+		struct yds_word words[MOST_WORDS];
+		size_t count = 0, length = 0;
+		strcpy(line, commands[i]);
+		for (char *word; (word = strsep(&rest, " ")) != NULL;)
+			words[count++] = (struct yds_word){word, strlen(word)};
+		int status = yds_answer(words, count, "", 0, 1, 2, other, sizeof other, &length);
+		int null_status = yds_answer(words, count, NULL, 0, 1, 2, room, sizeof room, &needed);
+		judge(commands[i], null_status == status && needed == length && memcmp(room, other, length) == 0 ? NULL : "another answer to a null input");
+	}
 	needed = 4711;
 	judge("nothing at all", yds_answer(NULL, 0, NULL, 0, 1, 2, NULL, 0, &needed) == YDS_USAGE && needed > sizeof usage ? NULL : "another answer");
 	judge("the version", strcmp(yds_version(), YDS_VERSION) == 0 ? NULL : "another version than the header's");
