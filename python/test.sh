@@ -14,6 +14,7 @@ PYTHON=${PYTHON:-python3}
 PYTHONDONTWRITEBYTECODE=1
 export YDS PYTHONDONTWRITEBYTECODE
 work=$(mktemp -d) || exit 1
+library=$PWD/build/libyds.so
 trap 'rm -rf "$work"' EXIT
 passed=0
 failed=0
@@ -42,7 +43,16 @@ installed() {
 	tests env -i PATH="$work/venv/bin:/usr/bin:/bin" PYTHONDONTWRITEBYTECODE=1 YDS="$YDS" DOCUMENTS=200 python || return 1
 	env -i PATH="$work/venv/bin:/usr/bin:/bin" python -c 'import yds; print("from", yds.__path__[0].split("/venv/")[1])'
 }
-types() { MYPYPATH=python mypy --strict --no-incremental python/yds python/tests/seen_by_mypy.py library/examples/governor.py; }
+# The source archive, made twice; and what is installed from it, with the shared object named by the environment.
+sources() {
+	sh packaging/sdist.sh >/dev/null || return 1
+	cp build/dist/yds-"$(cat VERSION)".tar.gz "$work/first.tar.gz" && sh packaging/sdist.sh >/dev/null && cmp "$work/first.tar.gz" build/dist/yds-"$(cat VERSION)".tar.gz || return 1
+	"$PYTHON" -c 'import setuptools, wheel' 2>/dev/null || { echo "the same bytes; it isn't installed, since setuptools and wheel aren't here"; return; }
+	"$PYTHON" -m pip wheel --quiet --no-build-isolation --no-deps --no-index -w "$work/built" "$work/first.tar.gz" || return 1
+	(cd "$work" && YDS_LIBRARY=$library PYTHONPATH=$(ls "$work"/built/yds-*.whl) "$PYTHON" -c 'import yds; yds.Document([("a", 0, 4, 8)]).plan()
+print("the same bytes, and installed", yds.__version__)')
+}
+types() { MYPYPATH=python:packaging mypy --strict --no-incremental python/yds python/tests/seen_by_mypy.py library/examples/governor.py packaging/wheel.py packaging/sdist.py; }
 
 # The picture of docs/library.md has the texts of the one that is drawn here.
 texts() { grep -o '>[^<]*</text>' "$1"; }
@@ -54,6 +64,7 @@ picture() {
 [ -f build/libyds.so ] || { echo "test.sh: build/libyds.so isn't there; make library builds it" >&2; exit 1; }
 try "tests of the module" from_here
 try "the wheel, made twice" twice
+try "the source archive" sources
 try "tests of the wheel, installed into an empty environment" installed
 if command -v mypy >/dev/null 2>&1; then try "types" types; else echo "types are left out; on Debian: apt-get install mypy"; fi
 if "$PYTHON" -c 'import matplotlib' 2>/dev/null; then try "the picture" picture; else echo "the picture is left out; on Debian: apt-get install python3-matplotlib"; fi

@@ -34,7 +34,7 @@ def ratios(seeds: Iterable[int]) -> List[float]:
 
 
 def study(client: Client, count: int, end_one: bool = False) -> List[float]:
-    """The ratios of so many instances, in the order of their seeds. With end_one a worker is killed when half is done."""
+    """The ratios of so many instances, in the order of their seeds. With end_one a worker is killed in the midst."""
     parts = [range(first, min(first + AT_ONCE, count)) for first in range(0, count, AT_ONCE)]
     futures = client.map(ratios, parts)
     for done, _ in enumerate(as_completed(futures), 1):

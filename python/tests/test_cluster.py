@@ -9,13 +9,11 @@ from stored import ROOT
 
 
 class Cluster(unittest.TestCase):
-    @unittest.skipUnless(find_spec("distributed"), "dask.distributed isn't here; on Debian: apt-get install python3-distributed")
+    @unittest.skipUnless(find_spec("distributed"), "dask.distributed isn't here; on Debian: python3-distributed")
     def test_a_worker_that_is_ended(self) -> None:
         """In a process of its own, since each worker imports the script anew."""
         script = ROOT / "library" / "examples" / "cluster.py"
-        ran = subprocess.run(
-            [sys.executable, str(script), "3000"], stdout=subprocess.PIPE, stderr=subprocess.PIPE, timeout=300, check=False
-        )
+        ran = subprocess.run([sys.executable, str(script), "3000"], capture_output=True, timeout=600, check=False)
         lines = ran.stdout.decode().splitlines()
         self.assertEqual(len(lines), 3, ran.stderr.decode())
         self.assertEqual(lines[0], "15 of 30 parts are done, and one of 2 workers is ended")

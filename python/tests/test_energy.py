@@ -60,7 +60,7 @@ class NearTies(unittest.TestCase):
             energy.of_slots([("a", 0, 1, 1 + tiny)], top)
 
     def test_drawn_speeds_beside_points(self) -> None:
-        """Beside points of thirds, which no float is: each of a few slots has the power that all pairs of points give."""
+        """Beside points of thirds, which no float is: each slot has the power that all pairs of points give."""
         draw = random.Random(5)
         table: Any = [(0, 2), (Fraction(1, 3), 3), (Fraction(2, 3), 5), (Fraction(10**17 + 1, 10**17), 9), (40, 2000)]
         for _ in range(300):

@@ -19,7 +19,9 @@ def run(source: str, names: Dict[str, Any]) -> Any:
     tree = ast.parse(source)
     last = tree.body.pop() if tree.body and isinstance(tree.body[-1], ast.Expr) else None
     exec(compile(tree, str(PLACE), "exec"), names)
-    return None if last is None else eval(compile(ast.Expression(last.value), str(PLACE), "eval"), names)  # type: ignore
+    if not isinstance(last, ast.Expr):
+        return None
+    return eval(compile(ast.Expression(last.value), str(PLACE), "eval"), names)
 
 
 def printed(cell: Dict[str, Any]) -> str:

@@ -93,7 +93,8 @@ class Library:
         size = _first_room(len(data))
         while True:
             room = self._room(size)
-            status = self._call(place, count, data, len(data), *self._keys, room.address, room.size, room.needed_address)
+            where = room.address, room.size, room.needed_address
+            status = self._call(place, count, data, len(data), *self._keys, *where)
             size = room.needed.value
             text = room.text() if size <= room.size else None
             if room.size == _KEPT_ROOM:
@@ -143,7 +144,7 @@ def as_bytes(data: bytes) -> bytes:
 
 
 def _first_room(length: int) -> int:
-    """A room for most answers to an input of this length: plans have 6 to 8 times the bytes of the jobs, on points 13."""
+    """A room for most answers to an input of this length: plans have 6 to 8 times its bytes, on points 13 times."""
     return min(4096 + 16 * length, 1 << 22)
 
 

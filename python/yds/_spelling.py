@@ -96,8 +96,8 @@ def _plainly(word: str) -> Fraction:
 def _quickly(word: str, _new: Any = object.__new__, _gcd: Callable[[int, int], int] = math.gcd) -> Fraction:
     """The same, made without what Fraction(..) would look at, in a third of the time.
 
-    It sets the two names in which Fraction keeps its numbers. These are Fraction's own business, and so `_quickest` asks
-    whether this Python still has them.
+    It sets the two names in which Fraction keeps its numbers. These are Fraction's own business, and so `_quickest`
+    asks whether this Python still has them.
     """
     made: Any = _new(Fraction)
     above, plus, rest = word.partition("+")
@@ -181,7 +181,7 @@ class Own(Tuple[Slot, ...]):
 
 
 def own_slots(text: bytes) -> Tuple[Slot, ...]:
-    """The slots of an answer. Its lines stand together, but where a stored text has comments between them, or blanks."""
+    """The slots of an answer. Its lines stand together, but in a stored text with comments between them, or blanks."""
     slots = Own(read_slots(text))
     start = 0 if text.startswith(b"slot ") else text.find(b"\nslot ") + 1
     lines = text[start : text.find(b"\n", text.rfind(b"\nslot ") + 1) + 1] if slots else b""

@@ -284,7 +284,7 @@ class _Simulator:
         return parts / whole if type(parts) is int else float(Fraction(parts, whole))
 
     def _parts(self, said: Union[int, float, Fraction], length: Any) -> Any:
-        """How many parts of a unit of work could be done in the length, at the speed of the grid where it is a float."""
+        """How many parts of a unit of work could be done in the length, by the grid where the speed is a float."""
         if not isinstance(said, float):
             return _plain(said * self.grid * length)
         could, moved = self._of_grid(said, length)
@@ -295,7 +295,7 @@ class _Simulator:
         return could
 
     def _of_grid(self, said: float, length: Any) -> Tuple[int, bool]:
-        """The whole parts in the length of which the float is the nearest speed, or the next more; whether it was moved.
+        """The whole parts in the length of which the float is the nearest speed, or the next more; whether it moved.
 
         A quotient of two ints is the nearest float to it.
         """
