@@ -27,7 +27,7 @@ def first_room(size: int) -> Iterator[None]:
 class Finding(unittest.TestCase):
     def test_a_clear_sentence_where_it_is_not_found(self) -> None:
         environment = {**os.environ, "YDS_LIBRARY": "/nowhere/libyds.so.1"}
-        ran = subprocess.run([sys.executable, "-c", "import yds"], env=environment, stderr=subprocess.PIPE, check=False)
+        ran = subprocess.run([sys.executable, "-c", "import yds; yds.answer"], env=environment, capture_output=True)
         last = ran.stderr.decode().splitlines()[-1]
         self.assertRegex(last, "^ImportError: the shared object of yds can't be opened: /nowhere.*YDS_LIBRARY")
 
