@@ -9,9 +9,13 @@ ghost use Rattle.yds_plan.specs.Laid.{laid_slots, level_of, levels_of};
 ghost use Rattle.yds_plan.specs.Timetabled.{IsTimetabled};
 ghost use Rattle.yds_plan.specs.Drafts.{AreGroupsWithin, drafts};
 
-use crate::layout_levels::levels_of_groups;
-use crate::layout_members::{add_members, add_pieces};
-use crate::layout_timetable::{levels_of_stretches, timetable_of};
+mod levels;
+mod members;
+mod timetable;
+
+use self::levels::levels_of_groups;
+use self::members::{add_members, add_pieces};
+use self::timetable::{levels_of_stretches, timetable_of};
 use std::alloc::Global;
 use yds_certificate::{Certificate, Level};
 use yds_events::Stretch;

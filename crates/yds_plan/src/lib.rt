@@ -7,9 +7,6 @@
 #![tactic(auto)]
 
 mod layout;
-mod layout_levels;
-mod layout_members;
-mod layout_timetable;
 mod planning;
 
 pub use layout::{Planned, lay_out};

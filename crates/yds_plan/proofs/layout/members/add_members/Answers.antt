@@ -1,8 +1,8 @@
 use Rattle.yds_model.proofs.Common.{[], ◌∙◌, ap, get_or}
 use Rattle.yds_search.specs.Views.{found_view}
 use Rattle.yds_plan.proofs.DraftSteps.{number_within, member_step, member_skip}
-use Rattle.yds_plan.proofs.layout_members.add_members.Goals as goal
-use Rattle.yds_plan.proofs.layout_members.add_members.Goals.{in-Some+in_ok-add_member, in_default}
+use Rattle.yds_plan.proofs.layout.members.add_members.Goals as goal
+use Rattle.yds_plan.proofs.layout.members.add_members.Goals.{in-Some+in_ok-add_member, in_default}
 
 pub add_member-requires : goal.add_member-requires
 add_member-requires c =

@@ -6,8 +6,8 @@ use Rattle.yds_search.specs.declared.found.Group.{Group}
 use Rattle.yds_search.specs.Views.{group_view, found_view}
 use Rattle.yds_plan.specs.Laid.{pace_of_group, rows_found}
 use Rattle.yds_plan.proofs.Rows.{rows_are, rows_made}
-use Rattle.yds_plan.proofs.layout_timetable.timetable_of.Goals as goal
-use Rattle.yds_plan.proofs.layout_timetable.timetable_of.Goals.{After-deref-4}
+use Rattle.yds_plan.proofs.layout.timetable.timetable_of.Goals as goal
+use Rattle.yds_plan.proofs.layout.timetable.timetable_of.Goals.{After-deref-4}
 
 made : (c : After-deref-4) → rows_of c.args.timeline.now c.deref-2.result.now c.deref-3.result.now c.deref-4.result.now ≡ rows_found c.args.rows.now (found_view c.args.found.now)
 made c = rows_made c.args.rows.now (found_view c.args.found.now) c.requires.found c.requires.jobs c.requires.few _ _ _ _ c.requires.timeline

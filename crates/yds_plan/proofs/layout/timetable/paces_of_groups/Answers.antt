@@ -1,7 +1,7 @@
 use Rattle.yds_model.proofs.Common.{◌≤◌, subst, get_or-map}
 use Rattle.yds_search.specs.Found.{Group, no_group}
 use Rattle.yds_search.specs.Views.{group_view}
-use Rattle.yds_plan.proofs.layout_timetable.paces_of_groups.Goals as goal
+use Rattle.yds_plan.proofs.layout.timetable.paces_of_groups.Goals as goal
 
 pub pace_of-requires-clause-some_work : goal.pace_of-requires-clause-some_work
 pace_of-requires-clause-some_work c =

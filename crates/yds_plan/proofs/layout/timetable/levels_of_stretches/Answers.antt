@@ -1,6 +1,6 @@
 use Rattle.yds_model.proofs.Common.{◌++◌, ◌∷◌, [], ◌∙◌, ℕ, List, map, take, get_or, sym, ap, ap₂, Option, slice_get, map-append, take_more}
 use Rattle.yds_timetable.proofs.Lists.{copied_read}
-use Rattle.yds_plan.proofs.layout_timetable.levels_of_stretches.Goals as goal
+use Rattle.yds_plan.proofs.layout.timetable.levels_of_stretches.Goals as goal
 
 pub loop-place-preserved : goal.loop-place-preserved
 loop-place-preserved c =

@@ -1,7 +1,7 @@
 use Rattle.yds_model.proofs.Common.{◌≡◌, ◌/◌, ap, arith, common_divisor}
 use Rattle.yds_search.proofs.LowestSpeed.{lowest}
-use Rattle.yds_plan.proofs.layout_timetable.pace_of.Goals as goal
-use Rattle.yds_plan.proofs.layout_timetable.pace_of.Goals.{After-gcd-divisor}
+use Rattle.yds_plan.proofs.layout.timetable.pace_of.Goals as goal
+use Rattle.yds_plan.proofs.layout.timetable.pace_of.Goals.{After-gcd-divisor}
 
 divisor : (c : After-gcd-divisor) → c.gcd-divisor.result ≡ common_divisor c.args.group.now.work c.args.group.now.length
 divisor c = c.gcd-divisor.ensures.value

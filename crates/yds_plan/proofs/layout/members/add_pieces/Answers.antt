@@ -2,8 +2,8 @@ use Rattle.yds_model.proofs.Common.{◌<◌, ◌∙◌, ap, arith, length, get_o
 use Rattle.yds_events.specs.Stretch.{no_stretch}
 use Rattle.yds_search.specs.Views.{found_view}
 use Rattle.yds_plan.proofs.DraftSteps.{number_within, piece_step, piece_skip}
-use Rattle.yds_plan.proofs.layout_members.add_pieces.Goals as goal
-use Rattle.yds_plan.proofs.layout_members.add_pieces.Goals.{In-loop-stretch, in-Some+in_ok-add_piece, in_default}
+use Rattle.yds_plan.proofs.layout.members.add_pieces.Goals as goal
+use Rattle.yds_plan.proofs.layout.members.add_pieces.Goals.{In-loop-stretch, in-Some+in_ok-add_piece, in_default}
 
 inside : (c : In-loop-stretch) → c.loop-stretch.stretch < length c.args.timeline.now
 inside c = omega (arith, c.requires.stretches, c.loop-stretch-test.true, ap length c.deref-place-items.ensures.value)

@@ -2,8 +2,8 @@ use Rattle.yds_model.proofs.Common.{◌≡◌, ◌+◌, ◌-◌, ◌∙◌, sym,
 use Rattle.yds_search.specs.Views.{group_view}
 use Rattle.yds_plan.specs.Drafts.{empty_levels}
 use Rattle.yds_plan.proofs.Drafts.{level_below, work_at, length_at, joining, work_within, length_within, empty_length, levels_next, count_next, numbers_next}
-use Rattle.yds_plan.proofs.layout_levels.levels_of_groups.Goals as goal
-use Rattle.yds_plan.proofs.layout_levels.levels_of_groups.Goals.{After-len}
+use Rattle.yds_plan.proofs.layout.levels.levels_of_groups.Goals as goal
+use Rattle.yds_plan.proofs.layout.levels.levels_of_groups.Goals.{After-len}
 
 pub add_group-requires-clause-some : goal.add_group-requires-clause-some
 add_group-requires-clause-some c = λ joins.
