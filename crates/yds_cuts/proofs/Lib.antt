@@ -19,6 +19,6 @@ pub mod WrittenGroups
 pub mod OverlappingParts
 pub mod BothBounds
 mod CutsExamples
-mod BoundsExamples
+pub mod BoundsExamples
 mod ClosedCutsExamples
 mod WrittenExamples

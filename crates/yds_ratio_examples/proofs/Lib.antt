@@ -3,3 +3,4 @@ pub mod FourJobs
 mod CommonDeadline
 mod TwoSides
 mod NearMisses
+mod GroupRuns

@@ -1,7 +1,7 @@
 -- What a run of Optimal Available that never rounded does above a speed p/q is at most the work of the jobs in all of whose window it is
 -- faster. From the last stretch to the first: from each on that follows none, or one that isn't fast, what is above the speed is at most the
 -- work of such jobs that are released from there on.
-use Rattle.yds_model.proofs.Common.{◌≡◌, ℕ, zero, suc, ◌+◌, ◌-◌, ◌*◌, ◌<◌, ◌≤◌, List, [], length, get_or, cond, Bool, true, ◌&&◌, nat_le, nat_lt, sym, ap, subst, ◌∙◌, arith, inl, inr, All, filter, sum_by, cases_lt, cases_Bool, lt-ltb, leb-true, ltb-true, and_parts, All-from_get_or, mul-pos, mul-le-mul_left, mul-le-mul_right, le_of_mul-le-mul_right, Job, job_at, work_of, numbers_of, WholeSlot, slots_at, stretches, is_live, slots_in, busy, work_in, stretch_at, excess, sum_by-filter, sum_by-add, sum_by-mul, sum_by_same, sum_by_at_most, sum_by_zero, run_forward}
+use Rattle.yds_model.proofs.Common.{◌≡◌, ℕ, zero, suc, ◌+◌, ◌-◌, ◌*◌, ◌<◌, ◌≤◌, List, [], length, get_or, cond, Bool, true, ◌&&◌, nat_le, nat_lt, sym, ap, subst, ◌∙◌, arith, inl, inr, All, filter, sum_by, cases_lt, cases_Bool, lt-ltb, leb-true, ltb-true, and_parts, All-from_get_or, mul-pos, mul-le-mul_left, mul-le-mul_right, le_of_mul-le-mul_right, Job, job_at, work_of, numbers_of, WholeSlot, slots_at, stretches, is_live, slots_in, busy, work_in, stretch_at, excess, sum_by-filter, sum_by-add, sum_by-mul, sum_by_same, sum_by_at_most, sum_by_zero, run_forward, IsFeasibleAt, IsUncut}
 use Rattle.yds_model.specs.Numbers.{sum_below}
 use Rattle.yds_model.proofs.SumsBelow.{sum_places}
 use Rattle.yds_events.specs.Stretch.{no_stretch}
@@ -9,6 +9,7 @@ use Rattle.yds_events.specs.Window.{length_at}
 use Rattle.yds_events.proofs.Neighbours.{stretch_begins, stretch_forward, stretches_run}
 use Rattle.yds_laws.proofs.Served.{all_numbers}
 use Rattle.yds_energy.proofs.RoundedRuns.{all_work}
+use Rattle.yds_energy.proofs.SpentEnergy.{IsEven}
 use Rattle.yds_energy.proofs.StretchSlots.{sum_in_stretches}
 use Rattle.yds_ratios.specs.SpendingByPower.{is_fast, runs_faster, faster_throughout}
 use Rattle.yds_ratios.specs.RatioLaws.{OptimalAvailableAboveASpeed}
@@ -69,6 +70,23 @@ full_over p q time slots some full speeds = elim (cases_lt (p * time) (q * all_w
 empty_over : (p q time : ℕ) (slots : List WholeSlot) → slots ≡ [] → sum_by (λ slot. q * slot.work - p * (slot.to - slot.from)) slots ≡ q * all_work slots - p * time
 empty_over p q time slots none = rw none (omega arith)
 
+-- Where each stretch is of one speed, the excess is what the stretches do above the speed.
+pub even_excess : (jobs : List Job) (scale p q : ℕ) (slots : List WholeSlot) → 1 ≤ scale → IsFeasibleAt jobs scale slots → All (IsUncut jobs scale) slots →
+    All (IsEven scale slots) (stretches jobs) →
+    excess p q slots ≡ sum_by (λ stretch. q * work_in scale stretch slots - p * ((stretch.to - stretch.from) * scale)) (stretches jobs)
+even_excess jobs scale p q slots positive feasible uncut even =
+    let term = λ (slot : WholeSlot). q * slot.work - p * (slot.to - slot.from) in
+    sym (sum_in_stretches term scale 0 (stretches jobs) slots (stretches_run jobs) (run_forward 0 slots feasible.one_at_a_time) uncut)
+    ∙ sum_by_same (λ stretch. sum_by term (slots_in scale stretch slots)) (λ stretch. q * work_in scale stretch slots - p * ((stretch.to - stretch.from) * scale)) (stretches jobs)
+    (All-from_get_or (λ stretch. sum_by term (slots_in scale stretch slots) ≡ q * work_in scale stretch slots - p * ((stretch.to - stretch.from) * scale)) (stretches jobs) no_stretch
+    (λ k here.
+    let stretch = stretch_at jobs k in
+    elim (even k no_stretch here) [
+      | inl none ↦ empty_over p q ((stretch.to - stretch.from) * scale) (slots_in scale stretch slots) none
+      | inr full ↦ full_over p q ((stretch.to - stretch.from) * scale) (slots_in scale stretch slots)
+          (mul-pos (omega (arith, stretch_forward jobs k here)) positive) full.full full.speeds
+    ]))
+
 module _ (jobs : List Job) (scale : ℕ) (slots : List WholeSlot) (run : IsExactRun jobs scale slots) (p q : ℕ) where
   abbrev count : ℕ
   count = length (stretches jobs)
@@ -85,17 +103,7 @@ module _ (jobs : List Job) (scale : ℕ) (slots : List WholeSlot) (run : IsExact
   -- the excess is what the stretches do above the speed
   pub excess_by_stretches : excess p q slots ≡ sum_below count above
   excess_by_stretches =
-      let term = λ (slot : WholeSlot). q * slot.work - p * (slot.to - slot.from) in
-      sym (sum_in_stretches term scale 0 (stretches jobs) slots (stretches_run jobs) (run_forward 0 slots run.feasible.one_at_a_time) run.uncut)
-      ∙ sum_by_same (λ stretch. sum_by term (slots_in scale stretch slots)) (λ stretch. q * work_in scale stretch slots - p * ((stretch.to - stretch.from) * scale)) (stretches jobs)
-      (All-from_get_or (λ stretch. sum_by term (slots_in scale stretch slots) ≡ q * work_in scale stretch slots - p * ((stretch.to - stretch.from) * scale)) (stretches jobs) no_stretch
-      (λ k here.
-      let stretch = stretch_at jobs k in
-      elim (run.even k no_stretch here) [
-        | inl none ↦ empty_over p q ((stretch.to - stretch.from) * scale) (slots_in scale stretch slots) none
-        | inr full ↦ full_over p q ((stretch.to - stretch.from) * scale) (slots_in scale stretch slots)
-            (mul-pos (omega (arith, stretch_forward jobs k here)) run.positive) full.full full.speeds
-      ]))
+      even_excess jobs scale p q slots run.positive run.feasible run.uncut run.even
       ∙ sum_places (λ stretch. q * work_in scale stretch slots - p * ((stretch.to - stretch.from) * scale)) (stretches jobs) no_stretch
 
   -- # Jobs in all of whose window the run is faster

@@ -80,7 +80,7 @@ module _ (jobs : List Job) (windows : ℕ) (divided : All (λ job. window job �
       ∙ sum_by-mul (grid * (stretch.to - stretch.from)) (λ number. live_share jobs windows stretch number * (job_at jobs number).work) (numbers_of jobs)
 
   -- so what the stretch does
-  work_shared : (grid scale : ℕ) (slots : List WholeSlot) (stretch : Piece) → 1 ≤ grid → DoesItsTerms jobs grid scale slots stretch →
+  pub work_shared : (grid scale : ℕ) (slots : List WholeSlot) (stretch : Piece) → 1 ≤ grid → DoesItsTerms jobs grid scale slots stretch →
       work_in scale stretch slots * windows ≡ scale * (stretch.to - stretch.from) * live_work jobs windows stretch
   work_shared grid scale slots stretch some does =
       eq_of_mul-eq-mul_left grid some (work_in scale stretch slots * windows) (scale * (stretch.to - stretch.from) * live_work jobs windows stretch)

@@ -1,0 +1,5 @@
+pub mod Units
+pub mod Selections
+pub mod Above
+pub mod Costs
+pub mod Spending
