@@ -1,7 +1,7 @@
 """What the tests of long documents share: parts as texts, and the answers to them."""
 
 from functools import lru_cache
-from typing import List, Sequence, Tuple
+from typing import Iterable, List, Sequence, Tuple
 
 import yds
 from yds import parts
@@ -16,7 +16,7 @@ def program(document: bytes, *words: str) -> Tuple[int, bytes]:
     return int(status), text
 
 
-def texts(lines: Sequence[bytes], jobs: int = 4000, shift: bool = False) -> List[bytes]:
+def texts(lines: Iterable[bytes], jobs: int = 4000, shift: bool = False) -> List[bytes]:
     """The texts of the parts."""
     return [part.text for part in parts.cut(lines, jobs, shift)]
 

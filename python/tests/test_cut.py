@@ -1,5 +1,6 @@
 """Where a long document is cut, the texts of its parts, and what is refused."""
 
+import io
 import unittest
 
 import drawn
@@ -48,7 +49,7 @@ class CutTest(unittest.TestCase):
         found = texts(document, 1, shift=True)
         self.assertEqual(found[0], b"# part 1: jobs 1 to 1, from 2000000000000 to 2000000000004, shift 2000000000000\n"
                                    b"job a 0 4 8\nticks 10\nrun a 5 10 3\n")  # fmt: skip
-        with self.assertRaisesRegex(parts.PartsError, "line 1: a time above 1000000000; shift the times of each part"):
+        with self.assertRaisesRegex(parts.PartsError, r"line 1: a time above 1000000000; shift the times of each part \(--shift\)"):
             texts(document, 1)
 
     def test_comments_and_units(self) -> None:
@@ -82,13 +83,24 @@ class CutTest(unittest.TestCase):
             (("job a 0 4 8", "jobs b 4 6 1"), "line 2: jobs is no kind of line"),
             (("job a 0 4 8", "slot a 0 1+1/ 8"), "line 2: a slot is: slot NAME FROM TO WORK"),
             (("job a 0 4 8", "slot a\x0b0 4 8"), "line 2: a byte that stands in no line but a comment"),
-            (("# time unit 10 us", "job a 0 4 8", "# time unit 1 us"), "line 3: a unit of time of 1 here and 10 before"),
+            (("# time unit 10 us", "job a 0 4 8", "# time unit 1 us"), "line 3: a unit of time of 1 us here and 10 us before"),
             (("point 0 1", "# no job"), "no job line; look at what wrote the input"),
             ((), "the input is empty; look at what wrote it"),
         ]:
             with self.subTest(document), self.assertRaises(parts.PartsError) as raised:
                 texts(lines(*document), 2)
             self.assertIn(message, str(raised.exception))
+
+    def test_lines_of_a_file_and_of_a_list_are_the_same(self) -> None:
+        many = [b"job j%d %d %d 1\n" % (job, job, job + 3) for job in range(9000)] + [b"# between\n", b"ticks 2\n"]
+        many += [b"run j%d %d %d 1\n" % (job, 2 * job, 2 * job + 2) for job in range(9000)]
+        many[-1] = many[-1][:-1]
+        self.assertEqual(texts(many, 700), texts(io.BytesIO(b"".join(many)), 700))
+
+    def test_two_lines_in_one_are_no_line(self) -> None:
+        for document in ([b"job a 0 4 8\njobs b 4 6 4\n"], [b"job a 0 4 8\njob b 4 6 4\n", b"job c 5 9"]):
+            with self.assertRaises(parts.PartsError):
+                texts(document)
 
     def test_names_with_equal_hashes_are_looked_up(self) -> None:
         from yds import _long

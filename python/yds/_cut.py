@@ -4,7 +4,9 @@ from __future__ import annotations
 
 import tempfile
 from array import array
+from bisect import bisect_right
 from itertools import islice
+from operator import gt
 from typing import Dict, Iterable, Iterator, List, NamedTuple, Optional, Tuple
 
 from yds._heads import MOST_BYTES, MOST_SLOTS, MOST_TIME, Head, Part, PartsError
@@ -12,6 +14,8 @@ from yds._long import NO_RUN, Long
 from yds._spelled import moved
 
 MOST_PARTS = 99_999
+SOME_RUNS = 1 << 16
+"""The parts of so many runs are looked up at once."""
 HELD_BYTES = 1 << 22
 """So many bytes of runs that are out of order are held before they go to the files of their parts."""
 
@@ -129,7 +133,7 @@ class Runs:
         self._place = 0
         self._lines = long.run_lines()
         self._before = b""
-        if any(one > other for one, other in zip(self._part_of, islice(self._part_of, 1, None))):
+        if any(map(gt, self._part_of, islice(self._part_of, 1, None))):
             self._store = tempfile.TemporaryFile(dir=folder)
             self._pieces: Optional[Dict[int, List[Tuple[int, int]]]] = {}
             self._sort()
@@ -137,12 +141,15 @@ class Runs:
             self._pieces = None
 
     def _parts_of(self, parts: List[Range]) -> array[int]:
-        """The number of each run's part."""
-        of_job = array("I", bytes(4 * self._long.jobs))
+        """The number of each run's part, in the place of its job's number."""
+        of_job = array("I")
         for number, part in enumerate(parts):
-            for job in range(part.first, part.end):
-                of_job[job] = number
-        return array("I", (of_job[job] for job in self._long.job_of))
+            of_job.extend(array("I", [number]) * (part.end - part.first))
+        of_run = self._long.runs_of_jobs()
+        for start in range(0, len(of_run), SOME_RUNS):
+            some = slice(start, start + SOME_RUNS)
+            of_run[some] = array("I", map(of_job.__getitem__, of_run[some]))
+        return of_run
 
     def _sort(self) -> None:
         """Puts each run behind those of its part, in pieces of one file."""
@@ -175,8 +182,7 @@ class Runs:
         if self._pieces is not None:
             return list(_numbered(part, self._of(part)))
         start, before = self._place, self._before
-        while self._place < len(self._part_of) and self._part_of[self._place] == part:
-            self._place += 1
+        self._place = bisect_right(self._part_of, part, start)
         lines = list(islice(self._lines, self._place - start))
         if lines:
             self._before = lines[-1]
@@ -251,7 +257,7 @@ class Writer:
         whole = b"".join(text)
         if len(whole) > MOST_BYTES:
             raise PartsError(f"part {head.number} takes {len(whole)} bytes, above {MOST_BYTES}; give each part fewer jobs")
-        return Part(head, whole)
+        return Part(head, whole, long.left_out)
 
     def _job_lines(self, part: Range) -> List[bytes]:
         """The part's lines of jobs, and the comments between them."""

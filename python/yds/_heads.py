@@ -97,6 +97,8 @@ class Part(NamedTuple):
 
     head: Head
     text: bytes
+    left_out: int = 0
+    """How many lines of levels, pieces and members the document has; they are in no part."""
 
 
 def opened(text: Text) -> BinaryIO:

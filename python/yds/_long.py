@@ -10,14 +10,16 @@ import io
 import re
 import tempfile
 from array import array
-from typing import IO, Dict, Iterable, Iterator, List, NamedTuple, Optional, Tuple
+from collections import deque
+from typing import IO, Deque, Dict, Iterable, Iterator, List, NamedTuple, Optional, Tuple, Union
 
-from yds._heads import MOST_TIME, PartsError
+from yds._heads import MOST_BYTES, MOST_TIME, PartsError
 
 _NUMBER = rb"(0|[1-9][0-9]{0,29})"
-_ENDING = rb" %b %b %b\n?" % ((_NUMBER,) * 3)
-_JOB = re.compile(rb"job ([!-~]{1,64})" + _ENDING).fullmatch
-_RUN = re.compile(rb"run ([!-~]{1,64})" + _ENDING).fullmatch
+_UNREAD = rb"(?:0|[1-9][0-9]{0,29})"
+_JOBS = re.compile(rb"^job ([!-~]{1,64}) %b %b %b\n" % ((_NUMBER,) * 3), re.M).findall
+_RUNS = re.compile(rb"^run ([!-~]{1,64}) %b %b %b\n" % (_NUMBER, _NUMBER, _UNREAD), re.M).findall
+_NAMES = re.compile(rb"^job ([^ ]+) ([0-9]+) ", re.M).findall
 _WHOLE = re.compile(_NUMBER).fullmatch
 _FRACTION = re.compile(rb"%b(\+%b/%b)?" % ((_NUMBER,) * 3)).fullmatch
 _UNIT = re.compile(rb"(time|speed|power) unit ([0-9.]+) (us|kHz|uW)")
@@ -26,7 +28,9 @@ _ODD_BYTE = re.compile(rb"[^ -~\t]").search
 GREATEST_SHIFTED = 2**53 - 1
 """Times that are shifted are at most this."""
 NEAR = 8000
-"""So many jobs, those released last, are at hand when a run is read."""
+"""At least so many jobs, those released last, are at hand when a run is read."""
+BLOCK = 1 << 16
+"""So many bytes of lines are read at once, and room is made for so many jobs."""
 WAITING = 50_000
 """So many runs of other jobs wait before their names are looked up in the file."""
 BUCKETS = 64
@@ -40,14 +44,67 @@ _UNIT_HINTS = {
 }
 
 
+Batch = List[bytes]
+"""Lines, each with its line feed; the last one of all may have none."""
+
+
+def batches(lines: Iterable[bytes]) -> Iterator[Batch]:
+    """The lines, some of them at once; those of a file in blocks, and a line that is longer than a document is a fault."""
+    if isinstance(lines, (io.BufferedIOBase, io.RawIOBase)):
+        yield from _batches_of_file(lines)
+        return
+    held: Batch = []
+    size = 0
+    try:
+        for line in lines:
+            held.append(line)
+            size += len(line)
+            if size > BLOCK:
+                yield held
+                held, size = [], 0
+    except PartsError:
+        yield held
+        raise
+    yield held
+
+
+def _batches_of_file(source: Union[io.BufferedIOBase, io.RawIOBase]) -> Iterator[Batch]:
+    number = 0
+    rest = b""
+    while True:
+        block = source.read(BLOCK)
+        if not block:
+            break
+        lines = io.BytesIO(rest + block).readlines()
+        if len(lines[0]) > MOST_BYTES:
+            raise PartsError(f"a line of more than {MOST_BYTES} bytes", number + 1)
+        rest = b"" if lines[-1].endswith(b"\n") else lines.pop()
+        number += len(lines)
+        yield lines
+    yield [rest] if rest else []
+
+
 class Waiting(NamedTuple):
-    """A run whose job isn't at hand: the name, its place among the runs, its line, and how many jobs stood before."""
+    """A run whose job isn't at hand."""
 
     name: bytes
     place: int
+    """Its place among the runs."""
     line: int
     jobs: int
-    text: bytes
+    """How many jobs stood before it."""
+    size: int
+    begin: bytes
+    end: bytes
+    ticks: int
+
+
+class Names(NamedTuple):
+    """The names of neighbouring jobs, the number of the first, and its release."""
+
+    first: int
+    release: int
+    names: List[bytes]
 
 
 class Long:
@@ -78,14 +135,12 @@ class Long:
         self._release = self._latest = 0
         self._greatest = GREATEST_SHIFTED if shift else MOST_TIME
         self._near: Dict[bytes, int] = {}
-        self._ring: List[bytes] = [b""] * NEAR
+        self._blocks: Deque[Names] = deque()
+        self._next_block: Optional[Names] = None
         self._looked = 0
         self._look_at = 0
-        self._ahead: Iterator[Tuple[bytes, int]] = iter(())
-        self._next_near: Optional[Tuple[bytes, int]] = None
         self._waiting: List[Waiting] = []
         self._told: Dict[bytes, bytes] = {}
-        self._level_lines = 0
 
     def __enter__(self) -> Long:
         return self
@@ -109,23 +164,40 @@ class Long:
     def read(self, lines: Iterable[bytes]) -> None:
         """Reads all lines. PartsError is raised where one has a fault."""
         number = 0
-        for number, line in enumerate(lines, 1):
-            found = _JOB(line)
-            if found is not None:
-                name, release, deadline, work = found.groups()
-                self._take_job(name, int(release), int(deadline), int(work), line, number)
-                continue
-            found = _RUN(line)
-            if found is not None and self.ticks is not None:
-                self._take_run(found.group(1), int(found.group(2)) // self.ticks, line, number)
-                continue
-            self._take_other(line[:-1] if line.endswith(b"\n") else line, number)
+        for batch in batches(lines):
+            self._take_batch(batch, number + 1)
+            number += len(batch)
         if not self.jobs:
             found_none = "no job line; look at what wrote the input"
             raise PartsError(found_none if number else "the input is empty; look at what wrote it")
         self._make_room()
         self._look_up_waiting()
         self._refuse_doubled()
+
+    def _take_batch(self, batch: Batch, number: int) -> None:
+        """Takes lines, of which the first has this number: all at once where they are plain lines of one kind."""
+        if self._take_plain(batch, number):
+            return
+        for place, line in enumerate(batch, number):
+            if not self._take_plain([line], place):
+                self._take_other(line[:-1] if line.endswith(b"\n") else line, place)
+
+    def _take_plain(self, lines: Batch, number: int) -> bool:
+        """Takes the lines, if they are plain lines of jobs, or of runs."""
+        text = b"".join(lines)
+        if not text.endswith(b"\n") or text.count(b"\n") != len(lines):
+            return False
+        if text.startswith(b"job "):
+            jobs = _JOBS(text)
+            if len(jobs) == len(lines):
+                self._take_jobs(jobs, lines, number)
+                return True
+        elif text.startswith(b"run ") and self.ticks is not None:
+            runs = _RUNS(text)
+            if len(runs) == len(lines):
+                self._take_runs(runs, lines, number, self.ticks)
+                return True
+        return False
 
     def _take_other(self, line: bytes, number: int) -> None:
         line = line[:-1] if line.endswith(b"\r") else line
@@ -140,9 +212,9 @@ class Long:
         self._take_fields(fields, number)
 
     def _take_comment(self, line: bytes, number: int) -> None:
-        for kind, amount, _ in _UNIT.findall(line):
+        for kind, amount, unit in _UNIT.findall(line):
             if self._told.setdefault(kind, amount) != amount:
-                here, before = amount.decode(), self._told[kind].decode()
+                here, before = (f"{number.decode()} {unit.decode()}" for number in (amount, self._told[kind]))
                 hint = _UNIT_HINTS[kind]
                 raise PartsError(f"a unit of {kind.decode()} of {here} here and {before} before; {hint}", number)
         if not self.jobs and b"unit" in line and len(self.units) < 20 and len(line) < 200:
@@ -159,17 +231,18 @@ class Long:
         if kind == b"job":
             if len(fields) != 5 or not all(map(_WHOLE, fields[2:])):
                 raise PartsError("a job is: job NAME RELEASE DEADLINE WORK, in whole numbers", number)
-            self._take_job(fields[1], int(fields[2]), int(fields[3]), int(fields[4]), b" ".join(fields), number)
+            self._take_jobs([(fields[1], fields[2], fields[3], fields[4])], [b" ".join(fields) + b"\n"], number)
         elif kind == b"slot":
             if len(fields) != 5 or not all(map(_FRACTION, fields[2:])):
                 raise PartsError("a slot is: slot NAME FROM TO WORK, in numbers or fractions W+N/D", number)
-            self._take_run(fields[1], int(fields[2].split(b"+")[0]), b" ".join(fields) + b"\n", number)
+            begin, end = (field.split(b"+")[0] for field in fields[2:4])
+            self._take_runs([(fields[1], begin, end)], [b" ".join(fields) + b"\n"], number, 1)
         elif kind == b"run":
             if len(fields) != 5 or not all(map(_WHOLE, fields[2:])):
                 raise PartsError("a run is: run NAME FROM TO SPEED, in whole numbers", number)
             if self.ticks is None:
                 raise PartsError("a run before any line of ticks", number)
-            self._take_run(fields[1], int(fields[2]) // self.ticks, b" ".join(fields) + b"\n", number)
+            self._take_runs([(fields[1], fields[2], fields[3])], [b" ".join(fields) + b"\n"], number, self.ticks)
         else:
             self._take_single(kind, fields, number)
 
@@ -202,31 +275,37 @@ class Long:
         else:
             raise PartsError(f"{_printable(kind)} is no kind of line", number)
 
-    def _take_job(self, name: bytes, begin: int, end: int, work: int, line: bytes, number: int) -> None:
-        if begin < self._release or begin >= end or end > self._greatest or len(name) > 64 or work > 1_000_000:
-            self._refuse_job(name.decode(), begin, end, work, number)
-        self._release = begin
-        self.closed.append(begin >= self._latest)
-        if end > self._latest:
-            self._latest = end
-        line = line if line.endswith(b"\n") else line + b"\n"
-        self._job_file.write(line)
-        self.bytes_of.append(len(line))
-        if self.shift:
-            self.begins.append(begin)
-            self.ends.append(end)
-        hashed = hash(name)
-        self._hashes[hashed % BUCKETS].append(hashed)
+    def _take_jobs(self, jobs: List[Tuple[bytes, bytes, bytes, bytes]], lines: Batch, number: int) -> None:
+        """Takes jobs, the names, releases, deadlines and works of these lines."""
+        closed, hashes = self.closed, self._hashes
         if number != self._next_line:
-            self._line_jobs.append(len(self.closed) - 1)
+            self._line_jobs.append(len(closed))
             self._line_lines.append(number)
-        self._next_line = number + 1
+        self._next_line = number + len(lines)
+        before, latest, greatest = self._release, self._latest, self._greatest
+        for place, (name, release, deadline, work) in enumerate(jobs):
+            begin, end = int(release), int(deadline)
+            if begin < before or begin >= end or end > greatest or len(name) > 64 or int(work) > 1_000_000:
+                self._release = before
+                self._refuse_job(name.decode(), begin, end, int(work), number + place)
+            before = begin
+            closed.append(begin >= latest)
+            if end > latest:
+                latest = end
+            hashed = hash(name)
+            hashes[hashed % BUCKETS].append(hashed)
+            if self.shift:
+                self.begins.append(begin)
+                self.ends.append(end)
+        self._release, self._latest = before, latest
+        self.bytes_of.extend(map(len, lines))
+        self._job_file.writelines(lines)
 
     def _refuse_job(self, name: str, begin: int, end: int, work: int, number: int) -> None:
         if len(name) > 64:
             raise PartsError("a name of more than 64 bytes", number)
         if end > self._greatest:
-            hint = "" if self.shift else "; shift the times of each part"
+            hint = "" if self.shift else "; shift the times of each part (--shift)"
             raise PartsError(f"a time above {self._greatest}{hint}", number)
         if work > 1_000_000:
             raise PartsError("a work above 1000000", number)
@@ -238,88 +317,101 @@ class Long:
             number,
         )
 
-    def _take_run(self, name: bytes, begin: int, line: bytes, number: int) -> None:
+    def _take_runs(self, runs: List[Tuple[bytes, bytes, bytes]], lines: Batch, number: int, ticks: int) -> None:
+        """Takes runs, the names, begins and ends of these lines, with so many ticks to a unit of time."""
         if len(self.runs_of) < len(self.closed):
             self._make_room()
-        following = self._next_near
-        if following is None or following[1] <= begin:
-            self._look_on(begin)
-        place = len(self.job_of)
-        job = self._near.get(name)
-        self._run_file.write(line if line.endswith(b"\n") else line + b"\n")
-        if job is None:
-            self.job_of.append(NO_RUN)
-            self._waiting.append(Waiting(name, place, number, self.jobs, line))
-            if len(self._waiting) >= WAITING:
-                self._look_up_waiting()
-        else:
-            self.job_of.append(job)
-            self._note_run(job, place, line)
+        near, job_of, first_run, last_run = self._near, self.job_of, self.first_run, self.last_run
+        runs_of, bytes_of, shift = self.runs_of, self.bytes_of, self.shift
+        first = len(job_of)
+        until = self._near_until(ticks)
+        for place, ((name, begin, end), line) in enumerate(zip(runs, lines), first):
+            if until is not None and int(begin) >= until:
+                self._look_on(int(begin) // ticks)
+                until = self._near_until(ticks)
+            job = near.get(name)
+            if job is None:
+                job_of.append(NO_RUN)
+                self._waiting.append(Waiting(name, place, number + place - first, self.jobs, len(line), begin, end, ticks))
+                if len(self._waiting) >= WAITING:
+                    self._look_up_waiting()
+                continue
+            job_of.append(job)
+            if first_run[job] == NO_RUN:
+                first_run[job] = place
+            last_run[job] = place
+            runs_of[job] += 1
+            size = bytes_of[job] + len(line) + 20
+            bytes_of[job] = size if size < NO_RUN else NO_RUN
+            if shift:
+                self._widen(job, int(begin) // ticks, int(end) // ticks + 1)
+        self._run_file.writelines(lines)
 
     def _make_room(self) -> None:
         """Makes room for what is kept of each job's runs."""
-        more = len(self.closed) - len(self.runs_of)
-        self.runs_of.extend(array("I", bytes(4 * more)))
-        self.first_run.extend(array("I", b"\xff" * (4 * more)))
-        self.last_run.extend(array("I", b"\xff" * (4 * more)))
+        while len(self.runs_of) < len(self.closed):
+            more = min(len(self.closed) - len(self.runs_of), BLOCK)
+            self.runs_of.extend(array("I", bytes(4 * more)))
+            self.first_run.extend(array("I", b"\xff" * (4 * more)))
+            self.last_run.extend(array("I", b"\xff" * (4 * more)))
 
-    def _note_run(self, job: int, place: int, line: bytes) -> None:
-        if self.first_run[job] == NO_RUN or place < self.first_run[job]:
-            self.first_run[job] = place
-        if self.last_run[job] == NO_RUN or place > self.last_run[job]:
-            self.last_run[job] = place
+    def _note_run(self, job: int, run: Waiting) -> None:
+        """Notes a run that waited: others of its job may have been noted before it."""
+        self.job_of[run.place] = job
+        if self.first_run[job] == NO_RUN or run.place < self.first_run[job]:
+            self.first_run[job] = run.place
+        if self.last_run[job] == NO_RUN or run.place > self.last_run[job]:
+            self.last_run[job] = run.place
         self.runs_of[job] += 1
-        self.bytes_of[job] = min(self.bytes_of[job] + len(line) + 20, NO_RUN)
+        self.bytes_of[job] = min(self.bytes_of[job] + run.size + 20, NO_RUN)
         if self.shift:
-            begin, end = self._extent(line)
-            self.begins[job] = min(self.begins[job], begin)
-            self.ends[job] = max(self.ends[job], end)
+            self._widen(job, int(run.begin) // run.ticks, int(run.end) // run.ticks + 1)
 
-    def _extent(self, line: bytes) -> Tuple[int, int]:
-        """Whole units of time between which the run lies."""
-        kind, _, begin, end, _ = line.split()
-        if kind == b"slot":
-            return int(begin.split(b"+")[0]), int(end.split(b"+")[0]) + 1
-        assert self.ticks is not None
-        return int(begin) // self.ticks, int(end) // self.ticks + 1
+    def _widen(self, job: int, begin: int, end: int) -> None:
+        """The job and its runs lie between these whole units of time, too."""
+        if begin < self.begins[job]:
+            self.begins[job] = begin
+        if end > self.ends[job]:
+            self.ends[job] = end
 
     # --- Names.
 
-    def _look_on(self, begin: int) -> None:
-        """Takes the jobs that are released by then to those at hand."""
-        while True:
-            if self._next_near is None:
-                if self._looked == self.jobs:
-                    return
-                self._ahead = self._named_from_here()
-                self._next_near = next(self._ahead, None)
-                if self._next_near is None:
-                    return
-            name, release = self._next_near
-            if release > begin:
-                return
-            old = self._ring[self._looked % NEAR]
-            if old and self._near.get(old) == self._looked - NEAR:
-                del self._near[old]
-            self._ring[self._looked % NEAR] = name
-            self._near[name] = self._looked
-            self._looked += 1
-            self._next_near = next(self._ahead, None)
+    def _near_until(self, ticks: int) -> Optional[int]:
+        """The tick from which on the next jobs have to be at hand; None where there are none."""
+        if self._next_block is None:
+            self._next_block = self._names_from_here()
+        return None if self._next_block is None else self._next_block.release * ticks
 
-    def _named_from_here(self) -> Iterator[Tuple[bytes, int]]:
-        """Names and releases of the jobs that weren't looked at yet, in blocks, since the file is still written."""
-        while True:
+    def _look_on(self, begin: int) -> None:
+        """Takes the jobs that are released by then to those at hand, some at once."""
+        block = self._next_block
+        while block is not None and block.release <= begin:
+            self._near.update(zip(block.names, range(block.first, block.first + len(block.names))))
+            self._blocks.append(block)
+            while block.first - self._blocks[0].first - len(self._blocks[0].names) >= NEAR:
+                self._let_go(self._blocks.popleft())
+            block = self._next_block = self._names_from_here()
+
+    def _let_go(self, block: Names) -> None:
+        """Takes the oldest jobs from those at hand."""
+        for job, name in enumerate(block.names, block.first):
+            if self._near.get(name) == job:
+                del self._near[name]
+
+    def _names_from_here(self) -> Optional[Names]:
+        """The next jobs that weren't looked at yet; None where there are none. The file is still written, perhaps."""
+        while self._looked < self.jobs:
             self._job_file.seek(self._look_at)
-            block = self._job_file.read(1 << 18)
+            block = self._job_file.read(BLOCK)
+            block += b"" if block.endswith(b"\n") else self._job_file.readline()
             self._job_file.seek(0, 2)
-            end = block.rfind(b"\n") + 1
-            if not end:
-                return
-            self._look_at += end
-            for line in block[:end].split(b"\n"):
-                if line.startswith(b"job "):
-                    _, name, release, _, _ = line.split(b" ")
-                    yield name, int(release)
+            self._look_at += len(block)
+            found = _NAMES(block)
+            if found:
+                names = Names(self._looked, int(found[0][1]), [name for name, _ in found])
+                self._looked += len(names.names)
+                return names
+        return None
 
     def _look_up_waiting(self) -> None:
         """Finds the jobs of the runs that wait, in the file."""
@@ -337,20 +429,20 @@ class Long:
             if found[one.name] >= one.jobs:
                 later = self.line_of(found[one.name])
                 raise PartsError(f"the line of job {_printable(one.name)} comes after it, as line {later}", one.line)
-            self.job_of[one.place] = found[one.name]
-            self._note_run(found[one.name], one.place, one.text)
+            self._note_run(found[one.name], one)
         self._waiting = []
 
     def _refuse_doubled(self) -> None:
         """Names whose hashes are equal are looked up again. PartsError where two are the same."""
         doubled = set()
-        for bucket in self._hashes:
-            seen = set()
-            for hashed in bucket:
-                if hashed in seen:
-                    doubled.add(hashed)
-                seen.add(hashed)
-        self._hashes = []
+        while self._hashes:
+            bucket = self._hashes.pop()
+            if len(set(bucket)) < len(bucket):
+                seen = set()
+                for hashed in bucket:
+                    if hashed in seen:
+                        doubled.add(hashed)
+                    seen.add(hashed)
         if not doubled:
             return
         known: Dict[bytes, int] = {}
@@ -372,6 +464,12 @@ class Long:
         return self._line_lines[low] + job - self._line_jobs[low]
 
     # --- Lines out.
+
+    def runs_of_jobs(self) -> array[int]:
+        """For each run its job's number. They are given away, and what is known of each job's runs is let go."""
+        jobs, self.job_of = self.job_of, array("I")
+        self.bytes_of, self.runs_of, self.first_run, self.last_run = (array("I") for _ in range(4))
+        return jobs
 
     def all_lines(self) -> Iterator[bytes]:
         """The lines of the jobs, with the comments between them."""
