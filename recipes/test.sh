@@ -429,7 +429,7 @@ commands_of() {
 			section=${title%.title}
 			[ -f "$section.001.command" ] || continue
 			case $(cat "$title") in
-			"Long traces and many machines") [ -n "${HOUR:-}" ] || { left_out=$((left_out + 1)); echo "tried with HOUR=1 alone: ${page##*/}, $(cat "$title")"; continue; } ;;
+			"Long traces and many machines" | "A window that is always open") [ -n "${HOUR:-}" ] || { left_out=$((left_out + 1)); echo "tried with HOUR=1 alone: ${page##*/}, $(cat "$title")"; continue; } ;;
 			esac
 			words=$(cat "$section".*.command | grep -oE 'yds_cli [a-z]+( --json)?|plot\.sh|yds-plot|jq |rtapp\.sh|yds-rtapp|yds-reports|parallel ' |
 				sed 's/.*--json/json/; s/yds_cli //; s/^plot.sh\|^yds-plot/gnuplot/; s/^rtapp.sh\|^yds-r.*/jq/' | sort -u)

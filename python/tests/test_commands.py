@@ -95,27 +95,56 @@ class CommandsTest(unittest.TestCase):
         self.assertIn("part-00003.plan: is the answer to part 3, and part 2 wants its place\n", err)
         self.assertEqual(self.whole(".txt")[:2], (1, b"failed\n"))
 
+    def test_bounds_and_waste(self) -> None:
+        document = b"job a 0 4 4\njob b 2 6 4\npoint 0 1\npoint 1 2\npoint 2 5\nticks 1\nrun a 0 2 2\nrun b 2 4 2\n"
+        self.assertEqual(self.cut(document, "--jobs", 1), (0, b"", ""))
+        energies = self.folder.parent / "energies"
+        energies.write_text("governor energy 21\n")
+        status, out, err = self.whole(".txt", "--bounds", "--spent", energies)
+        self.assertEqual((status, err), (0, ""))
+        self.assertEqual(out.split(b"\n")[::3], [b"plan at-least 18", b"governor waste 16.66 16.67"])
+        self.assertEqual(self.whole(".txt", "--spent", energies)[0], 2)
+        energies.write_text("governor energy 13\n")
+        self.assertEqual(self.whole(".txt", "--bounds", "--spent", energies)[0], 1)
+
     def test_words(self) -> None:
-        for words, message in [
-            (("--jobs", "3"), "the following arguments are required: --folder"),
-            (("--folder", self.folder, "--jobs", "4001"), "--jobs 4001 is no number from 1 to 4000"),
-            (("--fold", self.folder), "the following arguments are required: --folder"),
-            (("--folder", self.folder, "jobs=3"), "jobs=3 is no word of this command; write --jobs"),
+        for name, words, message in [
+            ("parts", (), "no --folder DIR is given"),
+            ("parts", ("--folder", self.folder, "--jobs", "4001"), "--jobs 4001 is no number from 1 to 4000"),
+            ("parts", ("--folder", self.folder, "--jobs", "0"), "--jobs 0 is no number from 1 to 4000"),
+            ("parts", ("--fold", self.folder), "unrecognized arguments: --fold"),
+            ("parts", ("--folder", self.folder, "jobs=3"), "jobs=3 is no word of this command: write --jobs 3"),
+            ("parts", ("--folder", self.folder, "a", "b"), "more than 1 file"),
+            ("whole", (), "no file: yds-whole"),
+            ("whole", ("--grid", "1.5", "a"), "--grid 1.5 is no whole number of 1 or more"),
+            ("whole", ("folder=here", "a"), "folder=here is no word of this command: write --folder here"),
         ]:
             with self.subTest(words):
-                status, out, err = command("parts", *words)
-                self.assertEqual((status, out), (2, b""))
+                status, out, err = command(name, *words)
+                self.assertEqual((status, out), (2, b"failed\n" if name == "whole" else b""))
                 self.assertIn(message, err)
-        self.assertEqual(command("whole")[0], 2)
         self.assertEqual(command("parts", "--help")[0], 0)
         self.assertFalse(self.folder.exists())
 
     def test_a_file_that_cannot_be_read(self) -> None:
         status, out, err = command("parts", "--folder", self.folder, self.folder.parent / "nowhere")
         self.assertEqual((status, out), (1, b""))
-        self.assertIn("No such file or directory", err)
+        self.assertIn("nowhere can't be read: No such file or directory", err)
         self.assertEqual((self.folder / "part-00001.txt").read_bytes(), b"failed\n")
 
+    def test_left_out_levels(self) -> None:
+        status, out, err = self.cut(b"job a 0 4 8\nslot a 0 4 8\nlevel 8 4\npiece 0 4\nmember a\n")
+        self.assertEqual((status, out), (0, b""))
+        self.assertIn("yds-parts: 3 lines of levels, pieces and members are left out; a part has no answer of check\n", err)
+
+    def test_a_line_that_is_longer_than_a_document(self) -> None:
+        status, _, err = self.cut(b"job a 0 4 8\n# " + b"a" * 8_400_000 + b"\njob b 4 9 1\n")
+        self.assertEqual((status, err), (1, "yds-parts: line 2: a line of more than 8388608 bytes\n"))
+
+    def test_a_closed_output(self) -> None:
+        self.cut(b"".join(SHORT), "--jobs", 1)
+        self.answer(".plan", "plan")
+        self.assertEqual(command("whole", *sorted(self.folder.glob("*.plan")), closed=True)[0], 141)
 
 if __name__ == "__main__":
     unittest.main()

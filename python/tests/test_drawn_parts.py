@@ -16,6 +16,7 @@ from yds import parts
 
 DOCUMENTS = int(os.environ.get("DRAWN_PARTS", "200"))
 SEED = int(os.environ.get("SEED", "1"))
+GRIDS = ("420", GRID)
 
 
 class DrawnTest(unittest.TestCase):
@@ -28,10 +29,35 @@ class DrawnTest(unittest.TestCase):
                 self.one(seed, met)
             program.cache_clear()
         if DOCUMENTS >= 200:
-            for kind in ("windows open", "all closed", "both bounds", "both are it", "no upper", "plan at least"):
+            for kind in ("windows open", "all closed", "both bounds", "both are it", "no upper", "plan at least", "avr at least"):
                 self.assertGreater(met[kind], 9, (kind, met))
             for kind in ("dear idling", "falling powers", "any powers", "late", "work 0", "out of order", "starved"):
                 self.assertGreater(met[kind], 9, (kind, met))
+        if "SHOW" in os.environ:
+            print(sorted(met.items()))
+
+    def test_average_rate_rounds(self) -> None:
+        """Where no part's run of Average Rate rounds on the grid 1, that of all jobs is told to round where it does."""
+        met: Counter = Counter()
+        for seed in range(SEED, SEED + DOCUMENTS):
+            draw = random.Random(seed)
+            lines: List[bytes] = [b"point 0 0\n", b"point 99 9801\n"]
+            release = 0
+            for number in range(draw.randint(2, 9)):
+                release += draw.choice([0, 1, 2, 2, 4])
+                window = draw.choice([1, 2, 4, 8])
+                lines.append(b"job j%d %d %d %d\n" % (number, release, release + window, draw.choice([0, 1, 2, 4]) * max(window // 2, 1)))
+            found = texts(lines, draw.randint(1, 5))
+            told = joined(parts.whole(found, answered(found, "compare", "--grid", "1"), 1))
+            rounded = b"\navr rounded 0\n" not in program(b"".join(lines), "compare", "--grid", "1")[1]
+            if any(b"avr rounded 0\n" not in answer for answer in answered(found, "compare", "--grid", "1")):
+                met["a part rounds"] += 1
+            elif b"windows are open" in told:
+                self.assertEqual(b"the run of all jobs would round up" in told, rounded, seed)
+                self.assertEqual(b"avr at-least " in told, not rounded, seed)
+                met["all round" if rounded else "none rounds"] += 1
+        if DOCUMENTS >= 200:
+            self.assertGreater(min(met["all round"], met["none rounds"]), 9, met)
         if "SHOW" in os.environ:
             print(sorted(met.items()))
 
@@ -51,7 +77,8 @@ class DrawnTest(unittest.TestCase):
         self.judge(text, found, "audit")
         if document.points:
             self.judge(text, found, "audit", "--points")
-            self.compare(text, found, is_open, met)
+            for grid in GRIDS:
+                self.compare(text, found, is_open, grid, met)
             self.bound(text, found, limit, met)
 
     def is_cut(self, document: drawn.Drawn, found: List[bytes], limit: int) -> bool:
@@ -76,9 +103,9 @@ class DrawnTest(unittest.TestCase):
         told = parts.whole(found, answered(found, *words))
         self.assertEqual((joined(told), told.yes), (wanted, status == 0))
 
-    def compare(self, text: bytes, found: List[bytes], is_open: bool, met: Counter) -> None:
-        status, wanted = program(text, "compare", "--grid", GRID)
-        told = parts.whole(found, answered(found, "compare", "--grid", GRID))
+    def compare(self, text: bytes, found: List[bytes], is_open: bool, grid: str, met: Counter) -> None:
+        status, wanted = program(text, "compare", "--grid", grid)
+        told = parts.whole(found, answered(found, "compare", "--grid", grid), int(grid))
         lines_told = joined(told)
         if not is_open:
             self.assertEqual((lines_told, told.yes), (wanted, status == 0))
@@ -88,14 +115,14 @@ class DrawnTest(unittest.TestCase):
             rows = [line.split() for line in wanted.split(b"\n") if line]
             energies = {row[0]: drawn.number(row[2]) for row in rows if row[1] == b"energy"}
             rounded = {row[0]: int(row[2]) for row in rows if row[1] == b"rounded"}
-            for line in lines_told.split(b"\n"):
-                self.assertNotIn(b" energy ", line if not line.startswith(b"#") else b"")
-                if b" at-least " in line:
-                    side = line.split()[0]
-                    self.assertNotEqual(side, b"oa")
-                    met[side.decode() + " at least"] += 1
-                    if side in energies and not rounded.get(side):
-                        self.assertLessEqual(drawn.number(line.split()[2]), energies[side])
+            self.assertNotIn(b" energy ", b"".join(line for line in lines_told.split(b"\n") if line[:1] != b"#"))
+            bounds = {line.split()[0]: line.split()[2] for line in lines_told.split(b"\n") if b" at-least " in line}
+            self.assertNotIn(b"oa", bounds)
+            if b"# avr: too slow" not in lines_told:
+                self.assertEqual(b"avr" in bounds, rounded[b"avr"] == 0)
+            for side, bound in bounds.items():
+                met[side.decode() + " at least"] += 1
+                self.assertLessEqual(drawn.number(bound), energies.get(side, drawn.number(bound)))
 
     def bound(self, text: bytes, found: List[bytes], limit: int, met: Counter) -> None:
         status, wanted = program(text, "round")

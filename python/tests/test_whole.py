@@ -78,7 +78,7 @@ class WholeTest(unittest.TestCase):
     def test_windows_open(self) -> None:
         document = lines("job a 0 4 4", "job b 2 6 4", "point 0 1", "point 1 2", "point 2 5")
         found = texts(document, 1)
-        told = joined(parts.whole(found, answered(found, "compare", "--grid", GRID)))
+        told = joined(parts.whole(found, answered(found, "compare", "--grid", GRID), int(GRID)))
         self.assertEqual(told.split(b"\n")[0], b"plan at-least 14")
         self.assertIn(b"\navr at-least 14\n", told)
         self.assertIn(b"\n# oa: no bound of its energy, since windows are open at 1 of 1 cuts\n", told)
@@ -90,6 +90,23 @@ class WholeTest(unittest.TestCase):
         rounded = [answer.replace(b"rounded 0", b"rounded 1") for answer in compared]
         why = b"since windows are open at 1 of 1 cuts and the runs of the parts rounded up 2 times"
         self.assertIn(b"\n# avr: no bound of its energy, " + why, joined(parts.whole(found, rounded)))
+
+    def test_average_rate_of_all_jobs_that_rounds(self) -> None:
+        """No part's run rounds. The run of all does at 1, where the second part has an event point: it spends 4, and the parts 5."""
+        document = lines("job d 0 1 0", "job a 0 4 2", "job c 2 4 2", "point 0 0", "point 1 1", "point 2 3")
+        self.assertIn(b"avr energy 4\n", program(b"".join(document), "compare", "--grid", "1")[1])
+        found = [
+            b"# part 1: jobs 1 to 1, from 0 to 1, shift 0\n" + document[0] + b"".join(document[3:]),
+            b"# part 2: jobs 2 to 3, from 0 to 4, shift 0, windows open, the last\n" + b"".join(document[1:]),
+        ]
+        compared = answered(found, "compare", "--grid", "1")
+        self.assertTrue(all(b"avr rounded 0\n" in answer for answer in compared))
+        told = joined(parts.whole(found, compared, 1))
+        self.assertIn(b"\n# avr: no bound of its energy, since windows are open at 1 of 1 cuts and the run of all jobs would "
+                      b"round up, first for job a at 1; take a finer grid\n", told)  # fmt: skip
+        self.assertIn(b"\n# avr: no bound of its energy, since windows are open at 1 of 1 cuts and only with compare's grid",
+                      joined(parts.whole(found, compared)))  # fmt: skip
+        self.assertIn(b"\navr at-least 5\n", joined(parts.whole(found, answered(found, "compare", "--grid", "2"), 2)))
 
     def test_a_given_schedule_where_windows_are_open(self) -> None:
         document = lines("job a 0 4 2", "job b 2 6 2", "point 0 1", "point 1 2", "ticks 1", "run a 0 2 1", "run b 2 4 1")

@@ -122,7 +122,7 @@ class Answers:
             with opened(self.parts[place]) as source:
                 head = read_head(source.readline(1000))
         except OSError:
-            return self.refuse(place, f"there is no part {self.part_name(place)}")
+            return self.refuse(place, f"there is no part {self.part_name(place)}; say where the parts are (--folder)")
         if head is None:
             return self.refuse(place, f"{self.part_name(place)} is no part of a long document")
         if head.number != place + 1:

@@ -7,7 +7,9 @@ over a cut are shortened to one side of it, so the groups' plans make a schedule
 
 from __future__ import annotations
 
+import re
 from fractions import Fraction
+from math import ceil, floor
 from typing import Dict, Iterable, Iterator, List, NamedTuple, Optional, Sequence, Set, Tuple
 
 from yds._answers import printable
@@ -16,6 +18,7 @@ from yds._program import Answer
 from yds._spelled import lowest
 from yds._spelling import read_fraction
 
+_ENERGY = re.compile(rb"[0-9]{1,60}(\+[0-9]{1,60}/[1-9][0-9]{0,59})?").fullmatch
 PLACES = 16
 """At most so many cuts are tried at the end of a group."""
 AROUND = 40
@@ -40,6 +43,28 @@ class Cut(NamedTuple):
     behind: List[Job]
 
 
+class Spent(NamedTuple):
+    """What a side spends on the whole."""
+
+    side: bytes
+    energy: Fraction
+
+
+def read_spent(text: Text) -> List[Spent]:
+    """The sides whose energy the lines tell, as yds-whole writes those of yds-energy. PartsError where there is none."""
+    rows = [line.split() for line in lines_of(text)]
+    found = [Spent(row[0], _energy(row[2])) for row in rows if len(row) == 3 and row[1] == b"energy" and row[0] != b"#"]
+    if not found:
+        raise PartsError("no line SIDE energy E, as yds-whole writes of the answers of yds-energy")
+    return found
+
+
+def _energy(text: bytes) -> Fraction:
+    if _ENERGY(text) is None:
+        raise PartsError(f"{printable(text)} is no energy W or W+N/D")
+    return read_fraction(text)
+
+
 class Bounds(NamedTuple):
     """The least energy of a long document on its points is at least the lower bound and at most the upper."""
 
@@ -58,6 +83,22 @@ class Bounds(NamedTuple):
             yield b"plan at-most %b\n" % lowest(self.upper)
         for text in self.told:
             yield b"# %b\n" % text.encode("ascii", "replace")
+
+    def waste(self, spent: Spent) -> bytes:
+        """The line that says how much more a side spends than the least, in 100, rounded away from what is between.
+
+        >>> Bounds(Fraction(80), Fraction(90), ()).waste(Spent(b"governor", Fraction(100)))
+        b'governor waste 11.11 25.00\\n'
+        """
+        if not self.lower or not self.upper:
+            why = b"an upper bound" if self.lower else b"a lower bound above 0"
+            return b"# %b: what it wastes isn't known, without %b\n" % (spent.side, why)
+        if spent.energy < self.lower:
+            less = "spends less than the least energy of these jobs; it has other jobs, or doesn't do all of their work"
+            raise PartsError(f"{printable(spent.side)} {less}")
+        least = max((spent.energy / self.upper - 1) * 10000, Fraction(0))
+        most = (spent.energy / self.lower - 1) * 10000
+        return b"%b waste %b %b\n" % (spent.side, _in_hundred(floor(least)), _in_hundred(ceil(most)))
 
 
 class _TooSlow(Exception):
@@ -348,6 +389,10 @@ def _spelled_jobs(windows: Iterable[Tuple[int, int, int]], start: int) -> bytes:
         b"job j%d %d %d %d\n" % (number, release - start, deadline - start, work)
         for number, (release, deadline, work) in enumerate(windows)
     )
+
+
+def _in_hundred(hundredths: int) -> bytes:
+    return b"%d.%02d" % divmod(hundredths, 100)
 
 
 def _shown(answer: bytes) -> str:

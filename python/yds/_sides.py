@@ -13,6 +13,7 @@ from typing import Dict, Iterator, List, Optional, Tuple
 
 from yds._answers import SIDE, Answers, printable
 from yds._heads import lines_of
+from yds._rates import first_rounded
 from yds._spelled import lowest, moved
 from yds._spelling import read_fraction
 
@@ -39,8 +40,10 @@ class Side:
 class Sides:
     """The lines of all sides."""
 
-    def __init__(self, answers: Answers) -> None:
+    def __init__(self, answers: Answers, grid: Optional[int]) -> None:
+        """grid is that of compare; None where it isn't known."""
         self._answers = answers
+        self._grid = grid
         self._sides: Dict[bytes, Side] = {}
         self._comments: List[bytes] = []
         self._rounded_parts = 0
@@ -209,9 +212,19 @@ class Sides:
         elif side.slow:
             place, line = side.slow[0]
             yield b"# %b: too slow, in part %d by itself: %b\n" % (side.name, place + 1, line)
-        elif side.rounded:
-            rounded = b"the runs of the parts rounded up %d times; take a finer grid" % side.rounded
-            yield b"# %b: no bound of its energy, since %b and %b\n" % (side.name, where, rounded)
+        elif side.name == b"avr" and self._rounds(side):
+            yield b"# avr: no bound of its energy, since %b and %b\n" % (where, self._rounds(side))
         else:
             yield b"%b at-least %b\n" % (side.name, lowest(side.energy))
             yield b"# %b: its energy is at least that, and may be above, since %b\n" % (side.name, where)
+
+    def _rounds(self, side: Side) -> bytes:
+        """Why it isn't known that the run of all jobs rounds nowhere; nothing where it doesn't."""
+        if side.rounded:
+            return b"the runs of the parts rounded up %d times; take a finer grid" % side.rounded
+        if self._grid is None:
+            return b"only with compare's grid, as --grid G, can be told whether the run of all jobs rounds up"
+        found = first_rounded(self._answers.parts, self._grid)
+        if found is None:
+            return b""
+        return b"the run of all jobs would round up, first for job %b at %d; take a finer grid" % found

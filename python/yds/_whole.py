@@ -3,7 +3,7 @@
 from __future__ import annotations
 
 from fractions import Fraction
-from typing import Iterator, NamedTuple, Sequence, Tuple
+from typing import Iterator, NamedTuple, Optional, Sequence, Tuple
 
 from yds._answers import Answers
 from yds._heads import PartsError, Text
@@ -23,8 +23,8 @@ class Whole(NamedTuple):
     """The answers of no, each with its part."""
 
 
-def put_together(parts: Sequence[Text], answers: Sequence[Text]) -> Whole:
-    """The answer to the whole; PartsError where some part has none, or where they can't be put together."""
+def put_together(parts: Sequence[Text], answers: Sequence[Text], grid: Optional[int]) -> Whole:
+    """The answer to the whole; grid is that of compare, if it is known. PartsError where some part has none, or where they can't be put together."""
     given = Answers(parts, answers)
     given.classify()
     if given.family == "no-table":
@@ -35,7 +35,7 @@ def put_together(parts: Sequence[Text], answers: Sequence[Text]) -> Whole:
         line = Verdict(given).line
         return Whole(line == b"feasible", iter([line + b"\n"]), tuple(given.told))
     if given.family == "energies":
-        sides = Sides(given)
+        sides = Sides(given, grid)
         return Whole(not sides.missed, sides.lines(), tuple(given.told))
     if given.open_cuts:
         raise PartsError(

@@ -148,23 +148,26 @@ Work = Callable[[Given, Callable[[str], None]], int]
 """The work of a command: its words and a call that writes a line in, its status out."""
 
 
-def run(command: Command, words: Sequence[str], work: Work) -> int:
-    """Reads the words, does the work, and gives the status. What is written is held until the work is done."""
+def run(command: Command, words: Sequence[str], work: Work, stream: bool = False) -> int:
+    """Reads the words, does the work, and gives the status.
+
+    What is written is held until the work is done; with stream, for outputs of any length, it is written at once.
+    """
     try:
-        return _answer(command, words, work)
+        return _answer(command, words, work, stream)
     except BrokenPipeError:
         _let_go()
         return CLOSED
 
 
-def _answer(command: Command, words: Sequence[str], work: Work) -> int:
+def _answer(command: Command, words: Sequence[str], work: Work, stream: bool) -> int:
     if list(words[:1]) in (["--help"], ["--version"], ["--options"], ["--man"]):
         told = {"--help": help_of, "--version": version_of, "--options": options_of, "--man": manual_of}
         return _put(command, [told[words[0]](command)], DONE)
     try:
         given = parse(command, words)
         held: List[str] = []
-        status = work(given, held.append)
+        status = work(given, _write if stream else held.append)
     except WordsError as fault:
         return _fail(command, f"{fault}; see {command.name} --help", WORDS)
     except KeyboardInterrupt:
@@ -174,6 +177,10 @@ def _answer(command: Command, words: Sequence[str], work: Work) -> int:
     except (OSError, MemoryError, ValueError, ArithmeticError) as fault:
         return _fail(command, _told(fault), NO)
     return _put(command, held, status)
+
+
+def _write(line: str) -> None:
+    sys.stdout.buffer.write(line.encode("latin-1") + b"\n")
 
 
 def _told(fault: BaseException) -> str:

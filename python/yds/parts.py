@@ -8,7 +8,7 @@ from __future__ import annotations
 
 from typing import Iterable, Iterator, Optional, Sequence
 
-from yds._bounds import Bounds, Search
+from yds._bounds import Bounds, Search, Spent, read_spent
 from yds._cut import MOST_PARTS, Writer, ranges
 from yds._heads import MOST_JOBS, Head, Part, PartsError, Text, read_head
 from yds._long import Long
@@ -16,7 +16,21 @@ from yds._numbers import integer
 from yds._program import Answer, of_library
 from yds._whole import Whole, put_together
 
-__all__ = ["Answer", "Bounds", "Head", "Part", "PartsError", "Text", "Whole", "bounds", "cut", "read_head", "whole"]
+__all__ = [
+    "Answer",
+    "Bounds",
+    "Head",
+    "Part",
+    "PartsError",
+    "Spent",
+    "Text",
+    "Whole",
+    "bounds",
+    "cut",
+    "read_head",
+    "read_spent",
+    "whole",
+]
 
 
 def cut(
@@ -51,7 +65,7 @@ def cut(
         yield from Writer(long, parts, folder).parts()
 
 
-def whole(parts: Sequence[Text], answers: Sequence[Text]) -> Whole:
+def whole(parts: Sequence[Text], answers: Sequence[Text], grid: Optional[int] = None) -> Whole:
     """The answers to all parts, in their order, as one answer to the whole.
 
     Each part and answer is bytes, or the file that holds it. All answers are to the same command. Where no window is
@@ -64,15 +78,15 @@ def whole(parts: Sequence[Text], answers: Sequence[Text]) -> Whole:
       report                 one table
 
     Where windows are open, audit and yds-energy are the same. Of compare a line `plan at-least X` is left, and one of
-    Average Rate where its runs rounded nowhere: the least energy, and that of the policy, are at least X. Comments say
-    so. PartsError is raised where a part has no answer, or the answers make none of the whole.
+    Average Rate: the least energy, and that of the policy, are at least X. That of the policy is known only where its
+    run of all jobs rounds nowhere, for which grid, compare's, is wanted. Comments say so. PartsError is raised where a part has no answer, or the answers make none of the whole.
 
     >>> parts = [part.text for part in cut([b"job a 0 4 8\\n", b"job b 2 6 4\\n", b"slot b 2 4 4\\n"], jobs=1)]
     >>> told = whole(parts, [b"work a given 0 wanted 8\\n", b"feasible\\n"])
     >>> told.yes, list(told.lines)
     (False, [b'work a given 0 wanted 8\\n'])
     """
-    return put_together(parts, answers)
+    return put_together(parts, answers, grid)
 
 
 def bounds(parts: Sequence[Text], jobs: int = MOST_JOBS, answer: Optional[Answer] = None) -> Bounds:

@@ -6,7 +6,7 @@
 test_machines() {
 	want parallel || return
 	$AWK -v seed=4 -f long-document.awk >"$work/long"
-	recipe parts.awk -v folder="$work/spread" -v jobs=40 "$work/long" || fail "machines: parts"
+	tool parts --folder "$work/spread" --jobs 40 "$work/long" || fail "machines: parts"
 	"$YDS" compare --grid 12 <"$work/long" >"$work/once"
 	number=$(ls "$work/spread" | wc -l)
 	export YDS
@@ -68,7 +68,7 @@ END
 	if [ -z "$(ps -A -o args= | grep "[s]shd.*$work")" ]; then pass; else fail "machines: an sshd is left"; fi
 }
 same_whole() {
-	recipe whole.awk "$work"/spread/part-*."$2" >"$work/whole" 2>"$work/err"
+	tool whole "$work"/spread/part-*."$2" >"$work/whole" 2>"$work/err"
 	if cmp -s "$work/once" "$work/whole"; then pass; return; fi
 	fail "machines: $1"
 	head -n 5 "$work/err"

@@ -124,7 +124,7 @@ late_without_runs() {
 	sed '7s/$/\n          <idle>-0     [000]   200.080000: cpu_frequency:        state=1000000 cpu_id=1\nCPU:0 [LOST 3 EVENTS]/' "$work/here" >"$work/gap"
 	told_once "lost events, on this CPU" render.1 "render.1 (events lost), not ended 14.000 ms after its deadline; window 5000 6600" trace -v $t -v lost=cut "$work/gap"
 	# In a part the comment stays with its job.
-	trace -v $t -v long=1 elsewhere.txt | recipe parts.awk -v folder="$work/parts" -v jobs=1
+	trace -v $t -v long=1 elsewhere.txt | tool parts --folder "$work/parts" --jobs 1
 	says "misses: a part of a long trace" 1 "late, without its runs: render.1 (ran on CPU 1), 25.000 ms after its deadline; window 5000 6600
 1 missed deadline" misses "$work/parts/part-00002.txt"
 	# With job lines of a file the line is the file's.

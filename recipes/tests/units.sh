@@ -80,7 +80,7 @@ reads_together() {
 	refuses "units: battery, $kind" 1 "" "battery.awk: line 7: $text" recipe battery.awk -v mah=1 -v volts=1 -v period=1 "$work/two"
 	refuses "units: answer, $kind" 1 "" "answer.awk: line 7: $text" from "$work/two" recipe answer.awk
 	refuses "units: misses, $kind" 1 "" "misses.sh: line 7: ${text%%;*}; give texts of the same us=, khz= and uw=" env YDS="$YDS" AWK="$AWK" sh "$here/misses.sh" "$work/two"
-	refuses "units: parts, $kind" 1 "" "parts.awk: line 7: $text" recipe parts.awk -v folder="$work/parts" "$work/two"
+	refuses "units: parts, $kind" 1 "" "yds-parts: line 7: $text" tool parts --folder "$work/parts" "$work/two"
 	text_of_part=$(cat "$work/parts/part-00001.txt" 2>/dev/null)
 	if [ "$text_of_part" = failed ]; then pass; else fail "units: parts, $kind: $text_of_part"; fi
 	if want gnuplot; then

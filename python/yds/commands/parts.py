@@ -5,53 +5,81 @@ from __future__ import annotations
 import os
 import re
 import sys
-from typing import Sequence
+from typing import Callable, Optional, Sequence
 
 from yds import parts
 from yds._heads import MOST_JOBS
-from yds.commands._running import DONE, Words, lines_in, run
+from yds._words import DONE, Command, Files, Given, Option, WordsError, run
 
-ABOUT = """A document with any number of jobs in parts that yds_cli reads: DIR/part-00001.txt and so on.
+COMMAND = Command(
+    "yds-parts",
+    "a document with any number of jobs in parts that yds_cli reads",
+    """
+Input: a document with any number of jobs, slots and runs; the jobs stand in order of release. Output: DIR/part-00001.txt
+and so on, each within the program's limits: at most 4,000 jobs, 100,000 slots and runs, 8,388,608 bytes. Answers go
+beside the parts, as DIR/part-00001.plan, and yds-whole puts them together.
 
-The jobs stand in order of release. Each part is cut at an instant at which each job has all of its runs before it or
-behind it, and no window is open if there is such an instant within the limits; else the part's first line says
-', windows open'. Answers go beside the parts, as DIR/part-00001.plan, and yds-whole puts them together."""
+    yds-parts --folder parts long.txt
 
-FOLDER = "where the parts go; those of an earlier cut are taken away"
-SHIFT = "times begin at 0 in each part, and may be above 1000000000"
+Each part is cut at an instant at which each job has all of its runs before it or behind it, and no window is open if
+there is such an instant within the limits; else the first line of the part behind says ', windows open'. Levels, pieces
+and members are left out, and said so.
+""",
+    [
+        Option("folder", "where the parts go; those of an earlier cut, and their answers, are taken away", "DIR"),
+        Option("jobs", "at most so many jobs in a part, up to 4000 (4000)", "N"),
+        Option("shift", "times begin at 0 in each part, and those of the document may be above 1000000000"),
+    ],
+    Files("DOCUMENT", 0, 1),
+    "0 done; 1 a fault in the input, or no place to cut: then DIR/part-00001.txt has the one line `failed`, which "
+    "yds_cli refuses; 2 a fault of the words.",
+)
 
 
 def main(words: Sequence[str]) -> int:
     """Cuts the document of the file, or of standard input."""
-    parser = Words("yds-parts", ABOUT)
-    parser.add_argument("--folder", required=True, metavar="DIR", help=FOLDER)
-    parser.add_argument("--jobs", type=int, default=MOST_JOBS, metavar="N", help="so many jobs in a part (4000)")
-    parser.add_argument("--shift", action="store_true", help=SHIFT)
-    parser.add_argument("file", nargs="?", default="-", help="the document (standard input)")
-    given = parser.parse_args(words)
-    parser.refuse_old([given.file], ["folder", "jobs", "shift"])
-    if not 1 <= given.jobs <= MOST_JOBS:
-        parser.error(f"--jobs {given.jobs} is no number from 1 to {MOST_JOBS}")
+    return run(COMMAND, words, cut)
 
-    def cut() -> int:
+
+def cut(given: Given, write: Callable[[str], None]) -> int:
+    """Writes the parts; where that fails, a part that the program refuses."""
+    if given.folder is None:
+        raise WordsError("no --folder DIR is given")
+    jobs = most_jobs(given.jobs)
+    try:
         os.makedirs(given.folder, exist_ok=True)
         take_away_old(given.folder)
-        source = sys.stdin.buffer if given.file == "-" else open(given.file, "rb")
-        with source:
-            for part in parts.cut(lines_in(source), given.jobs, given.shift, given.folder):
-                with open(place_of(given.folder, part.head.number), "wb") as target:
-                    target.write(part.text)
-        if b"\n# left out: levels, pieces and members\n" in part.text:
-            sys.stderr.write("yds-parts: levels, pieces and members are left out; a part has no answer of check\n")
-        return DONE
-
-    def fail() -> None:
+        left_out = write_parts(given.folder, given.files[0] if given.files else "-", jobs, given.shift)
+    except BaseException:
         if os.path.isdir(given.folder):
             take_away_old(given.folder)
             with open(place_of(given.folder, 1), "wb") as target:
                 target.write(b"failed\n")
+        raise
+    if left_out:
+        text = "lines of levels, pieces and members are left out; a part has no answer of check"
+        sys.stderr.write(f"yds-parts: {left_out} {text}\n")
+    return DONE
 
-    return run("yds-parts", cut, fail)
+
+def most_jobs(word: Optional[str]) -> int:
+    """The word of --jobs."""
+    if word is None:
+        return MOST_JOBS
+    if re.fullmatch("[1-9][0-9]{0,3}", word) is None or int(word) > MOST_JOBS:
+        raise WordsError(f"--jobs {word} is no number from 1 to {MOST_JOBS}")
+    return int(word)
+
+
+def write_parts(folder: str, file: str, jobs: int, shift: bool) -> int:
+    """Writes the parts of a document, and tells how many lines of levels were left out."""
+    with sys.stdin.buffer if file == "-" else open(file, "rb") as source:
+        left_out = 0
+        for part in parts.cut(source, jobs, shift, folder):
+            left_out = part.left_out
+            with open(place_of(folder, part.head.number), "wb") as target:
+                target.write(part.text)
+        return left_out
 
 
 def place_of(folder: str, number: int) -> str:

@@ -2,49 +2,87 @@
 
 from __future__ import annotations
 
+import re
 import sys
 from pathlib import Path
-from typing import Optional, Sequence
+from typing import Callable, Optional, Sequence
 
 from yds import parts
 from yds._program import of_environment
-from yds.commands._running import DONE, NO, Words, run
+from yds._words import DONE, NO, Command, Files, Given, Option, WordsError, run
 
-ABOUT = """The answers of yds_cli to the parts of yds-parts as one answer: what it would answer to the long document.
+COMMAND = Command(
+    "yds-whole",
+    "the answers of yds_cli to the parts of yds-parts as one answer",
+    """
+Input: one answer for each part, all to the same command, beside the parts: DIR/part-00001.plan answers
+DIR/part-00001.txt. Output: what the program would answer to the long document.
 
-Name one answer for each part, all to the same command, beside the parts: DIR/part-00001.plan answers
-DIR/part-00001.txt. Those of audit and yds-energy can be put together wherever the parts were cut. Where windows are
-open at a cut, compare's are lower bounds, and --bounds with the parts themselves tells both.
-Exit status: 0 done; 1 a verdict of no, too slow, deadlines missed, or a part without an answer; 2 words."""
+    yds-whole parts/part-*.audit
 
-BOUNDS = "the files are the parts: between which energies the least lies"
+Answers of audit and yds-energy can be put together wherever the parts were cut, and those of plan, round, avr, oa,
+check and report where no window is open at a cut. Where windows are open, the lines of compare become lower bounds:
+of the least energy, and of Average Rate's where its run of all jobs rounds nowhere, for which --grid is wanted.
+
+    yds-whole --bounds --spent energies.txt parts/part-*.txt
+
+Then the files are the parts, and the output tells between which energies the least lies, and how much more is spent by
+each side whose energy energies.txt tells. Where the environment's YDS names the program, it answers for the groups of
+jobs, else the library.
+""",
+    [
+        Option("folder", "where the parts are, if the answers stand elsewhere", "DIR"),
+        Option("grid", "the grid that compare was given", "G"),
+        Option("bounds", "the files are the parts: between which energies the least lies"),
+        Option("spent", "with --bounds: a file with lines `SIDE energy E` for the whole", "ENERGIES"),
+    ],
+    Files("FILE", 1),
+    "0 done; 1 a verdict of no, too slow, deadlines missed, or a part without an answer; 2 a fault of the words. Where "
+    "a part has no answer, the last line is `failed`.",
+    writes_document=True,
+)
 
 
 def main(words: Sequence[str]) -> int:
     """Puts the answers together, or tells both bounds."""
-    parser = Words("yds-whole", ABOUT)
-    parser.add_argument("--folder", metavar="DIR", help="where the parts are, if the answers stand elsewhere")
-    parser.add_argument("--bounds", action="store_true", help=BOUNDS)
-    parser.add_argument("files", nargs="+", metavar="FILE", help="one answer for each part, in their order")
-    given = parser.parse_args(words)
-    parser.refuse_old(given.files, ["folder"])
+    return run(COMMAND, words, whole, stream=True)
+
+
+def whole(given: Given, write: Callable[[str], None]) -> int:
+    """Writes the answer, or the bounds."""
     files = [Path(name) for name in given.files]
+    if given.bounds:
+        return bound(files, given.spent, write)
+    if given.spent is not None:
+        raise WordsError("--spent stands with --bounds")
+    grid = grid_of(given.grid)
+    try:
+        told = parts.whole([part_of(file, given.folder) for file in files], files, grid)
+    except parts.PartsError as fault:
+        *others, last = str(fault).split("\n")
+        sys.stderr.write("".join(f"yds-whole: {text}\n" for text in others))
+        raise parts.PartsError(last) from fault
+    for text in told.told:
+        sys.stderr.write(f"yds-whole: {text}\n")
+    for line in told.lines:
+        write(line.decode("latin-1")[:-1])
+    return DONE if told.yes else NO
 
-    def bound() -> int:
-        found = parts.bounds(files, answer=of_environment())
-        sys.stdout.buffer.writelines(found.lines())
-        return NO if found.lower is None else DONE
 
-    def put_together() -> int:
-        told = parts.whole([part_of(file, given.folder) for file in files], files)
-        sys.stderr.write("".join(f"yds-whole: {text}\n" for text in told.told))
-        sys.stdout.buffer.writelines(told.lines)
-        return DONE if told.yes else NO
+def bound(files: Sequence[Path], spent: Optional[str], write: Callable[[str], None]) -> int:
+    """Writes both bounds, and what the sides spend above them."""
+    sides = [] if spent is None else parts.read_spent(Path(spent))
+    found = parts.bounds(files, answer=of_environment())
+    for line in [*found.lines(), *(found.waste(side) for side in sides)]:
+        write(line.decode("latin-1")[:-1])
+    return NO if found.lower is None else DONE
 
-    def fail() -> None:
-        sys.stdout.buffer.write(b"failed\n")
 
-    return run("yds-whole", bound if given.bounds else put_together, fail)
+def grid_of(word: Optional[str]) -> Optional[int]:
+    """The word of --grid."""
+    if word is not None and re.fullmatch("[1-9][0-9]{0,18}", word) is None:
+        raise WordsError(f"--grid {word} is no whole number of 1 or more")
+    return None if word is None else int(word)
 
 
 def part_of(answer: Path, folder: Optional[str]) -> Path:
