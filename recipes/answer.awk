@@ -4,13 +4,13 @@
 #   yds_cli plan < document.txt | yds-answer csv=slots > slots.csv
 #   yds-answer out/*.txt > answers.jsonl
 #
-# Input: answers, or documents; each command's, those of energy.awk and misses.sh too. Each kind of line is a table:
+# Input: answers, or documents; each command's, those of energy.awk and yds-misses too. Each kind of line is a table:
 #   jobs points slots runs ticks levels pieces members grids energies      of a document
 #   verdicts refusals too_slow                                            of audit, check, round, and of any refused document
 #   report levels                                                         of report
 #   energies times roundings too_slow misses                              of compare and energy.awk, by side
 #   breaks, refused_jobs, one_level, trial                                of curve, admit, expand, trial
-#   missed, and verdicts of jobs whose runs aren't in the document        of misses.sh, whose `# due at` is a column due, and by how much a
+#   missed, and verdicts of jobs whose runs aren't in the document        of yds-misses, whose `# due at` is a column due, and by how much a
 #                                                                         job was late a column late, late_at_least, late_ms or not_ended_ms
 #   comments                                                              what else begins with #
 # Output: one object on one line, each table in it an array of objects; for several files a line for each, with its name as `file`.
@@ -195,7 +195,7 @@ function units_told(number) {
     unit_told(number, "power", "uW", "give the points of one uw=")
 }
 
-# What misses.sh tells of a job, with by how much it was late and with the trace's clock behind it: 1 where the line is one.
+# What yds-misses tells of a job, with by how much it was late and with the trace's clock behind it: 1 where the line is one.
 function take_miss(n,    due, by, word) {
     if (match(text, / # due at [0-9]+\.[0-9]+ s$/)) {
         due = field[n - 1]

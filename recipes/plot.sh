@@ -6,7 +6,7 @@
 # Kinds:
 #   speed    speed over time: a document with slots or runs. Several files are drawn as lines, named after the files
 #   gantt    who runs when: a row for each job, or for each task where there are more than 12 jobs
-#   slack    how long before its deadline each job was done: the table of jobs.awk with form=csv
+#   slack    how long before its deadline each job was done: the table of yds-jobs with --form csv
 #   curve    the lines of `yds_cli curve`: how much work has to be done above each speed
 #   energy   the lines of `yds_cli compare` and of energy.awk; with `point` lines before them parted by point
 #   ratios   the table of collect.awk: how many documents cost how much more than the plan

@@ -12,6 +12,7 @@
 here=$(cd "$(dirname "$0")" && pwd)
 YDS=${YDS:-$here/../build/yds_cli}
 case $YDS in /*) ;; *) YDS=$(pwd)/$YDS ;; esac
+export YDS
 AWK=${AWK:-awk}
 PYTHON=${PYTHON:-python3}
 PYTHONDONTWRITEBYTECODE=1
@@ -145,11 +146,11 @@ test_trace() {
 	cat "$expected/points.txt" "$expected/trace.txt" >"$work/both"
 	answers "trace: feasible on the points" 0 feasible from "$work/both" "$YDS" audit --points
 	answers "trace: late" 1 "late slot 19 decode.2 5319 deadline 5150" from "$expected/trace-late.txt" "$YDS" audit
-	same "misses: both of two" 1 misses.txt from /dev/null env YDS="$YDS" sh "$here/misses.sh" late-twice.txt
-	answers "misses: none" 0 feasible env YDS="$YDS" sh "$here/misses.sh" "$expected/trace.txt"
-	answers "misses: another fault" 1 "backward slot 1 a 3 3" env YDS="$YDS" sh "$here/misses.sh" bad/flat.txt
-	refuses "misses: no job" 1 "" "misses.sh: /dev/null has no job, so no deadline was met; look at what wrote it" env YDS="$YDS" sh "$here/misses.sh" /dev/null
-	refuses "misses: no document" 2 "" "misses.sh: no document that can be read" sh "$here/misses.sh" nothing.txt
+	same "misses: both of two" 1 misses.txt from /dev/null tool misses late-twice.txt
+	answers "misses: none" 0 feasible tool misses "$expected/trace.txt"
+	answers "misses: another fault" 1 "backward slot 1 a 3 3" tool misses bad/flat.txt
+	refuses "misses: no job" 1 "" "yds-misses: /dev/null has no job, so no deadline was met; look at what wrote it" tool misses /dev/null
+	refuses "misses: no document" 1 "" "yds-misses: nothing.txt can't be read: No such file or directory" tool misses nothing.txt
 	answers "trace: what failed is refused" 3 "refused 1 1 UnknownKind" from bad/failed.txt "$YDS" audit
 }
 
@@ -238,7 +239,7 @@ test_comma() {
 	refuses "comma: energy" 1 "" "energy.awk: $text" env LC_ALL="$comma" $AWK -f "$here/energy.awk" "$expected/points.txt" "$expected/trace.txt"
 	refuses "comma: battery" 1 "" "battery.awk: $text" env LC_ALL="$comma" $AWK -f "$here/battery.awk" -v mah=220 -v volts=3.0 -v uw=10 "$expected/compare-sensor.txt"
 	refuses "comma: collect" 1 "" "collect.awk: $text" env LC_ALL="$comma" $AWK -f "$here/collect.awk" "$expected/compare-a.txt"
-	same "comma: misses has its own locale" 1 misses.txt from /dev/null env LC_ALL="$comma" YDS="$YDS" sh "$here/misses.sh" late-twice.txt
+	same "comma: misses has its own locale" 1 misses.txt from /dev/null env LC_ALL="$comma" "$PYTHON" "$here/bin/yds-misses" late-twice.txt
 }
 
 energy() { recipe energy.awk "$@"; }

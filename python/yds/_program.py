@@ -3,6 +3,7 @@
 from __future__ import annotations
 
 import os
+import shutil
 import subprocess
 from typing import Callable, Sequence, Tuple
 
@@ -14,7 +15,10 @@ def of_program(place: str) -> Answer:
     """The answers of the program at this place."""
 
     def answer(words: Sequence[str], document: bytes) -> Tuple[int, bytes]:
-        done = subprocess.run([place, *words], input=document, stdout=subprocess.PIPE, check=False)
+        try:
+            done = subprocess.run([place, *words], input=document, stdout=subprocess.PIPE, check=False)
+        except OSError as fault:
+            raise ValueError(f"the program {place} can't be run: {fault.strerror}") from None
         return done.returncode, done.stdout
 
     return answer
@@ -28,6 +32,14 @@ def of_library() -> Answer:
 
 
 def of_environment() -> Answer:
-    """Those of the program that YDS names, else of the library."""
+    """Those of the program that YDS names, else of the library, else of the program yds_cli on the PATH."""
     place = os.environ.get("YDS")
-    return of_program(place) if place else of_library()
+    if place:
+        return of_program(place)
+    try:
+        return of_library()
+    except ImportError:
+        found = shutil.which("yds_cli")
+        if found is None:
+            raise
+        return of_program(found)

@@ -32,6 +32,10 @@ class Fault(ValueError):
         super().__init__(": ".join([", ".join(place), told] if place else [told]))
 
 
+class UnitsFault(Fault):
+    """Comments of one document that tell two units."""
+
+
 class Line(NamedTuple):
     """A line of a text: its file, its number from 1, and its text without its end."""
 
@@ -303,7 +307,8 @@ class Units:
             before = self.told.setdefault(kind, amount)
             if _value(before) != _value(amount):
                 here = f"a unit of {kind} of {amount} {word} here and {before} {word} before"
-                raise line.fault(f"{here}; {_HINTS[kind]}", line.text[: line.text.index(kind + " unit")].count(" "))
+                column = line.text.index(kind + " unit") + 1
+                raise UnitsFault(f"{here}; {_HINTS[kind]}", line.file, line.number, column)
 
     def value(self, kind: str) -> Optional[Fraction]:
         """The unit of time in microseconds, of speed in kilohertz, or of power in microwatts; None where none is told."""

@@ -282,12 +282,12 @@ trace	0	0	1	0	-	-	-	-
 trace time 0 8
 trace time 10 2
 # trace misses 2 deadlines, the first b" energy "$work/starved"
-	# What the trace's comments tell: jobs that ran elsewhere, and one late by less than a unit, as misses.sh counts them.
+	# What the trace's comments tell: jobs that ran elsewhere, and one late by less than a unit, as yds-misses counts them.
 	for sample in elsewhere short-late starving lost; do
 		printf 'point 0 1\npoint 100 20\npoint 200 90\n' | cat - "$expected/trace-$sample.txt" >"$work/told"
 		told=$(energy "$work/told" | sed -n 's/^# trace misses \([0-9]*\) .*/\1/p')
-		counted=$(YDS="$YDS" sh "$here/misses.sh" "$expected/trace-$sample.txt" | sed -n 's/^\([0-9]*\) missed deadlines*$/\1/p')
-		if [ "$told" = "$counted" ]; then pass; else fail "energy: $sample misses $told, misses.sh says $counted"; fi
+		counted=$(tool misses "$expected/trace-$sample.txt" | sed -n 's/^\([0-9]*\) missed deadlines*$/\1/p')
+		if [ "$told" = "$counted" ]; then pass; else fail "energy: $sample misses $told, yds-misses says $counted"; fi
 	done
 	energy "$work/told" >"$work/lost"
 	answers "energy: jobs that are left out" 0 "# 3 jobs were left out of the document, with their energy" tail -n 1 "$work/lost"
@@ -537,11 +537,11 @@ what_slots_refuses() {
 	refuses "slots: a refusal" 1 failed "slots.awk: line 1: the input is an answer of no: refused 1 9 EmptyWindow" slots "$expected/compare-refused.txt"
 }
 
-# explained NAME VERDICT TEXT: what explain.awk says of the document $work/judged.
+# explained NAME VERDICT TEXT: what yds-explain says of the document $work/judged.
 explained() {
 	"$YDS" check <"$work/judged" >"$work/verdict"
 	if [ "$(cat "$work/verdict")" = "$2" ]; then pass; else fail "$1: check says $(cat "$work/verdict")"; fi
-	text "$1" 0 "$3" recipe explain.awk "$work/judged" "$work/verdict"
+	text "$1" 0 "$3" tool explain "$work/judged" "$work/verdict"
 }
 what_check_found() {
 	want check plan || return
@@ -568,7 +568,7 @@ no piece of the levels 1 to 1 has the time from 3 to 4"
 level 2 has the work 8 and the length 6: expected the speed 1.33333333333333"
 	sed 's/^slot c 4 6 6/slot c 4 6 5/' "$work/plan" >"$work/judged"
 	explained "explain: K1" "K1 work c given 5 wanted 6" "K1 work c given 5 wanted 6"
-	refuses "explain: no answer" 1 "" "explain.awk: no answer of check; give the document, and after it the answer" recipe explain.awk "$work/plan"
+	refuses "explain: no answer" 1 "" "yds-explain: no answer of check; give the document, and after it the answer" tool explain "$work/plan"
 }
 
 answer() { recipe answer.awk "$@"; }

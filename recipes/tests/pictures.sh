@@ -167,7 +167,7 @@ TABLE
 		'>not done: decode.3<' '>1 job of unknown slack, not drawn<' '>left out of the document<'
 	counts "slack: a dot for each job, and one in the key for each task" "$work/slack.svg" "xlink:href='#gpPt6'" 7
 	apart "slack" "$work/slack.svg"
-	refuses "slack: another table" 1 "" "plot.sh: no columns job, release and slack; is this the table of jobs.awk with form=csv?" plot slack "$expected/folder.tsv"
+	refuses "slack: another table" 1 "" "plot.sh: no columns job, release and slack; is this the table of yds-jobs with --form csv?" plot slack "$expected/folder.tsv"
 }
 
 # A document of so many runs of one unit each, one in two units of time, at a speed of 20, by two tasks in turn; they

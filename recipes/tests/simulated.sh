@@ -1,5 +1,5 @@
 # simulated.sh: read by test.sh. Traces that samples/simulate.awk draws: what trace.awk makes of them, and the deadlines that
-# misses.sh and jobs.awk call missed, are what the simulator says. TRACES is their number (20):
+# yds-misses and yds-jobs call missed, are what the simulator says. TRACES is their number (20):
 #
 #   TRACES=300 sh recipes/test.sh simulated
 
@@ -97,11 +97,11 @@ simulated_trace() {
 	[ "$left_late" = 0 ] || line="$line, $left_late late without $([ "$left_late" = 1 ] && echo its || echo their) runs"
 	echo "not the last line $line" >"$work/reason"
 	[ "$(tail -n 1 "$work/document")" = "$line" ] || return 1
-	YDS=$YDS AWK=$AWK sh "$here/misses.sh" "$work/document" >"$work/missed"
+	tool misses "$work/document" >"$work/missed"
 	status=$?
 	last="$missed missed deadline$([ $missed = 1 ] || echo s)"
 	[ $missed = 0 ] && last=feasible
-	echo "misses.sh ends with $(tail -n 1 "$work/missed") and status $status, and $missed are missed" >"$work/reason"
+	echo "yds-misses ends with $(tail -n 1 "$work/missed") and status $status, and $missed are missed" >"$work/reason"
 	[ "$(tail -n 1 "$work/missed")" = "$last" ] && [ $status = $((missed > 0)) ] || return 1
 	# What is late by a unit or more, or has no runs here, audit sees.
 	seen=$((missed > $(grep -c '^note less ' "$work/truth")))
@@ -109,11 +109,11 @@ simulated_trace() {
 	status=$?
 	echo "audit ends with $(cat "$work/verdict") and status $status" >"$work/reason"
 	[ $status = $seen ] || return 1
-	recipe jobs.awk -v form=csv "$work/document" >"$work/table"
+	tool jobs --form csv "$work/document" >"$work/table"
 	$AWK "$ran" "$work/document" FS=, "$work/table" | sort >"$work/said"
 	grep '^ran ' "$work/truth" | sort | diff - "$work/said" >"$work/reason" || return 1
 	late=$($AWK -F , '$8 == "inf" || $8 + 0 > 0' "$work/table" | wc -l)
-	echo "jobs.awk has $((late)) late jobs, and $missed are missed" >"$work/reason"
+	echo "yds-jobs has $((late)) late jobs, and $missed are missed" >"$work/reason"
 	[ $((late)) = $missed ]
 }
 test_simulated() {

@@ -12,7 +12,7 @@ tells() {
 	echo "wanted: $line"
 	cat "$work/err" "$work/out"
 }
-found() { YDS=$YDS AWK=$AWK sh "$here/misses.sh" "$1"; }
+found() { tool misses "$1"; }
 
 test_told() {
 	jobs_without_work
@@ -34,7 +34,7 @@ jobs_without_work() {
 	one="# 1 job has no work: it needs nothing and is in time, the first audio.0"
 	tells "told: a job without work, by yds-misses" 0 "$one" found "$work/document"
 	answers "told: and its last line is the verdict" 0 feasible eval "found '$work/document' | tail -n 1"
-	tells "told: a job without work, by yds-jobs" 0 "$one" recipe jobs.awk "$work/document"
+	tells "told: a job without work, by yds-jobs" 0 "$one" tool jobs "$work/document"
 	(printf 'point 0 0\npoint 100 20\n' && cat "$work/document") >"$work/priced"
 	tells "told: a job without work, by yds-energy" 0 "$one" energy "$work/priced"
 	tells "told: a job without work, at one speed" 0 "$one" energy -v at=100 "$work/priced"

@@ -13,7 +13,7 @@ says() {
 	fail "$name (status $got)"
 	cat "$work/wanted" "$work/err"
 }
-misses() { YDS=$YDS AWK=$AWK sh "$here/misses.sh" "$1"; }
+misses() { tool misses "$1"; }
 
 test_traces() {
 	starving_traces
@@ -147,8 +147,8 @@ work render.2 given 0 wanted 2000 # due at 200.116000 s
 	says "misses: a job of a file whose work was done in time" 1 "late in a run within one tick: render.0, 1.001 ms after its deadline # due at 200.002000 s
 1 missed deadline" misses "$work/document"
 }
-# told_once NAME JOB COMMENT COMMAND ..: the document has the job's line with work 1 and the comment below it; audit says no, misses.sh tells
-# the job in one line, jobs.awk has it late, and energy.awk counts it once.
+# told_once NAME JOB COMMENT COMMAND ..: the document has the job's line with work 1 and the comment below it; audit says no, yds-misses tells
+# the job in one line, yds-jobs has it late, and energy.awk counts it once.
 told_once() {
 	told=$1 job=$2 comment=$3
 	shift 3
@@ -158,7 +158,7 @@ told_once() {
 	answers "traces: $told, and not feasible" 1 "$(grep -v '^job' "$work/document" | "$YDS" audit >/dev/null; "$YDS" audit <"$work/document")" from "$work/document" "$YDS" audit
 	misses "$work/document" >"$work/missed"
 	if [ "$(grep -cF " $job " "$work/missed")" = 1 ] && grep -qF "late, without its runs: $comment" "$work/missed"; then pass; else fail "misses: $told"; cat "$work/missed"; fi
-	if recipe jobs.awk -v form=csv "$work/document" | grep -qE "^$job,.*,(inf|[0-9.]+),\$"; then pass; else fail "jobs: $told"; fi
+	if tool jobs --form csv "$work/document" | grep -qE "^$job,.*,(inf|[0-9.]+),\$"; then pass; else fail "jobs: $told"; fi
 	misses=$(tail -n 1 "$work/missed")
 	cat "$expected/points.txt" "$work/document" | recipe energy.awk 2>/dev/null | grep 'misses' >"$work/told"
 	if grep -q "misses ${misses%% *} deadline" "$work/told"; then pass; else fail "energy: $told"; cat "$work/told"; fi
@@ -190,14 +190,14 @@ traces_of_short_runs() {
 ends_in_short_runs() {
 	same "traces: ends in short runs" 0 trace-tick.txt trace -v tasks=render:9 tick.txt
 	says "jobs: ends in short runs" 0 "render.0        0       900      0   800       800    100     0       -
-render.1     1000      1900   1000  3800      2800  -1900  1900       -" recipe jobs.awk "$expected/trace-tick.txt"
+render.1     1000      1900   1000  3800      2800  -1900  1900       -" tool jobs "$expected/trace-tick.txt"
 	says "misses: an end in a short run" 1 "late slot 2 render.1 3800 deadline 1900, by 1900 # due at 100.020000 s
 1 missed deadline" misses "$expected/trace-tick.txt"
 	# A recording of a kernel: the job ends in a run of 3 us.
 	trace -v cpu=1 -v start=2000000 -v tasks=audio:10 recorded-tick.txt >"$work/document"
 	says "traces: recorded, and ends in a short run" 0 "# ends: audio.1 2881
 # left out: 1 run within one tick, 0.003 ms" cat "$work/document"
-	says "jobs: recorded, and ends in a short run" 0 "audio.1     1000      2000   1541  2881      1881   -881   881       -" recipe jobs.awk "$work/document"
+	says "jobs: recorded, and ends in a short run" 0 "audio.1     1000      2000   1541  2881      1881   -881   881       -" tool jobs "$work/document"
 	# Its first run is short, too.
 	sed '4s/100.003000/100.001003/' tick.txt >"$work/begins"
 	trace -v tasks=render:9 "$work/begins" >"$work/document"
@@ -205,19 +205,19 @@ render.1     1000      1900   1000  3800      2800  -1900  1900       -" recipe 
 # begins: render.0 0
 # ends: render.0 800
 # left out: 3 runs within one tick, 0.019 ms" cat "$work/document"
-	says "jobs: all runs are short" 0 "render.0        0       900      0   800       800    100     0       -" recipe jobs.awk "$work/document"
+	says "jobs: all runs are short" 0 "render.0        0       900      0   800       800    100     0       -" tool jobs "$work/document"
 	sed '4s/100.003000/100.001003/; 6s/100.009008/100.009500/' tick.txt >"$work/begins"
 	trace -v tasks=render:9 "$work/begins" >"$work/document"
 	says "traces: the first run is short" 0 "job render.0 0 900 5000
 # begins: render.0 0
 run render.0 800 850 100" cat "$work/document"
-	says "jobs: the first run is short" 0 "render.0        0       900      0   850       850     50     0       -" recipe jobs.awk "$work/document"
+	says "jobs: the first run is short" 0 "render.0        0       900      0   850       850     50     0       -" tool jobs "$work/document"
 	# In ticks of a microsecond and with a file's lines.
 	printf 'job render.0 0 9 2000\njob render.1 10 19 9500\n' >"$work/lines"
 	sed 's/100.039008/100.0390004/' tick.txt >"$work/fine"
 	trace -v tasks=render -v from=100.001 -v "jobs=$work/lines" -v us=1000 -v khz=1000 -v ticks=1000 "$work/fine" >"$work/document"
 	says "traces: ends in a short run, with job lines of a file" 0 "# ends: render.1 38000" cat "$work/document"
-	says "jobs: ends in a short run, with job lines of a file" 0 "render.1       10        19     10     38        28    -19    19       -" recipe jobs.awk "$work/document"
+	says "jobs: ends in a short run, with job lines of a file" 0 "render.1       10        19     10     38        28    -19    19       -" tool jobs "$work/document"
 }
 
 # Events that were lost, in each form in which that is told.

@@ -73,13 +73,13 @@ reads_together() {
 	} >"$work/two"
 	grep -v '^slot' "$work/two" >"$work/two-jobs"
 	refuses "units: energy, $kind" 1 "" "energy.awk: line 7: $text" energy "$work/two"
-	refuses "units: jobs, $kind" 1 "" "jobs.awk: line 7: $text" recipe jobs.awk "$work/two"
+	refuses "units: jobs, $kind" 1 "" "yds-jobs: $work/two, line 7, column $column: $dashed" tool jobs "$work/two"
 	refuses "units: changes, $kind" 1 "" "changes.awk: line 7: $text" recipe changes.awk "$work/two"
 	refuses "units: slots, $kind" 1 failed "slots.awk: line 7: $text" recipe slots.awk "$work/two"
 	refuses "units: scale, $kind" 1 failed "yds-scale: $work/two-jobs, line 6, column $column: $dashed" tool scale --work 2 "$work/two-jobs"
 	refuses "units: battery, $kind" 1 "" "battery.awk: line 7: $text" recipe battery.awk -v mah=1 -v volts=1 -v period=1 "$work/two"
 	refuses "units: answer, $kind" 1 "" "answer.awk: line 7: $text" from "$work/two" recipe answer.awk
-	refuses "units: misses, $kind" 1 "" "misses.sh: line 7: ${text%%;*}; give texts of the same us=, khz= and uw=" env YDS="$YDS" AWK="$AWK" sh "$here/misses.sh" "$work/two"
+	refuses "units: misses, $kind" 1 "" "yds-misses: $work/two, line 7, column $column: $dashed" tool misses "$work/two"
 	refuses "units: parts, $kind" 1 "" "yds-parts: line 7: $text" tool parts --folder "$work/parts" "$work/two"
 	text_of_part=$(cat "$work/parts/part-00001.txt" 2>/dev/null)
 	if [ "$text_of_part" = failed ]; then pass; else fail "units: parts, $kind: $text_of_part"; fi
@@ -87,5 +87,5 @@ reads_together() {
 		refuses "units: plot, $kind" 1 "" "plot.sh: line 7: $text" sh "$here/plot.sh" gantt "$work/two"
 		refuses "units: plot with units of its own, $kind" 1 "" "plot.sh: line 7: $text" sh "$here/plot.sh" gantt -u 10us,10MHz,1mW "$work/two"
 	fi
-	if energy "$work/one" >"$work/out" 2>&1 && YDS=$YDS AWK=$AWK sh "$here/misses.sh" "$work/one" >"$work/out" 2>&1; then pass; else fail "units: one unit of $kind"; cat "$work/out"; fi
+	if energy "$work/one" >"$work/out" 2>&1 && tool misses "$work/one" >"$work/out" 2>&1; then pass; else fail "units: one unit of $kind"; cat "$work/out"; fi
 }

@@ -1,0 +1,202 @@
+"""The comments of documents as typed values: what is known of a trace's jobs, the period, and energy that is in no line.
+
+A comment of another form is none of these, and stays a text.
+"""
+
+from __future__ import annotations
+
+import re
+from fractions import Fraction
+from typing import Dict, List, NamedTuple, Optional, Tuple
+
+from yds._text import Comment, counted
+
+LEFT_OUT = "left out"
+WITHOUT_RUNS = "late, without its runs"
+NOT_ENDED = "not ended"
+WITHIN_TICK = "late in a run within one tick"
+LESS_THAN_UNIT = "late by less than a unit of time"
+
+_NOTE = re.compile(
+    r"# (left out|late, without its runs|not ended|late in a run within one tick|late by less than a unit of time): (.+)"
+).match
+_END = re.compile(r"(?:, (at least |not ended )?([0-9.]+) ms after its deadline)?(?:; window (-?[0-9]+) (-?[0-9]+))?").fullmatch
+
+
+class Note(NamedTuple):
+    """What a comment tells of one job of a trace."""
+
+    kind: str
+    job: str
+    reason: str
+    """Why it was left out; empty where nothing is said."""
+    late: Optional[str]
+    """Milliseconds after its deadline, as they are written; None where nothing is said."""
+    at_least: bool
+    """Whether it was later than that by an unknown time."""
+    never: bool
+    """Whether it hadn't ended then."""
+    window: Optional[Tuple[int, int]]
+    """Its release and deadline, in the document's units; they may be below 0."""
+    text: str
+    """The comment without its #."""
+
+
+def note_of(text: str) -> Optional[Note]:
+    """The note of a comment; None where it is none.
+
+    >>> note_of("# late, without its runs: a.1 (ran on CPU 2), at least 3.2 ms after its deadline; window -4 9")[1:7]
+    ('a.1', 'ran on CPU 2', '3.2', True, False, (-4, 9))
+    """
+    found = _NOTE(text)
+    if found is None:
+        return None
+    kind, rest = found.groups()
+    named = rest.split(" ", 1)[0]
+    if named.endswith(",") and not rest[len(named) :].startswith(" ("):
+        named = named[:-1]
+    rest = rest[len(named) :]
+    reason = ""
+    if rest.startswith(" ("):
+        close = _reason_end(rest)
+        if close < 0:
+            return None
+        reason, rest = rest[2:close], rest[close + 1 :]
+    end = _END(rest)
+    if end is None:
+        return None
+    how, late, release, deadline = end.groups()
+    window = None if release is None else (int(release), int(deadline))
+    return Note(kind, named, reason, late, how == "at least ", how == "not ended ", window, text[2:])
+
+
+def _reason_end(rest: str) -> int:
+    """Where the bracket of a reason closes: the last place behind which what a note may say follows; -1 if there is none."""
+    places = [place for place in range(len(rest)) if rest[place] == ")" and _END(rest[place + 1 :])]
+    return places[0] if places else -1
+
+
+_CLOCK = re.compile(r"time 0 is ([0-9]+)\.([0-9]+) s").search
+_TIME_UNIT = re.compile(r"time unit ([0-9]+) us").search
+
+
+class Clock:
+    """The trace's clock: when time 0 is, and how long a unit of time is."""
+
+    def __init__(self) -> None:
+        self.zero: Optional[Tuple[int, int]] = None
+        """Seconds and nanoseconds at time 0."""
+        self.unit: Optional[int] = None
+        """Microseconds in a unit of time."""
+
+    def take(self, text: str) -> None:
+        """Reads a comment."""
+        zero, unit = _CLOCK(text), _TIME_UNIT(text)
+        if zero is not None:
+            self.zero = int(zero.group(1)), int(zero.group(2)[:9].ljust(9, "0"))
+        if unit is not None:
+            self.unit = int(unit.group(1))
+
+    def due_at(self, time: int) -> str:
+        """A comment with the seconds of the clock at a time of the document; empty where the clock isn't known."""
+        if self.zero is None or not self.unit:
+            return ""
+        micro = self.zero[0] * 1_000_000 + self.zero[1] // 1000 + time * self.unit
+        return f" # due at {micro // 1_000_000}.{micro % 1_000_000:06d} s"
+
+
+_ENDS = re.compile(r"# (begins|ends): ([^ ]+) ([0-9]+)").fullmatch
+
+
+class Ends:
+    """Begins and ends of jobs whose first or last run is shorter than a tick, in ticks."""
+
+    def __init__(self) -> None:
+        self.begin: Dict[str, int] = {}
+        self.end: Dict[str, int] = {}
+
+    def take(self, text: str) -> bool:
+        """Reads a comment, and says whether it was of this form."""
+        found = _ENDS(text)
+        if found is None:
+            return False
+        (self.begin if found.group(1) == "begins" else self.end)[found.group(2)] = int(found.group(3))
+        return True
+
+
+_NOT_DUE = re.compile(r"# not due by [0-9]+: ").match
+_WRITTEN = re.compile(r"# [0-9]+ jobs? written, ([0-9]+) left out").match
+IN_NO_LINE = ": this energy is in no line"
+
+
+class Missing:
+    """What comments tell of energy that is in no line, and of work that isn't known."""
+
+    def __init__(self) -> None:
+        self.not_due: List[str] = []
+        self.left_out = 0
+        self.without_runs = 0
+        self.unknown: List[str] = []
+
+    def take(self, text: str) -> None:
+        """Reads a comment."""
+        written = _WRITTEN(text)
+        if written is not None:
+            self.left_out += int(written.group(1))
+        elif _NOT_DUE(text):
+            self.not_due.append(text)
+        elif text.startswith((f"# {WITHOUT_RUNS}: ", f"# {NOT_ENDED}: ")):
+            self.without_runs += text.startswith(f"# {WITHOUT_RUNS}: ")
+            self.unknown.append(text.split(": ", 1)[1].split(" ")[0].rstrip(","))
+
+    def told(self) -> List[str]:
+        """Comments that say it, of the whole document."""
+        lines = [text if text.endswith(IN_NO_LINE) else text + IN_NO_LINE for text in self.not_due]
+        if self.left_out:
+            lines.append("# " + left_out_of(self.left_out))
+        if self.without_runs:
+            late = counted(self.without_runs, "job was late and stands", "jobs were late and stand")
+            lines.append(f"# {late} in the document without {'its' if self.without_runs == 1 else 'their'} runs and their energy")
+        if self.unknown:
+            lines.append("# " + unknown_works(len(self.unknown), self.unknown[0]))
+        return lines
+
+
+def left_out_of(number: int) -> str:
+    """So many jobs were left out of the document."""
+    return counted(
+        number, "job was left out of the document, with its energy", "jobs were left out of the document, with their energy"
+    )
+
+
+def unknown_works(number: int, first: str) -> str:
+    """Of so many jobs the work isn't known."""
+    return (
+        "the work of "
+        + counted(
+            number, "job isn't known, since it never ended or has no runs", "jobs isn't known, since they never ended or have no runs"
+        )
+        + f": what serves them whole may spend more and be later, the first {first}"
+    )
+
+
+def workless(number: int, first: str) -> str:
+    """A comment that tells of jobs without work."""
+    told = counted(
+        number, "job has no work: it needs nothing and is in time", "jobs have no work: they need nothing and are in time"
+    )
+    return f"# {told}, the first {first}"
+
+
+_PERIOD = re.compile(r"# period ([0-9]+)").fullmatch
+
+
+def period_of(comment: Comment) -> Optional[int]:
+    """The period that the comment tells, in units of time; None where it tells none."""
+    found = _PERIOD(comment.text)
+    return None if found is None else int(found.group(1))
+
+
+def milliseconds(text: str) -> Fraction:
+    """The value of a note's lateness."""
+    return Fraction(text)
