@@ -4,11 +4,11 @@
 #   yds_cli plan < document.txt | yds-answer csv=slots > slots.csv
 #   yds-answer out/*.txt > answers.jsonl
 #
-# Input: answers, or documents; each command's, those of energy.awk and yds-misses too. Each kind of line is a table:
+# Input: answers, or documents; each command's, those of yds-energy and yds-misses too. Each kind of line is a table:
 #   jobs points slots runs ticks levels pieces members grids energies      of a document
 #   verdicts refusals too_slow                                            of audit, check, round, and of any refused document
 #   report levels                                                         of report
-#   energies times roundings too_slow misses                              of compare and energy.awk, by side
+#   energies times roundings too_slow misses                              of compare and yds-energy, by side
 #   breaks, refused_jobs, one_level, trial                                of curve, admit, expand, trial
 #   missed, and verdicts of jobs whose runs aren't in the document        of yds-misses, whose `# due at` is a column due, and by how much a
 #                                                                         job was late a column late, late_at_least, late_ms or not_ended_ms

@@ -2,12 +2,12 @@
 #
 #   yds-collect out/*.txt > energies.tsv
 #
-# Input: files, each with the answer to one document, and perhaps lines of energy.awk after it.
+# Input: files, each with the answer to one document, and perhaps lines of yds-energy after it.
 # Output: a table parted by tabs, a row for each file in order: its name, the energy of plan, avr, oa and of what
 # other sides there are (with six decimals, - where there is none), the event points at which the policies were
 # rounded to the grid, and the answer: ok, or the line that says no. Energies are in the document's units. A side that misses
-# deadlines, as energy.awk tells, has no energy here, and a comment at the end of the table for each such row says so. Others tell what
-# energy.awk says of jobs whose energy is in no line, or whose work isn't known.
+# deadlines, as yds-energy tells, has no energy here, and a comment at the end of the table for each such row says so. Others tell what
+# yds-energy says of jobs whose energy is in no line, or whose work isn't known.
 #
 # Exit status: 0 done; 1 a file can't be read or has a line that is of no such answer; 2 usage.
 
@@ -50,7 +50,7 @@ function read_file(i,    line, field, status, n) {
         else if (field[2] != "time")
         {
             gsub(/[^ -~]/, "?", line)
-            complain(ARGV[i] ": \"" (length(line) > 60 ? substr(line, 1, 60) ".." : line) "\" is no line of compare or energy.awk", 1)
+            complain(ARGV[i] ": \"" (length(line) > 60 ? substr(line, 1, 60) ".." : line) "\" is no line of compare or yds-energy", 1)
         }
     }
     if (status < 0) complain(ARGV[i] " can't be read", 1)

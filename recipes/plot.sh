@@ -8,13 +8,13 @@
 #   gantt    who runs when: a row for each job, or for each task where there are more than 12 jobs
 #   slack    how long before its deadline each job was done: the table of yds-jobs with --form csv
 #   curve    the lines of `yds_cli curve`: how much work has to be done above each speed
-#   energy   the lines of `yds_cli compare` and of energy.awk; with `point` lines before them parted by point
+#   energy   the lines of `yds_cli compare` and of yds-energy; with `point` lines before them parted by point
 #   ratios   the table of collect.awk: how many documents cost how much more than the plan
 #
 # A gantt goes by the table's points in its colours: with the points before the document a speed has one colour in each picture.
 # A triangle stands over each missed deadline, the row says so at its end, and the jobs are named below the title. What a
 # trace had and the document hasn't, by the comments of trace.awk, is a cross in a row of its own. An energy whose side missed
-# deadlines, by the comment of energy.awk, says so. Above 5,000 slots, runs or jobs each column of pixels is drawn as a whole:
+# deadlines, by the comment of yds-energy, says so. Above 5,000 slots, runs or jobs each column of pixels is drawn as a whole:
 # the mean speed of its time, bars as high as the part of it in which a row ran, the least slack.
 #
 # Options:

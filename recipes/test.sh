@@ -93,7 +93,7 @@ recipe() { program=$1; shift; $AWK -f "$here/$program" "$@"; }
 tool() { command=$1; shift; "$PYTHON" "$here/bin/yds-$command" "$@"; }
 
 trace() { recipe trace.awk "$@"; }
-points() { recipe points.awk "$@"; }
+points() { tool points "$@"; }
 
 test_trace() {
 	t=tasks=decode:16.667,audio:10
@@ -155,46 +155,46 @@ test_trace() {
 }
 
 test_points() {
-	same "points: energy model" 0 points.txt points -v domain=cpu0 energy-model.txt
-	same "points: exact speeds" 0 points-exact-speeds.txt points -v domain=cpu4 -v khz=24000 -v idle=20 energy-model.txt
-	same "points: debugfs" 0 points-debugfs.txt points -v coefficient=100 opp-debugfs.txt
-	same "points: device tree" 0 points-tree.txt points -v coefficient=100 -v domain=cluster0_opp opp.dtsi
-	same "points: a datasheet's table" 0 points-microcontroller.txt points -v khz=1000 -v uw=10 -v volts=3.0 microcontroller.csv
-	same "points: frequencies alone" 0 points-cube.txt points -v top=2000 scaling_available_frequencies
-	refuses "points: several domains" 1 failed "points.awk: several domains: cpu4, cpu0; give domain=" points energy-model.txt
-	refuses "points: no such domain" 1 failed "points.awk: no domain cpu3; there are cpu4, cpu0" points -v domain=cpu3 energy-model.txt
-	refuses "points: no coefficient" 1 failed "points.awk: cluster0_opp has voltages and no powers; give coefficient=, the CPU's dynamic-power-coefficient" \
-		points -v domain=cluster0_opp opp.dtsi
-	refuses "points: frequencies without power" 1 failed "points.awk: line 1: 6 columns; give a table of two, MHz and mW, a heading with the units of more, or top= with frequencies in kHz" \
+	same "points: energy model" 0 points.txt points --domain cpu0 energy-model.txt
+	same "points: exact speeds" 0 points-exact-speeds.txt points --domain cpu4 --khz 24000 --idle 20 energy-model.txt
+	same "points: debugfs" 0 points-debugfs.txt points --coefficient 100 opp-debugfs.txt
+	same "points: device tree" 0 points-tree.txt points --coefficient 100 --domain cluster0_opp opp.dtsi
+	same "points: a datasheet's table" 0 points-microcontroller.txt points --khz 1000 --uw 10 --volts 3.0 microcontroller.csv
+	same "points: frequencies alone" 0 points-cube.txt points --top 2000 scaling_available_frequencies
+	refuses "points: several domains" 1 failed "yds-points: several domains: cpu4, cpu0; give --domain" points energy-model.txt
+	refuses "points: no such domain" 1 failed "yds-points: no domain cpu3; there are cpu4, cpu0" points --domain cpu3 energy-model.txt
+	refuses "points: no coefficient" 1 failed "yds-points: cluster0_opp has voltages and no powers; give --coefficient, the CPU's dynamic-power-coefficient" \
+		points --domain cluster0_opp opp.dtsi
+	refuses "points: frequencies without power" 1 failed "yds-points: scaling_available_frequencies, line 1: 6 columns; give a table of two, MHz and mW, a heading with the units of more, or --top with frequencies in kHz" \
 		points scaling_available_frequencies
-	refuses "points: two states of one speed" 1 failed "points.awk: 600000 kHz and the state below it are both speed 1; give a finer khz=" \
-		points -v domain=cpu0 -v khz=450000 energy-model.txt
-	refuses "points: too fast for the unit" 1 failed "points.awk: 408000 kHz is speed 4080, above 4000; give a coarser khz=" points -v domain=cpu0 -v khz=100 energy-model.txt
+	refuses "points: two states of one speed" 1 failed "yds-points: 600000 kHz and the state below it are both speed 1; give a finer --khz, as --khz 24000" \
+		points --domain cpu0 --khz 450000 energy-model.txt
+	refuses "points: too fast for the unit" 1 failed "yds-points: 408000 kHz is speed 4080, above 4000; give a coarser --khz, as --khz 24000" points --domain cpu0 --khz 100 energy-model.txt
 	printf '%s\n' 803000 1604000 2404000 3203000 4000000 | tr '\n' ' ' >"$work/fine"
-	refuses "points: gaps too fine" 1 failed "points.awk: the gaps between the speeds are too fine (their least common multiple is above 2^40); give a coarser khz=" \
-		points -v top=4000 -v khz=1000 "$work/fine"
-	refuses "points: an empty input" 1 failed "points.awk: no operating point was read; the input is an energy model, an opp folder, a device tree, a table of MHz and mW, or frequencies with top=" \
+	refuses "points: gaps too fine" 1 failed "yds-points: the gaps between the speeds are too fine (their least common multiple is above 2^40); give a coarser --khz" \
+		points --top 4000 --khz 1000 "$work/fine"
+	refuses "points: an empty input" 1 failed "yds-points: no operating point was read; the input is an energy model, an opp folder, a device tree, a table of MHz and mW, or frequencies with --top" \
 		points /dev/null
-	refuses "points: no such file" 1 failed "points.awk: nowhere can't be read" points nowhere
+	refuses "points: no such file" 1 failed "yds-points: nowhere can't be read: No such file or directory" points nowhere
 	printf '\357\273\277"Clock (MHz)";"Current (mA)"\r\n0;0,04\r\n4;0,5\r\n16;1,6\r\n24;2,3\r\n48;4,6\r\n80;8,5\r\n' >"$work/sheet"
-	same "points: a spreadsheet's table" 0 points-microcontroller.txt points -v khz=1000 -v uw=10 -v volts=3.0 "$work/sheet"
-	refuses "points: milliamperes without volts" 1 failed "points.awk: line 1: the heading says MHz, mA; give volts=" points -v khz=1000 microcontroller.csv
+	same "points: a spreadsheet's table" 0 points-microcontroller.txt points --khz 1000 --uw 10 --volts 3.0 "$work/sheet"
+	refuses "points: milliamperes without volts" 1 failed "yds-points: microcontroller.csv, line 1: the heading says MHz, mA; give --volts" points --khz 1000 microcontroller.csv
 	printf 'MHz,mW\n4,0.5\n' >"$work/heading"
-	refuses "points: the heading of a power with volts=" 1 failed "points.awk: line 1: the heading says MHz, mW; leave volts= out" points -v volts=3.0 "$work/heading"
+	refuses "points: the heading of a power with volts=" 1 failed "yds-points: $work/heading, line 1: the heading says MHz, mW; leave --volts out" points --volts 3.0 "$work/heading"
 	printf '4 MHz,0.5\n16,1.6\n' >"$work/heading"
 	refuses "points: a heading that isn't one" 1 failed \
-		"points.awk: line 1: MHz is no number; a row has numbers alone, and their units stand in a heading, as MHz,mA" points "$work/heading"
+		"yds-points: $work/heading, line 1: MHz is no number; a row has numbers alone, and their units stand in a heading, as MHz,mA" points "$work/heading"
 	printf '4\n16,1.6\n' >"$work/heading"
 	refuses "points: a column is missing" 1 failed \
-		"points.awk: line 1: 1 columns; give a table of two, MHz and mW, a heading with the units of more, or top= with frequencies in kHz" points "$work/heading"
+		"yds-points: $work/heading, line 1: 1 columns; give a table of two, MHz and mW, a heading with the units of more, or --top with frequencies in kHz" points "$work/heading"
 	printf '16,48\n48,138\n80,255\n' >"$work/coarse"
 	refuses "points: speeds in too coarse a unit" 1 failed \
-		"points.awk: 16000 kHz is speed 2 in units of 10000 kHz, more than a twentieth off; give a finer khz=" points -v khz=10000 "$work/coarse"
+		"yds-points: 16000 kHz is speed 2 in units of 10000 kHz, more than a twentieth off; give a finer --khz, as --khz 16000" points --khz 10000 "$work/coarse"
 	grep -v '^0,' microcontroller.csv >"$work/no-idle"
 	refuses "points: powers in too coarse a unit" 1 failed \
-		"points.awk: 4000 kHz has 1.5 mW, and 2 units of 1000 uW are more than a twentieth off; give a finer uw=, as uw=500" points -v khz=1000 -v volts=3.0 "$work/no-idle"
+		"yds-points: 4000 kHz has 1.5 mW, and 2 units of 1000 uW are more than a twentieth off; give a finer --uw, as --uw 500" points --khz 1000 --volts 3.0 "$work/no-idle"
 	sed 's/cpu0\/flags:0x1/cpu0\/flags:0x5/' energy-model.txt >"$work/artificial"
-	refuses "points: no watts" 1 failed "points.awk: the powers of cpu0 are no watts (flag 4); give a table of measured powers" points -v domain=cpu0 "$work/artificial"
+	refuses "points: no watts" 1 failed "yds-points: the powers of cpu0 are no watts (flag 4); give a table of measured powers" points --domain cpu0 "$work/artificial"
 }
 
 rtapp() { sh "$here/rtapp.sh" "$@"; }
@@ -235,47 +235,44 @@ test_comma() {
 	LC_ALL=$comma $AWK 'BEGIN { exit "1.5" * 2 == 3 }' || return
 	text="this awk has a decimal comma in this locale; say export LC_ALL=C first"
 	refuses "comma: trace" 1 failed "trace.awk: $text" env LC_ALL="$comma" $AWK -f "$here/trace.awk" -v tasks=decode:16.667,audio:10 trace-report.txt
-	refuses "comma: points" 1 failed "points.awk: $text" env LC_ALL="$comma" $AWK -f "$here/points.awk" -v khz=1000 -v volts=3.0 microcontroller.csv
-	refuses "comma: energy" 1 "" "energy.awk: $text" env LC_ALL="$comma" $AWK -f "$here/energy.awk" "$expected/points.txt" "$expected/trace.txt"
-	refuses "comma: battery" 1 "" "battery.awk: $text" env LC_ALL="$comma" $AWK -f "$here/battery.awk" -v mah=220 -v volts=3.0 -v uw=10 "$expected/compare-sensor.txt"
 	refuses "comma: collect" 1 "" "collect.awk: $text" env LC_ALL="$comma" $AWK -f "$here/collect.awk" "$expected/compare-a.txt"
 	same "comma: misses has its own locale" 1 misses.txt from /dev/null env LC_ALL="$comma" "$PYTHON" "$here/bin/yds-misses" late-twice.txt
 }
 
-energy() { recipe energy.awk "$@"; }
+energy() { tool energy "$@"; }
 test_energy() {
 	cat "$expected/points.txt" "$expected/trace.txt" >"$work/both"
-	same "energy: of a trace" 0 energy.txt energy -v name=governor "$work/both"
-	same "energy: flat out" 0 energy-at.txt energy -v at=142 "$work/both"
-	refuses "energy: no points" 1 "" "energy.awk: no point line; put the points before the document, as yds-join points.txt trace.txt" energy "$expected/trace.txt"
-	refuses "energy: above the top" 1 "" "energy.awk: the speed 60 from 0 to 200 is above the top point 41" energy bad/slow.txt
-	refuses "energy: a name of two words" 2 "" "energy.awk: name=my policy isn't one word" energy -v "name=my policy" "$work/both"
-	refuses "energy: no such point" 1 "" "energy.awk: no point has the speed 50" energy -v at=50 "$work/both"
-	refuses "energy: too much work for a point" 1 "" "energy.awk: the work of all jobs is more than the point 41 does in the whole time" energy -v at=41 "$work/both"
+	same "energy: of a trace" 0 energy.txt energy --name governor "$work/both"
+	same "energy: flat out" 0 energy-at.txt energy --at 142 "$work/both"
+	refuses "energy: no points" 1 "" "yds-energy: no point line; put the points before the document, as yds-join points.txt trace.txt" energy "$expected/trace.txt"
+	refuses "energy: above the top" 1 "" "yds-energy: bad/slow.txt, line 15, column 19: the speed 60 from 0 to 200 is above the top point 41" energy bad/slow.txt
+	refuses "energy: a name of two words" 2 "" "yds-energy: --name my policy isn't one word; see yds-energy --help" energy --name "my policy" "$work/both"
+	refuses "energy: no such point" 1 "" "yds-energy: no point has the speed 50" energy --at 50 "$work/both"
+	refuses "energy: too much work for a point" 1 "" "yds-energy: the work of all jobs is more than the point 41 does in the whole time" energy --at 41 "$work/both"
 	sed 's/speed unit 10000 kHz/speed unit 1000 kHz/' "$expected/points.txt" | cat - "$expected/trace.txt" >"$work/units"
 	refuses "energy: two units of speed" 1 "" \
-		"energy.awk: line 20: a unit of speed of 10000 kHz here and 1000 kHz before; give points and trace the same khz=" energy "$work/units"
-	refuses "energy: a refusal" 1 "" "energy.awk: line 1: the input is an answer of no: refused 1 9 EmptyWindow" energy "$expected/compare-refused.txt"
-	same "battery" 0 battery.tsv recipe battery.awk -v mah=220 -v volts=3.0 -v uw=10 -v period=1000 "$expected/compare-sensor.txt"
-	same "battery: the points' unit of power" 0 battery.tsv recipe battery.awk -v mah=220 -v volts=3.0 -v period=1000 "$expected/points-microcontroller.txt" "$expected/compare-sensor.txt"
-	refuses "battery: no unit of power" 2 "" "battery.awk: no unit of power; give uw=, or the file of points with its comment before the lines" \
-		recipe battery.awk -v mah=220 -v volts=3.0 "$expected/compare-sensor.txt"
-	refuses "battery: no period" 2 "" "battery.awk: no period is told; give period=, after how many units of time all begins again, or the document of yds-tasks, which tells it, before the lines" \
-		recipe battery.awk -v mah=220 -v volts=3.0 -v uw=10 "$expected/compare-sensor.txt"
-	refuses "battery: a side twice" 1 "" "battery.awk: line 1: the side plan stands twice; write its lines into a new file" \
-		recipe battery.awk -v mah=220 -v volts=3.0 -v uw=10 "$expected/compare-sensor.txt" "$expected/compare-sensor.txt"
-	refuses "battery: a refusal" 1 "" "battery.awk: line 1: the input is an answer of no: refused 1 9 EmptyWindow" \
-		recipe battery.awk -v mah=220 -v volts=3.0 "$expected/compare-refused.txt"
-	refuses "battery: no volts" 2 "" "battery.awk: mah= and volts= of the battery are numbers above 0" recipe battery.awk -v mah=220 "$expected/compare-sensor.txt"
+		"yds-energy: $work/units, line 20, column 20: a unit of speed of 10000 kHz here and 1000 kHz before; give points and trace the same --khz" energy "$work/units"
+	refuses "energy: a refusal" 1 "" "yds-energy: $expected/compare-refused.txt, line 1: the input is an answer of no: refused 1 9 EmptyWindow" energy "$expected/compare-refused.txt"
+	same "battery" 0 battery.tsv tool battery --mah 220 --volts 3.0 --uw 10 --period 1000 "$expected/compare-sensor.txt"
+	same "battery: the points' unit of power" 0 battery.tsv tool battery --mah 220 --volts 3.0 --period 1000 "$expected/points-microcontroller.txt" "$expected/compare-sensor.txt"
+	refuses "battery: no unit of power" 2 "" "yds-battery: no unit of power; give --uw, or the file of points with its comment before the lines; see yds-battery --help" \
+		tool battery --mah 220 --volts 3.0 "$expected/compare-sensor.txt"
+	refuses "battery: no period" 2 "" "yds-battery: no period is told; give --period, after how many units of time all begins again, or the document of yds-tasks, which tells it, before the lines; see yds-battery --help" \
+		tool battery --mah 220 --volts 3.0 --uw 10 "$expected/compare-sensor.txt"
+	refuses "battery: a side twice" 1 "" "yds-battery: $expected/compare-sensor.txt, line 1, column 1: the side plan stands twice; write its lines into a new file" \
+		tool battery --mah 220 --volts 3.0 --uw 10 "$expected/compare-sensor.txt" "$expected/compare-sensor.txt"
+	refuses "battery: a refusal" 1 "" "yds-battery: $expected/compare-refused.txt, line 1: the input is an answer of no: refused 1 9 EmptyWindow" \
+		tool battery --mah 220 --volts 3.0 "$expected/compare-refused.txt"
+	refuses "battery: no volts" 2 "" "yds-battery: --mah and --volts of the battery are numbers above 0; see yds-battery --help" tool battery --mah 220 "$expected/compare-sensor.txt"
 	"$YDS" plan <"$work/both" >"$work/plan"
 	if want compare; then
 		same "compare: the trace's jobs" 0 compare-governor.txt from "$work/both" "$YDS" compare --grid 100
-		ask="$(energy -v name=plan "$work/plan" | $AWK "$decimal" | head -n 1)"
+		ask="$(energy --name plan "$work/plan" | $AWK "$decimal" | head -n 1)"
 		if [ "$ask" = "$(head -n 1 "$expected/compare-governor.txt" | $AWK "$decimal")" ]; then pass; else fail "energy: of a plan"; fi
 	fi
 	if want oa; then
 		"$YDS" oa --grid 100 <"$work/both" >"$work/oa"
-		ask="$(energy -v name=oa "$work/oa" | $AWK "$decimal" | head -n 1)"
+		ask="$(energy --name oa "$work/oa" | $AWK "$decimal" | head -n 1)"
 		if [ "$ask" = "$(grep '^oa energy' "$expected/compare-governor.txt" | $AWK "$decimal")" ]; then pass; else fail "energy: of a policy"; fi
 	fi
 	if want expand compare; then
@@ -368,7 +365,7 @@ test_folder() {
 	same "collect: no answer, and another side" 0 more.tsv recipe collect.awk "$work/empty.txt" "$work/more.txt"
 	cat "$expected/energy.txt" "$expected/energy.txt" >"$work/twice.txt"
 	refuses "collect: a side twice" 1 "" "collect.awk: twice.txt: the side governor stands twice; write its lines into a new file" from /dev/null recipe_in "$work" collect.awk twice.txt
-	refuses "collect: another file" 1 "" "collect.awk: points.txt: \"point 0 0\" is no line of compare or energy.awk" from /dev/null recipe_in "$expected" collect.awk points.txt
+	refuses "collect: another file" 1 "" "collect.awk: points.txt: \"point 0 0\" is no line of compare or yds-energy" from /dev/null recipe_in "$expected" collect.awk points.txt
 	if want jq; then
 		(cd "$expected" && jq -rRn -f "$here/reports.jq" report-a.json report-refused.json) >"$work/reports.tsv" 2>&1
 		same "report: a table" 0 reports.tsv cat "$work/reports.tsv"

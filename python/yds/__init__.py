@@ -111,7 +111,7 @@ _FROM = {
 once, and where there is no shared object."""
 
 _PLACES = {name: module for module, names in _FROM.items() for name in names.split()}
-_MODULES = frozenset("document energy errors jobs parts pictures policy results rows schedule tables tasks".split())
+_MODULES = frozenset("document energy errors jobs parts pictures points policy results rows schedule tables tasks".split())
 
 
 def __getattr__(name: str) -> Any:

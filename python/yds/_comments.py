@@ -6,7 +6,6 @@ A comment of another form is none of these, and stays a text.
 from __future__ import annotations
 
 import re
-from fractions import Fraction
 from typing import Dict, List, NamedTuple, Optional, Tuple
 
 from yds._text import Comment, counted
@@ -155,8 +154,7 @@ class Missing:
         if self.left_out:
             lines.append("# " + left_out_of(self.left_out))
         if self.without_runs:
-            late = counted(self.without_runs, "job was late and stands", "jobs were late and stand")
-            lines.append(f"# {late} in the document without {'its' if self.without_runs == 1 else 'their'} runs and their energy")
+            lines.append(without_runs(self.without_runs))
         if self.unknown:
             lines.append("# " + unknown_works(len(self.unknown), self.unknown[0]))
         return lines
@@ -167,6 +165,12 @@ def left_out_of(number: int) -> str:
     return counted(
         number, "job was left out of the document, with its energy", "jobs were left out of the document, with their energy"
     )
+
+
+def without_runs(number: int) -> str:
+    """A comment that tells of late jobs whose runs aren't in the document."""
+    late = counted(number, "job was late and stands", "jobs were late and stand")
+    return f"# {late} in the document without {'its' if number == 1 else 'their'} runs and their energy"
 
 
 def unknown_works(number: int, first: str) -> str:
@@ -195,8 +199,3 @@ def period_of(comment: Comment) -> Optional[int]:
     """The period that the comment tells, in units of time; None where it tells none."""
     found = _PERIOD(comment.text)
     return None if found is None else int(found.group(1))
-
-
-def milliseconds(text: str) -> Fraction:
-    """The value of a note's lateness."""
-    return Fraction(text)

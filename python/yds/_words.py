@@ -174,8 +174,10 @@ def _answer(command: Command, words: Sequence[str], work: Work, stream: bool) ->
         return _fail(command, "", INTERRUPTED)
     except BrokenPipeError:
         raise
-    except (OSError, MemoryError, ValueError, ArithmeticError) as fault:
+    except (OSError, MemoryError, ValueError, ArithmeticError, ImportError) as fault:
         return _fail(command, _told(fault), NO)
+    except Exception as fault:
+        return _fail(command, f"{type(fault).__name__}: {fault}; this is a fault of {command.name} itself", NO)
     return _put(command, held, status)
 
 

@@ -17,12 +17,27 @@ from __future__ import annotations
 from fractions import Fraction
 from typing import Iterable, Optional, overload
 
+from yds._changes import Changes, changes
+from yds._hours import SideHours, battery
 from yds._numbers import exact
 from yds._powers import By, Energy, Power, Span, Table, of_spans
+from yds._served import AtSpeed, at_speed
 from yds._turns import in_turn
 from yds.rows import Exact, SlotLike
 
-__all__ = ["By", "Energy", "Power", "Table", "of_slots"]
+__all__ = [
+    "AtSpeed",
+    "By",
+    "Changes",
+    "Energy",
+    "Power",
+    "SideHours",
+    "Table",
+    "at_speed",
+    "battery",
+    "changes",
+    "of_slots",
+]
 
 
 @overload

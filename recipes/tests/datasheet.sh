@@ -36,11 +36,11 @@ point 1 20
 	text "units: a speed that is moved is told" 0 "# table: speed unit 10000 kHz, power unit 100 uW
 point 0 10
 point 5 204
-# rounded: 48 MHz to 50 MHz" points -v khz=10000 -v uw=100 "$work/part"
+# rounded: 48 MHz to 50 MHz" points --khz 10000 --uw 100 "$work/part"
 	text "units: an idle power that is moved is told" 0 "# table: speed unit 48000 kHz, power unit 50 uW
 point 0 11
 point 1 408
-# rounded: 0.528 mW idle to 0.55 mW" eval "grep -v '^0' '$work/part' | recipe points.awk -v idle=0.528 -v uw=50"
+# rounded: 0.528 mW idle to 0.55 mW" eval "grep -v '^0' '$work/part' | tool points --idle 0.528 --uw 50"
 	printf 'MHz,mW\n0,1\n2.67,10\n5.33,20\n16,90\n' >"$work/part"
 	text "units: decimals of a megahertz" 0 "# table: speed unit 10 kHz, power unit 1000 uW
 point 0 1
@@ -74,29 +74,29 @@ point 400 250
 # rounded: 2404 MHz to 2400 MHz
 # rounded: 3203 MHz to 3200 MHz" points "$work/part"
 	printf 'kHz,uW\n0,1\n32.768,30\n' >"$work/part"
-	refuses "units: a clock of a watch" 1 failed "points.awk: 32.768 kHz is speed 0; give a finer khz=" points -v uw=1 "$work/part"
+	refuses "units: a clock of a watch" 1 failed "yds-points: 32.768 kHz is speed 0; give a finer --khz" points --uw 1 "$work/part"
 	text "units: a clock of a watch in units of 8 kHz" 0 "# table: speed unit 8 kHz, power unit 1 uW
 point 0 1
 point 4 30
-# rounded: 0.032768 MHz to 0.032 MHz" points -v uw=1 -v khz=8 "$work/part"
+# rounded: 0.032768 MHz to 0.032 MHz" points --uw 1 --khz 8 "$work/part"
 }
 
 idle_power() {
 	printf '48,138\n' >"$work/one"
 	refuses "idle: rounded away" 1 failed \
-		"points.awk: idle draws 0.396 mW, and 0 units of 1000 uW are more than a twentieth off; give a finer uw=, as uw=200" points -v khz=1000 -v idle=0.396 "$work/one"
+		"yds-points: idle draws 0.396 mW, and 0 units of 1000 uW are more than a twentieth off; give a finer --uw, as --uw 200" points --khz 1000 --idle 0.396 "$work/one"
 	refuses "idle: doubled" 1 failed \
-		"points.awk: idle draws 0.528 mW, and 1 units of 1000 uW are more than a twentieth off; give a finer uw=, as uw=50" points -v khz=1000 -v idle=0.528 "$work/one"
+		"yds-points: idle draws 0.528 mW, and 1 units of 1000 uW are more than a twentieth off; give a finer --uw, as --uw 50" points --khz 1000 --idle 0.528 "$work/one"
 	printf 'MHz,mA\n0,0.0003\n48,4.6\n' >"$work/sleep"
 	refuses "idle: a line of 0 MHz" 1 failed \
-		"points.awk: idle draws 0.0009 mW, and 0 units of 1000 uW are more than a twentieth off; give a finer uw=, as uw=0.1" points -v khz=1000 -v volts=3 "$work/sleep"
+		"yds-points: idle draws 0.0009 mW, and 0 units of 1000 uW are more than a twentieth off; give a finer --uw, as --uw 0.1" points --khz 1000 --volts 3 "$work/sleep"
 	text "idle: none is given" 0 "# table: speed unit 48000 kHz, power unit 1000 uW
 point 0 0
 point 1 138
 # no idle power is given: idle draws 0" points "$work/one"
 	text "idle: 0 is given" 0 "# table: speed unit 48000 kHz, power unit 1000 uW
 point 0 0
-point 1 138" points -v idle=0 "$work/one"
+point 1 138" points --idle 0 "$work/one"
 	# 2, 16 and 48 MHz lie above the lines 0 to 26 and 26 to 80; a plan spends no time there.
 	printf 'MHz,mW\n0,0\n2,30\n16,100\n26,110\n48,800\n80,900\n' >"$work/above"
 	text "points: what no plan uses" 0 "# table: speed unit 2000 kHz, power unit 1000 uW
@@ -110,7 +110,7 @@ point 40 900
 # never used: point 8, since 0 and 13 by turns do the same work in the same time for less energy
 # never used: point 24, since 13 and 40 by turns do the same work in the same time for less energy" points "$work/above"
 	# A point on the line isn't above it.
-	printf 'MHz,mW\n0,0\n1,10\n2,20\n' | points -v khz=1000 >"$work/line"
+	printf 'MHz,mW\n0,0\n1,10\n2,20\n' | points --khz 1000 >"$work/line"
 	if grep -q 'never used' "$work/line"; then fail "points: a point on the line is told as above it"; else pass; fi
 	if want compare; then
 		(points "$work/above" && printf 'job a 0 10 50\njob b 10 20 150\njob c 20 30 300\n') >"$work/drawn"
@@ -121,79 +121,79 @@ plan time 24 0" grep ' 0$' "$work/times"
 	fi
 	text "idle: below a microwatt" 0 "# table: speed unit 1000 kHz, power unit 0.1 uW
 point 0 9
-point 48 138000" points -v khz=1000 -v volts=3 -v uw=0.1 "$work/sleep"
+point 48 138000" points --khz 1000 --volts 3 --uw 0.1 "$work/sleep"
 	refuses "idle: no unit holds both" 1 failed \
-		"points.awk: idle draws 0.0001 mW, and 0 units of 1000 uW are more than a twentieth off; and no uw= is fine enough for it and coarse enough for 138 mW, 1000000 units at most; leave one of the two out" \
-		points -v khz=1000 -v idle=0.0001 "$work/one"
+		"yds-points: idle draws 0.0001 mW, and 0 units of 1000 uW are more than a twentieth off; and no --uw is fine enough for it and coarse enough for 138 mW, 1000000 units at most; leave one of the two out" \
+		points --khz 1000 --idle 0.0001 "$work/one"
 	printf '0,1\n48,138\n' >"$work/idle"
-	refuses "idle: said twice" 1 failed "points.awk: line 1: idle= and a line of 0 MHz; leave one of them out" points -v khz=1000 -v idle=1 "$work/idle"
-	points -v khz=1000 -v volts=3 -v uw=0.1 "$work/sleep" >"$work/fine"
+	refuses "idle: said twice" 1 failed "yds-points: $work/idle, line 1: --idle and a line of 0 MHz; leave one of them out" points --khz 1000 --idle 1 "$work/idle"
+	points --khz 1000 --volts 3 --uw 0.1 "$work/sleep" >"$work/fine"
 	printf 'plan energy 9\nplan time 0 1\nplan time 48 0\n' | cat "$work/fine" - >"$work/hours"
 	text "battery: a unit below a microwatt" 0 "side	milliwatts	hours	of plan (%)
-plan	0.001	666666.7	100.0" recipe battery.awk -v mah=200 -v volts=3 -v period=1 "$work/hours"
+plan	0.001	666666.7	100.0" tool battery --mah 200 --volts 3 --period 1 "$work/hours"
 }
 
 units_of_a_heading() {
 	# 1.6 mA at 16 MHz are 100 uA for each MHz, 4.6 mA at 48 MHz 95.8333, 8.5 mA at 80 MHz 106.25.
 	printf 'MHz,mA\n16,1.6\n48,4.6\n80,8.5\n' >"$work/mA"
-	points -v khz=1000 -v uw=10 -v volts=3.0 "$work/mA" >"$work/wanted"
+	points --khz 1000 --uw 10 --volts 3.0 "$work/mA" >"$work/wanted"
 	printf 'MHz,uA/MHz\n16,100\n48,95.8333\n80,106.25\n' >"$work/each"
 	# 95.8333 uA for each MHz are 4599.9984 uA at 48 MHz, and 13.7999952 mW.
 	sed '/^point 80/a # rounded: 13.7999952 mW at 48 MHz to 13.8 mW' "$work/wanted" >"$work/wanted-each"
-	text "units: uA/MHz" 0 "$(cat "$work/wanted-each")" points -v khz=1000 -v uw=10 -v volts=3.0 "$work/each"
+	text "units: uA/MHz" 0 "$(cat "$work/wanted-each")" points --khz 1000 --uw 10 --volts 3.0 "$work/each"
 	printf 'Clock (MHz)\tI (\302\265A / MHz)\n16\t100\n48\t95.8333\n80\t106.25\n' >"$work/each"
-	text "units: with a mu and spaces" 0 "$(cat "$work/wanted-each")" points -v khz=1000 -v uw=10 -v volts=3.0 "$work/each"
+	text "units: with a mu and spaces" 0 "$(cat "$work/wanted-each")" points --khz 1000 --uw 10 --volts 3.0 "$work/each"
 	printf 'MHz,W\n16,0.0048\n48,0.0138\n80,0.0255\n' >"$work/watts"
-	text "units: W" 0 "$(cat "$work/wanted")" points -v khz=1000 -v uw=10 "$work/watts"
+	text "units: W" 0 "$(cat "$work/wanted")" points --khz 1000 --uw 10 "$work/watts"
 	printf 'uA,kHz\n1600,16000\n4600,48000\n8500,80000\n' >"$work/kHz"
-	text "units: uA, and kHz in the second column" 0 "$(cat "$work/wanted")" points -v khz=1000 -v uw=10 -v volts=3.0 "$work/kHz"
+	text "units: uA, and kHz in the second column" 0 "$(cat "$work/wanted")" points --khz 1000 --uw 10 --volts 3.0 "$work/kHz"
 	printf 'MHz,mA,V\n0,0.04,3\n16,1.6,3.0\n48,5,1.8\n' >"$work/three"
 	text "units: three columns" 0 "# table: speed unit 1000 kHz, power unit 10 uW
 point 0 12
 point 16 480
 point 48 900
-# never used: point 16, since 0 and 48 by turns do the same work in the same time for less energy" points -v khz=1000 -v uw=10 "$work/three"
+# never used: point 16, since 0 and 48 by turns do the same work in the same time for less energy" points --khz 1000 --uw 10 "$work/three"
 	known="give each column one that is known, as MHz,mW or MHz,mA or MHz,uA/MHz or MHz,mA,V"
 	printf 'MHz,hp\n48,138\n' >"$work/bad"
-	refuses "units: not known" 1 failed "points.awk: line 1: the heading says the units MHz; $known" points "$work/bad"
+	refuses "units: not known" 1 failed "yds-points: $work/bad, line 1: the heading says the units MHz; $known" points "$work/bad"
 	printf 'clock,power\n48,138\n' >"$work/bad"
-	refuses "units: none" 1 failed "points.awk: line 1: the heading says no unit; $known" points "$work/bad"
+	refuses "units: none" 1 failed "yds-points: $work/bad, line 1: the heading says no unit; $known" points "$work/bad"
 	printf 'MHz,mA,mW\n48,138,9\n' >"$work/bad"
-	refuses "units: current and power" 1 failed "points.awk: line 1: the heading says the units MHz, mA, mW; $known" points -v volts=3 "$work/bad"
-	refuses "units: two voltages" 1 failed "points.awk: line 1: volts= and a column of volts; leave one of them out" points -v volts=3 "$work/three"
+	refuses "units: current and power" 1 failed "yds-points: $work/bad, line 1: the heading says the units MHz, mA, mW; $known" points --volts 3 "$work/bad"
+	refuses "units: two voltages" 1 failed "yds-points: $work/three, line 1: --volts and a column of volts; leave one of them out" points --volts 3 "$work/three"
 	# A heading is read whole: a sign or a word that may change a unit is refused.
 	sign="write it in plain letters, micro as u"
 	word="which isn't known; give each column a name of letters and its unit, as Current (mA)"
 	printf 'MHz;\265W\r\n1;26\r\n2;96\r\n' >"$work/bad"
-	refuses "units: a micro of another encoding" 1 failed "points.awk: line 1: the heading has a sign that isn't known, written here as ?: MHz;?W; $sign" points -v khz=1000 "$work/bad"
+	refuses "units: a micro of another encoding" 1 failed "yds-points: $work/bad, line 1: the heading has a sign that isn't known, written here as ?: MHz;?W; $sign" points --khz 1000 "$work/bad"
 	printf 'MHz;I (\265A/MHz)\n1;26\n' >"$work/bad"
 	refuses "units: a micro of another encoding, for each MHz" 1 failed \
-		"points.awk: line 1: the heading has a sign that isn't known, written here as ?: MHz;I (?A/MHz); $sign" points -v khz=1000 -v volts=3 "$work/bad"
+		"yds-points: $work/bad, line 1: the heading has a sign that isn't known, written here as ?: MHz;I (?A/MHz); $sign" points --khz 1000 --volts 3 "$work/bad"
 	for try in "micro@MHz,micro W" "x@MHz,W x 10" "10^3@MHz,10^3 W" "100@MHz,100 mW" "thousandths@MHz,W (thousandths)" "u@MHz,u W"; do
 		printf '%s\n1,26\n' "${try#*@}" >"$work/bad"
-		refuses "units: ${try#*@}" 1 failed "points.awk: line 1: the heading says ${try%@*}, $word" points -v khz=1000 "$work/bad"
+		refuses "units: ${try#*@}" 1 failed "yds-points: $work/bad, line 1: the heading says ${try%@*}, $word" points --khz 1000 "$work/bad"
 	done
 	printf 'MHz,MW\n1,26\n' >"$work/bad"
-	refuses "units: megawatts" 1 failed "points.awk: line 1: the heading says MW; is that mW?" points -v khz=1000 "$work/bad"
+	refuses "units: megawatts" 1 failed "yds-points: $work/bad, line 1: the heading says MW; is that mW?" points --khz 1000 "$work/bad"
 	printf 'mHz,mW\n1,26\n' >"$work/bad"
-	refuses "units: millihertz" 1 failed "points.awk: line 1: the heading says mHz; is that MHz?" points -v khz=1000 "$work/bad"
+	refuses "units: millihertz" 1 failed "yds-points: $work/bad, line 1: the heading says mHz; is that MHz?" points --khz 1000 "$work/bad"
 	printf 'f [MHz]\tP_idle (\316\274W)\n0\t2000\n1\t26000\n' >"$work/each"
 	text "units: names of columns" 0 "# table: speed unit 1000 kHz, power unit 1000 uW
 point 0 2
-point 1 26" points -v khz=1000 "$work/each"
+point 1 26" points --khz 1000 "$work/each"
 	printf 'MHz,mA,V\n48,138\n' >"$work/bad"
-	refuses "units: a column is missing" 1 failed "points.awk: line 2: 2 columns, and the heading has the units of 3" points "$work/bad"
+	refuses "units: a column is missing" 1 failed "yds-points: $work/bad, line 2: 2 columns, and the heading has the units of 3" points "$work/bad"
 	printf 'MHz,uA/MHz\n0,40\n48,100\n' >"$work/bad"
-	refuses "units: for each MHz at 0 MHz" 1 failed "points.awk: line 2: at 0 MHz so much for each MHz is nothing; leave the line out and give idle=" points -v volts=3 "$work/bad"
+	refuses "units: for each MHz at 0 MHz" 1 failed "yds-points: $work/bad, line 2: at 0 MHz so much for each MHz is nothing; leave the line out and give --idle" points --volts 3 "$work/bad"
 	printf 'MHz,mW\n48,138\n16,40\n48,140\n' >"$work/bad"
-	refuses "points: a frequency twice" 1 failed "points.awk: line 4: 48 MHz stands on line 2 too; leave one of them out" points -v khz=1000 "$work/bad"
+	refuses "points: a frequency twice" 1 failed "yds-points: $work/bad, line 4: 48 MHz stands on line 2 too; leave one of them out" points --khz 1000 "$work/bad"
 	awk '{ print } /opp-hz = / && !n++ { again = $0 } /};/ && n == 1 && again != "" { print "\t\topp-again {\n" again "\n\t\t\topp-microvolt = <9>;\n\t\t};"; n++ }' opp.dtsi >"$work/twice.dtsi"
-	refuses "points: a state of a device tree twice" 1 failed "points.awk: line 16: 408000000 Hz stands twice in cluster0_opp; leave out the one that isn't your chip's" \
-		points -v coefficient=100 -v domain=cluster0_opp "$work/twice.dtsi"
-	refuses "points: top= beside powers" 1 failed "points.awk: top= is for frequencies alone, and this is an energy model; leave it out" points -v domain=cpu0 -v top=100 energy-model.txt
-	refuses "points: coefficient= beside powers" 1 failed "points.awk: coefficient= has no effect: every state of cpu0 has a power; leave it out" \
-		points -v domain=cpu0 -v coefficient=100 energy-model.txt
-	refuses "points: volts= without currents" 1 failed "points.awk: volts= is for a table of currents, and this is an energy model; leave it out" points -v domain=cpu0 -v volts=3 energy-model.txt
+	refuses "points: a state of a device tree twice" 1 failed "yds-points: $work/twice.dtsi, line 16: 408000000 Hz stands twice in cluster0_opp; leave out the one that isn't your chip's" \
+		points --coefficient 100 --domain cluster0_opp "$work/twice.dtsi"
+	refuses "points: top= beside powers" 1 failed "yds-points: --top is for frequencies alone, and this is an energy model; leave it out" points --domain cpu0 --top 100 energy-model.txt
+	refuses "points: coefficient= beside powers" 1 failed "yds-points: --coefficient has no effect: every state of cpu0 has a power; leave it out" \
+		points --domain cpu0 --coefficient 100 energy-model.txt
+	refuses "points: volts= without currents" 1 failed "yds-points: --volts is for a table of currents, and this is an energy model; leave it out" points --domain cpu0 --volts 3 energy-model.txt
 }
 
 # The jobs that miss, each served earliest deadline first at a speed, one unit of work after another.
@@ -216,30 +216,33 @@ deadlines_missed() {
 at-10 time 0 5
 at-10 time 10 9
 at-10 time 20 0
-# at-10 misses 1 deadline, the first c" energy -v at=10 "$work/at"
+# at-10 changes 4, wakes 2
+# at-10 misses 1 deadline, the first c" energy --at 10 "$work/at"
 	text "energy: one speed meets all" 0 "at-20 energy 277+1/2
 at-20 time 0 7+1/2
 at-20 time 10 0
-at-20 time 20 4+1/2" energy -v at=20 "$work/at"
+at-20 time 20 4+1/2
+# at-20 changes 4, wakes 2" energy --at 20 "$work/at"
 	# The run that the document has is late. At the speed 10 the job takes one unit of time of its ten: nothing is missed.
 	printf 'point 0 0\npoint 1 1\npoint 10 100\njob a 0 10 10\nticks 1\nrun a 5 15 1\n' >"$work/late-run"
 	text "energy: one speed doesn't miss what the trace missed" 0 "at-10 energy 100
 at-10 time 0 9
 at-10 time 1 0
-at-10 time 10 1" energy -v at=10 "$work/late-run"
+at-10 time 10 1
+# at-10 changes 2, wakes 1" energy --at 10 "$work/late-run"
 	text "energy: the trace itself missed it" 1 "trace energy 10
 trace time 0 5
 trace time 1 10
 trace time 10 0
 # trace misses 1 deadline, the first a" energy "$work/late-run"
 	sed 's/^ticks.*/slot a 5 15 10/; /^run/d' "$work/late-run" >"$work/late-slot"
-	text "energy: one speed doesn't miss what the slots missed" 0 "at-10 energy 100" eval "energy -v at=10 '$work/late-slot' | head -n 1"
-	energy -v at=10 "$work/late-slot" | grep '#' >"$work/told"
+	text "energy: one speed doesn't miss what the slots missed" 0 "at-10 energy 100" eval "energy --at 10 '$work/late-slot' | head -n 1"
+	energy --at 10 "$work/late-slot" | grep misses >"$work/told"
 	if [ -s "$work/told" ]; then fail "energy: the slots' miss is told of another speed"; else pass; fi
 	# At the speed 1 the job takes all of its ten units of time, and misses nothing either.
-	answers "energy: one speed meets the deadline just so" 0 "at-1 energy 10" energy -v at=1 "$work/late-run"
+	answers "energy: one speed meets the deadline just so" 0 "at-1 energy 10" energy --at 1 "$work/late-run"
 	# What reads these lines gives that side its energy.
-	(printf 'plan energy 50\nplan time 0 5\nplan time 1 0\nplan time 10 5\n' && energy -v name=flat-out -v at=10 "$work/late-run" && energy "$work/late-run") >"$work/lines"
+	(printf 'plan energy 50\nplan time 0 5\nplan time 1 0\nplan time 10 5\n' && energy --name flat-out --at 10 "$work/late-run" && energy "$work/late-run") >"$work/lines"
 	text "collect: one speed of a late trace has its energy" 0 "document	plan	avr	oa	flat-out	trace	rounded	answer
 lines	50.000000	-	-	100.000000	-	-	ok
 # lines: trace misses 1 deadline, the first a" recipe collect.awk "$work/lines"
@@ -253,9 +256,9 @@ trace	0	0	1	0	-	-	-	-
 	seed=1
 	while [ $seed -le 40 ]; do
 		(printf 'point 0 1\npoint 3 9\n' && recipe draw.awk -v seed=$seed -v jobs=12 -v release=60 -v window=20 -v work=9) >"$work/drawn"
-		energy -v at=3 "$work/drawn" >"$work/out" 2>/dev/null
+		energy --at 3 "$work/drawn" >"$work/out" 2>/dev/null
 		got=$?
-		told=$(grep '^#' "$work/out")
+		told=$(grep misses "$work/out")
 		[ "$told" = "$($AWK -v speed=3 "$unit_by_unit" "$work/drawn")" ] && [ $got = "$([ -z "$told" ]; echo $?)" ] || { fail "energy: misses of seed $seed: $told"; break; }
 		seed=$((seed + 1))
 	done
@@ -265,7 +268,7 @@ trace	0	0	1	0	-	-	-	-
 			(printf 'point 0 1\npoint 2 9\n' && recipe draw.awk -v seed=$seed -v jobs=100) >"$work/drawn"
 			for top in 2 1 3 4; do
 				sed "s/^point 2/point $top/" "$work/drawn" >"$work/top"
-				energy -v at=$top "$work/top" >/dev/null 2>&1
+				energy --at $top "$work/top" >/dev/null 2>&1
 				got=$?
 				"$YDS" admit $top <"$work/top" | grep -q '^# refuse'
 				[ $? != $got ] || { fail "energy: at=$top and admit don't agree on seed $seed"; break 2; }
@@ -274,7 +277,7 @@ trace	0	0	1	0	-	-	-	-
 		[ $got -gt 1 ] || pass
 	fi
 	cat "$expected/points.txt" "$expected/trace-late.txt" >"$work/late"
-	energy -v name=governor "$work/late" >"$work/priced"
+	energy --name governor "$work/late" >"$work/priced"
 	got=$?
 	if [ $got = 1 ] && [ "$(tail -n 1 "$work/priced")" = "# governor misses 1 deadline, the first decode.2" ]; then pass; else fail "energy: a trace that misses"; fi
 	printf 'point 0 1\npoint 10 20\njob a 0 10 30\njob b 0 9 10\nrun a 0 2 10\n' | sed '/^job b/a ticks 1' >"$work/starved"
@@ -292,13 +295,13 @@ trace time 10 2
 	energy "$work/told" >"$work/lost"
 	answers "energy: jobs that are left out" 0 "# 3 jobs were left out of the document, with their energy" tail -n 1 "$work/lost"
 	printf 'point 0 1\npoint 10 20\njob a 0 10 30\nslot a 0 2 20\nslot a 1 2 10\n' >"$work/over"
-	refuses "energy: slots that overlap" 1 "" "energy.awk: line 5: it begins before the slot above it has ended; sort them, or see what yds_cli audit says" energy "$work/over"
+	refuses "energy: slots that overlap" 1 "" "yds-energy: $work/over, line 5, column 8: it begins before the slot above it has ended; sort them, or see what yds_cli audit says" energy "$work/over"
 	printf 'point 0 1\npoint 10 20\njob a 0 10 30\nslot b 0 2 20\n' >"$work/over"
-	refuses "energy: a slot of no job" 1 "" "energy.awk: line 4: no job b stands before this slot" energy "$work/over"
+	refuses "energy: a slot of no job" 1 "" "yds-energy: $work/over, line 4, column 6: no job b stands before this slot" energy "$work/over"
 	printf 'plan energy 100\nplan time 0 10\n' | cat - "$work/priced" >"$work/sides"
 	text "battery: a side that misses" 0 "side	milliwatts	hours	of plan (%)
 plan	0.100	6600.0	100.0
-governor	misses 1	-	-" recipe battery.awk -v mah=220 -v volts=3 -v uw=10 -v period=10 "$work/sides"
+governor	misses 1	-	-" tool battery --mah 220 --volts 3 --uw 10 --period 10 "$work/sides"
 	text "collect: a side that misses" 0 "document	plan	avr	oa	governor	rounded	answer
 sides	100.000000	-	-	-	-	ok
 # sides: governor misses 1 deadline, the first decode.2" recipe collect.awk "$work/sides"
@@ -373,16 +376,16 @@ job c 4 6 9" tool scale --work 3/2 "$here/../examples/three-jobs.txt"
 	"$YDS" round <"$here/../examples/datasheet.txt" >"$work/slots"
 	text "changes: of a rounded plan" 0 "slots 6
 changes 7
-wakes 1" recipe changes.awk "$work/slots"
+wakes 1" tool changes "$work/slots"
 	printf 'job a 0 9 9\nslot a 0+1/3 1 2\nslot a 1 1+1/3 1\nslot a 2 3 1\nslot a 3 4 1\nslot a 5 6 4\n' >"$work/slots"
 	text "changes: gaps" 0 "slots 5
 changes 6
-wakes 3" recipe changes.awk "$work/slots"
+wakes 3" tool changes "$work/slots"
 	printf 'ticks 10\nrun a 0 5 3\nrun b 5 9 3\nrun a 9 10 4\n' >"$work/slots"
 	text "changes: runs" 0 "slots 3
 changes 3
-wakes 1" recipe changes.awk "$work/slots"
-	refuses "changes: no slot" 1 "" "changes.awk: no slot and no run line; give a trace's document, or the answer of plan, round, avr or oa" recipe changes.awk "$here/../examples/three-jobs.txt"
+wakes 1" tool changes "$work/slots"
+	refuses "changes: no slot" 1 "" "yds-changes: no slot and no run line; give a trace's document, or the answer of plan, round, avr or oa" tool changes "$here/../examples/three-jobs.txt"
 }
 
 slots() { recipe slots.awk "$@"; }

@@ -241,8 +241,8 @@ test_parts_trace() {
 	if grep '^job' "$work/truth" | sort | cmp -s - "$work/jobs"; then pass; else fail "parts: the jobs of a trace"; fi
 	by_parts "a trace" "$work/long" "$work/half" audit --points
 	by_parts "a trace" "$work/long" "$work/half" compare --grid 100
-	for file in "$work"/half/part-*.txt; do recipe energy.awk -v name=governor "$file" >"${file%.txt}.answer"; done
-	recipe energy.awk -v name=governor "$work/long" >"$work/once"
+	for file in "$work"/half/part-*.txt; do tool energy --name governor "$file" >"${file%.txt}.answer"; done
+	tool energy --name governor "$work/long" >"$work/once"
 	same_text "whole: the energy of a trace" "$work/once" whole "$work"/half/part-*.answer
 	told=$($AWK '$1 == "point" { power[$2] = $3 } $1 == "time" { sum += power[$2] * $3 } END { printf "governor energy %.0f", sum }' "$expected/points.txt" "$work/truth")
 	answers "whole: the energy that the simulator tells" 0 "$told" whole "$work"/half/part-*.answer
@@ -251,8 +251,8 @@ test_parts_trace() {
 		END { for (i = 1; i <= n; i++) print kept[i]; print "run " late " 3000000 3000100 60" }' "$work/long" >"$work/late"
 	parts --folder "$work/half" --jobs 200 "$work/late"
 	by_parts "a late run" "$work/late" "$work/half" audit
-	for file in "$work"/half/part-*.txt; do recipe energy.awk -v name=governor "$file" >"${file%.txt}.answer"; done
-	recipe energy.awk -v name=governor "$work/late" >"$work/once"
+	for file in "$work"/half/part-*.txt; do tool energy --name governor "$file" >"${file%.txt}.answer"; done
+	tool energy --name governor "$work/late" >"$work/once"
 	same_text "whole: the energy with a late run" "$work/once" whole "$work"/half/part-*.answer
 }
 # same_text NAME FILE COMMAND ..: standard output is the file.

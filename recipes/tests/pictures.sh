@@ -143,7 +143,7 @@ test_misses_of_energy() {
 	done
 	# The trace is late, and the point 10 isn't for that.
 	printf 'point 0 0\npoint 1 1\npoint 10 100\njob a 0 10 10\nticks 1\nrun a 5 15 1\n' >"$work/late"
-	(printf 'plan energy 10\n' && energy -v name=governor "$work/late"; energy -v name=flat-out -v at=10 "$work/late") >"$work/both-sides"
+	(printf 'plan energy 10\n' && energy --name governor "$work/late"; energy --name flat-out --at 10 "$work/late") >"$work/both-sides"
 	plot energy "$work/both-sides" >"$work/both-sides.svg"
 	counts "energy: one side of two misses" "$work/both-sides.svg" '>misses ' 1
 	recipe collect.awk "$work/both-sides" >"$work/both-sides.tsv"

@@ -148,7 +148,7 @@ work render.2 given 0 wanted 2000 # due at 200.116000 s
 1 missed deadline" misses "$work/document"
 }
 # told_once NAME JOB COMMENT COMMAND ..: the document has the job's line with work 1 and the comment below it; audit says no, yds-misses tells
-# the job in one line, yds-jobs has it late, and energy.awk counts it once.
+# the job in one line, yds-jobs has it late, and yds-energy counts it once.
 told_once() {
 	told=$1 job=$2 comment=$3
 	shift 3
@@ -160,7 +160,7 @@ told_once() {
 	if [ "$(grep -cF " $job " "$work/missed")" = 1 ] && grep -qF "late, without its runs: $comment" "$work/missed"; then pass; else fail "misses: $told"; cat "$work/missed"; fi
 	if tool jobs --form csv "$work/document" | grep -qE "^$job,.*,(inf|[0-9.]+),\$"; then pass; else fail "jobs: $told"; fi
 	misses=$(tail -n 1 "$work/missed")
-	cat "$expected/points.txt" "$work/document" | recipe energy.awk 2>/dev/null | grep 'misses' >"$work/told"
+	cat "$expected/points.txt" "$work/document" | tool energy 2>/dev/null | grep 'misses' >"$work/told"
 	if grep -q "misses ${misses%% *} deadline" "$work/told"; then pass; else fail "energy: $told"; cat "$work/told"; fi
 }
 audited() { "$@" >"$work/audited" && cat "$work/audited" && { "$YDS" audit <"$work/audited" || :; }; }

@@ -72,12 +72,12 @@ reads_together() {
 		esac
 	} >"$work/two"
 	grep -v '^slot' "$work/two" >"$work/two-jobs"
-	refuses "units: energy, $kind" 1 "" "energy.awk: line 7: $text" energy "$work/two"
+	refuses "units: energy, $kind" 1 "" "yds-energy: $work/two, line 7, column $column: $dashed" energy "$work/two"
 	refuses "units: jobs, $kind" 1 "" "yds-jobs: $work/two, line 7, column $column: $dashed" tool jobs "$work/two"
-	refuses "units: changes, $kind" 1 "" "changes.awk: line 7: $text" recipe changes.awk "$work/two"
+	refuses "units: changes, $kind" 1 "" "yds-changes: $work/two, line 7, column $column: $dashed" tool changes "$work/two"
 	refuses "units: slots, $kind" 1 failed "slots.awk: line 7: $text" recipe slots.awk "$work/two"
 	refuses "units: scale, $kind" 1 failed "yds-scale: $work/two-jobs, line 6, column $column: $dashed" tool scale --work 2 "$work/two-jobs"
-	refuses "units: battery, $kind" 1 "" "battery.awk: line 7: $text" recipe battery.awk -v mah=1 -v volts=1 -v period=1 "$work/two"
+	refuses "units: battery, $kind" 1 "" "yds-battery: $work/two, line 7, column $column: $dashed" tool battery --mah 1 --volts 1 --period 1 "$work/two"
 	refuses "units: answer, $kind" 1 "" "answer.awk: line 7: $text" from "$work/two" recipe answer.awk
 	refuses "units: misses, $kind" 1 "" "yds-misses: $work/two, line 7, column $column: $dashed" tool misses "$work/two"
 	refuses "units: parts, $kind" 1 "" "yds-parts: line 7: $text" tool parts --folder "$work/parts" "$work/two"
