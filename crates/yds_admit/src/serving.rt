@@ -4,7 +4,7 @@ ghost use Rattle.yds_model.specs.Admission.{IsAdmittedRun};
 ghost use Rattle.yds_laws.specs.AdmissionLaws.{HasRoom};
 
 use std::alloc::Global;
-use yds_edf::{Policy, Queue, Setting, Share, run_policy};
+use yds_edf::{Policy, Queue, Setting, run_policy};
 use yds_events::Stretch;
 use yds_model::limits::{MAX_JOBS, MAX_TOP};
 use yds_model::{JobRow, Memory};
@@ -25,15 +25,9 @@ impl Policy for TopSpeed {
 
     ghost rounds = { λ policy jobs grid pending stretch. false };
 
-    ghost keeps = { λ policy queue number. Unit {0} };
+    ghost keeps = { λ policy jobs number. Unit {0} };
 
-    fn set(
-        &mut self,
-        _number: u32,
-        _queue: &Queue,
-        stretch: Stretch,
-        _served: &[Share],
-    ) -> Setting {
+    fn set(&mut self, _number: u32, _queue: &Queue, stretch: Stretch) -> Setting {
         Setting {
             units: u64::from(self.top) * u64::from(stretch.length()),
             rounds: false,

@@ -1,5 +1,6 @@
 ghost use Rattle.std.specs.Prelude.{◌≡◌, ◌≤◌, IfOk, length, All, sum_by};
 ghost use Rattle.std.specs.List.{list_any};
+ghost use Rattle.yds_model.specs.Event.{stretches as job_stretches};
 ghost use Rattle.yds_model.specs.Policy.{HasRunDenominators};
 ghost use Rattle.yds_model.specs.AverageRate.{IsAverageRateRun, terms_of, average_rate_rounds};
 ghost use Rattle.yds_model.specs.Within.{AreSlotsOf};
@@ -12,8 +13,8 @@ ghost use Rattle.yds_avr.specs.Roster.{IsRosterBefore};
 use crate::rate::{Rate, rest_of, rounds};
 use crate::roster::Roster;
 use std::alloc::Global;
-use yds_edf::{Policy, PolicyRun, PolicyTimetable, Queue, Setting, Share, serve_policy};
-use yds_events::Stretch;
+use yds_edf::{Policy, PolicyRun, PolicyTimetable, Queue, Setting, serve_policy};
+use yds_events::{Stretch, stretches};
 use yds_model::limits::{MAX_GRID, MAX_JOBS, MAX_ROUNDED};
 use yds_model::{JobRow, Memory};
 
@@ -31,13 +32,20 @@ pub fn avr(alloc: Global, rows: &[JobRow], grid: u32) -> Result<PolicyRun, Memor
     ensures limits { IfOk result (λ run. AreSlotsOf (length rows.now) run.schedule.slots) }
     ensures count_in_range { IfOk result (λ run. run.rounded ≤ MAX_ROUNDED) }
 {
-    let served = avr_timetable(alloc, rows, grid)?;
+    let timeline = stretches(alloc, rows)?;
+    let served = avr_timetable(alloc, rows, &timeline, grid)?;
     served.laid(alloc, rows.len() as u32)
 }
 
-/// The same before its slots are laid: what each stretch serves.
-pub fn avr_timetable(alloc: Global, rows: &[JobRow], grid: u32) -> Result<PolicyTimetable, Memory>
+/// The same before its slots are laid: what each stretch serves. The stretches are those of the jobs.
+pub fn avr_timetable(
+    alloc: Global,
+    rows: &[JobRow],
+    stretches: &[Stretch],
+    grid: u32,
+) -> Result<PolicyTimetable, Memory>
     requires few { length rows.now ≤ MAX_JOBS }
+    requires stretches { stretches.now ≡ job_stretches rows.now }
     requires some_grid { 1 ≤ grid }
     requires grid_in_range { grid ≤ MAX_GRID }
     ensures run { IfOk result (λ run. IsAverageRateRun rows.now grid run.rounded (slots_of run.timetable)) }
@@ -48,7 +56,7 @@ pub fn avr_timetable(alloc: Global, rows: &[JobRow], grid: u32) -> Result<Policy
 {
     let roster = Roster::new(alloc, rows, grid)?;
     let mut policy = AverageRate { grid, roster };
-    serve_policy(alloc, rows, grid, &mut policy)
+    serve_policy(alloc, rows, stretches, grid, &mut policy)
 }
 
 /// Average Rate, which looks at the windows of the jobs alone that have arrived and aren't over.
@@ -65,9 +73,9 @@ impl Policy for AverageRate {
 
     ghost rounds = { λ policy jobs grid pending stretch. average_rate_rounds jobs policy.grid stretch };
 
-    ghost keeps = { λ policy queue number. IsRosterBefore queue.jobs policy.grid policy.roster number };
+    ghost keeps = { λ policy jobs number. IsRosterBefore jobs policy.grid policy.roster number };
 
-    fn set(&mut self, _number: u32, queue: &Queue, stretch: Stretch, _served: &[Share]) -> Setting {
+    fn set(&mut self, _number: u32, queue: &Queue, stretch: Stretch) -> Setting {
         let _rows = queue.rows();
         self.roster.go_to(stretch.from);
         terms(&self.roster.live, self.roster.whole, stretch)

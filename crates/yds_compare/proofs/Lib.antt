@@ -1,5 +1,5 @@
 pub mod Points
-pub mod Loads
+pub mod Lengths
 pub mod Spending
 pub mod Agreeing
 pub mod Runs

@@ -1,23 +1,22 @@
-ghost use Rattle.std.specs.Prelude.{◌≡◌, ◌≤◌, List, length, sum_by, IfOk, IfErr, Err};
-ghost use Rattle.yds_model.specs.declared.limits.TheConstants.{MAX_GRID, MAX_JOBS, MAX_ROUNDED, MAX_TIME};
+ghost use Rattle.std.specs.Prelude.{◌≡◌, ◌≤◌, List, All, length, IfOk, IfErr, Err};
+ghost use Rattle.yds_model.specs.declared.limits.TheConstants.{MAX_GRID, MAX_JOBS, MAX_ROUNDED};
+ghost use Rattle.yds_model.specs.Job.{IsJob};
 ghost use Rattle.yds_model.specs.Slot.{WrittenSlot};
 ghost use Rattle.yds_model.specs.Plan.{IsPlan};
-ghost use Rattle.yds_model.specs.Event.{stretches as job_stretches};
 ghost use Rattle.yds_model.specs.Comparison.{IsSpent};
 ghost use Rattle.yds_model.specs.AverageRate.{IsAverageRateRun};
 ghost use Rattle.yds_model.specs.OptimalAvailable.{IsOptimalAvailableRun};
-ghost use Rattle.yds_events.specs.Stretch.{length_of};
 ghost use Rattle.yds_plan.specs.PlanLevels.{AreLevelsOfPlan};
 ghost use Rattle.yds_round.specs.Fault.{IsCauseOfRoundFault, HasFastLevel, too_slow};
 ghost use Rattle.yds_compare.specs.Side.{IsSideOfRun};
 
-use crate::load::{loads_of_levels, total_length};
+use crate::load::loads_of_levels;
 use crate::side::{Side, side_of};
 use crate::spent::{Spent, spend};
 use std::alloc::Global;
 use yds_avr::avr_timetable;
 use yds_certificate::{Certificate, Level};
-use yds_events::stretches;
+use yds_events::{horizon, stretches};
 use yds_model::{JobRow, Memory};
 use yds_oa::oa_timetable;
 use yds_round::{RoundFault, fault_of};
@@ -44,19 +43,17 @@ pub struct Comparison {
 fn plan_spent(
     alloc: Global,
     rows: &[JobRow],
-    time: u64,
     levels: &[Level],
     table: &Table,
 ) -> Result<Spent, Memory>
-    requires time { time ≡ sum_by length_of (job_stretches rows.now) }
-    requires time_in_range { time ≤ MAX_TIME }
+    requires jobs { All IsJob rows.now }
     requires plan { AreLevelsOfPlan rows.now levels.now }
     requires fast_enough { HasFastLevel levels.now table.now → ⊥ }
     ensures { IfOk result (λ spent. (slots : List WrittenSlot) → IsPlan rows.now slots levels.now → IsSpent rows.now table.now slots spent) }
 {
     // Reading the hull shows that its speeds rise.
     let _hull = table.hull();
-    let loads = loads_of_levels(alloc, levels, time)?;
+    let loads = loads_of_levels(alloc, levels, u64::from(horizon(rows)))?;
     let spent = spend(alloc, &loads, 1, table)?;
     Ok(spent)
 }
@@ -66,6 +63,7 @@ fn plan_spent(
 ///
 /// Each stretch between event points runs at the points of the table's lower hull around its speed, as long at each as gives that
 /// speed. Where the plan's first level is faster than the last point, that is told as by `round`, before any memory is taken.
+#[tactic(auto, using(crate::proofs::Lengths::no_longer))]
 pub fn compare(
     alloc: Global,
     rows: &[JobRow],
@@ -91,9 +89,9 @@ pub fn compare(
         return Err(fault);
     }
     let timeline = stretches(alloc, rows)?;
-    let spent = plan_spent(alloc, rows, total_length(&timeline), levels, table)?;
-    let average = avr_timetable(alloc, rows, grid)?;
-    let optimal = oa_timetable(alloc, rows, grid)?;
+    let spent = plan_spent(alloc, rows, levels, table)?;
+    let average = avr_timetable(alloc, rows, &timeline, grid)?;
+    let optimal = oa_timetable(alloc, rows, &timeline, grid)?;
     Ok(Comparison {
         plan: spent,
         avr: side_of(alloc, rows, &average.timetable, table, grid)?,

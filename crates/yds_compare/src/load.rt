@@ -2,13 +2,10 @@ ghost use Rattle.std.specs.Prelude.{◌≡◌, ◌≤◌, length, sum_by, IfOk, 
 ghost use Rattle.std.specs.List.{All};
 ghost use Rattle.yds_model.specs.declared.limits.TheConstants.{MAX_GRID, MAX_TIME};
 ghost use Rattle.yds_model.specs.Numbers.{IsFirstFailure};
-ghost use Rattle.yds_model.specs.Piece.{PiecesFrom};
-ghost use Rattle.yds_events.specs.Stretch.{length_of};
 ghost use Rattle.yds_compare.specs.Load.{loads_of, level_loads, load_at, IsHeldAt};
 
 use std::alloc::Global;
 use yds_certificate::Level;
-use yds_events::Stretch;
 use yds_model::Memory;
 use yds_timetable::Timetable;
 
@@ -34,19 +31,6 @@ pub(crate) fn loads_of(alloc: Global, run: &Timetable, grid: u64) -> Result<Vec<
         })?;
     }
     Ok(loads)
-}
-
-/// The lengths of the stretches together, in time units.
-pub(crate) fn total_length(timeline: &[Stretch]) -> u64
-    requires { PiecesFrom 0 timeline.now }
-    ensures value { result ≡ sum_by length_of timeline.now }
-    ensures in_range { result ≤ MAX_TIME }
-{
-    let mut length = 0;
-    for stretch in timeline {
-        length += u64::from(stretch.length());
-    }
-    length
 }
 
 /// The lengths of the levels together, in time units.

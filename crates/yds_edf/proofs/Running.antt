@@ -10,7 +10,7 @@ use Rattle.yds_timetable.specs.Shares.{JobShare, units_given, total_units, share
 use Rattle.yds_edf.specs.Pending.{pending_of_job}
 use Rattle.yds_model.specs.Numbers.{sum_below}
 use Rattle.yds_edf.specs.Serving.{IsServing}
-use Rattle.yds_edf.specs.Queue.{JobQueue, new_queue, IsNoEarlier, pending_in, units_left, unfinished, Adds, IsTold, Serves}
+use Rattle.yds_edf.specs.Queue.{JobQueue, new_queue, IsNoEarlier, pending_in, units_left, unfinished, Adds, Serves}
 use Rattle.yds_timetable.specs.declared.pace.Pace.{Pace}
 use Rattle.yds_timetable.specs.Pace.{slot_of, lowest_pace}
 use Rattle.yds_timetable.specs.Timetable.{Row, row_at, stretches_of, row_slots, shares_of, slots_of, IsFilledAt, IsRow, HasGrain}
@@ -43,13 +43,6 @@ pub record Tabled (jobs : List Job) (grid i : ℕ) (rows : List Row) : Type 0 wh
   pub lowest : All (λ row. IsLowest row.pace row.stretch row.shares) rows
   pub numbered : Each (length rows) (λ k. shares_in (shares_of rows) k ≡ (row_at rows k).shares)
 
--- what the policy saw last of the queue, and what was served since
-pub record Seen (keeps : JobQueue → Type 0) (queue : JobQueue) (shares : List JobShare) : Type 0 where
-  pub before : JobQueue
-  pub kept : keeps before
-  pub known : All (λ share. share.job < length before.jobs) shares
-  pub adds : Adds before queue shares
-
 -- so many of the first stretches were rounded
 abbrev pub count_rounded : List Job → ℕ → ((ℕ → ℕ) → Piece → Bool) → List JobShare → ℕ → ℕ
 count_rounded jobs grid rounds shares i = sum_below i (λ k. cond (rounds (pending_before jobs grid shares k) (stretch_at jobs k)) 1 0)
@@ -71,33 +64,6 @@ begun jobs grid units = record {
 
 pub none_tabled : (jobs : List Job) (grid : ℕ) → Tabled jobs grid 0 []
 none_tabled jobs grid = grind arith
-
--- # What a policy is told
-
-pub seen_none : (keeps : JobQueue → Type 0) (queue : JobQueue) → keeps queue → Seen keeps queue []
-seen_none keeps queue kept = grind arith
-
-pub seen_next : (keeps : JobQueue → Type 0) (started new : JobQueue) (number set : ℕ) (shares : List JobShare) → keeps started →
-    Serves started new number set shares → Seen keeps new shares
-seen_next keeps started new number set shares kept serves =
-    record { before = started; kept = kept; known = serves.serving.known; adds = serves.adds }
-
--- once jobs have arrived besides
-pub seen_told : (keeps : JobQueue → Type 0) (queue started : JobQueue) (from : ℕ) (shares : List JobShare) → Seen keeps queue shares →
-    IsNoEarlier queue.time from → started ≡ record queue { time = Some from } → IsTold keeps started from shares
-seen_told keeps queue started from shares seen later starts =
-    let before = seen.before in
-    let same : before ≡ record queue { time = before.time; served = before.served } =
-    ap (λ (js : List Job). record before { jobs = js }) (sym seen.adds.jobs) ∙ ap (λ (g : ℕ). record queue { grain = g; time = before.time; served = before.served }) (sym seen.adds.grain) in
-    let long : length queue.jobs ≡ length before.jobs = ap (λ (js : List Job). length js) seen.adds.jobs in
-    subst (λ (q : JobQueue). IsTold keeps q from shares) (sym starts) (record {
-      time = before.time;
-      served = before.served;
-      kept = subst keeps same seen.kept;
-      later = subst (λ (time : Option ℕ). IsNoEarlier time from) seen.adds.time later;
-      known = λ k d within. omega (arith, long, seen.known k d within);
-      since = λ number within. seen.adds.served number (omega (arith, long, within));
-    })
 
 -- # What is pending at a stretch's start
 

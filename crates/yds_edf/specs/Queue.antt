@@ -51,15 +51,6 @@ pub record Adds (old new : JobQueue) (shares : List JobShare) : Type 0 where
   pub served : Each (length old.jobs) (λ number.
       slice_index new.served number ≡ slice_index old.served number + units_given shares number)
 
--- Since a time at which a queue was as a policy keeps it, these shares were served, and then jobs arrived until now.
-pub record IsTold (keeps : JobQueue → Type 0) (now : JobQueue) (from : ℕ) (shares : List JobShare) : Type 0 where
-  pub time : Option ℕ
-  pub served : List ℕ
-  pub kept : keeps (record now { time = time; served = served })
-  pub later : IsNoEarlier time from
-  pub known : All (λ share. share.job < length now.jobs) shares
-  pub since : Each (length now.jobs) (λ number. slice_index now.served number ≡ slice_index served number + units_given shares number)
-
 -- A stretch is served earliest deadline first, jobs of the same deadline in order of their numbers. Each share but one finishes
 -- its job.
 pub record Serves (old new : JobQueue) (stretch capacity : ℕ) (shares : List JobShare) : Type 0 where

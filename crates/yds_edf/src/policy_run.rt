@@ -3,7 +3,8 @@ ghost use Rattle.yds_model.specs.Job.{IsJob};
 ghost use Rattle.yds_model.specs.Within.{AreSlotsOf};
 ghost use Rattle.yds_timetable.specs.Timetable.{slots_of};
 ghost use Rattle.yds_timetable.specs.Room.{CanLay};
-ghost use Rattle.yds_edf.specs.Queue.{new_queue, Serves};
+ghost use Rattle.yds_model.specs.Event.{stretches as job_stretches};
+ghost use Rattle.yds_edf.specs.Queue.{Serves};
 ghost use Rattle.yds_edf.specs.PolicyRun.{AreRowsOf, IsPolicyRun, PutsRow};
 
 use crate::limits::MAX_STRETCHES;
@@ -64,7 +65,7 @@ pub fn run_policy<P: Policy>(
     requires few { length rows.now ≤ MAX_JOBS }
     requires some_grid { 1 ≤ grid }
     requires grid_in_range { grid ≤ MAX_GRID }
-    requires keeps { P.keeps policy.old (new_queue rows.now grid) 0 }
+    requires keeps { P.keeps policy.old rows.now 0 }
     ensures run { IfOk result (λ run.
         IsPolicyRun rows.now grid (P.units policy.old rows.now grid) (P.rounds policy.old rows.now grid) run.rounded run.schedule.slots) }
     ensures jobs { IfOk result (λ run. run.schedule.jobs ≡ length rows.now) }
@@ -72,21 +73,24 @@ pub fn run_policy<P: Policy>(
     ensures rows { OnOk result (All IsJob rows.now) }
     ensures limits { IfOk result (λ run. AreSlotsOf (length rows.now) run.schedule.slots) }
 {
-    let served = serve_policy(alloc, rows, grid, policy)?;
+    let timeline = stretches(alloc, rows)?;
+    let served = serve_policy(alloc, rows, &timeline, grid, policy)?;
     served.laid(alloc, rows.len() as u32)
 }
 
-/// The same before the slots are laid, for who needs what each stretch serves and no slots.
+/// The same before the slots are laid, for who needs what each stretch serves and no slots. The stretches are those of the jobs.
 pub fn serve_policy<P: Policy>(
     alloc: Global,
     rows: &[JobRow],
+    stretches: &[Stretch],
     grid: u32,
     policy: &mut P,
 ) -> Result<PolicyTimetable, Memory>
     requires few { length rows.now ≤ MAX_JOBS }
+    requires stretches { stretches.now ≡ job_stretches rows.now }
     requires some_grid { 1 ≤ grid }
     requires grid_in_range { grid ≤ MAX_GRID }
-    requires keeps { P.keeps policy.old (new_queue rows.now grid) 0 }
+    requires keeps { P.keeps policy.old rows.now 0 }
     ensures run { IfOk result (λ run.
         IsPolicyRun rows.now grid (P.units policy.old rows.now grid) (P.rounds policy.old rows.now grid) run.rounded (slots_of run.timetable)) }
     ensures stretches { IfOk result (λ run. AreRowsOf rows.now grid run.timetable) }
@@ -94,7 +98,6 @@ pub fn serve_policy<P: Policy>(
     ensures rows { OnOk result (All IsJob rows.now) }
     ensures room { IfOk result (λ run. CanLay (length rows.now) run.timetable) }
 {
-    let stretches = stretches(alloc, rows)?;
     let mut queue = Queue::new(alloc, rows, u64::from(grid))?;
     let mut timetable = Timetable::new(alloc);
     let mut shares = Vec::new(alloc);
@@ -102,7 +105,7 @@ pub fn serve_policy<P: Policy>(
     for (number, stretch) in stretches.iter().enumerate() {
         queue.arrive(stretch.from);
         let number = number as u32;
-        let setting = policy.set(number, &queue, *stretch, &shares);
+        let setting = policy.set(number, &queue, *stretch);
         serve_stretch(
             &mut queue,
             *stretch,

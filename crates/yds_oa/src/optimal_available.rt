@@ -1,4 +1,5 @@
 ghost use Rattle.std.specs.Prelude.{⊤, ◌≡◌, ◌≤◌, IfOk, length, All};
+ghost use Rattle.yds_model.specs.Event.{stretches as job_stretches};
 ghost use Rattle.yds_model.specs.Policy.{HasRunDenominators};
 ghost use Rattle.yds_model.specs.OptimalAvailable.{IsOptimalAvailableRun};
 ghost use Rattle.yds_model.specs.Within.{AreSlotsOf};
@@ -9,8 +10,8 @@ ghost use Rattle.yds_oa.specs.Asked.{most_asked, most_rounds};
 
 use crate::walk::greatest_quotient;
 use std::alloc::Global;
-use yds_edf::{Policy, PolicyRun, PolicyTimetable, Queue, Setting, Share, serve_policy};
-use yds_events::Stretch;
+use yds_edf::{Policy, PolicyRun, PolicyTimetable, Queue, Setting, serve_policy};
+use yds_events::{Stretch, stretches};
 use yds_model::limits::{MAX_GRID, MAX_JOBS, MAX_ROUNDED};
 use yds_model::{JobRow, Memory};
 
@@ -29,13 +30,20 @@ pub fn oa(alloc: Global, rows: &[JobRow], grid: u32) -> Result<PolicyRun, Memory
     ensures limits { IfOk result (λ run. AreSlotsOf (length rows.now) run.schedule.slots) }
     ensures count_in_range { IfOk result (λ run. run.rounded ≤ MAX_ROUNDED) }
 {
-    let served = oa_timetable(alloc, rows, grid)?;
+    let timeline = stretches(alloc, rows)?;
+    let served = oa_timetable(alloc, rows, &timeline, grid)?;
     served.laid(alloc, rows.len() as u32)
 }
 
-/// The same before its slots are laid: what each stretch serves.
-pub fn oa_timetable(alloc: Global, rows: &[JobRow], grid: u32) -> Result<PolicyTimetable, Memory>
+/// The same before its slots are laid: what each stretch serves. The stretches are those of the jobs.
+pub fn oa_timetable(
+    alloc: Global,
+    rows: &[JobRow],
+    stretches: &[Stretch],
+    grid: u32,
+) -> Result<PolicyTimetable, Memory>
     requires few { length rows.now ≤ MAX_JOBS }
+    requires stretches { stretches.now ≡ job_stretches rows.now }
     requires some_grid { 1 ≤ grid }
     requires grid_in_range { grid ≤ MAX_GRID }
     ensures run { IfOk result (λ run. IsOptimalAvailableRun rows.now grid run.rounded (slots_of run.timetable)) }
@@ -45,7 +53,7 @@ pub fn oa_timetable(alloc: Global, rows: &[JobRow], grid: u32) -> Result<PolicyT
     ensures count_in_range { IfOk result (λ run. run.rounded ≤ MAX_ROUNDED) }
 {
     let mut policy = OptimalAvailable { last: 0 };
-    serve_policy(alloc, rows, grid, &mut policy)
+    serve_policy(alloc, rows, stretches, grid, &mut policy)
 }
 
 /// Optimal Available.
@@ -60,9 +68,9 @@ impl Policy for OptimalAvailable {
 
     ghost rounds = { λ policy jobs grid pending stretch. most_rounds jobs pending stretch };
 
-    ghost keeps = { λ policy queue number. ⊤ };
+    ghost keeps = { λ policy jobs number. ⊤ };
 
-    fn set(&mut self, _number: u32, queue: &Queue, stretch: Stretch, _served: &[Share]) -> Setting {
+    fn set(&mut self, _number: u32, queue: &Queue, stretch: Stretch) -> Setting {
         let greatest = greatest_quotient(queue.in_order(), stretch.from, self.last);
         self.last = greatest.place;
         let units = u128::from(greatest.units) * u128::from(stretch.length());
