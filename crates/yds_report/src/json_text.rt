@@ -11,11 +11,12 @@ ghost use Rattle.yds_model.specs.Within.{IsLevel};
 ghost use Rattle.yds_report.specs.JsonValue.{level_value, report_value, ReportsAreRead};
 ghost use Rattle.yds_report.specs.JsonSent.{SendsNumber};
 
-use crate::numbers::{first_release, idle_time, last_deadline, speed_of, total_work};
+use crate::numbers::{idle_time, speed_of, total_work};
 use serde::{Described, Serialize, Serializer};
 use std::alloc::Global;
 use yds_certificate::{Certificate, Level};
 use yds_document::{Document, LineBuffer};
+use yds_events::{first_release, last_deadline};
 use yds_model::Memory;
 
 /// The report of the levels of a plan of the document's jobs as one line of JSON, compact and with rising keys: the numbers of

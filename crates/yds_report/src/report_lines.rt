@@ -7,9 +7,10 @@ ghost use Rattle.yds_model.specs.Job.{IsJob};
 ghost use Rattle.yds_model.specs.ReportAnswer.{jobs_row, level_row, idle_row};
 ghost use Rattle.yds_model.specs.Within.{IsLevel};
 
-use crate::numbers::{first_release, idle_time, last_deadline, speed_of, total_work};
+use crate::numbers::{idle_time, speed_of, total_work};
 use yds_certificate::Level;
 use yds_document::LineBuffer;
+use yds_events::{first_release, last_deadline};
 use yds_model::JobRow;
 
 /// The number of the jobs, their work together, and the times from their first release to their last deadline.

@@ -4,31 +4,17 @@ ghost use Rattle.yds_model.specs.declared.limits.TheConstants.{MAX_ENERGY, MAX_L
 ghost use Rattle.yds_model.specs.Scale.{numerator};
 ghost use Rattle.yds_model.specs.Table.{hull_multiple};
 ghost use Rattle.yds_model.specs.Divisor.{IsLowest};
-ghost use Rattle.yds_model.specs.Energy.{first_release, last_deadline, horizon};
+ghost use Rattle.yds_model.specs.Energy.{horizon};
 ghost use Rattle.yds_model.specs.Within.{IsFraction, IsLevel};
 ghost use Rattle.yds_round.specs.LevelPace.{IsLevelPaceOf};
 ghost use Rattle.yds_round.specs.Energy.{busy_length, energy_parts};
 
 use crate::level_pace::LevelPace;
 use yds_certificate::Level;
+use yds_events::horizon;
 use yds_fraction::Amount;
 use yds_model::JobRow;
 use yds_table::Table;
-
-/// The greatest deadline, 0 where there are no jobs.
-fn last_deadline(rows: &[JobRow]) -> u32
-    ensures { result ≡ last_deadline rows.now }
-{
-    rows.iter().fold(0, |time, row| row.deadline.max(time))
-}
-
-/// The least release, 0 where there are no jobs.
-fn first_release(rows: &[JobRow]) -> u32
-    ensures { result ≡ first_release rows.now }
-{
-    rows.iter()
-        .fold(last_deadline(rows), |time, row| row.release.min(time))
-}
 
 /// The lengths of the levels together, in time units.
 fn busy_length(levels: &[Level]) -> u64
@@ -63,7 +49,7 @@ pub(crate) fn energy(
     ensures lowest { IsLowest result }
     ensures kept { IsFraction MAX_ENERGY result }
 {
-    let horizon = u64::from(last_deadline(rows) - first_release(rows));
+    let horizon = u64::from(horizon(rows));
     let idle = horizon - busy_length(levels);
     let multiple = table.gaps();
     let points = table.points();

@@ -1,4 +1,4 @@
-use Rattle.yds_model.proofs.Common.{◌≡◌, ◌+◌, ◌-◌, ◌*◌, ◌/◌, ◌≤◌, List, length, refl, ap, ◌∙◌, arith, sum_by, get_or_read, last_deadline, horizon, Point, no_point, point_at, hull_multiple, releases_from}
+use Rattle.yds_model.proofs.Common.{◌≡◌, ◌+◌, ◌-◌, ◌*◌, ◌/◌, ◌≤◌, List, length, refl, ap, ◌∙◌, arith, sum_by, get_or_read, horizon, Point, no_point, point_at, hull_multiple}
 use Rattle.yds_model.specs.declared.limits.TheConstants.{MAX_ENERGY, MAX_WHOLE}
 use Rattle.yds_fraction.proofs.WithinLimits.{IsFraction-within, some_parts}
 use Rattle.yds_round.specs.declared.level_pace.LevelPace.{LevelPace}
@@ -7,21 +7,17 @@ use Rattle.yds_round.proofs.Paces.{spent_fits}
 use Rattle.yds_round.proofs.Energies.{total_small, spent_small, total_whole, reduced_parts, is_lowest}
 use Rattle.yds_round.proofs.energy.energy.Goals as goal
 
-pub overflow_sub-last_deadline : goal.overflow_sub-last_deadline
-overflow_sub-last_deadline c =
-    omega (arith, c.last_deadline.ensures, c.first_release.ensures, releases_from c.args.rows.now (last_deadline c.args.rows.now))
-
 pub spent-requires : goal.spent-requires
 spent-requires c =
     let spent = spent_fits c.args.table.now c.args.levels.now c.args.paces.now c.requires.paces in
     spent_small _ (busy_length c.args.levels.now) (horizon c.args.rows.now) 0 (hull_multiple c.args.table.now) spent c.requires.within (omega arith)
-    (omega (arith, c.last_deadline.ensures, c.last_deadline.type_inv)) (omega (arith, c.gaps-multiple.ensures.value, c.gaps-multiple.ensures.within))
+    (omega (arith, c.horizon.ensures, c.horizon.type_inv)) (omega (arith, c.gaps-multiple.ensures.value, c.gaps-multiple.ensures.within))
 
 pub overflow_add-spent : goal.overflow_add-spent
 overflow_add-spent c =
     let spent = spent_fits c.args.table.now c.args.levels.now c.args.paces.now c.requires.paces in
     let all = total_small _ (busy_length c.args.levels.now) (horizon c.args.rows.now) c.first.inside.power (hull_multiple c.args.table.now) spent c.requires.within
-    c.first.invariant.power_in_range (omega (arith, c.last_deadline.ensures, c.last_deadline.type_inv))
+    c.first.invariant.power_in_range (omega (arith, c.horizon.ensures, c.horizon.type_inv))
     (omega (arith, c.gaps-multiple.ensures.value, c.gaps-multiple.ensures.within)) in
     rw (
       c.spent.ensures,
@@ -30,8 +26,7 @@ overflow_add-spent c =
       c.from.ensures,
       c.from-horizon.ensures,
       c.busy_length.ensures,
-      c.last_deadline.ensures,
-      c.first_release.ensures,
+      c.horizon.ensures,
       c.gaps-multiple.ensures.value,
     ) (omega (arith, all))
 
@@ -39,7 +34,7 @@ pub of_parts-requires : goal.of_parts-requires
 of_parts-requires c =
     let spent = spent_fits c.args.table.now c.args.levels.now c.args.paces.now c.requires.paces in
     let all = total_whole _ (busy_length c.args.levels.now) (horizon c.args.rows.now) c.first.inside.power (hull_multiple c.args.table.now) spent c.requires.within
-    c.first.invariant.power_in_range (omega (arith, c.last_deadline.ensures, c.last_deadline.type_inv)) in
+    c.first.invariant.power_in_range (omega (arith, c.horizon.ensures, c.horizon.type_inv)) in
     let whole : (c.spent.result + c.from-2.result * c.from-3.result) / c.gaps-multiple.result ≤ MAX_WHOLE =
     rw (
       c.spent.ensures,
@@ -48,8 +43,7 @@ of_parts-requires c =
       c.from.ensures,
       c.from-horizon.ensures,
       c.busy_length.ensures,
-      c.last_deadline.ensures,
-      c.first_release.ensures,
+      c.horizon.ensures,
       c.gaps-multiple.ensures.value,
     ) (omega (arith, all)) in
     (omega arith, (record { some = omega arith; in_range = omega arith }, (c.gaps-multiple.ensures.some, (omega (arith, c.gaps-multiple.ensures.within), whole))))
@@ -62,7 +56,7 @@ returns-clause-value c =
     ∙ ap (λ points. (point_at points 0).power) c.points-points.ensures.value in
     let parts : c.spent.result + c.from-2.result * c.from-3.result
     ≡ sum_by (λ (pace : LevelPace). pace.energy) c.args.paces.now + c.first.inside.power * (horizon c.args.rows.now - busy_length c.args.levels.now) * c.gaps-multiple.result =
-    rw (c.spent.ensures, c.from-2.ensures, c.from-3.ensures, c.from.ensures, c.from-horizon.ensures, c.busy_length.ensures, c.last_deadline.ensures, c.first_release.ensures) refl in
+    rw (c.spent.ensures, c.from-2.ensures, c.from-3.ensures, c.from.ensures, c.from-horizon.ensures, c.busy_length.ensures, c.horizon.ensures) refl in
     rw (← first, ← c.gaps-multiple.ensures.value)
     (reduced_parts (c.spent.result + c.from-2.result * c.from-3.result) c.gaps-multiple.result c.of_parts.result c.reduced.result c.of_parts.ensures.value c.reduced.ensures.same
     (some_parts MAX_WHOLE c.of_parts.ensures.kept.fraction) ∙ ap (λ n. n * c.reduced.result.den) parts)
@@ -74,7 +68,7 @@ pub returns-clause-kept : goal.returns-clause-kept
 returns-clause-kept c =
     let spent = spent_fits c.args.table.now c.args.levels.now c.args.paces.now c.requires.paces in
     let all = total_whole _ (busy_length c.args.levels.now) (horizon c.args.rows.now) c.first.inside.power (hull_multiple c.args.table.now) spent c.requires.within
-    c.first.invariant.power_in_range (omega (arith, c.last_deadline.ensures, c.last_deadline.type_inv)) in
+    c.first.invariant.power_in_range (omega (arith, c.horizon.ensures, c.horizon.type_inv)) in
     IsFraction-within MAX_WHOLE MAX_ENERGY c.reduced.result c.reduced.ensures.kept.fraction
     (rw (
       c.reduced.ensures.whole,
@@ -85,7 +79,6 @@ returns-clause-kept c =
       c.from.ensures,
       c.from-horizon.ensures,
       c.busy_length.ensures,
-      c.last_deadline.ensures,
-      c.first_release.ensures,
+      c.horizon.ensures,
       c.gaps-multiple.ensures.value,
     ) all)
