@@ -4,7 +4,7 @@
 //! It stands on `yds_model`, on `yds_laws` for the law that jobs can be served where no interval is overfull, and on
 //! `yds_edf` for the schedule. Its promise is that the admitted jobs are those of the definition, that each refusal has
 //! the first interval that forces it, and that the schedule serves the admitted jobs at or below the top speed, earliest
-//! deadline first.
+//! deadline first. `served_beside` of `yds_callers` shows how it is called.
 #![tactic(auto)]
 
 mod admission;

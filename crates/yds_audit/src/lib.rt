@@ -2,7 +2,7 @@
 //!
 //! It stands on `yds_model`, `yds_fraction`, `yds_slots`, `yds_hull` and `yds_table`. Its promise is that the verdict is `Feasible` exactly
 //! where the slots are a feasible schedule, and otherwise the first cause in the order of the slots and then of the
-//! jobs. No call takes memory.
+//! jobs. No call takes memory. `is_feasible` of `yds_callers` shows how it is called.
 #![tactic(auto)]
 
 mod auditor;

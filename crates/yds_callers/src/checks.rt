@@ -1,0 +1,28 @@
+//! Calls `yds_checker`.
+
+ghost use Rattle.std.specs.Prelude.{◌≡◌, ◌<◌, ◌≤◌, length, IsTrue, IfOk};
+ghost use Rattle.std.specs.List.{All};
+ghost use Rattle.yds_model.specs.Excess.{IsLeast};
+
+use std::alloc::Global;
+use yds_certificate::Certificate;
+use yds_checker::{Judgement, check};
+use yds_model::limits::MAX_JOBS;
+use yds_model::{JobRow, Memory};
+use yds_slots::Schedule;
+
+/// Whether these levels show that the schedule is least, whoever made the two.
+pub fn is_shown_least(
+    alloc: Global,
+    rows: &[JobRow],
+    schedule: &Schedule,
+    certificate: &Certificate,
+) -> Result<bool, Memory>
+    requires jobs { schedule.now.jobs ≡ length rows.now }
+    requires few { length rows.now ≤ MAX_JOBS }
+    requires known { All (λ level. All (λ number. number < length rows.now) level.members) certificate.now }
+    ensures { IfOk result (λ shown. IsTrue shown → IsLeast rows.now schedule.now.slots) }
+{
+    let judgement = check(alloc, rows, schedule, certificate)?;
+    Ok(matches!(&judgement, Judgement::Accepted))
+}
