@@ -18,6 +18,9 @@ loads_of_levels-requires-clause-fits c =
     let fits = levels_fit c.args.rows.now c.requires.plan.0 c.args.levels.now c.args.table.now c.requires.plan.1 rising some scale.0 scale.1 0 in
     omega (arith, fits, time_is c.args.rows.now c.requires.jobs c.from.ensures c.horizon.ensures)
 
+pub loads_of_levels-requires-clause-time_in_range : goal.loads_of_levels-requires-clause-time_in_range
+loads_of_levels-requires-clause-time_in_range c = omega (arith, c.from.ensures, c.horizon.ensures, last_within c.args.rows.now c.requires.jobs)
+
 pub spend-requires-clause-time_in_range : goal.spend-requires-clause-time_in_range
 spend-requires-clause-time_in_range c =
     let scale = scale_exists c.requires.plan.0 c.requires.plan.1.proper.feasible.solid in
