@@ -24,7 +24,7 @@ use crate::room::put;
 use crate::words::{are_text, owned};
 use std::alloc::Global;
 use yds_model::Status;
-use yds_words::codes::NO_WORDS;
+use yds_words::NO_WORDS;
 
 /// Answers the words of a command line from the input. Returned is the program's status. The room gets the text, if it holds it
 /// whole, and `needed` the number of its bytes, whether or not the room holds them.

@@ -6,13 +6,8 @@
 //! Nothing is written to standard error.
 #![tactic(auto)]
 
-ghost use Rattle.std.specs.Prelude.{◌≡◌, IfOk};
-ghost use Rattle.std.specs.Result.{IfErr};
-ghost use Rattle.yds_model.specs.Status.{status_code};
-ghost use Rattle.yds_cli.specs.Codes.{code_without_words};
-
 use std::hash::RandomState;
-use std::io::{BufWriter, ErrorKind};
+use std::io::BufWriter;
 use std::process::ExitCode;
 use std::random::RandomSource;
 use std::rt::Env;
@@ -20,7 +15,7 @@ use std::{env, io};
 use yds_model::Status;
 use yds_port::{StdSink, StdSource};
 use yds_run::run;
-use yds_words::codes::NO_WORDS;
+use yds_words::exit_code;
 
 /// How many bytes of the output are gathered before they are written, at most.
 const OUTPUT_BUFFER: usize = 65_536;
@@ -63,16 +58,4 @@ fn command_words(rt: &(impl Env + AllocGlobal)) -> io::Result<Vec<String>> {
     let mut words = env::args(rt)?;
     let _program = words.next();
     Ok(words.collect(rt.alloc())?)
-}
-
-/// The program's exit status, after a run that ended so or after words that couldn't be taken.
-fn exit_code(ended: Result<Status, ErrorKind>) -> u8
-    ensures run { IfOk ended (λ status. result ≡ status_code status) }
-    ensures no_words { IfErr ended (λ kind. result ≡ code_without_words kind) }
-{
-    match ended {
-        Ok(status) => status.code(),
-        Err(ErrorKind::OutOfMemory) => Status::Memory.code(),
-        Err(_) => NO_WORDS,
-    }
 }
