@@ -1,4 +1,5 @@
 mod AskedQuestion
+mod Tried
 pub mod Reported
 pub mod Ended
 pub mod Worth

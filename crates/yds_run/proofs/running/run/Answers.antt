@@ -2,6 +2,7 @@ use Rattle.yds_words.specs.Words.{words_of}
 use Rattle.yds_words.proofs.AskedWords.{named}
 use Rattle.yds_answer.proofs.Complete.{question_completes, tasks_complete, trial_answers, usage_answers}
 use Rattle.yds_run.proofs.Worth.{told_is_worth, each_is_worth}
+use Rattle.yds_run.proofs.Tried.{trial_ends}
 use Rattle.yds_run.proofs.running.run.Goals as goal
 
 pub returns-in-Some-Document-clause-complete : goal.returns-in-Some-Document-clause-complete
@@ -19,6 +20,9 @@ returns-in-Some-Expand-clause-complete g c =
 pub returns-in-Some-Expand-clause-worth : goal.returns-in-Some-Expand-clause-worth
 returns-in-Some-Expand-clause-worth g c = λ whole. told_is_worth (words_of c.args.words.now) _ _ _ _ _ whole (λ memory fault.
     tasks_complete _ _ _ _ _ _ _ (named _ _ _ c.in-Some-Expand.field-0-is c.in-Some-Expand.ensures.asked) (c.answer_tasks.ensures.answer memory fault))
+
+pub returns-in-Some-Trial-clause-trial : goal.returns-in-Some-Trial-clause-trial
+returns-in-Some-Trial-clause-trial g c = λ trial. trial_ends _ _ _ _ _ _ _ _ _ c.answer_trial.ensures
 
 pub returns-in-Some-Trial-clause-trial_text : goal.returns-in-Some-Trial-clause-trial_text
 returns-in-Some-Trial-clause-trial_text g c =
