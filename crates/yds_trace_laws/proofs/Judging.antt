@@ -1,0 +1,96 @@
+-- What is so of each job that is judged: its lateness is that of its end, and where it stands as it is it isn't due before time 0.
+use Rattle.yds_model.proofs.Common.{◌≡◌, ℕ, zero, suc, ◌+◌, ◌<◌, ◌≤◌, List, [], ◌∷◌, ◌++◌, map, min, length, Bool, true, false, not, if◌then◌else◌, Option, Some, None, is_none, refl, arith, inl, inr, cases_Bool, leb-true, recursion_from_All, All-from_recursion, All}
+use Rattle.std.specs.List.{AllByRecursion, slice_index_or, enumerate_from}
+use Rattle.yds_kernel.specs.Event.{Said}
+use Rattle.yds_trace.specs.declared.reason.Reason.{Reason}
+use Rattle.yds_trace.specs.Asked.{Task, Asked, task_at, is_after_from}
+use Rattle.yds_trace.specs.Jobs.{Job}
+use Rattle.yds_trace.specs.Late.{last_asked, late_by}
+use Rattle.yds_trace.specs.WrittenTime.{Units}
+use Rattle.yds_trace.specs.Document.{Judged, reason_of, began_before, jobs_of, judged, judged_of, judged_from, all_judged, stands, least_of, least_begin, time_zero, units_of}
+use Rattle.yds_trace_laws.proofs.Ordered.{append-all, map-all, in_order-all}
+
+-- what each judged job is
+pub record IsJudged (asked : Asked) (last : ℕ) (one : Judged) : Type 0 where
+  pub late : one.late ≡ late_by asked.from last one.due one.job.end
+  pub begun : one.job.begin ≤ one.due
+  pub asked_for : stands one ≡ true → is_after_from asked.from one.job.begin ≡ true
+
+-- one that isn't after `from` has a reason
+first_reason : (b : Bool) (r : Reason) (o : Option Reason) → is_none (if not b then Some r else o) ≡ true → b ≡ true
+first_reason true r o stands = refl
+first_reason false r o stands = cc
+
+judged_is : (asked : Asked) (past : List Said) (number : ℕ) (before : Bool) (numbered : ℕ × Job) →
+    IsJudged asked (last_asked asked past) (judged asked past number before numbered)
+judged_is asked past number before numbered = record {
+  late = refl;
+  begun = omega arith;
+  asked_for = λ whole. first_reason (is_after_from asked.from numbered.1.begin) _ _ whole;
+}
+
+judged_of-all : (asked : Asked) (past : List Said) (number : ℕ) → AllByRecursion (IsJudged asked (last_asked asked past)) (judged_of asked past number)
+judged_of-all asked past number =
+    map-all (IsJudged asked (last_asked asked past)) (judged asked past number (began_before (jobs_of asked past number)))
+    (enumerate_from 0 (jobs_of asked past number)) (judged_is asked past number (began_before (jobs_of asked past number)))
+
+judged_from-all : (asked : Asked) (past : List Said) (number : ℕ) (tasks : List Task) →
+    AllByRecursion (IsJudged asked (last_asked asked past)) (judged_from asked past number tasks)
+judged_from-all asked past number [] = tt
+judged_from-all asked past number (task ∷ tasks) =
+    append-all (IsJudged asked (last_asked asked past)) (judged_of asked past number) (judged_from asked past (number + 1) tasks)
+    (judged_of-all asked past number) (judged_from-all asked past (number + 1) tasks)
+
+-- each of all jobs
+pub all_are_judged : (asked : Asked) (past : List Said) → All (IsJudged asked (last_asked asked past)) (all_judged asked past)
+all_are_judged asked past =
+    All-from_recursion (IsJudged asked (last_asked asked past)) (all_judged asked past)
+    (in_order-all (IsJudged asked (last_asked asked past)) (λ one. one.job.begin) (judged_from asked past 0 asked.tasks)
+    (judged_from-all asked past 0 asked.tasks))
+
+-- # Time 0
+
+least_le : (o : Option ℕ) (time : ℕ) → least_of o time ≤ time
+least_le None time = omega arith
+least_le (Some least) time = omega arith
+
+least_le_of : (z time begin : ℕ) → z ≤ begin → least_of (Some z) time ≤ begin
+least_le_of z time begin order = omega arith
+
+-- the least begin, where there is one, and that it is at most this time
+abbrev HasLeast : List Judged → ℕ → Type 0
+HasLeast ones begin = (z : ℕ) × ((least_begin ones ≡ Some z) × (z ≤ begin))
+
+least_here : (one : Judged) (more : List Judged) (b : Bool) → b ≡ true → (o : Option ℕ) →
+    (z : ℕ) × (((if b then Some (least_of o one.job.begin) else o) ≡ Some z) × (z ≤ one.job.begin))
+least_here one more true so o = (least_of o one.job.begin, (refl, least_le o one.job.begin))
+least_here one more false so o = cc
+
+least_there : (time begin : ℕ) (b : Bool) (o : Option ℕ) (z : ℕ) → o ≡ Some z → z ≤ begin →
+    (y : ℕ) × (((if b then Some (least_of o time) else o) ≡ Some y) × (y ≤ begin))
+least_there time begin true None z is order = cc
+least_there time begin true (Some x) z is order =
+    let same : x ≡ z = cc in (least_of (Some x) time, (refl, least_le_of x time begin (omega arith)))
+least_there time begin false o z is order = (z, (is, order))
+
+least_before : (ones : List Judged) (i : ℕ) (d : Judged) → i < length ones → stands (slice_index_or ones i d) ≡ true →
+    HasLeast ones (slice_index_or ones i d).job.begin
+least_before [] i d within whole = absurd (omega arith)
+least_before (one ∷ more) zero d within whole = least_here one more (stands one) whole (least_begin more)
+least_before (one ∷ more) (suc i) d within whole =
+    let rest : HasLeast more (slice_index_or more i d).job.begin = least_before more i d (omega arith) whole in
+    least_there one.job.begin (slice_index_or more i d).job.begin (stands one) (least_begin more) rest.0 rest.1.0 rest.1.1
+
+zero_by : (from least : Option ℕ) (first begin : ℕ) → (z : ℕ) × ((least ≡ Some z) × (z ≤ begin)) → is_after_from from begin ≡ true →
+    (elim from as (λ _. ℕ) [ Some time ↦ time | None ↦ elim least as (λ _. ℕ) [ Some time ↦ time | None ↦ first ] ]) ≤ begin
+zero_by (Some from) least first begin has after = leb-true from begin after
+zero_by None (Some x) first begin has after = let same : x ≡ has.0 = cc has.1.0 in omega (arith, has.1.1, same)
+zero_by None None first begin has after = cc has.1.0
+
+-- Time 0 isn't after the begin of a job that stands as it is.
+pub zero_before : (asked : Asked) (past : List Said) (i : ℕ) (d : Judged) → i < length (all_judged asked past) →
+    stands (slice_index_or (all_judged asked past) i d) ≡ true → (units_of asked past).zero ≤ (slice_index_or (all_judged asked past) i d).job.begin
+zero_before asked past i d within whole =
+    zero_by asked.from (least_begin (all_judged asked past)) _ (slice_index_or (all_judged asked past) i d).job.begin
+    (least_before (all_judged asked past) i d within whole)
+    ((all_are_judged asked past i d within).asked_for whole)

@@ -1,0 +1,46 @@
+-- What follows from the definitions of a trace's document.
+use Rattle.std.specs.Prelude.{◌≡◌, ◌≢◌, ℕ, ◌+◌, ◌<◌, ◌≤◌, List, length, take, Some}
+use Rattle.std.specs.List.{All}
+use Rattle.yds_kernel.specs.Event.{Said}
+use Rattle.yds_model.specs.Job.{Job, job_at}
+use Rattle.yds_model.specs.Feasible.{IsFeasible}
+use Rattle.yds_trace.specs.declared.job.Stretch.{Stretch}
+use Rattle.yds_trace.specs.Asked.{Asked, IsAsked}
+use Rattle.yds_trace.specs.WrittenTime.{Units, written_time, runs_of, work_of_run, work_of_runs}
+use Rattle.yds_trace.specs.Document.{Written, Placed, all_runs, all_judged, document_of}
+use Rattle.yds_trace_laws.specs.AsSlots.{jobs_read, slots_read}
+
+-- # Written times
+
+-- Order is kept.
+abbrev pub OrderIsKept : Type 0
+OrderIsKept = (units : Units) (a b : ℕ) → 1 ≤ units.time → a ≤ b → written_time units a ≤ written_time units b
+
+-- Who ends by a time is written to end by it.
+abbrev pub EndsAreKept : Type 0
+EndsAreKept = (units : Units) (stretches : List Stretch) (time : ℕ) → 1 ≤ units.time →
+    All (λ stretch. stretch.to ≤ time) stretches → All (λ run. run.to ≤ written_time units time) (runs_of units stretches)
+
+-- Who is late by a unit or more is written late.
+abbrev pub LatenessIsKept : Type 0
+LatenessIsKept = (units : Units) (due end : ℕ) →
+    1 ≤ units.time → units.zero ≤ due → due + units.time ≤ end → written_time units due < written_time units end
+
+-- # Feasible documents
+
+-- A job with work and without a run, as a late one that can't stand as it is, makes a document infeasible.
+abbrev pub WorkNeedsASlot : Type 0
+WorkNeedsASlot = (jobs : List Job) (runs : List Placed) (number : ℕ) →
+    number < length jobs → 1 ≤ (job_at jobs number).work → All (λ placed. placed.job ≢ number) runs → IsFeasible jobs (slots_read runs) → ⊥
+
+-- A front of a document that misses a run which does work isn't feasible.
+abbrev pub FrontsAreInfeasible : Type 0
+FrontsAreInfeasible = (jobs : List Written) (count : ℕ) →
+    All (λ job. work_of_runs job.runs ≤ job.work) jobs → All (λ placed. 1 ≤ work_of_run placed.run) (all_runs jobs) → count < length (all_runs jobs) →
+    IsFeasible (jobs_read jobs) (slots_read (take count (all_runs jobs))) → ⊥
+
+-- Where a trace's document is feasible, each job of the tasks that is known to be late is late by less than a unit of time.
+abbrev pub FeasibleMeansInTime : Type 0
+FeasibleMeansInTime = (asked : Asked) (past : List Said) → IsAsked asked →
+    IsFeasible (jobs_read (document_of asked past).jobs) (slots_read (document_of asked past).runs) →
+    All (λ judged. (by : ℕ) → judged.late ≡ Some by → by < asked.unit) (all_judged asked past)

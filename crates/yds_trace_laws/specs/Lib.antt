@@ -1,0 +1,2 @@
+pub mod AsSlots
+pub mod Laws

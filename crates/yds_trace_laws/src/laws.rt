@@ -1,0 +1,31 @@
+ghost use Rattle.yds_trace_laws.specs.Laws.{EndsAreKept, FeasibleMeansInTime, FrontsAreInfeasible, LatenessIsKept, OrderIsKept, WorkNeedsASlot};
+
+/// A written time keeps order.
+pub fn order_is_kept()
+    ensures { OrderIsKept }
+{}
+
+/// Runs of stretches that end by a time are written to end by it.
+pub fn ends_are_kept()
+    ensures { EndsAreKept }
+{}
+
+/// An end that is a unit of time or more after a deadline is written after it.
+pub fn lateness_is_kept()
+    ensures { LatenessIsKept }
+{}
+
+/// Where a trace's document is feasible, each job that is known to be late is late by less than a unit of time.
+pub fn feasible_means_in_time()
+    ensures { FeasibleMeansInTime }
+{}
+
+/// A job with work and without a run, as a late one that can't stand as it is, makes a document infeasible.
+pub fn work_needs_a_slot()
+    ensures { WorkNeedsASlot }
+{}
+
+/// A front of a document that misses a run isn't feasible.
+pub fn fronts_are_infeasible()
+    ensures { FrontsAreInfeasible }
+{}

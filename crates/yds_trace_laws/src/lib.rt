@@ -1,0 +1,13 @@
+//! What follows from the definitions of a trace's document. Each law is the contract of a call of no parameters that does nothing.
+//!
+//! It stands on `yds_trace`, whose definitions the laws speak of, and on `yds_model` for what a feasible schedule is.
+//! It carries the promise that a feasible document means what its reader takes it to mean: no job that is known to be late
+//! by a unit of time or more is hidden in it.
+#![tactic(auto)]
+
+mod laws;
+
+pub use laws::{
+    ends_are_kept, feasible_means_in_time, fronts_are_infeasible, lateness_is_kept, order_is_kept,
+    work_needs_a_slot,
+};
