@@ -26,7 +26,15 @@ PAGE = ROOT / "docs" / "edits.md"
 WIDTH = 120
 # Of all crates but the later ones, which bring theirs besides.
 MOST = 260
-LATER = ["yds_group_runs", "yds_kernel", "yds_kernel_examples", "yds_trace", "yds_trace_laws", "yds_trace_examples"]
+LATER = [
+    "yds_group_runs",
+    "yds_kernel",
+    "yds_kernel_text",
+    "yds_kernel_examples",
+    "yds_trace",
+    "yds_trace_laws",
+    "yds_trace_examples",
+]
 MOST_OF_CRATE = 8
 MOST_OF = {"yds_run": 12, "yds_admit": 12, "yds_document": 12}
 NEEDED = [

@@ -1,6 +1,6 @@
 -- What the lines of a trace say, up to its first fault.
-use Rattle.std.specs.Prelude.{ℕ, List, [], ◌∷◌, Bool, ◌==◌, if◌then◌else◌, Option, Some, None, Result, Ok, Err}
-use Rattle.yds_model.specs.Lines.{Line, lines_of}
+use Rattle.std.specs.Prelude.{ℕ, List, [], ◌∷◌, map, Bool, ◌==◌, if◌then◌else◌, Option, Some, None, Result, Ok, Err}
+use Rattle.yds_model.specs.Lines.{Line, lines_from, trimmed}
 use Rattle.yds_model.specs.Fields.{Spot, Fault}
 use Rattle.yds_kernel.specs.declared.fault.Reason.{Reason}
 use Rattle.yds_kernel.specs.Event.{Said}
@@ -26,6 +26,10 @@ said_of ended [] = no_line
 said_of ended (line ∷ []) = then_says line.number (if ended then line_of line.text else last_line_of line.text) no_line
 said_of ended (line ∷ next ∷ lines) = then_says line.number (line_of line.text) (said_of ended (next ∷ lines))
 
+-- the trace that these bytes are, where their first line has this number
+abbrev pub trace_from : ℕ → List ℕ → Trace
+trace_from number bytes = said_of (last_byte bytes == 10) (map trimmed (lines_from number 0 bytes))
+
 -- the trace that these bytes are
 abbrev pub trace_of : List ℕ → Trace
-trace_of bytes = said_of (last_byte bytes == 10) (lines_of bytes)
+trace_of bytes = trace_from 1 bytes
