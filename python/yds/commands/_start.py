@@ -1,5 +1,8 @@
 #!/usr/bin/env python3
-"""The start of each command: a link to this file, or what pip makes, has the name of the command, as yds-scale."""
+"""The start of each command: a link to this file, or what pip makes, has the name of the command, as yds-scale.
+
+Who calls the file itself gives the name as the first word.
+"""
 
 from __future__ import annotations
 
