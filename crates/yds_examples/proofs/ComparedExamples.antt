@@ -1,6 +1,6 @@
 -- What the answer of `compare` is worth, tried on its worked row, and on a text that tells Average Rate less energy than the plan.
-use Rattle.yds_model.proofs.Common.{◌≡◌, ◌≢◌, ℕ, zero, suc, ◌+◌, ◌*◌, ◌/◌, ◌%◌, ◌≤◌, ◌==◌, Bool, true, false, List, [], ◌∷◌, ◌++◌, length, get_or, drop, decimal, refl, sym, ap, subst, ◌∙◌, arith, append_assoc, inl, inr, Ok, eqb-true, codes, if◌then◌else◌, digits, digits_onto, digit_glyph, All, zip, flat_map, cases_lt, ne_eqb, decimal_digit, get_or_append_left, All-nil, All-cons, mul-pos, Fraction, numerator, Point, spent_lines, side_lines, rounded_line, line, fraction_text, Document, no_document, reading, Spent, Side, Spends, TooSlowFor}
-use Rattle.yds_texts.specs.CompareText.{CostsNoLess, IsToldSide, HoldsComparison}
+use Rattle.yds_model.proofs.Common.{◌≡◌, ◌≢◌, ℕ, zero, suc, ◌+◌, ◌*◌, ◌/◌, ◌%◌, ◌≤◌, ◌==◌, Bool, true, false, List, [], ◌∷◌, ◌++◌, length, get_or, drop, decimal, refl, sym, ap, subst, ◌∙◌, arith, of_whole, append_assoc, inl, inr, Ok, eqb-true, codes, if◌then◌else◌, digits, digits_onto, digit_glyph, All, zip, flat_map, cases_lt, ne_eqb, decimal_digit, get_or_append_left, All-nil, All-cons, mul-pos, Fraction, numerator, Point, spent_lines, side_lines, rounded_line, line, fraction_text, Document, no_document, reading, Spent, Side, Spends, TooSlowFor}
+use Rattle.yds_texts.specs.CompareText.{AreTold, CostsNoLess, IsToldSide, HoldsComparison}
 use Rattle.yds_texts.proofs.CompareText.{comparison_holds}
 use Rattle.yds_examples.proofs.ComparisonExamples.{answer}
 
@@ -8,6 +8,10 @@ use Rattle.yds_examples.proofs.ComparisonExamples.{answer}
 held : HoldsComparison 6 (codes "job a 0 3 2\njob b 1 2 1\npoint 0 0\npoint 1 1\npoint 2 3\n")
     (codes "plan energy 3\nplan time 0 0\nplan time 1 3\nplan time 2 0\navr energy 3+2/3\navr time 0 0+2/3\navr time 1 1+2/3\navr time 2 0+2/3\navr rounded 0\noa energy 3+1/3\noa time 0 0+1/3\noa time 1 2+1/3\noa time 2 0+1/3\noa rounded 0\n")
 held = comparison_holds 6 _ _ answer
+
+-- An energy without a time for each point isn't all that is told of a schedule.
+no_times : AreTold (record { speed = 0; power = 0 } ∷ record { speed = 1; power = 1 } ∷ []) (record { energy = of_whole 3; times = [] }) → ⊥
+no_times told = absurd (omega (arith, told.a_time_each))
 
 -- # A number of one digit
 
