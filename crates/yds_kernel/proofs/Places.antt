@@ -1,11 +1,12 @@
 -- What stands at the first of a line's places, as a loop over the places looks for it.
-use Rattle.yds_model.proofs.Common.{◌≡◌, ℕ, zero, suc, ◌+◌, ◌<◌, ◌≤◌, List, ◌∷◌, length, codes, get_or, take, drop, Bool, true, false, ◌==◌, ◌&&◌, ◌||◌, nat_le, if◌then◌else◌, Some, None, sym, ap, ◌∙◌, arith, refl, drop_more, drop_all, le_refl, ◌-◌, take_all, length-drop}
+use Rattle.yds_model.proofs.Common.{◌≡◌, ℕ, zero, suc, ◌+◌, ◌<◌, ◌≤◌, List, [], ◌∷◌, length, codes, get_or, take, drop, Bool, true, false, ◌==◌, ◌&&◌, ◌||◌, nat_le, if◌then◌else◌, Some, None, sym, ap, ◌∙◌, arith, refl, drop_more, drop_all, le_refl, ◌-◌, take_all, length-drop}
 use Rattle.std.specs.Str.{bytes_eq}
 use Rattle.memchr.specs.Find.{Nowhere, Passes, is_byte}
 use Rattle.yds_kernel.specs.declared.mark.Mark.{Mark}
+use Rattle.yds_kernel.specs.declared.mark.Mark.TheVariants as marks
 use Rattle.yds_kernel.specs.Parts.{or_else, after}
 use Rattle.yds_kernel.specs.Stamp.{Stamp, stamp_at, first_stamp}
-use Rattle.yds_kernel.specs.Form.{Marked, marked, placed, first_marked}
+use Rattle.yds_kernel.specs.Form.{Marked, marked, placed, first_byte, first_marked, leaves, comes, wakes, short, short_leaves, short_comes}
 use Rattle.yds_kernel.specs.Line.{opens, opens_somewhere}
 
 -- the bytes from a place on, as a slice has them
@@ -68,21 +69,59 @@ stamps_after bytes i within nowhere none = stamps_from bytes i (omega arith) now
 
 -- # Marks
 
-pub mark_more : (mark : Mark) (bytes : List ℕ) (i : ℕ) → i < length bytes → marked mark (drop i bytes) ≡ None → first_marked i mark (drop i bytes) ≡ first_marked (i + 1) mark (drop (i + 1) bytes)
+mark_more : (at : ℕ) (mark : Mark) (bytes : List ℕ) (i : ℕ) → i < length bytes → marked mark (drop i bytes) ≡ None → first_marked at mark (drop i bytes) ≡ first_marked (at + 1) mark (drop (i + 1) bytes)
 unfolding first_marked
-mark_more mark bytes i within none =
-    ap (first_marked i mark) (drop_more bytes i 0 within)
-    ∙ ap (λ found. or_else (placed i found) (first_marked (i + 1) mark (drop (i + 1) bytes))) (ap (marked mark) (sym (drop_more bytes i 0 within)) ∙ none)
+mark_more at mark bytes i within none =
+    ap (first_marked at mark) (drop_more bytes i 0 within)
+    ∙ ap (λ found. or_else (placed at found) (first_marked (at + 1) mark (drop (i + 1) bytes))) (ap (marked mark) (sym (drop_more bytes i 0 within)) ∙ none)
 
-pub mark_here : (mark : Mark) (bytes : List ℕ) (i : ℕ) (found : Marked) → i < length bytes → marked mark (drop i bytes) ≡ Some found → first_marked i mark (drop i bytes) ≡ Some (i, found)
+mark_here : (at : ℕ) (mark : Mark) (bytes : List ℕ) (i : ℕ) (found : Marked) → i < length bytes → marked mark (drop i bytes) ≡ Some found → first_marked at mark (drop i bytes) ≡ Some (at, found)
 unfolding first_marked
-mark_here mark bytes i found within some =
-    ap (first_marked i mark) (drop_more bytes i 0 within)
-    ∙ ap (λ found. or_else (placed i found) (first_marked (i + 1) mark (drop (i + 1) bytes))) (ap (marked mark) (sym (drop_more bytes i 0 within)) ∙ some)
+mark_here at mark bytes i found within some =
+    ap (first_marked at mark) (drop_more bytes i 0 within)
+    ∙ ap (λ found. or_else (placed at found) (first_marked (at + 1) mark (drop (i + 1) bytes))) (ap (marked mark) (sym (drop_more bytes i 0 within)) ∙ some)
 
-pub no_mark : (mark : Mark) (bytes : List ℕ) (i : ℕ) → length bytes ≤ i → first_marked i mark (drop i bytes) ≡ None
+-- a text doesn't stand where its first byte doesn't
+not_after : (first : ℕ) (text : List ℕ) (byte : ℕ) (bytes : List ℕ) → (byte == first) ≡ false → after (first ∷ text) (byte ∷ bytes) ≡ None
+not_after first text byte bytes other =
+    taken_if (nat_le (length (first ∷ text)) (length (byte ∷ bytes))) (bytes_eq (take (length (first ∷ text)) (byte ∷ bytes)) (first ∷ text)) (drop (length (first ∷ text)) (byte ∷ bytes))
+    (ap (λ test. test && bytes_eq (take (length text) bytes) text) other)
+
+-- no mark begins with another byte
+no_mark : (mark : Mark) (byte : ℕ) (bytes : List ℕ) → (byte == first_byte mark) ≡ false → marked mark (byte ∷ bytes) ≡ None
+unfolding leaves comes wakes short short_leaves short_comes
+no_mark marks.Leaves byte bytes other = rw (not_after 32 (codes "prev_pid=") byte bytes other) refl
+no_mark marks.Comes byte bytes other = rw (not_after 32 (codes "next_pid=") byte bytes other) refl
+no_mark marks.Wakes byte bytes other = rw (not_after 32 (codes "pid=") byte bytes other) refl
+no_mark marks.ShortLeaves byte bytes other = rw (not_after 58 [] byte bytes other) refl
+no_mark marks.ShortComes byte bytes other = rw (not_after 58 [] byte bytes other) refl
+no_mark marks.ShortWakes byte bytes other = rw (not_after 58 [] byte bytes other) refl
+
+-- bytes without the first byte of a mark are passed over
+marks_from : (at : ℕ) (mark : Mark) (bytes : List ℕ) (i : ℕ) → i ≤ length bytes → Nowhere (Passes (is_byte (first_byte mark)) bytes) 0 i → first_marked at mark bytes ≡ first_marked (at + i) mark (drop i bytes)
+marks_from at mark bytes zero within nowhere = ap (λ (place : ℕ). first_marked place mark bytes) (omega arith)
+marks_from at mark bytes (suc i) within nowhere =
+    let before : Nowhere (Passes (is_byte (first_byte mark)) bytes) 0 i = λ k low below. nowhere k low (omega arith) in
+    let other : (get_or bytes i 0 == first_byte mark) ≡ false = not_true (get_or bytes i 0 == first_byte mark) (nowhere i (omega arith) (omega arith)) in
+    let next : i + 1 ≡ suc i = omega arith in
+    let place : at + i + 1 ≡ at + suc i = omega arith in
+    marks_from at mark bytes i (omega arith) before
+    ∙ mark_more (at + i) mark bytes i (omega arith) (ap (marked mark) (drop_more bytes i 0 (omega arith)) ∙ no_mark mark (get_or bytes i 0) (drop (i + 1) bytes) other)
+    ∙ ap (λ (place : ℕ). first_marked (at + i + 1) mark (drop place bytes)) next
+    ∙ ap (λ (place : ℕ). first_marked place mark (drop (suc i) bytes)) place
+
+pub marks_none : (at : ℕ) (mark : Mark) (bytes : List ℕ) → Nowhere (Passes (is_byte (first_byte mark)) bytes) 0 (length bytes) → first_marked at mark bytes ≡ None
 unfolding first_marked
-no_mark mark bytes i over = ap (first_marked i mark) (drop_all i bytes over)
+marks_none at mark bytes nowhere =
+    marks_from at mark bytes (length bytes) (le_refl (length bytes)) nowhere ∙ ap (first_marked (at + length bytes) mark) (drop_all (length bytes) bytes (le_refl (length bytes)))
+
+pub marks_at : (at : ℕ) (mark : Mark) (bytes : List ℕ) (i : ℕ) (found : Marked) → i < length bytes → Nowhere (Passes (is_byte (first_byte mark)) bytes) 0 i → marked mark (drop i bytes) ≡ Some found →
+    first_marked at mark bytes ≡ Some (at + i, found)
+marks_at at mark bytes i found within nowhere some = marks_from at mark bytes i (omega arith) nowhere ∙ mark_here (at + i) mark bytes i found within some
+
+pub marks_after : (at : ℕ) (mark : Mark) (bytes : List ℕ) (i : ℕ) → i < length bytes → Nowhere (Passes (is_byte (first_byte mark)) bytes) 0 i → marked mark (drop i bytes) ≡ None →
+    first_marked at mark bytes ≡ first_marked (at + i + 1) mark (drop (i + 1) bytes)
+marks_after at mark bytes i within nowhere none = marks_from at mark bytes i (omega arith) nowhere ∙ mark_more (at + i) mark bytes i within none
 
 -- # Processors
 

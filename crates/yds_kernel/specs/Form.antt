@@ -152,6 +152,15 @@ marked marks.ShortLeaves bytes = short_leaves bytes
 marked marks.ShortComes bytes = short_comes bytes
 marked marks.ShortWakes bytes = short bytes
 
+-- the byte with which the mark begins: a blank or a colon
+abbrev pub first_byte : Mark → ℕ
+first_byte marks.Leaves = 32
+first_byte marks.Comes = 32
+first_byte marks.Wakes = 32
+first_byte marks.ShortLeaves = 58
+first_byte marks.ShortComes = 58
+first_byte marks.ShortWakes = 58
+
 -- the mark at this place
 abbrev pub placed : ℕ → Option Marked → Option (ℕ × Marked)
 placed place None = None

@@ -7,6 +7,7 @@ use crate::event::{Happening, Thread};
 use crate::mark::{Mark, Marked};
 use crate::parts::{after, after_blanks, only_blanks, small_number};
 use crate::state::State;
+use memchr::memchr;
 
 /// A thread, up to its mark, and what comes after it.
 #[derive(Clone, Copy)]
@@ -24,10 +25,13 @@ fn first_marked(mark: Mark, bytes: &[u8]) -> Option<(usize, Marked<'_>)>
     ensures value { Reads (λ x. (x.0, marked_read x.1)) result (spec.first_marked 0 mark bytes.now) }
     ensures within { IfSome result (λ x. x.0 ≤ length bytes.now) }
 {
-    for place in 0..bytes.len() {
+    let mut place = 0;
+    while let Some(step) = memchr(mark.first_byte(), &bytes[place..]) {
+        place += step;
         if let Some(marked) = mark.at(&bytes[place..]) {
             return Some((place, marked));
         }
+        place += 1;
     }
     None
 }

@@ -1,4 +1,5 @@
 //! The marks behind a thread's name.
+ghost use Rattle.std.specs.Prelude.{◌≡◌};
 ghost use Rattle.yds_kernel.specs.Form as spec;
 ghost use Rattle.yds_kernel.specs.Views.{Reads, marked_read};
 
@@ -33,6 +34,16 @@ pub(crate) struct Marked<'a> {
 }
 
 impl Mark {
+    /// The byte with which it begins.
+    pub(crate) fn first_byte(self) -> u8
+        ensures { result ≡ spec.first_byte self }
+    {
+        match self {
+            Mark::Leaves | Mark::Comes | Mark::Wakes => b' ',
+            Mark::ShortLeaves | Mark::ShortComes | Mark::ShortWakes => b':',
+        }
+    }
+
     /// The mark at the front of these bytes.
     pub(crate) fn at(self, bytes: &[u8]) -> Option<Marked<'_>>
         ensures { Reads marked_read result (spec.marked self bytes.now) }
