@@ -18,6 +18,8 @@ def exact(value: Any, advice: str = ". Fraction takes its text, as in Fraction('
     """The value of an int or a Fraction, also of other packages' ints. Neither a float nor a truth value is taken."""
     if isinstance(value, Fraction):
         return value
+    if type(value) is int:
+        return Fraction(value)
     if is_truth(value):
         raise TypeError(f"{value!r} is a truth value, and no number")
     if isinstance(value, Rational):

@@ -16,7 +16,7 @@ from yds.rows import Job, Level, Piece, Point, Slot
 
 def fraction(value: Fraction, denominator: int) -> str:
     """The spelling of a fraction, over a denominator that its own divides: W, or W+N/D."""
-    parts, own = value.numerator, value.denominator
+    parts, own = value.as_integer_ratio()
     if own != denominator:
         parts *= denominator // own
     elif own == 1:
@@ -60,8 +60,9 @@ def level_lines(levels: Iterable[Any]) -> Iterator[str]:
 
 def lines(kind: str, form: Form, rows: Iterable[Any]) -> Iterator[str]:
     """A line for each row."""
+    line = " ".join([kind, *("%s" for _ in form.fields)])
     for row in read(form, rows):
-        yield " ".join([kind, *map(str, row)])
+        yield line % tuple(row)
 
 
 def rows_of(table: Any, kind: str, columns: Sequence[str]) -> List[Any]:
