@@ -182,7 +182,7 @@ install-tools:
 
 install-library: $(LIBRARY)
 	install -d $(LIB)/pkgconfig $(INCLUDE)
-	install -m 755 $(LIBRARY) $(LIB)/libyds.so.$(VERSION)
+	install -m 644 $(LIBRARY) $(LIB)/libyds.so.$(VERSION)
 	ln -sf libyds.so.$(VERSION) $(LIB)/libyds.so.1
 	ln -sf libyds.so.1 $(LIB)/libyds.so
 	install -m 644 build/libyds.a $(LIB)

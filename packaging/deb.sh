@@ -37,6 +37,14 @@ changelog() {
 	echo " -- $maintainer  $(date -u -R -d "@$SOURCE_DATE_EPOCH")"
 }
 
+section() {
+	case $1 in
+	lib*) echo libs ;;
+	python3-*) echo python ;;
+	*) echo utils ;;
+	esac
+}
+
 # close NAME ARCHITECTURE DEPENDS SUGGESTS SUMMARY: makes the package of the folder $stage/NAME; its description is standard input.
 close() {
 	name=$1 tree=$stage/$1
@@ -57,7 +65,7 @@ close() {
 		echo "Version: $version"
 		echo "Architecture: $2"
 		echo "Maintainer: $maintainer"
-		echo "Section: utils"
+		echo "Section: $(section "$name")"
 		echo "Priority: optional"
 		echo "Installed-Size: $(find "$tree/usr" -type f -exec cat {} + | wc -c | awk '{ print int(($1 + 1023) / 1024) }')"
 		[ -z "$3" ] || echo "Depends: $3"
@@ -67,7 +75,11 @@ close() {
 		sed 's/^/ /; s/^ $/ ./'
 	} >"$tree/DEBIAN/control"
 	# Where a library comes or goes, the list of the dynamic linker is made anew.
-	if find "$tree" -name '*.so*' | grep -q .; then echo "activate-noawait ldconfig" >"$tree/DEBIAN/triggers"; fi
+	# Packages of programs that are linked with it learn from shlibs which version they depend on.
+	if find "$tree" -name '*.so*' | grep -q .; then
+		echo "activate-noawait ldconfig" >"$tree/DEBIAN/triggers"
+		echo "libyds ${version%%.*} $name (>= $version)" >"$tree/DEBIAN/shlibs"
+	fi
 	same_times "$tree"
 	dpkg-deb --root-owner-group -Zgzip -z9 --build "$tree" "$out/${name}_${version}_$2.deb" >/dev/null || die "dpkg-deb failed"
 }

@@ -17,6 +17,7 @@ Metadata-Version: 2.1
 Name: yds
 Version: {version}
 Summary: Planner and auditor for jobs on one processor of variable speed
+Author: the yds_cli authors
 License: MIT OR Apache-2.0
 License-File: LICENSE-MIT
 License-File: LICENSE-APACHE

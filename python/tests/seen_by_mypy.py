@@ -15,7 +15,8 @@ def narrowed(document: yds.Document) -> Fraction:
     compared = document.compare()
     if not compared:
         return compared.needed  # type: ignore[union-attr]
-    return compared.plan.energy or Fraction(0)
+    compared.oa.energy + 1  # type: ignore[operator]
+    return compared.plan.energy
 
 
 def energies(plan: yds.Plan) -> Fraction:

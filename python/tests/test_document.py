@@ -274,7 +274,7 @@ class Making(unittest.TestCase):
         self.assertEqual(judged([("a", 0, 4, 4)], [level._replace(pieces=())]), "<Judgement K2: level 0>")
         self.assertEqual(judged([("a", 0, 4, 4)], []), "<Judgement K3: job a>")
         seventh = judged([("a", 0, 1, 1), ("a", 1, 2, 2), ("a", 2, 4, 1)], [level])
-        self.assertEqual(seventh, "<Judgement K7: slot 1 of a has the speed 2>")
+        self.assertEqual(seventh, "<Judgement K7: slot 1 of a has the speed 2, its level 1>")
 
 
 class Answers(unittest.TestCase):
@@ -338,7 +338,7 @@ class Answers(unittest.TestCase):
     def test_compare(self) -> None:
         compared = yds.Document(POLICIES, [(0, 0), (1, 1), (2, 3)]).compare(6)
         assert isinstance(compared, yds.Comparison)
-        self.assertEqual(compared.plan, yds.Side(Fraction(3), {0: Fraction(0), 1: Fraction(3), 2: Fraction(0)}))
+        self.assertEqual(compared.plan, yds.Least(Fraction(3), {0: Fraction(0), 1: Fraction(3), 2: Fraction(0)}))
         self.assertEqual(compared.avr.energy, Fraction(11, 3))
         self.assertEqual(
             compared.oa, yds.Side(Fraction(10, 3), {0: Fraction(1, 3), 1: Fraction(7, 3), 2: Fraction(1, 3)}, rounded=0)
@@ -435,7 +435,7 @@ class Answers(unittest.TestCase):
         self.assertEqual((judged(slots, []).condition, judged(slots, []).job), ("K3", "a"))
         self.assertEqual(judged(slots, [yds.Level(4, 3, (yds.Piece(0, 4),), ("a",))]).condition, "K4")
         seventh = judged([("a", 0, 1, 1), ("a", 1, 2, 2), ("a", 2, 4, 1)], levels)
-        self.assertEqual((seventh.condition, seventh.index, seventh.slot.speed), ("K7", 1, 2))
+        self.assertEqual((seventh.condition, seventh.index, seventh.slot.speed, seventh.wanted), ("K7", 1, 2, 1))
 
 
 class Answered(unittest.TestCase):

@@ -39,6 +39,7 @@ if TYPE_CHECKING:
         Comparison,
         Curve,
         Judgement,
+        Least,
         Overload,
         Refusal,
         Report,
@@ -61,6 +62,7 @@ __all__ = [
     "Expansion",
     "Job",
     "Judgement",
+    "Least",
     "Level",
     "Moment",
     "OneLevel",
@@ -104,7 +106,8 @@ _FROM = {
     "yds.document": "Admission Document Expansion OneLevel Plan Rounded Run expand trial",
     "yds.errors": "OutOfMemory Refused UsageError YdsError",
     "yds.policy": "Moment Pending Policy Simulation simulate",
-    "yds.results": "Break Comparison Curve Judgement Overload Refusal Report ReportLevel Side TooSlow Trial Verdict",
+    "yds.results": "Break Comparison Curve Judgement Least Overload Refusal Report ReportLevel Side TooSlow Trial "
+    "Verdict",
     "yds.rows": "Exact Job Level Piece Point Rows Slot Task",
 }
 """The names of each module, which is read when one of them is asked for. So a command that moves text alone starts at

@@ -59,7 +59,7 @@ def judgement(told: Judgement) -> str:
     if told.verdict is not None:
         where = cause(told.verdict)
     elif told.slot is not None:
-        where = f"slot {told.index} of {told.slot.job} has the speed {told.slot.speed}"
+        where = f"slot {told.index} of {told.slot.job} has the speed {told.slot.speed}, its level {told.wanted}"
     elif told.level is not None:
         where = f"level {told.level}"
     elif told.job is not None:

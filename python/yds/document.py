@@ -266,7 +266,7 @@ class Document(Measured):
     def check(self) -> Judgement:
         """Whether the levels show that the slots are least above every speed."""
         answered = _ask(["check"], self.text)
-        return Judgement.read(answered.text, self._slots_if(answered))
+        return Judgement.read(answered.text, self._slots_if(answered), self.levels if answered.status else ())
 
     def _slots_if(self, answered: Answer) -> Sequence[Slot]:
         """The slots where the answer is no, and may name one."""

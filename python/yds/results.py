@@ -5,14 +5,14 @@ Places in lists count from 0, as Python does. In the text they count from 1.
 
 from __future__ import annotations
 
-from dataclasses import dataclass
+from dataclasses import dataclass, field
 from fractions import Fraction
 from typing import Any, Dict, List, Literal, NamedTuple, Optional, Sequence, Tuple
 
 from yds import _drawn, _shown, pictures
 from yds._numbers import exact
 from yds._spelling import read_fraction
-from yds.rows import Exact, Slot
+from yds.rows import Exact, Level, Slot
 
 
 @dataclass(frozen=True, repr=False)
@@ -105,6 +105,8 @@ class Judgement(Result):
     """K7: the place of the slot that doesn't have its level's speed, counted from 0."""
     slot: Optional[Slot] = None
     """K7: that slot."""
+    wanted: Optional[Fraction] = None
+    """K7: the speed of its level (work per unit of time)."""
 
     @property
     def accepted(self) -> bool:
@@ -118,8 +120,8 @@ class Judgement(Result):
         return _shown.judgement(self)
 
     @classmethod
-    def read(cls, text: bytes, slots: Sequence[Slot]) -> Judgement:
-        """The judgement that the text tells, of these slots in the order in which they were judged."""
+    def read(cls, text: bytes, slots: Sequence[Slot], levels: Sequence[Level]) -> Judgement:
+        """The judgement that the text tells, of these levels, and slots in the order in which they were judged."""
         condition, *rest = text.decode("ascii").split()
         if condition == "accepted":
             return cls(text)
@@ -131,7 +133,9 @@ class Judgement(Result):
         index = int(place) - 1
         if kind == "level":
             return cls(text, condition, level=index)
-        return cls(text, condition, index=index, slot=slots[index])
+        slot = slots[index]
+        wanted = next(level.speed for level in levels if slot.job in level.members)
+        return cls(text, condition, index=index, slot=slot, wanted=wanted)
 
 
 @dataclass(frozen=True, repr=False)
@@ -279,11 +283,21 @@ class Side:
     """At how many event points a policy's run rounded up to the grid; None for the plan, which never rounds."""
 
 
+@dataclass(frozen=True)
+class Least(Side):
+    """What the plan spends on the points. Where the top point is too slow for it, nothing is compared."""
+
+    energy: Fraction = Fraction(0)
+    """Power times time."""
+    times: Dict[int, Fraction] = field(default_factory=dict)
+    """For each point's speed the units of time at it."""
+
+
 @dataclass(frozen=True, repr=False)
 class Comparison(Result):
     """What the plan and the runs of both policies spend. The plan's energy is the least."""
 
-    plan: Side
+    plan: Least
     avr: Side
     oa: Side
 
@@ -302,7 +316,8 @@ class Comparison(Result):
     def read(cls, text: bytes) -> Comparison:
         """What the lines of `compare` tell."""
         lines = _lines(text)
-        return cls(text, *(_side([line[1:] for line in lines if line[0] == name]) for name in (b"plan", b"avr", b"oa")))
+        plan, avr, oa = (_side([line[1:] for line in lines if line[0] == name]) for name in (b"plan", b"avr", b"oa"))
+        return cls(text, Least(plan.energy or Fraction(0), plan.times or {}), avr, oa)
 
 
 def _side(lines: Sequence[Sequence[bytes]]) -> Side:
