@@ -21,17 +21,18 @@
 extern "C" {
 #endif
 
-/* The version of this header. yds_version() tells that of the library with which the program runs, which may be later. */
+/* The version of this header. yds_version() tells that of the library with which the program runs: it may be later. */
 #define YDS_VERSION "1.0.0"
 
 /* No text has more bytes than this, whatever the words and the input are. */
 #define YDS_MOST_TEXT ((size_t)8388608)
 
-/* A room of this size holds the text of every command but "expand", for an input of so many bytes. The text of "expand" has at most YDS_MOST_EXPANDED bytes,
- * however short its input is.
+/* A room of this size holds the text of every command but "expand", for an input of so many bytes. The text of "expand"
+ * has at most YDS_MOST_EXPANDED bytes, however short its input is.
  *
- * Why: a job's line has 11 bytes and its name, at least. "round", whose texts are the longest, writes that line and at most five slots, each of at most 162
- * bytes and the name. That is less than 69 times the job's line. An energy, a refusal, a verdict or the usage line takes less than 4,096 bytes. */
+ * Why: a job's line has 11 bytes and its name, at least. "round", whose texts are the longest, writes that line and at
+ * most five slots, each of at most 162 bytes and the name. That is less than 69 times the job's line. An energy, a
+ * refusal, a verdict or the usage line takes less than 4,096 bytes. */
 #define YDS_ROOM(input_length) \
     ((size_t)(input_length) < 121000 ? (size_t)69 * (size_t)(input_length) + (size_t)4096 : YDS_MOST_TEXT)
 #define YDS_MOST_EXPANDED ((size_t)400000)
@@ -68,14 +69,16 @@ enum yds_status {
  *   - Where it is more, the room is as it was. Call again with a room of that length: the same words and the same input have the same text.
  *     A room_length of 0 asks for the length alone, which takes as long as the answer.
  *
- * A pointer to nothing may be null: words where word_count is 0, input and room where their lengths are 0, and the bytes of a word whose length is 0.
+ * A pointer to nothing may be null: words where word_count is 0, input and room where their lengths are 0, and the bytes
+ * of a word whose length is 0.
  *
  * Asked of the caller, and tested by nothing:
  *
  *   - Else no pointer is null. needed never is.
- *   - words, input and the bytes of each word can be read whole, room and needed can be read and written whole, and no other thread writes any of them
- *     meanwhile.
- *   - The room has bytes before the call, as what is said of 'as it was' is said of them. So give them a value once, as `static` or calloc do.
+ *   - words, input and the bytes of each word can be read whole, room and needed can be read and written whole, and no
+ *     other thread writes any of them meanwhile.
+ *   - The bytes of the room have values before the call. Those of a local array or of malloc have none until they are
+ *     written once: clear them, or take `static` or calloc.
  *   - words and needed are aligned as their types are. Bytes may begin anywhere.
  *   - room and needed overlap neither each other nor anything that is read. words, input and the words' bytes may overlap each other.
  *   - Each length in bytes is below 2^63, that of the array of words too.
@@ -84,8 +87,9 @@ enum yds_status {
  *
  * Any number of threads may call at once, each with a room and a needed of its own. A stack of 64 KiB suffices.
  *
- * The call ends by its return alone: nothing is thrown through it, and it makes no jump. It has no unwind tables, so the stack that a debugger or a profiler
- * shows ends in it. Who links libyds.a without the compiler's driver adds libgcc, for the division of 128 bits. */
+ * The call ends by its return alone: nothing is thrown through it, and it makes no jump. It has no unwind tables, so the
+ * stack that a debugger or a profiler shows ends in it. Who links libyds.a without the compiler's driver adds libgcc, for
+ * the division of 128 bits. */
 uint8_t yds_answer(const struct yds_word *words, size_t word_count, const void *input, size_t input_length, uint64_t first_key, uint64_t second_key,
                    void *room, size_t room_length, size_t *needed);
 
