@@ -1,4 +1,5 @@
-//! answer.rs: the call from Rust. It reads the document in standard input and answers the words of the command line, as the program does.
+//! answer.rs: the call from Rust. It reads the document in standard input and answers the words of the command line, as
+//! the program does.
 //!
 //!   rustc -O answer.rs -L FOLDER_OF_THE_LIBRARY
 use std::io::{Read, Write};

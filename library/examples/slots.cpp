@@ -1,4 +1,4 @@
-// slots.cpp: jobs in, slots out. Three jobs are planned, and planned on operating points; a schedule of one's own is judged.
+// slots.cpp: jobs in, slots out. Three jobs are planned, also on operating points. A schedule of one's own is judged.
 //
 //   c++ -std=c++17 -o slots slots.cpp -lyds
 #include <iostream>
