@@ -58,11 +58,16 @@ def _fault(form: Form, place: int, values: Tuple[Any, ...]) -> Exception:
     raise AssertionError(f"every field of {form.table}[{place}] is taken")
 
 
+def is_name(value: str) -> bool:
+    """Whether the string is one field of a document."""
+    return _NAME.fullmatch(value) is not None
+
+
 def name(value: Any) -> str:
     """The name, if it is one: otherwise it would be several fields, or lines, of the document."""
     if not isinstance(value, str):
         raise TypeError(f"a name is a string, and not {short(value)}; str(..) of a number is one")
-    if not _NAME.fullmatch(value):
+    if not is_name(value):
         raise ValueError(f"{value!r} is no name: one has 1 to 64 visible ASCII characters, and no space")
     return value
 

@@ -9,9 +9,9 @@ from __future__ import annotations
 
 from dataclasses import replace
 from fractions import Fraction
-from typing import Callable, Iterable, List, Optional, Sequence, Tuple, TypeVar
+from typing import Any, Callable, Iterable, List, Optional, Sequence, Tuple, TypeVar
 
-from yds._forms import FOREIGN_SLOTS, name, read
+from yds._forms import FOREIGN_SLOTS, is_name, read
 from yds._near import Mended, Near
 from yds._near import near as _near
 from yds._numbers import Decimalish
@@ -20,7 +20,7 @@ from yds._tables import Profile, columns, profile, to_pandas
 from yds.document import Document
 from yds.errors import Refused
 from yds.results import Judgement, Verdict
-from yds.rows import Level, Slot, SlotLike
+from yds.rows import Level, SlotLike
 
 __all__ = ["DecimalSlot", "Mended", "Near", "Profile", "check", "columns", "judge", "near", "profile", "to_pandas"]
 
@@ -116,14 +116,22 @@ def _in_time(given: List[ExactSlot]) -> Tuple[Sequence[int], List[ExactSlot]]:
 
 
 def _given(slots: Iterable[SlotLike]) -> List[ExactSlot]:
-    """The rows in exact numbers. Slots of a document's own have them already."""
-    if isinstance(slots, tuple) and all(type(slot) is Slot for slot in slots):
-        numbers = {type(number) for _, *rest in slots for number in rest}
-        if numbers <= {Fraction}:
-            for job in {slot[0] for slot in slots}:
-                name(job)
-            return list(slots)
+    """The rows in exact numbers. Where all are exact already only their names are looked at, each once."""
+    if isinstance(slots, (tuple, list)) and all(map(_is_exact, slots)) and all(map(is_name, {row[0] for row in slots})):
+        return list(slots)
     return list(read(FOREIGN_SLOTS, slots))
+
+
+def _is_exact(row: Any) -> bool:
+    """Whether it is a row of a name and three Fractions."""
+    return (
+        isinstance(row, tuple)
+        and len(row) == 4
+        and type(row[0]) is str
+        and type(row[1]) is Fraction
+        and type(row[2]) is Fraction
+        and type(row[3]) is Fraction
+    )
 
 
 def _is_before(one: Fraction, other: Fraction) -> bool:
