@@ -30,7 +30,7 @@ def read(form: Form, rows: Iterable[Any]) -> Iterator[Any]:
     for place, row in enumerate(rows):
         values = row if isinstance(row, tuple) else _values(form, place, row)
         try:
-            taken = [take(value) for take, value in zip(takes, values)]
+            taken = tuple([take(value) for take, value in zip(takes, values)])
         except (TypeError, ValueError):
             raise _fault(form, place, values) from None
         if len(values) != count:
@@ -67,9 +67,9 @@ def name(value: Any) -> str:
     """The name, if it is one: otherwise it would be several fields, or lines, of the document."""
     if not isinstance(value, str):
         raise TypeError(f"a name is a string, and not {short(value)}; str(..) of a number is one")
-    if not is_name(value):
-        raise ValueError(f"{value!r} is no name: one has 1 to 64 visible ASCII characters, and no space")
-    return value
+    if _NAME.fullmatch(value):
+        return value
+    raise ValueError(f"{value!r} is no name: one has 1 to 64 visible ASCII characters, and no space")
 
 
 def counted(value: Any) -> int:

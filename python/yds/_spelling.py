@@ -62,7 +62,7 @@ def lines(kind: str, form: Form, rows: Iterable[Any]) -> Iterator[str]:
     """A line for each row."""
     line = " ".join([kind, *("%s" for _ in form.fields)])
     for row in read(form, rows):
-        yield line % tuple(row)
+        yield line % row
 
 
 def rows_of(table: Any, kind: str, columns: Sequence[str]) -> List[Any]:
