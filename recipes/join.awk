@@ -2,7 +2,7 @@
 #
 #   yds-join points.txt trace.txt > governor.txt
 #
-# Input: texts of one document, as of points.awk, trace.awk, tasks.sh and rtapp.sh. Output: their lines, one text after the other.
+# Input: texts of one document, as of yds-points, trace.awk, yds-tasks and yds-rtapp. Output: their lines, one text after the other.
 # The program reads no comments, so of points in one unit and a trace in another it would tell wrong energies. Here each text's comments are
 # read. Texts whose units of time, speed or power differ are refused, and so are two texts with points, two traces of other clocks, two
 # periods, a text with a line that is none of a document, or with no line at all, and an answer of no. Where a text has jobs, tasks, slots or runs and tells no units, and

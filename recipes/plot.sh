@@ -9,7 +9,7 @@
 #   slack    how long before its deadline each job was done: the table of yds-jobs with --form csv
 #   curve    the lines of `yds_cli curve`: how much work has to be done above each speed
 #   energy   the lines of `yds_cli compare` and of yds-energy; with `point` lines before them parted by point
-#   ratios   the table of collect.awk: how many documents cost how much more than the plan
+#   ratios   the table of yds-collect: how many documents cost how much more than the plan
 #
 # A gantt goes by the table's points in its colours: with the points before the document a speed has one colour in each picture.
 # A triangle stands over each missed deadline, the row says so at its end, and the jobs are named below the title. What a

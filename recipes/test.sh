@@ -197,31 +197,30 @@ test_points() {
 	refuses "points: no watts" 1 failed "yds-points: the powers of cpu0 are no watts (flag 4); give a table of measured powers" points --domain cpu0 "$work/artificial"
 }
 
-rtapp() { sh "$here/rtapp.sh" "$@"; }
+rtapp() { tool rtapp "$@"; }
 
 test_rtapp() {
-	want jq || return
 	same "rtapp: tasks" 0 tasks.txt rtapp -m 1416 -c 0 workload.json
 	same "rtapp: jobs of phases" 0 phases.txt rtapp -m 1416 -j workload-phases.json
-	refuses "rtapp: a key twice" 1 failed "rtapp.sh: the key tasks.codec.run stands twice, and every reader of JSON keeps but one; number the keys, as run0 and run1" \
+	refuses "rtapp: a key twice" 1 failed "yds-rtapp: the key tasks.codec.run stands twice, and every reader of JSON keeps but one; number the keys, as run0 and run1" \
 		rtapp -m 1416 workload-twice.json
-	refuses "rtapp: several CPUs" 1 failed "rtapp.sh: the tasks have different cpus; give -c CPU" rtapp -m 1416 workload.json
-	refuses "rtapp: phases without -j" 1 failed "rtapp.sh: ramp: several phases; give -j" rtapp -m 1416 workload-phases.json
-	refuses "rtapp: a period that is no multiple" 1 failed "rtapp.sh: decode: the period is no multiple of the time unit, 7 microseconds; give a finer -u, or -j" \
+	refuses "rtapp: several CPUs" 1 failed "yds-rtapp: the tasks have different cpus; give -c CPU" rtapp -m 1416 workload.json
+	refuses "rtapp: phases without -j" 1 failed "yds-rtapp: ramp: several phases; give -j" rtapp -m 1416 workload-phases.json
+	refuses "rtapp: a period that is no multiple" 1 failed "yds-rtapp: decode: the period is no multiple of the time unit, 7 microseconds; give -u 10, which divides all times, or -j" \
 		rtapp -m 1416 -c 0 -u 7 workload.json
-	refuses "rtapp: a task without a job" 1 failed "rtapp.sh: decode: no job of it is due within the duration; give a longer -H" \
+	refuses "rtapp: a task without a job" 1 failed "yds-rtapp: decode: no job of it is due within the duration; give a longer -H" \
 		rtapp -m 1416 -c 0 -H 0.01 workload.json
-	refuses "rtapp: no frequency" 2 failed "rtapp.sh: no -m MHZ, the frequency to which rt-app was calibrated" rtapp workload.json
+	refuses "rtapp: no frequency" 2 failed "yds-rtapp: no -m MHZ, the frequency to which rt-app was calibrated; see yds-rtapp --help" rtapp workload.json
 	printf '{\n\t"tasks" : { "a" : {}\n\t} } }\n' >"$work/unmatched"
-	refuses "rtapp: no JSON" 1 failed "rtapp.sh: Unmatched '}' at line 3, column 6" rtapp -m 1416 "$work/unmatched"
+	refuses "rtapp: no JSON" 1 failed "yds-rtapp: Extra data at line 3, column 6" rtapp -m 1416 "$work/unmatched"
 	for event in '"lock":"m"@a: lock makes jobs depend on more than time; only run, timer, sleep and yield can be read' \
 		'"runtime":5@a: runtime is time and not work; give run' '"timer0":{"period":9}@a: two timers' \
 		'"sleep":5@a: a timer and a sleep together' '"loop":3@a: it ends after its loops; give -j'; do
 		printf '{"tasks":{"a":{"run":5,"timer":{"ref":"x","period":1000},%s}},"global":{"duration":1}}\n' "${event%%@*}" >"$work/event"
-		refuses "rtapp: ${event%%@*}" 1 failed "rtapp.sh: ${event#*@}" rtapp -m 1000 "$work/event"
+		refuses "rtapp: ${event%%@*}" 1 failed "yds-rtapp: ${event#*@}" rtapp -m 1000 "$work/event"
 	done
 	printf '{"tasks":{"a":{"run":5}},"global":{"duration":1}}\n' >"$work/event"
-	refuses "rtapp: a run without a timer" 1 failed "rtapp.sh: a: a run without a timer has no period" rtapp -m 1000 "$work/event"
+	refuses "rtapp: a run without a timer" 1 failed "yds-rtapp: a: a run without a timer has no period" rtapp -m 1000 "$work/event"
 	want expand || return
 	rtapp -m 1416 -c 0 workload.json | "$YDS" expand | grep '^job' >"$work/expanded"
 	rtapp -m 1416 -c 0 -j workload.json | grep '^job' >"$work/jobs"
@@ -235,7 +234,6 @@ test_comma() {
 	LC_ALL=$comma $AWK 'BEGIN { exit "1.5" * 2 == 3 }' || return
 	text="this awk has a decimal comma in this locale; say export LC_ALL=C first"
 	refuses "comma: trace" 1 failed "trace.awk: $text" env LC_ALL="$comma" $AWK -f "$here/trace.awk" -v tasks=decode:16.667,audio:10 trace-report.txt
-	refuses "comma: collect" 1 "" "collect.awk: $text" env LC_ALL="$comma" $AWK -f "$here/collect.awk" "$expected/compare-a.txt"
 	same "comma: misses has its own locale" 1 misses.txt from /dev/null env LC_ALL="$comma" "$PYTHON" "$here/bin/yds-misses" late-twice.txt
 }
 
@@ -358,28 +356,27 @@ test_plot() {
 
 test_folder() {
 	cp "$expected"/compare-a.txt "$expected"/compare-refused.txt "$expected"/compare-too-slow.txt "$work"
-	(cd "$work" && recipe collect.awk compare-a.txt compare-refused.txt compare-too-slow.txt >energies.tsv)
+	(cd "$work" && tool collect compare-a.txt compare-refused.txt compare-too-slow.txt >energies.tsv)
 	same "collect: a table" 0 energies.tsv cat "$work/energies.tsv"
 	: >"$work/empty.txt"
 	cat "$expected/compare-a.txt" "$expected/energy.txt" >"$work/more.txt"
-	same "collect: no answer, and another side" 0 more.tsv recipe collect.awk "$work/empty.txt" "$work/more.txt"
+	same "collect: no answer, and another side" 0 more.tsv tool collect "$work/empty.txt" "$work/more.txt"
 	cat "$expected/energy.txt" "$expected/energy.txt" >"$work/twice.txt"
-	refuses "collect: a side twice" 1 "" "collect.awk: twice.txt: the side governor stands twice; write its lines into a new file" from /dev/null recipe_in "$work" collect.awk twice.txt
-	refuses "collect: another file" 1 "" "collect.awk: points.txt: \"point 0 0\" is no line of compare or yds-energy" from /dev/null recipe_in "$expected" collect.awk points.txt
-	if want jq; then
-		(cd "$expected" && jq -rRn -f "$here/reports.jq" report-a.json report-refused.json) >"$work/reports.tsv" 2>&1
-		same "report: a table" 0 reports.tsv cat "$work/reports.tsv"
-	fi
+	refuses "collect: a side twice" 1 "" "yds-collect: twice.txt, line 9, column 1: the side governor stands twice; write its lines into a new file" from /dev/null tool_in "$work" collect twice.txt
+	refuses "collect: another file" 1 "" "yds-collect: points.txt, line 2: \"point 0 0\" is no line of compare or yds-energy" from /dev/null tool_in "$expected" collect points.txt
+	tool_in "$expected" reports report-a.json report-refused.json >"$work/reports.tsv" 2>&1
+	same "report: a table" 0 reports.tsv cat "$work/reports.tsv"
 	want compare || return
 	mkdir "$work/answers"
 	printf '%s\0' folder/*.txt | YDS=$YDS OUT=$work/answers xargs -0 -n1 -P4 sh -c '"$YDS" compare --grid 1000 <"$1" >"$OUT/$(basename "$1")"; printf "%s\t%s\n" $? "$1"' sh | sort -k2 >"$work/statuses"
 	same "folder: through xargs" 0 statuses.tsv cat "$work/statuses"
-	same "folder: its table" 0 folder.tsv recipe collect.awk "$work"/answers/*.txt
+	same "folder: its table" 0 folder.tsv tool collect "$work"/answers/*.txt
 	want parallel || return
 	(YDS=$YDS parallel --will-cite -j4 --joblog "$work/log" --results "$work/para/{/.}.txt" '"$YDS" compare --grid 1000 < {}' ::: folder/*.txt) >/dev/null 2>&1
 	if [ $? = 2 ]; then pass; else fail "folder: parallel's status is the number of documents without an answer"; fi
-	same "folder: through parallel" 0 folder.tsv recipe collect.awk "$work"/para/*.txt
+	same "folder: through parallel" 0 folder.tsv tool collect "$work"/para/*.txt
 }
+tool_in() { (cd "$1" && shift && tool "$@"); }
 recipe_in() { (cd "$1" && shift && recipe "$@"); }
 
 test_page() {
@@ -429,8 +426,8 @@ commands_of() {
 			case $(cat "$title") in
 			"Long traces and many machines" | "A window that is always open") [ -n "${HOUR:-}" ] || { left_out=$((left_out + 1)); echo "tried with HOUR=1 alone: ${page##*/}, $(cat "$title")"; continue; } ;;
 			esac
-			words=$(cat "$section".*.command | grep -oE 'yds_cli [a-z]+( --json)?|plot\.sh|yds-plot|jq |rtapp\.sh|yds-rtapp|yds-reports|parallel ' |
-				sed 's/.*--json/json/; s/yds_cli //; s/^plot.sh\|^yds-plot/gnuplot/; s/^rtapp.sh\|^yds-r.*/jq/' | sort -u)
+			words=$(cat "$section".*.command | grep -oE 'yds_cli [a-z]+( --json)?|plot\.sh|yds-plot|jq |parallel ' |
+				sed 's/.*--json/json/; s/yds_cli //; s/^plot.sh\|^yds-plot/gnuplot/' | sort -u)
 			# shellcheck disable=SC2086
 			want $words || continue
 			mkdir -p "$section.folder/bin" "$section.folder/build"

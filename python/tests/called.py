@@ -24,7 +24,9 @@ def call(name: str, *words: object, given: bytes = b"") -> Called:
     """Calls the command of this name, without yds-, with these words and this standard input."""
     main = import_module(f"yds.commands.{name}").main
     streams = [io.TextIOWrapper(io.BytesIO(text), encoding="utf-8", newline="") for text in (given, b"", b"")]
-    with mock.patch("sys.stdin", streams[0]), mock.patch("sys.stdout", streams[1]), mock.patch("sys.stderr", streams[2]):
+    with mock.patch("sys.stdin", streams[0]), mock.patch("sys.stdout", streams[1]), mock.patch(
+        "sys.stderr", streams[2]
+    ):
         status = main([str(word) for word in words])
         sys.stdout.flush()
         sys.stderr.flush()

@@ -63,10 +63,15 @@ class EnergyTest(unittest.TestCase):
             first = min([release for release, _, _ in document.jobs.values()] + [span[1] for span in document.spans])
             last = max([deadline for _, deadline, _ in document.jobs.values()] + [span[2] for span in document.spans])
             busy = sum((end - start for _, start, end, _ in document.spans), Fraction(0))
-            spent = sum((power_at(work / (end - start), points) * (end - start) for _, start, end, work in document.spans), Fraction(0))
+            spent = sum(
+                (power_at(work / (end - start), points) * (end - start) for _, start, end, work in document.spans),
+                Fraction(0),
+            )
             found = exact(lines[0].split()[2])
             rounded = "# rounded to thousandths" in lines
-            self.assertLessEqual(abs(found - spent - 3 * (last - first - busy)), Fraction(1, 2000) if rounded else 0, text)
+            self.assertLessEqual(
+                abs(found - spent - 3 * (last - first - busy)), Fraction(1, 2000) if rounded else 0, text
+            )
             times = [exact(line.split()[3]) for line in lines[1:6]]
             self.assertLessEqual(abs(sum(times) - (last - first)), Fraction(len(times), 2000) if rounded else 0, text)
             self.check_misses(called.out, called.status, document)
@@ -117,26 +122,46 @@ class EnergyTest(unittest.TestCase):
         with mock.patch("yds.commands.energy.of_environment", lambda: answer):
             for most, status in (("49.9", 1), ("50", 0), ("60", 0)):
                 called = call("energy", "--most-waste", most, given=text)
-                self.assertEqual((called.status, called.out.splitlines()[-1]), (status, "# trace spends 50.0 % more than the least"))
+                self.assertEqual(
+                    (called.status, called.out.splitlines()[-1]), (status, "# trace spends 50.0 % more than the least")
+                )
             answer.return_value = (1, b"too-slow work 100 length 1 top 5\n")
-            self.assertEqual(call("energy", "--most-waste", "9", given=text), (1, "", "yds-energy: the least isn't known: too-slow work 100 length 1 top 5\n"))
+            self.assertEqual(
+                call("energy", "--most-waste", "9", given=text),
+                (1, "", "yds-energy: the least isn't known: too-slow work 100 length 1 top 5\n"),
+            )
         from yds._least import judged
 
-        self.assertEqual(judged(Fraction(15), (Fraction(10), Fraction(12)), Fraction(40)), (False, "spends from 25.0 to 50.0 % more than the least, which leaves open whether it is more than 40.0 %"))
+        self.assertEqual(
+            judged(Fraction(15), (Fraction(10), Fraction(12)), Fraction(40)),
+            (False, "spends from 25.0 to 50.0 % more than the least, which leaves open whether it is more than 40.0 %"),
+        )
         self.assertEqual(judged(Fraction(18), (Fraction(10), Fraction(12)), Fraction(40))[0], True)
 
     def test_faults(self) -> None:
         for text, told in [
             ("job a 0 9 4\n", "no point line; put the points before the document, as yds-join points.txt trace.txt"),
             (POINTS, "no job line"),
-            (POINTS + "job a 0 9 4\n", "no slot and no run line; the input is a trace's document, or the answer of plan, round, avr or oa"),
-            (POINTS + "job a 0 9 4\nslot a 0 2 4\nslot a 1 3 4\n", "line 8, column 8: it begins before the slot above it has ended; sort them, or see what yds_cli audit says"),
-            (POINTS + "job a 0 9 4\nslot a 0 1 401\n", "line 7, column 12: the speed 401 from 0 to 1 is above the top point 400"),
+            (
+                POINTS + "job a 0 9 4\n",
+                "no slot and no run line; the input is a trace's document, or the answer of plan, round, avr or oa",
+            ),
+            (
+                POINTS + "job a 0 9 4\nslot a 0 2 4\nslot a 1 3 4\n",
+                "line 8, column 8: it begins before the slot above it has ended; sort them, or see what yds_cli audit says",
+            ),
+            (
+                POINTS + "job a 0 9 4\nslot a 0 1 401\n",
+                "line 7, column 12: the speed 401 from 0 to 1 is above the top point 400",
+            ),
         ]:
             self.assertEqual(call("energy", given=text.encode()), (1, "", f"yds-energy: {told}\n"))
         for words in (["--at", "x"], ["--name", "a b"], ["--name", "#"], ["--most-waste", "-1"]):
             self.assertEqual(call("energy", *words)[:2], (2, ""))
-        self.assertEqual(call("energy", "--at", "50", given=(POINTS + "job a 0 9 4\n").encode()).err, "yds-energy: no point has the speed 50\n")
+        self.assertEqual(
+            call("energy", "--at", "50", given=(POINTS + "job a 0 9 4\n").encode()).err,
+            "yds-energy: no point has the speed 50\n",
+        )
 
     def test_each_broken_field(self) -> None:
         text = ["point 0 0", "point 9 9", "job a 0 9 4", "ticks 2", "run a 2 4 4"]
@@ -182,24 +207,54 @@ class BatteryTest(unittest.TestCase):
         """400 units of 10 uW in 10 units of time are 0.4 mW, of 660 mWh: 1650 hours. In 20, with 10 units idle at 5: 0.225."""
         head = b"# power unit 10 uW\npoint 0 0\npoint 10 80\n"
         called = call("battery", *self.WORDS, "--period", "10", given=head + self.LINES)
-        self.assertEqual(called.out, "side\tmilliwatts\thours\tof plan (%)\nplan\t0.400\t1650.0\t100.0\nflat\t0.800\t825.0\t50.0\n")
+        self.assertEqual(
+            called.out, "side\tmilliwatts\thours\tof plan (%)\nplan\t0.400\t1650.0\t100.0\nflat\t0.800\t825.0\t50.0\n"
+        )
         idle = b"# power unit 10 uW\n# period 20\npoint 0 5\npoint 10 75\n"
         lines = self.LINES.replace(b"flat energy 800", b"flat energy 750")
         rows = call("battery", *self.WORDS, "--other", "0.1", given=idle + lines).out.splitlines()
         self.assertEqual(rows[1:], ["plan\t0.325\t2030.8\t100.0", "flat\t0.500\t1320.0\t65.0"])
-        self.assertEqual(call("battery", *self.WORDS, "--uw", "10", "--period", "1000", EXPECTED / "compare-sensor.txt").out, (EXPECTED / "battery.tsv").read_text())
+        self.assertEqual(
+            call("battery", *self.WORDS, "--uw", "10", "--period", "1000", EXPECTED / "compare-sensor.txt").out,
+            (EXPECTED / "battery.tsv").read_text(),
+        )
 
     def test_what_is_refused_or_told(self) -> None:
         points = b"# power unit 10 uW\npoint 0 0\npoint 10 80\n"
         for text, words, status, told in [
             (points + self.LINES, (), 2, "no period is told; give --period"),
-            (b"# no period: jobs are missing\n" + points + self.LINES, (), 2, "no period is told (no period: jobs are missing); give --period"),
+            (
+                b"# no period: jobs are missing\n" + points + self.LINES,
+                (),
+                2,
+                "no period is told (no period: jobs are missing); give --period",
+            ),
             (self.LINES, ("--period", "10"), 2, "no unit of power; give --uw"),
             (points + self.LINES, ("--period", "9"), 1, "the side plan takes 10 units of time, and the period is 9"),
-            (self.LINES, ("--uw", "1", "--period", "20"), 1, "the side plan takes 10 of the 20 units of time of the period"),
-            (points.replace(b"80", b"81") + self.LINES, ("--period", "10"), 1, "the energy of plan isn't power times time on these points"),
-            (points.replace(b"point 10", b"point 11") + self.LINES, ("--period", "10"), 1, "no point has the speed 10 of plan"),
-            (points + points.replace(b"80", b"70") + self.LINES, ("--period", "10"), 1, "line 6: the points differ: point 10 70 here, and point 10 80 before"),
+            (
+                self.LINES,
+                ("--uw", "1", "--period", "20"),
+                1,
+                "the side plan takes 10 of the 20 units of time of the period",
+            ),
+            (
+                points.replace(b"80", b"81") + self.LINES,
+                ("--period", "10"),
+                1,
+                "the energy of plan isn't power times time on these points",
+            ),
+            (
+                points.replace(b"point 10", b"point 11") + self.LINES,
+                ("--period", "10"),
+                1,
+                "no point has the speed 10 of plan",
+            ),
+            (
+                points + points.replace(b"80", b"70") + self.LINES,
+                ("--period", "10"),
+                1,
+                "line 6: the points differ: point 10 70 here, and point 10 80 before",
+            ),
             (points + b"point 0 0\n" + self.LINES, ("--period", "10"), 1, "the points differ: 2 of them and then 1"),
             (points + self.LINES + self.LINES, ("--period", "10"), 1, "line 10, column 1: the side plan stands twice"),
             (points + self.LINES[16:], ("--period", "10"), 1, "no plan among the sides"),
@@ -211,13 +266,23 @@ class BatteryTest(unittest.TestCase):
             called = call("battery", *self.WORDS, *words, given=text)
             self.assertEqual((called.status, called.out), (status, ""), told)
             self.assertIn(told, called.err)
-        late = points + self.LINES + b"# flat misses 3 deadlines, the first a\n# 2 jobs written, 1 left out\n# not due by 9: b\navr too-slow units 1 from 0 to 1 top 1\n"
+        late = (
+            points
+            + self.LINES
+            + b"# flat misses 3 deadlines, the first a\n# 2 jobs written, 1 left out\n# not due by 9: b\navr too-slow units 1 from 0 to 1 top 1\n"
+        )
         self.assertEqual(call("battery", *self.WORDS, "--period", "10", given=late).out.splitlines()[2:], [
             "flat\tmisses 3\t-\t-", "avr\ttoo slow\t-\t-", "# 1 job was left out of the document, with its energy", "# not due by 9: b: this energy is in no line",
         ])  # fmt: skip
 
     def test_words(self) -> None:
-        for words in (["--mah", "0", "--volts", "3"], ["--mah", "9"], ["--mah", "x", "--volts", "3"], [*self.WORDS, "--other", "-1"], [*self.WORDS, "--period", "0"]):
+        for words in (
+            ["--mah", "0", "--volts", "3"],
+            ["--mah", "9"],
+            ["--mah", "x", "--volts", "3"],
+            [*self.WORDS, "--other", "-1"],
+            [*self.WORDS, "--period", "0"],
+        ):
             self.assertEqual(call("battery", *words).status, 2)
 
     def test_drawn_sides(self) -> None:
@@ -225,7 +290,9 @@ class BatteryTest(unittest.TestCase):
         pick = random.Random(4)
         for _ in range(2000):
             idle, power, unit = pick.randrange(9), pick.randrange(10, 900), pick.choice([1, 10, 1000])
-            sides: Dict[str, Tuple[int, int]] = {name: (pick.randrange(0, 50), pick.randrange(1, 50)) for name in ("plan", "avr", "x")}
+            sides: Dict[str, Tuple[int, int]] = {
+                name: (pick.randrange(0, 50), pick.randrange(1, 50)) for name in ("plan", "avr", "x")
+            }
             period = 100 + pick.randrange(200)
             text = f"# power unit {unit} uW\n# period {period}\npoint 0 {idle}\npoint 7 {power}\n"
             for name, (resting, running) in sides.items():
@@ -241,7 +308,13 @@ class BatteryTest(unittest.TestCase):
         text = ["# power unit 10 uW", "point 0 0", "point 10 80", "plan energy 400", "plan time 0 5", "plan time 10 5"]
         for place, line in enumerate(text[1:], 1):
             for wrong in broken(line, 1 if line.startswith("point") else 2):
-                called = call("battery", *self.WORDS, "--period", "10", given="\n".join([*text[:place], wrong, *text[place + 1 :]]).encode())
+                called = call(
+                    "battery",
+                    *self.WORDS,
+                    "--period",
+                    "10",
+                    given="\n".join([*text[:place], wrong, *text[place + 1 :]]).encode(),
+                )
                 self.assertEqual((called.status, called.out), (1, ""), wrong)
 
 

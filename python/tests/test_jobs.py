@@ -87,7 +87,9 @@ def drawn(seed: int) -> str:
         release = pick.randrange(30) if seed % 4 == 0 else 0
         least = last if seed % 4 == 3 else max(1, last - pick.choice([0, 0, 9]))
         work = given.numerator // given.denominator + (0 if seed % 4 == 3 else pick.choice([0, 0, 1, 9]))
-        jobs.append(f"job {name} {release} {release + least} {pick.choice([0, 4, 20, 60]) if seed % 4 == 0 else work}\n")
+        jobs.append(
+            f"job {name} {release} {release + least} {pick.choice([0, 4, 20, 60]) if seed % 4 == 0 else work}\n"
+        )
     return "".join(jobs) + body
 
 
@@ -132,13 +134,25 @@ class JobsTest(unittest.TestCase):
     def test_faults(self) -> None:
         cases = {
             (): "no job line",
-            ("job a 0 9 4",): "no slot and no run line; the input is a trace's document, or the answer of plan, round, avr or oa",
+            (
+                "job a 0 9 4",
+            ): "no slot and no run line; the input is a trace's document, or the answer of plan, round, avr or oa",
             ("job a 0 9 4", "job a 0 9 4"): "line 2, column 5: a second job is named a",
             ("slot a 0 9 4",): "line 1, column 6: no job a stands before this slot",
             ("point 0 0", "point 2 1", "point 2 3"): "line 3, column 7: the points' speeds don't rise",
             ("point 1 0",): "line 1, column 7: the first point has the speed 1; points begin with the power at speed 0",
-            ("point 0 0", "job a 0 9 9", "slot a 0 1 1"): "line 3, column 12: the speed 1 of a is above the top point 0; leave the points out, or give those of this processor",
-            ("point 0 0", "point 9 9", "job a 0 9 9", "slot a 0 1 1", "point 10 9"): "line 5, column 1: a point behind a slot; put all points before the slots",
+            (
+                "point 0 0",
+                "job a 0 9 9",
+                "slot a 0 1 1",
+            ): "line 3, column 12: the speed 1 of a is above the top point 0; leave the points out, or give those of this processor",
+            (
+                "point 0 0",
+                "point 9 9",
+                "job a 0 9 9",
+                "slot a 0 1 1",
+                "point 10 9",
+            ): "line 5, column 1: a point behind a slot; put all points before the slots",
         }
         for text, told in cases.items():
             self.assertEqual(call("jobs", given="\n".join(text).encode()), (1, "", f"yds-jobs: {told}\n"))
@@ -169,7 +183,9 @@ class JobsTest(unittest.TestCase):
                 begin = min((span[1] for span in spans), default=Fraction(release))
                 end = max((span[2] for span in spans), default=Fraction(release))
                 numbers = [begin, end, end - release, deadline - end, max(end - deadline, Fraction(0))]
-                for cell, number, endless in zip(row[3:8], numbers, ["inf" if not spans else "", "inf", "inf", "-inf", "inf"]):
+                for cell, number, endless in zip(
+                    row[3:8], numbers, ["inf" if not spans else "", "inf", "inf", "-inf", "inf"]
+                ):
                     if not done and endless:
                         self.assertEqual(cell, endless, text)
                     else:
@@ -185,7 +201,11 @@ class MissesTest(unittest.TestCase):
             document = Document(text)
             first = audit([], text.encode())[1].decode().split()
             kinds[first[0]] += 1
-            late = {job for job, (_, deadline, _) in document.jobs.items() if any(span[2] > deadline for span in document.of(job))}
+            late = {
+                job
+                for job, (_, deadline, _) in document.jobs.items()
+                if any(span[2] > deadline for span in document.of(job))
+            }
             undone = {job for job, (_, _, wanted) in document.jobs.items() if document.given(job) < wanted}
             is_miss = first[0] == "late" or (first[0] == "work" and first[1] in undone)
             found = missed(text)
@@ -202,16 +222,28 @@ class MissesTest(unittest.TestCase):
             return
         self.assertEqual(words[:2], ["late", "slot"])
         end, deadline = document.end(words[3]), document.jobs[words[3]][1]
-        self.assertEqual((exact(words[4]), words[6], exact(words[-5] if undone else words[-1])), (end, str(deadline), end - deadline), text)
+        self.assertEqual(
+            (exact(words[4]), words[6], exact(words[-5] if undone else words[-1])),
+            (end, str(deadline), end - deadline),
+            text,
+        )
         self.assertEqual(document.spans[int(words[2]) - 1][:3:2], (words[3], end))
 
     def check_verdict(self, found: Misses, document: Document, undone: Set[str]) -> None:
-        early = any(start < document.jobs[job][0] for job, start, _, _ in document.spans if not (job in undone and document.given(job).denominator > 1))
+        early = any(
+            start < document.jobs[job][0]
+            for job, start, _, _ in document.spans
+            if not (job in undone and document.given(job).denominator > 1)
+        )
         surplus = any(document.given(job) > wanted for job, (_, _, wanted) in document.jobs.items())
         self.assertEqual(found.status, int(early or surplus))
 
     def test_stored_samples(self) -> None:
-        for sample, name in [("trace-elsewhere", "misses-elsewhere"), ("trace-short-late", "misses-short-late"), ("trace-starving", "misses-starving")]:
+        for sample, name in [
+            ("trace-elsewhere", "misses-elsewhere"),
+            ("trace-short-late", "misses-short-late"),
+            ("trace-starving", "misses-starving"),
+        ]:
             text = (EXPECTED / f"{sample}.txt").read_text()
             wanted = (EXPECTED / f"{name}.txt").read_text().splitlines()
             self.assertEqual([miss.text for miss in missed(text).missed], wanted[:-1])
@@ -219,14 +251,29 @@ class MissesTest(unittest.TestCase):
     def test_words_and_ends(self) -> None:
         with mock.patch("yds.commands.misses.of_environment", lambda: audit):
             for text, status, wanted in [
-                ("job a 0 9 0\njob b 0 9 4\nslot b 0 4 4\n", 0, "# 1 job has no work: it needs nothing and is in time, the first a\nfeasible\n"),
+                (
+                    "job a 0 9 0\njob b 0 9 4\nslot b 0 4 4\n",
+                    0,
+                    "# 1 job has no work: it needs nothing and is in time, the first a\nfeasible\n",
+                ),
                 ("job b 0 9 4\nslot b 0 10 4\n", 1, "late slot 1 b 10 deadline 9, by 1\n1 missed deadline\n"),
-                ("job b 0 9 4\nslot b 0 10 3\n", 1, "late slot 1 b 10 deadline 9, by at least 1: given 3 wanted 4\n1 missed deadline\n"),
+                (
+                    "job b 0 9 4\nslot b 0 10 3\n",
+                    1,
+                    "late slot 1 b 10 deadline 9, by at least 1: given 3 wanted 4\n1 missed deadline\n",
+                ),
                 ("job b 3 9 4\nslot b 0 10 3\n", 1, "early slot 1 b\n"),
-                ("# time 0 is 9.5 s\n# time unit 1000 us\njob a 0 4 2\njob b 0 4 2\n", 1, "work a given 0 wanted 2 # due at 9.504000 s\nwork b given 0 wanted 2 # due at 9.504000 s\n2 missed deadlines\n"),
+                (
+                    "# time 0 is 9.5 s\n# time unit 1000 us\njob a 0 4 2\njob b 0 4 2\n",
+                    1,
+                    "work a given 0 wanted 2 # due at 9.504000 s\nwork b given 0 wanted 2 # due at 9.504000 s\n2 missed deadlines\n",
+                ),
             ]:
                 self.assertEqual(call("misses", given=text.encode()), (status, wanted, ""))
-            self.assertEqual(call("misses", "/dev/null").err, "yds-misses: /dev/null has no job, so no deadline was met; look at what wrote it\n")
+            self.assertEqual(
+                call("misses", "/dev/null").err,
+                "yds-misses: /dev/null has no job, so no deadline was met; look at what wrote it\n",
+            )
         refusing = mock.Mock(return_value=(3, b"refused 1 1 UnknownKind\n"))
         with mock.patch("yds.commands.misses.of_environment", lambda: refusing):
             self.assertEqual(call("misses", given=b"job a\n"), (1, "refused 1 1 UnknownKind\n", ""))
@@ -235,7 +282,10 @@ class MissesTest(unittest.TestCase):
         """5,000 jobs, of which 3 are late and one gets too little: judged in parts."""
         jobs = [f"job j{place} {place * 10} {place * 10 + 9} 4\n" for place in range(5000)]
         ends = {7: 10, 2500: 10, 4999: 10}
-        slots = [f"slot j{place} {place * 10} {place * 10 + ends.get(place, 8)} {3 if place == 4000 else 4}\n" for place in range(5000)]
+        slots = [
+            f"slot j{place} {place * 10} {place * 10 + ends.get(place, 8)} {3 if place == 4000 else 4}\n"
+            for place in range(5000)
+        ]
         found = missed("".join(jobs + slots))
         self.assertEqual([miss.text for miss in found.missed], [
             "late slot 8 j7 80 deadline 79, by 1",
@@ -256,10 +306,26 @@ class ExplainTest(unittest.TestCase):
             ("K2 level 2", "piece 0 2\n:piece 0 3\n", "the piece 0 3 of level 2 overlaps the piece 2 10 of level 1\n"),
             ("K2 level 1", "piece 2 10\n:", "level 1 has no piece; expected at least one\n"),
             ("K3 job a", "member a\n:", "the job a wants 4: found in 0 member lines, expected in one\n"),
-            ("K4 level 1", "level 8 8:level 9 8", "work: the level's line says 9, and its members b want 8 together\nlength: the level's line says 8, and its pieces are 8 long together\n"),
-            ("K5 level 2", "level 4 4:level 4 3", "level 2 has the work 4 and the length 3: found the speed 1.33333333333333\nlevel 1 has the work 8 and the length 8: expected at most the speed 1\n"),
-            ("K6 job a", "piece 10 12\n:", "the window of a is 0 to 12, and its level is 2\nno piece of the levels 1 to 2 has the time from 10 to 12\n"),
-            ("K7 slot 1", "slot a 0 2 2:slot a 0 2 3", "slot a 0 2 3: found the speed 1.5\nlevel 2 has the work 4 and the length 4: expected the speed 1\n"),
+            (
+                "K4 level 1",
+                "level 8 8:level 9 8",
+                "work: the level's line says 9, and its members b want 8 together\nlength: the level's line says 8, and its pieces are 8 long together\n",
+            ),
+            (
+                "K5 level 2",
+                "level 4 4:level 4 3",
+                "level 2 has the work 4 and the length 3: found the speed 1.33333333333333\nlevel 1 has the work 8 and the length 8: expected at most the speed 1\n",
+            ),
+            (
+                "K6 job a",
+                "piece 10 12\n:",
+                "the window of a is 0 to 12, and its level is 2\nno piece of the levels 1 to 2 has the time from 10 to 12\n",
+            ),
+            (
+                "K7 slot 1",
+                "slot a 0 2 2:slot a 0 2 3",
+                "slot a 0 2 3: found the speed 1.5\nlevel 2 has the work 4 and the length 4: expected the speed 1\n",
+            ),
         ]:
             old, _, new = changed.partition(":")
             text = (self.HEAD.replace(old, new) if old else self.HEAD) + verdict + "\n"
@@ -277,7 +343,9 @@ class ExplainTest(unittest.TestCase):
             self.assertEqual(call("explain", given=text.encode()), (1, "", f"yds-explain: {told}\n"))
         for line in ("level 8 8", "piece 2 10"):
             for wrong in broken(line):
-                self.assertEqual(call("explain", given=(self.HEAD.replace(line, wrong) + "K5 level 2\n").encode()).status, 1, wrong)
+                self.assertEqual(
+                    call("explain", given=(self.HEAD.replace(line, wrong) + "K5 level 2\n").encode()).status, 1, wrong
+                )
 
 
 if __name__ == "__main__":

@@ -28,8 +28,14 @@ point 0 1
 
     def test_faults(self) -> None:
         for text, told in [
-            (b"job a 0 9 4\nslot a 0 9 4\n", 'line 2, column 1: "slot" doesn\'t grow with the work; give jobs or tasks alone'),
-            (b"job a 0 9 900000\n", "line 1, column 11: the work becomes 1080000, above 1000000; take a coarser unit of work"),
+            (
+                b"job a 0 9 4\nslot a 0 9 4\n",
+                'line 2, column 1: "slot" doesn\'t grow with the work; give jobs or tasks alone',
+            ),
+            (
+                b"job a 0 9 900000\n",
+                "line 1, column 11: the work becomes 1080000, above 1000000; take a coarser unit of work",
+            ),
             (b"# nothing\n", "no job and no task line"),
             (b"failed\n", "line 1: the input is an answer of no: failed"),
         ]:

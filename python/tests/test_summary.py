@@ -58,7 +58,9 @@ own\t2\t0\t1\t1\t1.30000\t1.30000\t1.40000\td
         self.assertEqual(call("summary", "a", "b").status, 2)
 
     def test_stored_tables(self) -> None:
-        self.assertEqual(call("summary", EXPECTED / "folder.tsv").out.split("\n")[1], "avr\t3\t0\t0\t0\t1.03892\t1.05389\t1.06287\tb")
+        self.assertEqual(
+            call("summary", EXPECTED / "folder.tsv").out.split("\n")[1], "avr\t3\t0\t0\t0\t1.03892\t1.05389\t1.06287\tb"
+        )
 
     def test_drawn_tables(self) -> None:
         """Means, medians and greatest are those of sums and sorted lists in decimals of 40 digits: a second reading."""
@@ -69,14 +71,21 @@ own\t2\t0\t1\t1\t1.30000\t1.30000\t1.40000\td
                 row = {side: Decimal(drawn.randrange(1, 10**7)).scaleb(-6) for side in ("plan", "avr", "own")}
                 rows.append({side: None if side != "plan" and drawn.randrange(4) == 0 else row[side] for side in row})
             cells = ["\t".join("-" if value is None else f"{value:.6f}" for value in row.values()) for row in rows]
-            text = "document\tplan\tavr\town\tanswer\n" + "".join(f"d{place}\t{cell}\tok\n" for place, cell in enumerate(cells))
+            text = "document\tplan\tavr\town\tanswer\n" + "".join(
+                f"d{place}\t{cell}\tok\n" for place, cell in enumerate(cells)
+            )
             found = dict(line.split("\t", 1) for line in call("summary", given=text.encode()).out.splitlines()[1:3])
             for side in ("avr", "own"):
                 self.assertEqual(found[side], self.by_decimals(side, rows), text)
 
     @staticmethod
     def by_decimals(side: str, rows: List[Dict[str, Optional[Decimal]]]) -> str:
-        ratios = [(Decimal(value) / Decimal(row["plan"] or 0), place) for place, row in enumerate(rows) for value in [row[side]] if value is not None]
+        ratios = [
+            (Decimal(value) / Decimal(row["plan"] or 0), place)
+            for place, row in enumerate(rows)
+            for value in [row[side]]
+            if value is not None
+        ]
         missing = len(rows) - len(ratios)
         counts = [len(ratios), missing if side == "avr" else 0, 0, 0 if side == "avr" else missing]
         if not ratios:

@@ -6,7 +6,23 @@ from typing import List
 
 from called import broken
 from yds._heads import MOST_BYTES
-from yds._text import Comment, Fault, Horizon, Job, Line, Other, Point, Row, Rows, Slot, Task, Ticks, base, lines_of, printable
+from yds._text import (
+    Comment,
+    Fault,
+    Horizon,
+    Job,
+    Line,
+    Other,
+    Point,
+    Row,
+    Rows,
+    Slot,
+    Task,
+    Ticks,
+    base,
+    lines_of,
+    printable,
+)
 
 
 def rows(text: str) -> List[Row]:
@@ -15,7 +31,11 @@ def rows(text: str) -> List[Row]:
 
 class RowsTest(unittest.TestCase):
     def test_each_kind_of_row(self) -> None:
-        found = rows("# a\xb5 b\r\n\n \t\njob a 0 4 8\n task t 0 10 10 5\npoint 2 30\r\nhorizon 40\nslot a 0 1+1/3 8/1x\n".replace("8/1x", "2+1/2"))
+        found = rows(
+            "# a\xb5 b\r\n\n \t\njob a 0 4 8\n task t 0 10 10 5\npoint 2 30\r\nhorizon 40\nslot a 0 1+1/3 8/1x\n".replace(
+                "8/1x", "2+1/2"
+            )
+        )
         self.assertEqual([type(row) for row in found], [Comment, Job, Task, Point, Horizon, Slot])
         self.assertEqual([row.line.number for row in found], [1, 4, 5, 6, 7, 8])
         self.assertEqual(found[0][1], "# a\xb5 b")
@@ -40,10 +60,19 @@ class RowsTest(unittest.TestCase):
             ("job a 0 4\n", "x.txt, line 1, column 10: a job wants NAME RELEASE DEADLINE WORK, in whole numbers"),
             ("run a 0 4 1\n", "x.txt, line 1, column 1: a run before any line of ticks"),
             ("slot a 4 4 1\n", "x.txt, line 1, column 10: a slot without length"),
-            ("slot a 0 1+1/0 1\n", "x.txt, line 1, column 10: a slot wants NAME FROM TO WORK, in numbers or fractions W+N/D"),
+            (
+                "slot a 0 1+1/0 1\n",
+                "x.txt, line 1, column 10: a slot wants NAME FROM TO WORK, in numbers or fractions W+N/D",
+            ),
             (" failed\n", "x.txt, line 1: the input is an answer of no:  failed"),
-            ("# time unit 10 us\n# time unit 100 us\n", "x.txt, line 2, column 3: a unit of time of 100 us here and 10 us before; give both the same --us"),
-            ("# speed unit 10 kHz, power unit 1 uW\n# a power unit 2 uW\n", "x.txt, line 2, column 5: a unit of power of 2 uW here and 1 uW before; give the points of one --uw"),
+            (
+                "# time unit 10 us\n# time unit 100 us\n",
+                "x.txt, line 2, column 3: a unit of time of 100 us here and 10 us before; give both the same --us",
+            ),
+            (
+                "# speed unit 10 kHz, power unit 1 uW\n# a power unit 2 uW\n",
+                "x.txt, line 2, column 5: a unit of power of 2 uW here and 1 uW before; give the points of one --uw",
+            ),
         ]:
             with self.subTest(text), self.assertRaises(Fault) as raised:
                 rows(text)
@@ -51,7 +80,9 @@ class RowsTest(unittest.TestCase):
         self.assertEqual(str(Line("-", 3, "a b").fault("wrong", 1)), "line 3, column 3: wrong")
 
     def test_units_that_are_spelled_otherwise_are_the_same(self) -> None:
-        self.assertEqual(len(rows("# time unit 10 us\n# time unit 10.0 us\n# power unit .5 uW\n# power unit 0.50 uW\n")), 4)
+        self.assertEqual(
+            len(rows("# time unit 10 us\n# time unit 10.0 us\n# power unit .5 uW\n# power unit 0.50 uW\n")), 4
+        )
 
     def test_a_line_without_an_end(self) -> None:
         with self.assertRaises(Fault) as raised:

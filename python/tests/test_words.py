@@ -31,7 +31,11 @@ def started(*words: object, **named: object) -> "subprocess.CompletedProcess[byt
 
 class ParseTest(unittest.TestCase):
     def test_options_and_files_in_any_order(self) -> None:
-        for words in (["a", "--most", "3", "b", "--all"], ["--most=3", "--all", "a", "b"], ["-m", "3", "a", "--all", "--", "b"]):
+        for words in (
+            ["a", "--most", "3", "b", "--all"],
+            ["--most=3", "--all", "a", "b"],
+            ["-m", "3", "a", "--all", "--", "b"],
+        ):
             given = parse(TABLE, words)
             self.assertEqual((given.most, given.all, given.files), ("3", True, ["a", "b"]))
         self.assertEqual(parse(TABLE, ["-", "--", "--most"]).files, ["-", "--most"])
@@ -71,7 +75,9 @@ class EveryCommandTest(unittest.TestCase):
                         self.assertIn(word.rstrip("=").replace("-", "\\-"), page.out)
                 self.assertLessEqual(max(map(len, shown.out.split("\n"))), 120)
                 self.assertIn(f"yds-{name}", shown.out)
-                self.assertEqual(call(name, "--version").out.split("\n")[0], f"yds-{name} {_words.VERSION}, of the package yds")
+                self.assertEqual(
+                    call(name, "--version").out.split("\n")[0], f"yds-{name} {_words.VERSION}, of the package yds"
+                )
 
     def test_words_that_no_command_takes(self) -> None:
         for path in MODULES:
@@ -136,7 +142,10 @@ class EndsTest(unittest.TestCase):
         with mock.patch("sys.stderr", io.TextIOWrapper(io.BytesIO())) as err:
             self.assertEqual(_words.run(TABLE, ["a"], wanting), 1)
             self.assertEqual(err.buffer.getvalue(), b"yds-try: there isn't memory enough\n")  # type: ignore[attr-defined]
-        self.assertEqual(call("scale", "--work", "2", "no\x1b[2Jwhere").err, "yds-scale: no?[2Jwhere can't be read: No such file or directory\n")
+        self.assertEqual(
+            call("scale", "--work", "2", "no\x1b[2Jwhere").err,
+            "yds-scale: no?[2Jwhere can't be read: No such file or directory\n",
+        )
 
 
 if __name__ == "__main__":

@@ -19,7 +19,9 @@ LESS_THAN_UNIT = "late by less than a unit of time"
 _NOTE = re.compile(
     r"# (left out|late, without its runs|not ended|late in a run within one tick|late by less than a unit of time): (.+)"
 ).match
-_END = re.compile(r"(?:, (at least |not ended )?([0-9.]+) ms after its deadline)?(?:; window (-?[0-9]+) (-?[0-9]+))?").fullmatch
+_END = re.compile(
+    r"(?:, (at least |not ended )?([0-9.]+) ms after its deadline)?(?:; window (-?[0-9]+) (-?[0-9]+))?"
+).fullmatch
 
 
 class Note(NamedTuple):
@@ -163,7 +165,9 @@ class Missing:
 def left_out_of(number: int) -> str:
     """So many jobs were left out of the document."""
     return counted(
-        number, "job was left out of the document, with its energy", "jobs were left out of the document, with their energy"
+        number,
+        "job was left out of the document, with its energy",
+        "jobs were left out of the document, with their energy",
     )
 
 
@@ -178,7 +182,9 @@ def unknown_works(number: int, first: str) -> str:
     return (
         "the work of "
         + counted(
-            number, "job isn't known, since it never ended or has no runs", "jobs isn't known, since they never ended or have no runs"
+            number,
+            "job isn't known, since it never ended or has no runs",
+            "jobs isn't known, since they never ended or have no runs",
         )
         + f": what serves them whole may spend more and be later, the first {first}"
     )
@@ -187,7 +193,9 @@ def unknown_works(number: int, first: str) -> str:
 def workless(number: int, first: str) -> str:
     """A comment that tells of jobs without work."""
     told = counted(
-        number, "job has no work: it needs nothing and is in time", "jobs have no work: they need nothing and are in time"
+        number,
+        "job has no work: it needs nothing and is in time",
+        "jobs have no work: they need nothing and are in time",
     )
     return f"# {told}, the first {first}"
 

@@ -13,7 +13,12 @@ KILOHERTZ = {"hz": Fraction(1, 1000), "khz": Fraction(1), "mhz": Fraction(1000),
 MICRO = {
     f"{scale}{unit}": factor
     for unit in "wa"
-    for scale, factor in (("n", Fraction(1, 1000)), ("u", Fraction(1)), ("m", Fraction(1000)), ("", Fraction(1_000_000)))
+    for scale, factor in (
+        ("n", Fraction(1, 1000)),
+        ("u", Fraction(1)),
+        ("m", Fraction(1000)),
+        ("", Fraction(1_000_000)),
+    )
 }
 VOLTS = {"v": Fraction(1), "mv": Fraction(1, 1000)}
 NUMBER = re.compile(r"[0-9]{1,30}\.?[0-9]{0,30}|\.[0-9]{1,30}").fullmatch
@@ -81,7 +86,9 @@ class Table:
             if self._has_heading:
                 raise line.fault(f"{more}, and the heading has the units of {len(self._units)}")
             unit = "mA" if current else "mW"
-            kinds = f"a table of two, MHz and {unit}, a heading with the units of more, or --top with frequencies in kHz"
+            kinds = (
+                f"a table of two, MHz and {unit}, a heading with the units of more, or --top with frequencies in kHz"
+            )
             raise line.fault(f"{more}; give {kinds}")
         self._rows += 1
         self._domains.source = "table"
@@ -131,7 +138,9 @@ class Table:
         if self._has_heading:
             raise line.fault("two headings; give a table with one")
         if NUMBER(first):
-            raise line.fault(f"{wrong} is no number; a row has numbers alone, and their units stand in a heading, as MHz,mA")
+            raise line.fault(
+                f"{wrong} is no number; a row has numbers alone, and their units stand in a heading, as MHz,mA"
+            )
         self._has_heading = True
         self._read_units(line, _MICRO_SIGNS.sub("u", text))
 

@@ -111,7 +111,9 @@ class _Node:
         self.is_off = False
 
 
-_TREE = re.compile(r"operating-points-v2|opp-hz|opp-microvolt|opp-microwatt|[{}]|^[ \t]*/\*|^[ \t]*/dts-v1/|^[ \t]*\*").search
+_TREE = re.compile(
+    r"operating-points-v2|opp-hz|opp-microvolt|opp-microwatt|[{}]|^[ \t]*/\*|^[ \t]*/dts-v1/|^[ \t]*\*"
+).search
 _PROPERTY = re.compile(r"(opp-hz|opp-microvolt|opp-microwatt|status) ?=").match
 
 

@@ -53,7 +53,9 @@ class Judged:
         kind = fields[0]
         if len(fields) != _SIZES[kind]:
             raise line.fault(f"a {kind} of {len(fields) - 1} fields", min(len(fields), _SIZES[kind]))
-        numbers = [] if kind == "member" else [int(field) for field in fields[1:] if field.isdigit() and len(field) <= 30]
+        numbers = (
+            [] if kind == "member" else [int(field) for field in fields[1:] if field.isdigit() and len(field) <= 30]
+        )
         if kind != "member" and len(numbers) != 2:
             raise line.fault(f"a {kind} wants two whole numbers", 1)
         if kind == "level":
@@ -79,7 +81,9 @@ class Judged:
         if len(self._verdict) != 3:
             raise Fault(f"{' '.join(self._verdict)} is no answer of check")
         if condition in ("K3", "K6"):
-            return self._member_lines(self._job(self._verdict[2])) if condition == "K3" else self._cover(self._verdict[2])
+            return (
+                self._member_lines(self._job(self._verdict[2])) if condition == "K3" else self._cover(self._verdict[2])
+            )
         number = self._number(self._verdict[2], len(self._slots) if condition == "K7" else len(self._levels))
         explain = {"K2": self._pieces, "K4": self._sums, "K5": self._order, "K7": self._speed}
         return explain[condition](number)

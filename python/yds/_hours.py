@@ -82,8 +82,14 @@ class Prices:
         if self._lists <= 1:
             self.points.append((speed, power))
         elif place >= len(self.points) or self.points[place] != (speed, power):
-            before = f"point {self.points[place][0]} {self.points[place][1]}" if place < len(self.points) else f"{place} points"
-            raise Fault(f"the points differ: point {speed} {power} here, and {before} before; give the points of one device")
+            before = (
+                f"point {self.points[place][0]} {self.points[place][1]}"
+                if place < len(self.points)
+                else f"{place} points"
+            )
+            raise Fault(
+                f"the points differ: point {speed} {power} here, and {before} before; give the points of one device"
+            )
 
     def finish(self) -> None:
         """Says that a list has ended."""

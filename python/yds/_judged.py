@@ -65,9 +65,7 @@ def _copied(lines: Iterable[Line], kept: IO[bytes]) -> Iterator[Line]:
         yield line
 
 
-def _of_the_faulty(
-    fault: Fault, reading: Reading, rest: Iterable[Line], kept: IO[bytes], answer: Answer
-) -> Misses:
+def _of_the_faulty(fault: Fault, reading: Reading, rest: Iterable[Line], kept: IO[bytes], answer: Answer) -> Misses:
     """What audit says of a document in which a line can't be read here: it is the one who says why."""
     for _ in rest:
         pass

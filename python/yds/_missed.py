@@ -51,7 +51,9 @@ class Mended:
     """What keeps each job from being late or unfinished: a later deadline, less work, or no job at all."""
 
     def __init__(self, reading: Reading) -> None:
-        self.deadlines: Dict[str, int] = {job.name: -(-job.end[0] // job.end[1]) for job in reading.held.late if job.end}
+        self.deadlines: Dict[str, int] = {
+            job.name: -(-job.end[0] // job.end[1]) for job in reading.held.late if job.end
+        }
         undone = [job for job in reading.held.jobs if not job.is_done]
         self.works: Dict[str, int] = {job.name: job.work // job.grain for job in undone}
         self.gone: Set[str] = {job.name for job in undone if job.work % job.grain}

@@ -68,7 +68,9 @@ class Prices:
         if self.points and row.speed <= self.points[-1][0]:
             raise row.line.fault("the points' speeds don't rise", 1)
         if not self.points and row.speed:
-            raise row.line.fault(f"the first point has the speed {row.speed}; points begin with the power at speed 0", 1)
+            raise row.line.fault(
+                f"the first point has the speed {row.speed}; points begin with the power at speed 0", 1
+            )
         self._place[row.speed] = len(self.points)
         self.points.append((row.speed, row.power))
         self._corners = []

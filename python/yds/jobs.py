@@ -105,7 +105,6 @@ class _Reading:
         elif note.kind in (WITHIN_TICK, LESS_THAN_UNIT) and note.late is not None:
             self.late_ms[note.job] = note.late
 
-
     def finish(self) -> None:
         """Says that all rows are read."""
         if not self.order:
@@ -190,9 +189,7 @@ class _Filled:
         slack = -late if late else deadline - end
         energy = reading.energies.get(job.name)
         spent = energy.value() if energy else Fraction(0) if reading.prices.points else None
-        return JobRow(
-            job.name, "", release, deadline, self._begin(job), end, end - release, slack, late, False, spent
-        )
+        return JobRow(job.name, "", release, deadline, self._begin(job), end, end - release, slack, late, False, spent)
 
     def _begin(self, job: HeldJob) -> Number:
         told = self._reading.ends.begin.get(job.name)

@@ -213,7 +213,9 @@ class _Counting:
         for place, ((exact_speed, exact_power), (speed, power)) in enumerate(zip(self._states, rows)):
             where = f" at {shown(exact_speed / 1000, 10)} MHz" if place else " idle"
             if speed * khz != exact_speed:
-                told.append(f"# rounded: {shown(exact_speed / 1000, 10)} MHz to {shown(Fraction(speed * khz, 1000), 10)} MHz")
+                told.append(
+                    f"# rounded: {shown(exact_speed / 1000, 10)} MHz to {shown(Fraction(speed * khz, 1000), 10)} MHz"
+                )
             if power * self._watts != exact_power:
                 to = f"{shown(power * self._watts / 1000, 10)} mW"
                 told.append(f"# rounded: {shown(exact_power / 1000, 10)} mW{where} to {to}")

@@ -1,4 +1,4 @@
-"""Tables of many documents: what each policy spends in each, and how much more that is than the plan."""
+"""Tables of many documents: what each policy spends in each, how much more that is than the plan, and their reports."""
 
 from __future__ import annotations
 
@@ -7,9 +7,21 @@ from fractions import Fraction
 from statistics import fmean, median
 from typing import Dict, Iterable, List, NamedTuple, Optional, Sequence, Set, Tuple
 
+from yds._collected import Collected, ReportRow, collect, report
 from yds._text import Fault, Line
 
-__all__ = ["Counts", "Energies", "EnergyRow", "SideSummary", "read_energies", "summary"]
+__all__ = [
+    "Collected",
+    "Counts",
+    "Energies",
+    "EnergyRow",
+    "ReportRow",
+    "SideSummary",
+    "collect",
+    "read_energies",
+    "report",
+    "summary",
+]
 
 _ENERGY = re.compile(r"[0-9]{1,40}(\.[0-9]{1,40})?").fullmatch
 _MISSES = re.compile(r"# (.*?: [^ ]+) misses [0-9]+ deadlines?, ").match

@@ -18,7 +18,7 @@ test_battery() {
 	printf 'MHz,mA\n0,0.002\n4,0.5\n16,1.6\n48,4.6\n' | points --khz 1000 --uw 1 --volts 3 >"$work/points"
 	for horizon in 1000 2000 10000; do
 		printf 'horizon %s\ntask sense 0 1000 50 700\n' $horizon >"$work/tasks"
-		YDS=$YDS AWK=$AWK sh "$here/tasks.sh" "$work/tasks" >"$work/jobs"
+		tool tasks "$work/tasks" >"$work/jobs"
 		cat "$work/points" "$work/jobs" >"$work/device"
 		"$YDS" compare --grid 1000 <"$work/device" >"$work/energies"
 		energy --at 16 "$work/device" >>"$work/energies"
@@ -52,7 +52,7 @@ one_period_and_three() {
 			$AWK -v seed=$seed -v horizon=$horizon 'function draw(n) { state = (1664525 * state + 1013904223) % 4294967296; return int(state / 65536) % n }
 				BEGIN { state = seed; print "horizon " horizon
 					for (t = 0; t < 3; t++) { period = 10 * (1 + draw(4)); if (120 % period) period = 60; offset = draw(period / 2); print "task t" t, offset, period, 1 + draw(period - offset), 1 + draw(40) } }' >"$work/drawn"
-			YDS=$YDS AWK=$AWK sh "$here/tasks.sh" "$work/drawn" >"$work/jobs"
+			tool tasks "$work/drawn" >"$work/jobs"
 			printf '# table: speed unit 1000 kHz, power unit 10 uW\npoint 0 7\npoint 40 900\npoint 200 9000\n' | cat - "$work/jobs" >"$work/drawn-device"
 			"$YDS" compare --grid 720720 <"$work/drawn-device" >"$work/drawn-energies"
 			energy --at 200 "$work/drawn-device" >>"$work/drawn-energies"
@@ -71,7 +71,7 @@ one_period_and_three() {
 # fast and slow: in 16 periods of fast, slow is due once, and with a horizon of 1000 never.
 jobs_that_are_missing() {
 	printf 'horizon 1000\ntask fast 0 10 10 10\ntask slow 500 1000 1000 8000\n' >"$work/tasks"
-	YDS=$YDS AWK=$AWK sh "$here/tasks.sh" lost=cut "$work/tasks" >"$work/jobs"
+	tool tasks --lost cut "$work/tasks" >"$work/jobs"
 	cat "$work/points" "$work/jobs" >"$work/cut"
 	"$YDS" compare --grid 1000 <"$work/cut" >"$work/cut-energies"
 	refuses "battery: jobs are missing" 2 "" \

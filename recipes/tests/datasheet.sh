@@ -245,8 +245,8 @@ trace time 10 0
 	(printf 'plan energy 50\nplan time 0 5\nplan time 1 0\nplan time 10 5\n' && energy --name flat-out --at 10 "$work/late-run" && energy "$work/late-run") >"$work/lines"
 	text "collect: one speed of a late trace has its energy" 0 "document	plan	avr	oa	flat-out	trace	rounded	answer
 lines	50.000000	-	-	100.000000	-	-	ok
-# lines: trace misses 1 deadline, the first a" recipe collect.awk "$work/lines"
-	recipe collect.awk "$work/lines" >"$work/lines.tsv"
+# lines: trace misses 1 deadline, the first a" tool collect "$work/lines"
+	tool collect "$work/lines" >"$work/lines.tsv"
 	text "summary: one speed of a late trace misses nothing" 0 "side	documents	too slow	misses	without	mean	median	greatest	in
 avr	0	1	0	0	-	-	-	-
 oa	0	1	0	0	-	-	-	-
@@ -255,7 +255,7 @@ trace	0	0	1	0	-	-	-	-
 # 1 documents, 1 compared" tool summary "$work/lines.tsv"
 	seed=1
 	while [ $seed -le 40 ]; do
-		(printf 'point 0 1\npoint 3 9\n' && recipe draw.awk -v seed=$seed -v jobs=12 -v release=60 -v window=20 -v work=9) >"$work/drawn"
+		(printf 'point 0 1\npoint 3 9\n' && tool draw --seed $seed --jobs 12 --release 60 --window 20 --work 9) >"$work/drawn"
 		energy --at 3 "$work/drawn" >"$work/out" 2>/dev/null
 		got=$?
 		told=$(grep misses "$work/out")
@@ -265,7 +265,7 @@ trace	0	0	1	0	-	-	-	-
 	[ $seed -le 40 ] || pass
 	if want admit; then
 		for seed in 1 2 3 4 5 6 7 8 9 10; do
-			(printf 'point 0 1\npoint 2 9\n' && recipe draw.awk -v seed=$seed -v jobs=100) >"$work/drawn"
+			(printf 'point 0 1\npoint 2 9\n' && tool draw --seed $seed --jobs 100) >"$work/drawn"
 			for top in 2 1 3 4; do
 				sed "s/^point 2/point $top/" "$work/drawn" >"$work/top"
 				energy --at $top "$work/top" >/dev/null 2>&1
@@ -304,7 +304,7 @@ plan	0.100	6600.0	100.0
 governor	misses 1	-	-" tool battery --mah 220 --volts 3 --uw 10 --period 10 "$work/sides"
 	text "collect: a side that misses" 0 "document	plan	avr	oa	governor	rounded	answer
 sides	100.000000	-	-	-	-	ok
-# sides: governor misses 1 deadline, the first decode.2" recipe collect.awk "$work/sides"
+# sides: governor misses 1 deadline, the first decode.2" tool collect "$work/sides"
 }
 
 means() {
@@ -327,7 +327,7 @@ own	2	0	0	0	1.30000	1.30000	1.40000	d
 		tool summary --common "$work/energies"
 	printf 'flat energy 9\nflat time 0 3\n' >"$work/alone.txt"
 	text "collect: no answer of compare beside another side" 0 "document	plan	avr	oa	flat	rounded	answer
-alone	-	-	-	9.000000	-	no answer" recipe collect.awk "$work/alone.txt"
+alone	-	-	-	9.000000	-	no answer" tool collect "$work/alone.txt"
 	refuses "summary: another table" 1 "" "yds-summary: workload.json, line 1: no columns document, plan and answer; is this the table of yds-collect?" tool summary workload.json
 	refuses "summary: no table" 1 "" "yds-summary: no table; is this the table of yds-collect?" tool summary /dev/null
 	# The mean of many is that of a sum in a loop, and the median that of sort.
@@ -336,16 +336,16 @@ alone	-	-	-	9.000000	-	no answer" recipe collect.awk "$work/alone.txt"
 }
 
 draws() {
-	answers "draw: the first job of the seed 0" 0 "job j0 154700 172957 53709" eval "recipe draw.awk -v jobs=1 | sed 1d"
-	answers "draw: in a range" 0 "job j0 47 185 245" eval "recipe draw.awk -v seed=7 -v release=200 -v window=150 -v work=400 | sed 1d"
-	refuses "draw: no seed" 2 failed "draw.awk: seed=4294967296 is no whole number up to 4294967295" recipe draw.awk -v seed=4294967296
-	refuses "draw: too many jobs" 2 failed "draw.awk: jobs=4001 is no whole number up to 4000" recipe draw.awk -v jobs=4001
+	answers "draw: the first job of the seed 0" 0 "job j0 154700 172957 53709" eval "tool draw --jobs 1 | sed 1d"
+	answers "draw: in a range" 0 "job j0 47 185 245" eval "tool draw --seed 7 --release 200 --window 150 --work 400 | sed 1d"
+	refuses "draw: no seed" 2 failed "yds-draw: --seed 4294967296 is no whole number up to 4294967295; see yds-draw --help" tool draw --seed 4294967296
+	refuses "draw: too many jobs" 2 failed "yds-draw: --jobs 4001 is no whole number up to 4000; see yds-draw --help" tool draw --jobs 4001
 	if grep -q 'srand' "$here/../docs/manual.md"; then fail "draw: the manual draws with the awk's own generator"; else pass; fi
 	want trial || return
 	for try in "0 2" "0 1000" "1 300" "7 20" "4294967295 300"; do
 		# shellcheck disable=SC2086
 		set -- $try
-		recipe draw.awk -v seed="$1" -v jobs="$2" | "$YDS" plan >"$work/plan"
+		tool draw --seed "$1" --jobs "$2" | "$YDS" plan >"$work/plan"
 		told=$($AWK '$1 == "level" && !levels++ { peak = $2 " " $3 } { n[$1]++ } END { print "jobs " n["job"] "\nlevels " levels "\nslots " n["slot"] "\npeak " peak "\naccepted" }' "$work/plan")
 		text "draw: as trial $try" 0 "$told" "$YDS" trial "$1" "$2"
 	done
@@ -448,7 +448,7 @@ linear_programs() {
 }
 # A plan whose fractions are all in lowest terms, which the program refuses, is the same plan again, with error 0.
 lowest_terms() {
-	recipe draw.awk -v seed=5 -v jobs=60 >"$work/drawn"
+	tool draw --seed 5 --jobs 60 >"$work/drawn"
 	"$YDS" plan <"$work/drawn" >"$work/plan"
 	$AWK 'function divisor(a, b,  r) { while (b) { r = a % b; a = b; b = r } return a }
 		$1 == "slot" { for (i = 3; i <= 5; i++) if (split($i, p, /[+\/]/) == 3) { g = divisor(p[2], p[3]); $i = p[2] ? p[1] "+" p[2] / g "/" p[3] / g : p[1] } }
@@ -461,7 +461,7 @@ lowest_terms() {
 # Plans with nine decimals: within 10^-8 in time and of the right work, though not as written.
 decimals_of_plans() {
 	for seed in 1 2 3; do
-		recipe draw.awk -v seed=$seed -v jobs=40 | "$YDS" plan >"$work/plan"
+		tool draw --seed $seed --jobs 40 | "$YDS" plan >"$work/plan"
 		$AWK '$1 == "job" { print }
 			$1 == "slot" { for (i = 3; i <= 5; i++) if (split($i, p, /[+\/]/) == 3) $i = sprintf("%.9f", p[1] + p[2] / p[3]); print }' "$work/plan" >"$work/decimals"
 		slots "$work/decimals" >"$work/word"

@@ -146,7 +146,7 @@ test_misses_of_energy() {
 	(printf 'plan energy 10\n' && energy --name governor "$work/late"; energy --name flat-out --at 10 "$work/late") >"$work/both-sides"
 	plot energy "$work/both-sides" >"$work/both-sides.svg"
 	counts "energy: one side of two misses" "$work/both-sides.svg" '>misses ' 1
-	recipe collect.awk "$work/both-sides" >"$work/both-sides.tsv"
+	tool collect "$work/both-sides" >"$work/both-sides.tsv"
 	plot ratios "$work/both-sides.tsv" >"$work/both-ratios.svg"
 	holds "ratios: one side of two misses" "$work/both-ratios.svg" '>governor (1 without)<' '>flat-out<'
 }

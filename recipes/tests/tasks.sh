@@ -1,5 +1,5 @@
 # tasks.sh: read by test.sh. What a horizon does to tasks. Expected values are counted by hand, or by expand itself with a longer horizon.
-tasks() { YDS=$YDS AWK=$AWK sh "$here/tasks.sh" "$@"; }
+tasks() { tool tasks "$@"; }
 # written NAME STATUS OUTPUT COMMAND ..: the status, and the whole standard output as a text.
 written() {
 	name=$1 status=$2 output=$3
@@ -26,35 +26,35 @@ job sense.0 0 50 700" tasks "$work/sense"
 # period 1000
 job sense.0 0 50 700" from "$work/units" tasks
 	(cat "$work/units" && sed -n '1s/10 us/100 us/p' "$work/units" && echo "task other 0 1000 50 700") >"$work/two"
-	refuses "tasks: two units" 1 failed "tasks.sh: line 5: a unit of time of 100 us here and 10 us before; give tasks of one unit" tasks "$work/two"
-	refuses "tasks: what expand refuses" 1 failed "tasks.sh: yds_cli expand ended with status 3: refused 1 1 UnknownKind" tasks bad/failed.txt
-	refuses "tasks: nothing" 1 failed "tasks.sh: no horizon and no task line" tasks /dev/null
+	refuses "tasks: two units" 1 failed "yds-tasks: $work/two, line 5, column 20: a unit of time of 100 us here and 10 us before; give both the same --us" tasks "$work/two"
+	refuses "tasks: what expand refuses" 1 failed "yds-tasks: yds_cli expand ended with status 3: refused 1 1 UnknownKind" tasks bad/failed.txt
+	refuses "tasks: nothing" 1 failed "yds-tasks: no horizon and no task line" tasks /dev/null
 	echo "horizon 9" >"$work/none"
-	refuses "tasks: no task" 1 failed "tasks.sh: no task line" tasks "$work/none"
-	refuses "tasks: no such file" 1 failed "tasks.sh: nowhere can't be read" tasks nowhere
-	refuses "tasks: no such option" 2 failed "tasks.sh: there is no option period= (a file of this name is written ./period=9)" tasks period=9 sensor-tasks.txt
-	refuses "tasks: another word of lost=" 2 failed "tasks.sh: lost=keep: there is only lost=cut" tasks lost=keep sensor-tasks.txt
-	refuses "tasks: no program" 1 failed "tasks.sh: yds_cli expand ended with status 1: " env YDS=false sh "$here/tasks.sh" sensor-tasks.txt
+	refuses "tasks: no task" 1 failed "yds-tasks: no task line" tasks "$work/none"
+	refuses "tasks: no such file" 1 failed "yds-tasks: nowhere can't be read: No such file or directory" tasks nowhere
+	refuses "tasks: no such option" 2 failed "yds-tasks: more than 1 file; see yds-tasks --help" tasks period=9 sensor-tasks.txt
+	refuses "tasks: another word of --lost" 2 failed "yds-tasks: --lost keep: there is only --lost cut; see yds-tasks --help" tasks --lost keep sensor-tasks.txt
+	refuses "tasks: no program" 1 failed "yds-tasks: yds_cli expand ended with status 1: " env YDS=false "$PYTHON" "$here/bin/yds-tasks" sensor-tasks.txt
 }
 
 jobs_after_the_horizon() {
 	# big needs the speed 1000, and without it 24 are enough.
 	printf 'horizon 1000\ntask small 0 100 10 24\ntask big 500 1000 600 600000\n' >"$work/big"
-	refuses "tasks: a job that is due after the horizon" 1 failed "tasks.sh: a task has jobs that are not due by the horizon 1000: big, 1 of 1 jobs, work 600000; give a longer horizon, and with lost=cut a document without these jobs" \
+	refuses "tasks: a job that is due after the horizon" 1 failed "yds-tasks: a task has jobs that are not due by the horizon 1000: big, 1 of 1 jobs, work 600000; give a longer horizon, and with --lost cut a document without these jobs" \
 		tasks "$work/big"
-	tasks lost=cut "$work/big" >"$work/cut"
+	tasks --lost cut "$work/big" >"$work/cut"
 	written "tasks: and is told" 0 "# not due by 1000: big, 1 of 1 jobs, work 600000
 # no period: jobs are missing" grep '^#' "$work/cut"
 	printf 'horizon 1000\ntask big 500 1000 600 600000\n' >"$work/alone"
-	refuses "tasks: a document without a job" 1 failed "tasks.sh: no job is due by the horizon" tasks lost=cut "$work/alone"
+	refuses "tasks: a document without a job" 1 failed "yds-tasks: no job is due by the horizon" tasks --lost cut "$work/alone"
 	printf 'horizon 1000\ntask a 0 300 300 24\ntask b 0 10 25 2\n' >"$work/multiple"
-	refuses "tasks: the horizon that would do" 1 failed "tasks.sh: 2 tasks have jobs that are not due by the horizon 1000: a, 1 of 4 jobs, work 24; and more; give a longer horizon, and with lost=cut a document without these jobs" \
+	refuses "tasks: the horizon that would do" 1 failed "yds-tasks: 2 tasks have jobs that are not due by the horizon 1000: a, 1 of 4 jobs, work 24; and more; give a longer horizon, and with --lost cut a document without these jobs" \
 		tasks "$work/multiple"
 	grep -v 'task b' "$work/multiple" >"$work/one"
-	refuses "tasks: a multiple of the periods would do" 1 failed "tasks.sh: a task has jobs that are not due by the horizon 1000: a, 1 of 4 jobs, work 24; give a horizon that is a multiple of the periods, as 1200, or lost=cut" \
+	refuses "tasks: a multiple of the periods would do" 1 failed "yds-tasks: a task has jobs that are not due by the horizon 1000: a, 1 of 4 jobs, work 24; give a horizon that is a multiple of the periods, as 1200, or --lost cut" \
 		tasks "$work/one"
 	printf 'horizon 1000\ntask a 0 100 50 24\ntask b 1500 1000 50 24\n' >"$work/later"
-	tasks lost=cut "$work/later" >"$work/cut"
+	tasks --lost cut "$work/later" >"$work/cut"
 	if grep -qx '# not due by 1000: b, released first at 1500' "$work/cut"; then pass; else fail "tasks: a task that isn't released by the horizon"; fi
 	# As many jobs and as much work as expand has with a longer horizon, released before this one and due after it.
 	seed=1
@@ -65,7 +65,7 @@ jobs_after_the_horizon() {
 		sed 's/^horizon.*/horizon 400/' "$work/drawn" | "$YDS" expand | $AWK -v horizon="$horizon" '$1 == "job" && $3 < horizon {
 			name = $2; sub(/\..*/, "", name); released[name]++; if ($4 > horizon) { lost[name]++; work[name] += $5 } }
 			END { for (t = 0; t < 4; t++) if (lost["t" t]) print "# not due by " horizon ": t" t ", " lost["t" t] " of " released["t" t] " jobs, work " work["t" t] }' >"$work/wanted"
-		tasks lost=cut "$work/drawn" 2>"$work/err" | grep '^# not due' | grep -v 'released first' >"$work/told"
+		tasks --lost cut "$work/drawn" 2>"$work/err" | grep '^# not due' | grep -v 'released first' >"$work/told"
 		if ! cmp -s "$work/wanted" "$work/told" && ! grep -q 'no job is due' "$work/err"; then
 			fail "tasks: the lost jobs of seed $seed"
 			diff "$work/wanted" "$work/told"
@@ -74,8 +74,7 @@ jobs_after_the_horizon() {
 		seed=$((seed + 1))
 	done
 	[ $seed -le 40 ] || pass
-	want jq || return
-	rtapp -m 1416 -c 0 workload.json | tasks lost=cut | grep 'not due' >"$work/told"
+	rtapp -m 1416 -c 0 workload.json | tasks --lost cut | grep 'not due' >"$work/told"
 	rtapp -m 1416 -c 0 -j workload.json | grep 'not due' >"$work/told-jobs"
 	written "tasks: of a workload" 0 "# not due by 100000: decode, 1 of 31 jobs, work 92040
 # not due by 100000: audio, 1 of 100 jobs, work 12036" cat "$work/told"

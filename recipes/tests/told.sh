@@ -65,7 +65,7 @@ jobs_that_are_not_whole() {
 	tells "told: with more work that of the others isn't known" 0 "# not due by 1000: big, 1 of 1 jobs" tool scale --work 2 "$work/jobs"
 	# Tables and pictures say it too.
 	(printf 'plan energy 60\nplan time 0 7\nplan time 10 3\n' && energy "$work/cut" && energy --at 200 "$work/starving") >"$work/side.txt"
-	recipe collect.awk "$work/side.txt" >"$work/table"
+	tool collect "$work/side.txt" >"$work/table"
 	tells "told: by yds-collect" 0 "# side: not due by 1000: big, 1 of 1 jobs, work 600000: this energy is in no line" cat "$work/table"
 	tells "told: by yds-collect, work that isn't known" 0 "# side: ${unknown#\# }" cat "$work/table"
 	tells "told: by yds-summary" 0 "# in 1 of them jobs have energy that is in no line, or work that isn't known; see the comments of the table" tool summary "$work/table"
@@ -73,7 +73,7 @@ jobs_that_are_not_whole() {
 	answers "told: by yds-battery, once" 0 1 eval "tool battery --mah 9 --volts 1 --uw 1 --period 4000 '$work/cut' '$work/own' | grep -c 'not due by 1000'"
 	# And where the lines are those of yds-whole, whose parts have the comments.
 	(printf 'plan energy 60\nplan time 0 7\nplan time 10 3\n# part 1: 3 jobs were left out of the document, with their energy\n# part 2: 1 job was left out of the document, with its energy\n') >"$work/whole.txt"
-	recipe collect.awk "$work/whole.txt" >"$work/table"
+	tool collect "$work/whole.txt" >"$work/table"
 	tells "told: by yds-collect, of parts" 0 "# whole: part 2: 1 job was left out of the document, with its energy" cat "$work/table"
 	tells "told: by yds-summary, of parts" 0 "# in 1 of them jobs have energy that is in no line, or work that isn't known; see the comments of the table" tool summary "$work/table"
 	tells "told: by yds-battery, of parts" 0 "# part 1: 3 jobs were left out of the document, with their energy" tool battery --mah 9 --volts 1 --uw 1 --period 10 "$work/whole.txt"

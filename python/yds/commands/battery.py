@@ -39,8 +39,14 @@ have their speeds.
     [
         Option("mah", "milliampere-hours of the battery", "N"),
         Option("volts", "its voltage", "V"),
-        Option("period", "after how many units of time all begins again, where no comment of the document tells it", "N"),
-        Option("uw", "microwatts in the document's unit of power, where no comment of the points before the lines tells it", "N"),
+        Option(
+            "period", "after how many units of time all begins again, where no comment of the document tells it", "N"
+        ),
+        Option(
+            "uw",
+            "microwatts in the document's unit of power, where no comment of the points before the lines tells it",
+            "N",
+        ),
         Option("other", "what the rest of the device draws, in milliwatts (0)", "MW"),
     ],
     Files("FILE", 0, None),
@@ -178,7 +184,12 @@ class Reading:
         if not self._sides:
             raise Fault("no energy line; is this the answer of compare?")
         return [
-            SideEnergy(name, energy, sum((time for _, time in self._times.get(name, [])), Fraction(0)), self._misses.get(name, ""))
+            SideEnergy(
+                name,
+                energy,
+                sum((time for _, time in self._times.get(name, [])), Fraction(0)),
+                self._misses.get(name, ""),
+            )
             for name, energy in self._sides.items()
         ]
 
@@ -186,7 +197,9 @@ class Reading:
         """Microwatts in the unit of power."""
         told = self._rows.units.value("power")
         if given is not None and told is not None and given != told:
-            raise WordsError(f"--uw {decimal(given)}, and the points' unit of power is {decimal(told)} uW; leave the option out")
+            raise WordsError(
+                f"--uw {decimal(given)}, and the points' unit of power is {decimal(told)} uW; leave the option out"
+            )
         found = told if given is None else given
         if not found:
             raise WordsError("no unit of power; give --uw, or the file of points with its comment before the lines")

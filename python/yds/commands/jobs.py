@@ -40,7 +40,9 @@ What isn't known, and the energy without points, is `-`, in CSV nothing. A job o
 release.
 """,
     [
-        Option("form", "csv: commas between the columns job,release,deadline,begin,end,response,slack,late,energy", "csv"),
+        Option(
+            "form", "csv: commas between the columns job,release,deadline,begin,end,response,slack,late,energy", "csv"
+        ),
         Option(
             "zero",
             "trace: release, deadline, begin and end in seconds of the trace's clock, from the comments of yds-trace, and "

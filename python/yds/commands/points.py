@@ -44,7 +44,11 @@ given, and which points no plan uses, since they lie above the lower hull. A tra
             "N",
         ),
         Option("uw", "the unit of power in microwatts; it may be a decimal, as 0.1 (1000)", "N"),
-        Option("idle", "the power at speed 0, in milliwatts (a table's line of 0 MHz sets it; else it is 0, as a comment says)", "MW"),
+        Option(
+            "idle",
+            "the power at speed 0, in milliwatts (a table's line of 0 MHz sets it; else it is 0, as a comment says)",
+            "MW",
+        ),
         Option(
             "coefficient",
             "dynamic-power-coefficient of the device tree: power is N * mV * mV * MHz / 10^6 microwatts",
