@@ -51,7 +51,7 @@ class Spent(NamedTuple):
 
 
 def read_spent(text: Text) -> List[Spent]:
-    """The sides whose energy the lines tell, as yds-whole writes those of yds-energy. PartsError where there is none."""
+    """The sides whose energy the lines tell, as yds-whole writes them of yds-energy. PartsError where there is none."""
     rows = [line.split() for line in lines_of(text)]
     found = [Spent(row[0], _energy(row[2])) for row in rows if len(row) == 3 and row[1] == b"energy" and row[0] != b"#"]
     if not found:

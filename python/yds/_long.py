@@ -49,7 +49,7 @@ Batch = List[bytes]
 
 
 def batches(lines: Iterable[bytes]) -> Iterator[Batch]:
-    """The lines, some of them at once; those of a file in blocks, and a line that is longer than a document is a fault."""
+    """The lines, some at once; those of a file in blocks, where a line that is longer than a document is a fault."""
     if isinstance(lines, (io.BufferedIOBase, io.RawIOBase)):
         yield from _batches_of_file(lines)
         return
@@ -332,7 +332,8 @@ class Long:
             job = near.get(name)
             if job is None:
                 job_of.append(NO_RUN)
-                self._waiting.append(Waiting(name, place, number + place - first, self.jobs, len(line), begin, end, ticks))
+                at = number + place - first
+                self._waiting.append(Waiting(name, place, at, self.jobs, len(line), begin, end, ticks))
                 if len(self._waiting) >= WAITING:
                     self._look_up_waiting()
                 continue

@@ -24,7 +24,10 @@ class Whole(NamedTuple):
 
 
 def put_together(parts: Sequence[Text], answers: Sequence[Text], grid: Optional[int]) -> Whole:
-    """The answer to the whole; grid is that of compare, if it is known. PartsError where some part has none, or where they can't be put together."""
+    """The answer to the whole; grid is that of compare, if it is known.
+
+    PartsError is raised where some part has none, or where they can't be put together.
+    """
     given = Answers(parts, answers)
     given.classify()
     if given.family == "no-table":

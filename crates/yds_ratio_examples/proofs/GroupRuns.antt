@@ -8,7 +8,7 @@ use Rattle.yds_parts.specs.Parts.{WindowsAreForward}
 use Rattle.yds_cuts.specs.Groups.{AreApartIn, HaveAll, IdleIsCheapest}
 use Rattle.yds_cuts.specs.Energies.{IsSumOf, IsEnergyOver}
 use Rattle.yds_cuts.specs.Bounds.{WrittenGroup}
-use Rattle.yds_cuts.proofs.BoundsExamples.{one_number, two_numbers}
+use Rattle.yds_cuts.proofs.BoundsExamples.{two_numbers}
 use Rattle.yds_group_runs.specs.GroupRuns.{numbers_of_written, IsGroupRun, excess_of_groups, IsSpentGroup}
 use Rattle.yds_group_runs.proofs.Above.{group_runs_above_a_speed}
 use Rattle.yds_group_runs.proofs.Spending.{group_runs_spend}

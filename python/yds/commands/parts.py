@@ -15,9 +15,9 @@ COMMAND = Command(
     "yds-parts",
     "a document with any number of jobs in parts that yds_cli reads",
     """
-Input: a document with any number of jobs, slots and runs; the jobs stand in order of release. Output: DIR/part-00001.txt
-and so on, each within the program's limits: at most 4,000 jobs, 100,000 slots and runs, 8,388,608 bytes. Answers go
-beside the parts, as DIR/part-00001.plan, and yds-whole puts them together.
+Input: a document with any number of jobs, slots and runs; the jobs stand in order of release. Output:
+DIR/part-00001.txt and so on, each within the program's limits: at most 4,000 jobs, 100,000 slots and runs, 8,388,608
+bytes. Answers go beside the parts, as DIR/part-00001.plan, and yds-whole puts them together.
 
     yds-parts --folder parts long.txt
 
