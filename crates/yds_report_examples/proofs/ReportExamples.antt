@@ -117,5 +117,5 @@ idle_one_value = refl
 idle_one : HoldsReport input idle_one_text → ⊥
 idle_one holds =
     let both : Some (numbers_value 0 1 3 levels 12 18) ≡ Some (report_value jobs levels) = sym idle_one_value ∙ value_alone idle_one_text holds in
-    let idle : 1 ≡ 0 = cc in
+    let idle : ◌≡◌ {A = ℕ} 1 0 = cc in
     absurd (omega (arith, idle))
