@@ -2,16 +2,18 @@
 --
 -- A job begins where its thread is woken, and ends where that leaves a processor to sleep. Preemption and waiting for a disk go on with it.
 -- Of a job whose begin or end the trace doesn't show it is said what is known.
-use Rattle.std.specs.Prelude.{ℕ, ◌+◌, List, [], ◌∷◌, map, min, length, Bool, true, false, not, ◌==◌, ◌&&◌, ◌||◌, nat_lt, if◌then◌else◌, Option, Some, None, is_none}
+use Rattle.std.specs.Prelude.{ℕ, ◌+◌, List, [], ◌∷◌, map, min, length, Bool, true, false, not, ◌==◌, ◌&&◌, nat_lt, if◌then◌else◌, Option, Some, None, is_none}
 use Rattle.yds_kernel.specs.declared.state.State.{State}
 use Rattle.yds_kernel.specs.declared.state.State.TheVariants as states
 use Rattle.yds_kernel.specs.declared.loss.Since.TheVariants as since
-use Rattle.yds_kernel.specs.Event.{Thread, Happening, Switch, WakeUp, Speed, Loss, Marker, Other, Event, Said, Stamped, Lost, Nothing}
+use Rattle.yds_kernel.specs.Parts.{capped}
+use Rattle.yds_kernel.specs.Event.{Happening, Switch, WakeUp, Speed, Loss, Marker, Other, Event, Said, Stamped, Lost, Nothing}
 use Rattle.yds_trace.specs.declared.job.End.{End}
 use Rattle.yds_trace.specs.declared.job.End.TheVariants as ends
 use Rattle.yds_trace.specs.declared.job.Stretch.{Stretch}
 use Rattle.yds_trace.specs.declared.job.Standing.{Standing}
-use Rattle.yds_trace.specs.Asked.{Task, Asked, task_at, is_of}
+use Rattle.yds_trace.specs.declared.job.Leaving.{Leaving}
+use Rattle.yds_trace.specs.Asked.{Asked, task_at, is_of}
 use Rattle.yds_trace.specs.Past.{lost_since, whole_since, has_switched, speed_after}
 
 pub record Job : Type 0 where
@@ -40,9 +42,12 @@ unknown = record { jobs = []; on = None; woken = false }
 
 -- # A job begins, goes on, or ends
 
+abbrev pub new_job : ℕ → Bool → Job
+new_job time certain =
+    record { begin = time; begin_known = certain; end = ends.Open; stretches = []; wake_ups = 0; switch_missing = false }
+
 abbrev pub began : ℕ → Bool → List Job → List Job
-began time certain jobs =
-    record { begin = time; begin_known = certain; end = ends.Open; stretches = []; wake_ups = 0; switch_missing = false } ∷ jobs
+began time certain jobs = new_job time certain ∷ jobs
 
 -- open again, and its end forgotten
 abbrev pub reopened : Job → Job
@@ -54,11 +59,15 @@ woken_after apart time job jobs =
     if not (nat_lt time (job.begin + apart)) then began time true (job ∷ jobs)
     else (if job.begin_known then reopened job ∷ jobs else began time false (job ∷ jobs))
 
+-- A wake-up is counted where it isn't the second of one. Beyond 64 bits none is.
+abbrev pub counted : Bool → Job → Job
+counted again job = if again then job else record job { wake_ups = capped (job.wake_ups + 1) }
+
 -- A wake-up begins a job where none is open. Where one is, it counts it, the first time since the thread's last switch.
 abbrev pub woken_jobs : ℕ → ℕ → Bool → List Job → List Job
 woken_jobs apart time again [] = began time true []
 woken_jobs apart time again (job ∷ jobs) = elim job.end [
-  | ends.Open ↦ record job { wake_ups = if again then job.wake_ups else job.wake_ups + 1 } ∷ jobs
+  | ends.Open ↦ counted again job ∷ jobs
   | ends.Ended end ↦ woken_after apart time job jobs
   | ends.Unseen last goes_on ↦ began time true (job ∷ jobs)
   | ends.Lost last ↦ began time true (job ∷ jobs)
@@ -75,9 +84,10 @@ awake_jobs time (job ∷ jobs) = elim job.end [
   | ends.Lost last ↦ began time false (job ∷ jobs)
 ]
 
--- The same where jobs begin at their first run: what is open goes on, and else a job begins here as by a wake-up.
+-- The same where jobs begin at their first run: what is open goes on, and else a job begins here as by a wake-up. Of a thread's first run in the
+-- trace, and of its first after a loss or a missing switch, it isn't known whether the job ran before.
 abbrev pub running_jobs : ℕ → ℕ → List Job → List Job
-running_jobs apart time [] = began time true []
+running_jobs apart time [] = began time false []
 running_jobs apart time (job ∷ jobs) = elim job.end [
   | ends.Open ↦ job ∷ jobs
   | ends.Ended end ↦ woken_after apart time job jobs
@@ -125,9 +135,9 @@ abbrev pub passed_by : Bool → ℕ → Known → Known
 passed_by wakes processor known = if stands_on processor known.on then vanished wakes known else known
 
 -- it comes to a processor, at a time
-abbrev pub comes : Task → Bool → ℕ → ℕ → Known → Known
-comes task wakes processor time known = record {
-  jobs = if wakes then awake_jobs time (vanished wakes known).jobs else running_jobs task.apart time (vanished wakes known).jobs;
+abbrev pub comes : ℕ → Bool → ℕ → ℕ → Known → Known
+comes apart wakes processor time known = record {
+  jobs = if wakes then awake_jobs time (vanished wakes known).jobs else running_jobs apart time (vanished wakes known).jobs;
   on = Some (record { processor = processor; came = time; since = time });
   woken = false;
 }
@@ -142,29 +152,22 @@ has_no_switch (job ∷ jobs) = elim job.end [
   | ends.Lost last ↦ true
 ]
 
+abbrev pub begun_at_most : ℕ → Job → Job
+begun_at_most time job = record job { begin = time; begin_known = false }
+
 -- the open job began by this time, or one did
 abbrev pub begun_by : ℕ → List Job → List Job
 begun_by time [] = began time false []
 begun_by time (job ∷ jobs) = elim job.end [
-  | ends.Open ↦ record job { begin = time; begin_known = false } ∷ jobs
+  | ends.Open ↦ begun_at_most time job ∷ jobs
   | _ ↦ began time false (job ∷ jobs)
 ]
-
--- Its jobs where it leaves a processor:
--- it was seen to come there; or it was there when the trace began, or when events were last lost; or its coming is missing.
-pub record Leaving : Type 0 where
-  pub processor : ℕ
-  pub time : ℕ
-  -- the processor's speed, in kilohertz
-  pub khz : Option ℕ
-  -- whether the processor has switched before
-  pub has_switched : Bool
-  -- since when no event was lost
-  pub whole_since : ℕ
 
 abbrev pub stretch_of : Leaving → ℕ → Stretch
 stretch_of leaving from = record { processor = leaving.processor; from = from; to = leaving.time; khz = leaving.khz }
 
+-- Its jobs where it leaves a processor: it was seen to come there; or it was there when the trace began, or when events were last lost; or its
+-- coming is missing.
 abbrev pub left_from : Bool → Leaving → Known → List Job
 left_from wakes leaving known =
     if stands_on leaving.processor known.on then elim known.on [
@@ -191,9 +194,9 @@ leaves wakes state leaving known = record {
 
 -- # Other events
 
-abbrev pub wakes_up : Task → ℕ → Known → Known
-wakes_up task time known = record {
-  jobs = woken_jobs task.apart time known.woken known.jobs;
+abbrev pub wakes_up : ℕ → ℕ → Known → Known
+wakes_up apart time known = record {
+  jobs = woken_jobs apart time known.woken known.jobs;
   on = known.on;
   woken = true;
 }
@@ -237,22 +240,25 @@ leaving_at asked past event = record {
   whole_since = whole_since event.time past;
 }
 
--- of a switch, who leaves first
-abbrev pub left_by : Asked → ℕ → List Said → Event → Thread → State → Known → Known
-left_by asked number past event previous state known =
-    if is_of asked number previous then leaves (not asked.begin_at_run) state (leaving_at asked past event) known
-    else passed_by (not asked.begin_at_run) event.processor known
+-- Of a switch, first who leaves: this thread, or another one.
+abbrev pub left_if : Bool → Bool → State → Leaving → Known → Known
+left_if wakes mine state leaving known =
+    if mine then leaves wakes state leaving known else passed_by wakes leaving.processor known
 
-abbrev pub came_to : Asked → ℕ → Event → Thread → Known → Known
-came_to asked number event next known =
-    if is_of asked number next then comes (task_at asked number) (not asked.begin_at_run) event.processor event.time known else known
+-- Then who comes: this thread, or another one.
+abbrev pub came_if : ℕ → Bool → Bool → Leaving → Known → Known
+came_if apart wakes mine leaving known = if mine then comes apart wakes leaving.processor leaving.time known else known
+
+abbrev pub after_switch : ℕ → Bool → Bool → Bool → State → Leaving → Known → Known
+after_switch apart wakes left came state leaving known = came_if apart wakes came leaving (left_if wakes left state leaving known)
 
 -- what is known of the task's thread after an event
 abbrev pub after_event : Asked → ℕ → List Said → Event → Happening → Known → Known
 after_event asked number past event (Switch previous state next) known =
-    came_to asked number event next (left_by asked number past event previous state known)
+    after_switch (task_at asked number).apart (not asked.begin_at_run) (is_of asked number previous) (is_of asked number next) state
+    (leaving_at asked past event) known
 after_event asked number past event (WakeUp thread) known =
-    if is_of asked number thread && not asked.begin_at_run then wakes_up (task_at asked number) event.time known else known
+    if is_of asked number thread && not asked.begin_at_run then wakes_up (task_at asked number).apart event.time known else known
 after_event asked number past event (Speed processor khz) known =
     speeds processor event.time (speed_after asked.start processor past) known
 after_event asked number past event Loss known = loses (lost_since event.processor since.ItsLastLine past) known

@@ -5,3 +5,4 @@ pub mod Late
 pub mod WrittenTime
 pub mod Document
 pub mod Faults
+pub mod Views

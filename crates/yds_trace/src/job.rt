@@ -1,6 +1,12 @@
-//! What is told of a job.
+//! The jobs of a task, as far as the lines so far show them. Times are nanoseconds of the trace's clock.
+ghost use Rattle.std.specs.Prelude.{◌≡◌, IfOk};
+ghost use Rattle.yds_trace.specs.Jobs as spec;
+ghost use Rattle.yds_trace.specs.Views.{job_read};
 
-/// When a job ended, as far as the trace shows. Times are nanoseconds of its clock.
+use std::alloc::Global;
+use yds_model::Memory;
+
+/// When a job ended, as far as the trace shows.
 #[derive(Clone, Copy, Debug, PartialEq, Eq)]
 pub enum End {
     /// It hasn't ended.
@@ -32,4 +38,147 @@ pub struct Standing {
     pub came: u64,
     /// Since when it runs at the speed of now: when it came, or when the speed changed.
     pub since: u64,
+}
+
+/// A thread leaves a processor.
+#[derive(Clone, Copy, Debug, PartialEq, Eq)]
+pub struct Leaving {
+    pub processor: u64,
+    pub time: u64,
+    /// The processor's speed, in kilohertz, where it is known.
+    pub khz: Option<u64>,
+    /// Whether the processor has switched before.
+    pub has_switched: bool,
+    /// Since when no event was lost.
+    pub whole_since: u64,
+}
+
+impl Leaving {
+    /// In which its thread ran, from this time on.
+    pub(crate) fn stretch(self, from: u64) -> Stretch
+        ensures { result ≡ spec.stretch_of self from }
+    {
+        Stretch {
+            processor: self.processor,
+            from,
+            to: self.time,
+            khz: self.khz,
+        }
+    }
+}
+
+impl End {
+    /// Where events were lost after this time.
+    pub(crate) fn lost(self, time: u64) -> End
+        ensures { result ≡ spec.lost_end time self }
+    {
+        match self {
+            End::Open => End::Lost(time),
+            End::Ended(end) if time < end => End::Lost(time),
+            End::Ended(end) => End::Ended(end),
+            End::Unseen { since, .. } | End::Lost(since) => End::Lost(time.min(since)),
+        }
+    }
+}
+
+/// A job of a task.
+#[derive(Debug, Drop)]
+pub struct Job {
+    /// Its begin, in nanoseconds; where that isn't known, a time before which it began, or at which.
+    pub begin: u64,
+    /// Whether its begin is known.
+    pub begin_known: bool,
+    /// Its end, as far as that is known.
+    pub end: End,
+    /// In which its thread ran, in order of time.
+    pub stretches: Vec<Stretch>,
+    /// How many wake-ups came while it was open.
+    pub wake_ups: u64,
+    /// A switch of its thread is missing, so not all that it ran is known.
+    pub switch_missing: bool,
+}
+
+impl Job {
+    /// One that begins.
+    pub(crate) fn new(alloc: Global, begin: u64, begin_known: bool) -> Job
+        ensures { job_read result ≡ spec.new_job begin begin_known }
+    {
+        Job {
+            begin,
+            begin_known,
+            end: End::Open,
+            stretches: Vec::new(alloc),
+            wake_ups: 0,
+            switch_missing: false,
+        }
+    }
+
+    /// Open again.
+    pub(crate) fn reopened(mut self) -> Job
+        ensures { job_read result ≡ spec.reopened (job_read self) }
+    {
+        self.end = End::Open;
+        self
+    }
+
+    /// With a wake-up more, if it isn't the second of one.
+    pub(crate) fn counted(mut self, again: bool) -> Job
+        ensures { job_read result ≡ spec.counted again (job_read self) }
+    {
+        if !again {
+            self.wake_ups = self.wake_ups.saturating_add(1);
+        }
+        self
+    }
+
+    /// Ended at this time.
+    pub(crate) fn ended(mut self, time: u64) -> Job
+        ensures { job_read result ≡ spec.ended time (job_read self) }
+    {
+        self.end = End::Ended(time);
+        self
+    }
+
+    /// With a missing switch.
+    pub(crate) fn missing(mut self) -> Job
+        ensures { job_read result ≡ spec.missing (job_read self) }
+    {
+        self.switch_missing = true;
+        self
+    }
+
+    /// Its thread left unseen.
+    pub(crate) fn left_unseen(mut self, since: u64, goes_on: bool) -> Job
+        ensures { job_read result ≡ spec.left_unseen since goes_on (job_read self) }
+    {
+        self.end = End::Unseen { since, goes_on };
+        self.switch_missing = true;
+        self
+    }
+
+    /// Begun by this time.
+    pub(crate) fn begun_by(mut self, time: u64) -> Job
+        ensures { job_read result ≡ spec.begun_at_most time (job_read self) }
+    {
+        self.begin = time;
+        self.begin_known = false;
+        self
+    }
+
+    /// With a stretch more.
+    #[tactic(auto, using(crate::proofs::Listed::reverse_push))]
+    pub(crate) fn ran(mut self, stretch: Stretch) -> Result<Job, Memory>
+        ensures { IfOk result (λ job. job_read job ≡ spec.ran stretch (job_read self)) }
+    {
+        self.stretches.push(stretch)?;
+        Ok(self)
+    }
+
+    /// Events were lost after this time.
+    pub(crate) fn lost(mut self, time: u64) -> Job
+        ensures { job_read result ≡ spec.lost_job time (job_read self) }
+    {
+        self.end = self.end.lost(time);
+        self
+    }
 }

@@ -7,8 +7,11 @@
 
 mod fault;
 mod job;
+mod jobs;
+mod known;
 mod reason;
 
 pub use fault::Cause;
-pub use job::{End, Standing, Stretch};
+pub use job::{End, Job, Leaving, Standing, Stretch};
+pub use known::Known;
 pub use reason::Reason;

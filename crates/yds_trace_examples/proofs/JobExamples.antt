@@ -94,9 +94,9 @@ woken_while_there = refl
 not_there_from_the_begin : jobs asked (other_leaves 0 5 ∷ sleeps 0 40 ∷ []) ≡ record (begun_by 40 (ends.Ended 40) []) { switch_missing = true } ∷ []
 not_there_from_the_begin = refl
 
--- Jobs that begin at their first run, where wake-ups aren't read.
+-- Jobs that begin at their first run, where wake-ups aren't read. Whether the thread's first job in the trace ran before isn't known.
 begins_at_its_run : jobs at_run (woken 10 ∷ comes 0 12 ∷ preempted 0 20 ∷ back 0 30 ∷ sleeps 0 40 ∷ comes 0 50 ∷ sleeps 0 60 ∷ []) ≡
-    job 12 (ends.Ended 40) (stretch 0 30 40 ∷ stretch 0 12 20 ∷ []) ∷ job 50 (ends.Ended 60) (stretch 0 50 60 ∷ []) ∷ []
+    begun_by 12 (ends.Ended 40) (stretch 0 30 40 ∷ stretch 0 12 20 ∷ []) ∷ job 50 (ends.Ended 60) (stretch 0 50 60 ∷ []) ∷ []
 begins_at_its_run = refl
 
 -- # Missing switches

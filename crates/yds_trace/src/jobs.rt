@@ -1,0 +1,248 @@
+//! The jobs of a task, in order of their begins: the last one changes.
+ghost use Rattle.std.specs.Prelude.{◌≡◌, ◌+◌, ◌∷◌, map, nat_lt, OnOk};
+ghost use Rattle.yds_trace.specs.Jobs as spec;
+ghost use Rattle.yds_trace.specs.Views.{job_read, jobs_listed};
+
+use crate::job::{End, Job, Stretch};
+use std::alloc::Global;
+use yds_model::Memory;
+
+/// A job begins.
+#[tactic(auto, using(crate::proofs::Listed::jobs_listed_push))]
+pub(crate) fn begin(
+    alloc: Global,
+    time: u64,
+    known: bool,
+    jobs: &mut Vec<Job>,
+) -> Result<(), Memory>
+    ensures { OnOk result (jobs_listed jobs.new.items ≡ spec.began time known (jobs_listed jobs.old.items)) }
+{
+    jobs.push(Job::new(alloc, time, known))?;
+    Ok(())
+}
+
+/// Puts a job behind the others.
+#[tactic(auto, using(crate::proofs::Listed::jobs_listed_push))]
+fn put(job: Job, jobs: &mut Vec<Job>) -> Result<(), Memory>
+    ensures { OnOk result (jobs_listed jobs.new.items ≡ job_read job ∷ jobs_listed jobs.old.items) }
+{
+    jobs.push(job)?;
+    Ok(())
+}
+
+/// A wake-up begins a job where none is open, and is counted where one is.
+#[tactic(auto, using(crate::proofs::Listed::jobs_listed_push))]
+pub(crate) fn wake(
+    alloc: Global,
+    apart: u64,
+    time: u64,
+    again: bool,
+    jobs: &mut Vec<Job>,
+) -> Result<(), Memory>
+    ensures { OnOk result (jobs_listed jobs.new.items ≡ spec.woken_jobs apart time again (jobs_listed jobs.old.items)) }
+{
+    match jobs.pop() {
+        Some(job) => wake_after(alloc, apart, time, again, job, jobs),
+        None => begin(alloc, time, true, jobs),
+    }
+}
+
+fn wake_after(
+    alloc: Global,
+    apart: u64,
+    time: u64,
+    again: bool,
+    job: Job,
+    jobs: &mut Vec<Job>,
+) -> Result<(), Memory>
+    ensures { OnOk result (jobs_listed jobs.new.items ≡ spec.woken_jobs apart time again (job_read job ∷ jobs_listed jobs.old.items)) }
+{
+    match job.end {
+        End::Open => put(job.counted(again), jobs),
+        End::Ended(_) => wake_again(alloc, apart, time, job, jobs),
+        End::Unseen { .. } | End::Lost(_) => {
+            put(job, jobs)?;
+            begin(alloc, time, true, jobs)
+        }
+    }
+}
+
+/// After the last job has ended: it goes on, or another one begins.
+fn wake_again(
+    alloc: Global,
+    apart: u64,
+    time: u64,
+    job: Job,
+    jobs: &mut Vec<Job>,
+) -> Result<(), Memory>
+    ensures { OnOk result (jobs_listed jobs.new.items ≡ spec.woken_after apart time (job_read job) (jobs_listed jobs.old.items)) }
+{
+    if !is_within(time, job.begin, apart) {
+        put(job, jobs)?;
+        begin(alloc, time, true, jobs)
+    } else if job.begin_known {
+        put(job.reopened(), jobs)
+    } else {
+        put(job, jobs)?;
+        begin(alloc, time, false, jobs)
+    }
+}
+
+/// Whether a time is less than `apart` after the begin.
+fn is_within(time: u64, begin: u64, apart: u64) -> bool
+    ensures { result ≡ nat_lt time (begin + apart) }
+{
+    match begin.checked_add(apart) {
+        Some(end) => time < end,
+        None => true,
+    }
+}
+
+/// The thread is found awake.
+#[tactic(auto, using(crate::proofs::Listed::jobs_listed_push))]
+pub(crate) fn find_awake(alloc: Global, time: u64, jobs: &mut Vec<Job>) -> Result<(), Memory>
+    ensures { OnOk result (jobs_listed jobs.new.items ≡ spec.awake_jobs time (jobs_listed jobs.old.items)) }
+{
+    match jobs.pop() {
+        Some(job) => awake_after(alloc, time, job, jobs),
+        None => begin(alloc, time, false, jobs),
+    }
+}
+
+fn awake_after(alloc: Global, time: u64, job: Job, jobs: &mut Vec<Job>) -> Result<(), Memory>
+    ensures { OnOk result (jobs_listed jobs.new.items ≡ spec.awake_jobs time (job_read job ∷ jobs_listed jobs.old.items)) }
+{
+    match job.end {
+        End::Open => put(job, jobs),
+        End::Unseen { goes_on: true, .. } => put(job.reopened(), jobs),
+        End::Unseen { goes_on: false, .. } | End::Ended(_) | End::Lost(_) => {
+            put(job, jobs)?;
+            begin(alloc, time, false, jobs)
+        }
+    }
+}
+
+/// The thread runs, where jobs begin at their first run.
+#[tactic(auto, using(crate::proofs::Listed::jobs_listed_push))]
+pub(crate) fn start_running(
+    alloc: Global,
+    apart: u64,
+    time: u64,
+    jobs: &mut Vec<Job>,
+) -> Result<(), Memory>
+    ensures { OnOk result (jobs_listed jobs.new.items ≡ spec.running_jobs apart time (jobs_listed jobs.old.items)) }
+{
+    match jobs.pop() {
+        Some(job) => running_after(alloc, apart, time, job, jobs),
+        None => begin(alloc, time, false, jobs),
+    }
+}
+
+fn running_after(
+    alloc: Global,
+    apart: u64,
+    time: u64,
+    job: Job,
+    jobs: &mut Vec<Job>,
+) -> Result<(), Memory>
+    ensures { OnOk result (jobs_listed jobs.new.items ≡ spec.running_jobs apart time (job_read job ∷ jobs_listed jobs.old.items)) }
+{
+    match job.end {
+        End::Open => put(job, jobs),
+        End::Ended(_) => wake_again(alloc, apart, time, job, jobs),
+        End::Unseen { .. } | End::Lost(_) => {
+            put(job, jobs)?;
+            begin(alloc, time, false, jobs)
+        }
+    }
+}
+
+/// The last job ends.
+#[tactic(auto, using(crate::proofs::Listed::jobs_listed_push))]
+pub(crate) fn end_last(time: u64, jobs: &mut Vec<Job>) -> Result<(), Memory>
+    ensures { OnOk result (jobs_listed jobs.new.items ≡ spec.changed_last (spec.ended time) (jobs_listed jobs.old.items)) }
+{
+    match jobs.pop() {
+        Some(job) => put(job.ended(time), jobs),
+        None => Ok(()),
+    }
+}
+
+/// A switch of the last job's thread is missing.
+#[tactic(auto, using(crate::proofs::Listed::jobs_listed_push))]
+pub(crate) fn mark_last(jobs: &mut Vec<Job>) -> Result<(), Memory>
+    ensures { OnOk result (jobs_listed jobs.new.items ≡ spec.changed_last spec.missing (jobs_listed jobs.old.items)) }
+{
+    match jobs.pop() {
+        Some(job) => put(job.missing(), jobs),
+        None => Ok(()),
+    }
+}
+
+/// The last job's thread left unseen.
+#[tactic(auto, using(crate::proofs::Listed::jobs_listed_push))]
+pub(crate) fn unsee_last(since: u64, goes_on: bool, jobs: &mut Vec<Job>) -> Result<(), Memory>
+    ensures { OnOk result (jobs_listed jobs.new.items ≡ spec.changed_last (spec.left_unseen since goes_on) (jobs_listed jobs.old.items)) }
+{
+    match jobs.pop() {
+        Some(job) => put(job.left_unseen(since, goes_on), jobs),
+        None => Ok(()),
+    }
+}
+
+/// The last job ran.
+#[tactic(auto, using(crate::proofs::Listed::jobs_listed_push))]
+pub(crate) fn run_last(stretch: Stretch, jobs: &mut Vec<Job>) -> Result<(), Memory>
+    ensures { OnOk result (jobs_listed jobs.new.items ≡ spec.changed_last (spec.ran stretch) (jobs_listed jobs.old.items)) }
+{
+    match jobs.pop() {
+        Some(job) => put(job.ran(stretch)?, jobs),
+        None => Ok(()),
+    }
+}
+
+/// The open job began by this time, or one did.
+#[tactic(auto, using(crate::proofs::Listed::jobs_listed_push))]
+pub(crate) fn begin_by(alloc: Global, time: u64, jobs: &mut Vec<Job>) -> Result<(), Memory>
+    ensures { OnOk result (jobs_listed jobs.new.items ≡ spec.begun_by time (jobs_listed jobs.old.items)) }
+{
+    match jobs.pop() {
+        Some(job) => begin_by_after(alloc, time, job, jobs),
+        None => begin(alloc, time, false, jobs),
+    }
+}
+
+fn begin_by_after(alloc: Global, time: u64, job: Job, jobs: &mut Vec<Job>) -> Result<(), Memory>
+    ensures { OnOk result (jobs_listed jobs.new.items ≡ spec.begun_by time (job_read job ∷ jobs_listed jobs.old.items)) }
+{
+    match job.end {
+        End::Open => put(job.begun_by(time), jobs),
+        End::Ended(_) | End::Unseen { .. } | End::Lost(_) => {
+            put(job, jobs)?;
+            begin(alloc, time, false, jobs)
+        }
+    }
+}
+
+/// Whether nothing was seen of the thread's switches since the trace's begin, or since events were lost.
+pub(crate) fn has_no_switch(jobs: &Vec<Job>) -> bool
+    ensures { result ≡ spec.has_no_switch (jobs_listed jobs.now.items) }
+{
+    match jobs.last() {
+        Some(job) => match job.end {
+            End::Open => job.stretches.is_empty() && !job.switch_missing,
+            End::Ended(_) | End::Unseen { .. } => false,
+            End::Lost(_) => true,
+        },
+        None => true,
+    }
+}
+
+/// Events were lost after this time.
+pub(crate) fn lose_all(time: u64, jobs: &mut Vec<Job>)
+    ensures { jobs_listed jobs.new.items ≡ map (spec.lost_job time) (jobs_listed jobs.old.items) }
+{
+    for job in jobs.iter_mut() {
+        job.end = job.end.lost(time);
+    }
+}

@@ -1,0 +1,204 @@
+//! What is known of a task's thread: the state that is kept from event to event.
+ghost use Rattle.std.specs.Prelude.{◌≡◌, OnOk};
+ghost use Rattle.yds_trace.specs.Jobs as spec;
+ghost use Rattle.yds_trace.specs.Views.{jobs_listed, known_read};
+
+use crate::job::{Job, Leaving, Standing, Stretch};
+use crate::jobs::{
+    begin, begin_by, end_last, find_awake, has_no_switch, lose_all, mark_last, run_last,
+    start_running, unsee_last, wake,
+};
+use std::alloc::Global;
+use yds_kernel::State;
+use yds_model::Memory;
+
+/// What is known of a task's thread after some lines.
+#[derive(Debug, Drop)]
+pub struct Known {
+    /// Its jobs, in order of their begins. No other than the last one is open.
+    pub jobs: Vec<Job>,
+    /// Where it runs.
+    pub on: Option<Standing>,
+    /// Whether a wake-up came after its last switch.
+    pub woken: bool,
+}
+
+impl Known {
+    /// Before the first line.
+    pub fn new(alloc: Global) -> Known
+        ensures { known_read result ≡ spec.unknown }
+    {
+        Known {
+            jobs: Vec::new(alloc),
+            on: None,
+            woken: false,
+        }
+    }
+
+    /// A processor switches: this thread leaves it, or another one does, and then this one comes, or another one.
+    pub fn switch(
+        &mut self,
+        alloc: Global,
+        apart: u64,
+        wakes: bool,
+        left: bool,
+        came: bool,
+        state: State,
+        leaving: Leaving,
+    ) -> Result<(), Memory>
+        ensures { OnOk result (known_read self.new ≡ spec.after_switch apart wakes left came state leaving (known_read self.old)) }
+    {
+        if left {
+            self.leave(alloc, wakes, state, leaving)?;
+        } else {
+            self.pass_by(wakes, leaving.processor)?;
+        }
+        if came {
+            self.come(alloc, apart, wakes, leaving.processor, leaving.time)?;
+        }
+        Ok(())
+    }
+
+    /// It isn't where it was last seen to come.
+    fn vanish(&mut self, wakes: bool) -> Result<(), Memory>
+        ensures { OnOk result (known_read self.new ≡ spec.vanished wakes (known_read self.old)) }
+    {
+        if let Some(standing) = self.on {
+            unsee_last(standing.came, wakes && !self.woken, &mut self.jobs)?;
+            self.on = None;
+        }
+        Ok(())
+    }
+
+    /// Another thread leaves this processor.
+    fn pass_by(&mut self, wakes: bool, processor: u64) -> Result<(), Memory>
+        ensures { OnOk result (known_read self.new ≡ spec.passed_by wakes processor (known_read self.old)) }
+    {
+        if stands_on(processor, self.on) {
+            self.vanish(wakes)?;
+        }
+        Ok(())
+    }
+
+    /// It comes to a processor.
+    fn come(
+        &mut self,
+        alloc: Global,
+        apart: u64,
+        wakes: bool,
+        processor: u64,
+        time: u64,
+    ) -> Result<(), Memory>
+        ensures { OnOk result (known_read self.new ≡ spec.comes apart wakes processor time (known_read self.old)) }
+    {
+        self.vanish(wakes)?;
+        if wakes {
+            find_awake(alloc, time, &mut self.jobs)?;
+        } else {
+            start_running(alloc, apart, time, &mut self.jobs)?;
+        }
+        self.on = Some(Standing {
+            processor,
+            came: time,
+            since: time,
+        });
+        self.woken = false;
+        Ok(())
+    }
+
+    /// It is woken.
+    pub fn wake(&mut self, alloc: Global, apart: u64, time: u64) -> Result<(), Memory>
+        ensures { OnOk result (known_read self.new ≡ spec.wakes_up apart time (known_read self.old)) }
+    {
+        wake(alloc, apart, time, self.woken, &mut self.jobs)?;
+        self.woken = true;
+        Ok(())
+    }
+
+    /// Events were lost after this time.
+    pub fn lose(&mut self, time: u64)
+        ensures { known_read self.new ≡ spec.loses time (known_read self.old) }
+    {
+        lose_all(time, &mut self.jobs);
+        self.on = None;
+        self.woken = false;
+    }
+
+    /// The speed of a processor changes, from this one.
+    pub fn change_speed(
+        &mut self,
+        processor: u64,
+        time: u64,
+        khz: Option<u64>,
+    ) -> Result<(), Memory>
+        ensures { OnOk result (known_read self.new ≡ spec.speeds processor time khz (known_read self.old)) }
+    {
+        let Some(standing) = self.on else {
+            return Ok(());
+        };
+        if standing.processor != processor {
+            return Ok(());
+        }
+        let stretch = Stretch {
+            processor,
+            from: standing.since,
+            to: time,
+            khz,
+        };
+        run_last(stretch, &mut self.jobs)?;
+        self.on = Some(Standing {
+            processor: standing.processor,
+            came: standing.came,
+            since: time,
+        });
+        Ok(())
+    }
+
+    /// It leaves a processor.
+    fn leave(
+        &mut self,
+        alloc: Global,
+        wakes: bool,
+        state: State,
+        leaving: Leaving,
+    ) -> Result<(), Memory>
+        ensures { OnOk result (known_read self.new ≡ spec.leaves wakes state leaving (known_read self.old)) }
+    {
+        self.leave_from(alloc, wakes, leaving)?;
+        match state {
+            State::GoesOn => {}
+            State::Sleeps => end_last(leaving.time, &mut self.jobs)?,
+            State::Unknown => unsee_last(leaving.time, wakes, &mut self.jobs)?,
+        }
+        self.on = None;
+        self.woken = false;
+        Ok(())
+    }
+
+    /// Its jobs where it leaves a processor.
+    fn leave_from(&mut self, alloc: Global, wakes: bool, leaving: Leaving) -> Result<(), Memory>
+        ensures { OnOk result (jobs_listed self.new.jobs.items ≡ spec.left_from wakes leaving (known_read self.old)) }
+    {
+        if let Some(standing) = self.on {
+            if standing.processor == leaving.processor {
+                return run_last(leaving.stretch(standing.since), &mut self.jobs);
+            }
+        } else if !leaving.has_switched && has_no_switch(&self.jobs) {
+            begin_by(alloc, leaving.whole_since, &mut self.jobs)?;
+            return run_last(leaving.stretch(leaving.whole_since), &mut self.jobs);
+        }
+        self.vanish(wakes)?;
+        find_awake(alloc, leaving.time, &mut self.jobs)?;
+        mark_last(&mut self.jobs)
+    }
+}
+
+/// Whether it stands there.
+fn stands_on(processor: u64, on: Option<Standing>) -> bool
+    ensures { result ≡ spec.stands_on processor on }
+{
+    match on {
+        Some(standing) => standing.processor == processor,
+        None => false,
+    }
+}
