@@ -4,6 +4,7 @@
 #   make run        plans the document EXAMPLE with the program unproved, says so, proves what it is made of, builds it, and plans it again
 #   make try        runs the program on DOCUMENT with the words of COMMAND, unproved, after a minute or two
 #   make test       the gate: every proof, test, refused edit and stored run, and the checks that checks/gate.py lists
+#   make tools-check    the tests of the commands that need Python's own library alone; the gate has them, too
 #   make check      the built program answers every example and stored row byte for byte, within seconds
 #   make recipes    every recipe on its sample, with the built program
 #   make faults     refuses the built program memory, reads and writes in turn, and random bytes, and breaks its streams
@@ -68,7 +69,7 @@ LIBRARY := build/libyds.so
 PACKAGE_FILES := $(patsubst python/yds/%,%,$(wildcard python/yds/*.py python/yds/commands/*.py)) py.typed
 LIBRARY_FILES := libyds.so libyds.so.$(firstword $(subst ., ,$(VERSION))) libyds.so.$(VERSION) libyds.a
 
-.PHONY: all run try test check recipes faults fuzz costly bench bench-library library library-test wheel sdist install install-program install-tools install-library uninstall uninstall-program uninstall-tools uninstall-library map deb dist check-build record-build packages-test clean tool
+.PHONY: all run try test tools-check check recipes faults fuzz costly bench bench-library library library-test wheel sdist install install-program install-tools install-library uninstall uninstall-program uninstall-tools uninstall-library map deb dist check-build record-build packages-test clean tool
 
 all: $(BINARY) build/proved
 
@@ -103,6 +104,9 @@ try: tool
 
 test: tool
 	@python3 checks/gate.py
+
+tools-check:
+	@python3 checks/tools.py
 
 check: $(BINARY)
 	@sh examples/check.sh ../$(BINARY)

@@ -33,6 +33,7 @@ CHECKS: List[Command] = [
     (sys.executable, "docs/edits.py", "--check"),
     (sys.executable, "checks/test_uncalled.py"),
     (sys.executable, "docs/uncalled.py", "--check"),
+    (sys.executable, "checks/tools.py"),
 ]
 
 COUNTS = re.compile(rb"(\d+) passed, (\d+) failed\s*")

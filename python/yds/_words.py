@@ -19,7 +19,7 @@ import argparse
 import os
 import signal
 import sys
-from textwrap import fill, wrap
+from textwrap import fill
 from typing import Any, Callable, List, NamedTuple, NoReturn, Optional, Sequence
 
 from yds._version import DATE, VERSION
@@ -225,17 +225,23 @@ def _let_go() -> None:
 
 def help_of(command: Command) -> str:
     """The help: what the command is for, and its words."""
-    parts = [f"{command.name}: {command.summary}.", f"  {command.usage()}", command.about.strip("\n")]
+    usage = _filled(command.usage(), "  ", " " * (len(command.name) + 3))
+    parts = [f"{command.name}: {command.summary}.", usage, command.about.strip("\n")]
     if command.options:
         parts.append("Options:\n" + "\n".join(_option_lines(command)))
-    return "\n\n".join([*parts, fill(f"Exit status: {command.statuses}", WIDTH)])
+    return "\n\n".join([*parts, _filled(f"Exit status: {command.statuses}")])
+
+
+def _filled(text: str, first: str = "", others: str = "", width: int = WIDTH) -> str:
+    """The text in lines that aren't too long; no word is parted."""
+    return fill(text, width, initial_indent=first, subsequent_indent=others, break_on_hyphens=False)
 
 
 def _option_lines(command: Command) -> List[str]:
     forms = [", ".join(word for word in (option.short, f"--{option.name}") if word) for option in command.options]
     forms = [f"{form} {option.value}".rstrip() for form, option in zip(forms, command.options)]
     width = max(map(len, forms))
-    told = [wrap(option.told, WIDTH - width - 5) for option in command.options]
+    told = [_filled(option.told, width=WIDTH - width - 5).split("\n") for option in command.options]
     heads = [form.ljust(width) for form in forms]
     return [
         f"  {head if place == 0 else ' ' * width}   {text}"
