@@ -78,6 +78,8 @@ class Command(NamedTuple):
     statuses: str = "0 done; 1 a fault in the input; 2 a fault of the words."
     writes_document: bool = False
     """Whether the output is a document or a part of one, so that `failed` is its last line where it isn't whole."""
+    streams: bool = False
+    """Whether lines are written as they come; else they are held until the work is done."""
 
     def usage(self) -> str:
         """The line of usage."""
@@ -148,26 +150,23 @@ Work = Callable[[Given, Callable[[str], None]], int]
 """The work of a command: its words and a call that writes a line in, its status out."""
 
 
-def run(command: Command, words: Sequence[str], work: Work, stream: bool = False) -> int:
-    """Reads the words, does the work, and gives the status.
-
-    What is written is held until the work is done; with stream, for outputs of any length, it is written at once.
-    """
+def run(command: Command, words: Sequence[str], work: Work) -> int:
+    """Reads the words, does the work, and gives the status."""
     try:
-        return _answer(command, words, work, stream)
+        return _answer(command, words, work)
     except BrokenPipeError:
         _let_go()
         return CLOSED
 
 
-def _answer(command: Command, words: Sequence[str], work: Work, stream: bool) -> int:
+def _answer(command: Command, words: Sequence[str], work: Work) -> int:
     if list(words[:1]) in (["--help"], ["--version"], ["--options"], ["--man"]):
         told = {"--help": help_of, "--version": version_of, "--options": options_of, "--man": manual_of}
         return _put(command, [told[words[0]](command)], DONE)
     try:
         given = parse(command, words)
         held: List[str] = []
-        status = work(given, _write if stream else held.append)
+        status = work(given, _write if command.streams else held.append)
     except WordsError as fault:
         return _fail(command, f"{fault}; see {command.name} --help", WORDS)
     except KeyboardInterrupt:
@@ -182,6 +181,7 @@ def _answer(command: Command, words: Sequence[str], work: Work, stream: bool) ->
 
 
 def _write(line: str) -> None:
+    """Writes a line as it comes."""
     sys.stdout.buffer.write(line.encode("latin-1") + b"\n")
 
 

@@ -1,6 +1,6 @@
 # units.sh: read by test.sh. Texts of one document have the same units: yds-join puts them together, and each tool that reads them looks.
 
-join() { recipe join.awk "$@"; }
+join() { tool join "$@"; }
 
 test_units() {
 	texts_together
@@ -13,32 +13,32 @@ test_units() {
 
 texts_together() {
 	cat "$expected/points.txt" "$expected/trace.txt" >"$work/both"
-	same "join: points and a trace" 0 trace.txt eval "recipe join.awk '$expected/points.txt' '$expected/trace.txt' | tail -n +$(($(wc -l <"$expected/points.txt") + 1))"
+	same "join: points and a trace" 0 trace.txt eval "tool join '$expected/points.txt' '$expected/trace.txt' | tail -n +$(($(wc -l <"$expected/points.txt") + 1))"
 	join "$expected/points.txt" "$expected/trace.txt" >"$work/joined"
 	if cmp -s "$work/both" "$work/joined"; then pass; else fail "join: the texts one after the other"; fi
 	if [ -n "$("$YDS" audit --points <"$work/joined" | grep feasible)" ]; then pass; else fail "join: the program reads it"; fi
 	sed 's/speed unit 10000 kHz/speed unit 1000 kHz/' "$expected/points.txt" >"$work/points"
-	answers "join: a speed in two units" 1 failed eval "(recipe join.awk '$work/points' '$expected/trace.txt' | tail -n 1; exit 1)"
-	faulty "join: a speed in two units, the message" "join.awk: trace.txt, line 2: a unit of speed of 10000 kHz here, and 1000 kHz in points; give both the same khz=" points "$expected/trace.txt"
-	answers "join: what is refused isn't read" 3 "refused 36 1 UnknownKind" eval "(recipe join.awk '$work/points' '$expected/trace.txt' 2>/dev/null | '$YDS' audit | sed 's/ [0-9]* / 36 /'; exit 3)"
+	answers "join: a speed in two units" 1 failed eval "(tool join '$work/points' '$expected/trace.txt' | tail -n 1; exit 1)"
+	faulty "join: a speed in two units, the message" "yds-join: trace.txt, line 2: a unit of speed of 10000 kHz here, and 1000 kHz in points; give both the same --khz" points "$expected/trace.txt"
+	answers "join: what is refused isn't read" 3 "refused 36 1 UnknownKind" eval "(tool join '$work/points' '$expected/trace.txt' 2>/dev/null | '$YDS' audit | sed 's/ [0-9]* / 36 /'; exit 3)"
 	sed 's/time unit 10 us/time unit 100 us/' "$expected/trace.txt" >"$work/trace"
-	faulty "join: a time in two units" "join.awk: trace, line 2: a unit of time of 100 us here, and 10 us in trace.txt; give both the same us=" "$expected/trace.txt" trace
-	faulty "join: points twice" "join.awk: points-tree.txt has points, and points.txt too; give the points of one device" "$expected/points.txt" "$expected/points-tree.txt"
+	faulty "join: a time in two units" "yds-join: trace, line 2: a unit of time of 100 us here, and 10 us in trace.txt; give both the same --us" "$expected/trace.txt" trace
+	faulty "join: points twice" "yds-join: points-tree.txt has points, and points.txt too; give the points of one device" "$expected/points.txt" "$expected/points-tree.txt"
 	sed 's/power unit 1000 uW/power unit 100 uW/' "$expected/points.txt" >"$work/points"
-	faulty "join: a power in two units" "join.awk: points.txt, line 1: a unit of power of 1000 uW here, and 100 uW in points; give the points of one uw=" points "$expected/points.txt"
-	faulty "join: two traces" "join.awk: trace-starving.txt, line 1: time 0 at 100.000000000 s here, and 5123.400623456 s in trace.txt; give one trace" \
+	faulty "join: a power in two units" "yds-join: points.txt, line 1: a unit of power of 1000 uW here, and 100 uW in points; give the points of one --uw" points "$expected/points.txt"
+	faulty "join: two traces" "yds-join: trace-starving.txt, line 1: time 0 at 100.000000000 s here, and 5123.400623456 s in trace.txt; give one trace" \
 		"$expected/trace.txt" "$expected/trace-starving.txt"
 	printf '# period 10\njob a 0 10 1\n' >"$work/ten"
 	printf '# period 20\njob b 0 10 1\n' >"$work/twenty"
-	faulty "join: two periods" "join.awk: twenty, line 1: the period 20 here, and 10 in ten; give the jobs of one horizon" ten twenty
-	faulty "join: an empty text" "join.awk: empty has no line of a document; look at what wrote it" ten empty
-	faulty "join: an answer of no" "join.awk: failed.txt, line 1: the input is an answer of no: failed" ten "$here/samples/bad/failed.txt"
-	faulty "join: another text" 'join.awk: microcontroller.csv, line 1: "MHz,mA" is no line of a document' ten "$here/samples/microcontroller.csv"
-	faulty "join: no such file" "join.awk: nowhere can't be read" ten nowhere
-	faulty "join: a folder" "join.awk: folder can't be read" ten "$here/samples/folder"
-	refuses "join: one text" 2 failed "join.awk: fewer than two texts" join "$expected/trace.txt"
+	faulty "join: two periods" "yds-join: twenty, line 1: the period 20 here, and 10 in ten; give the jobs of one horizon" ten twenty
+	faulty "join: an empty text" "yds-join: empty has no line of a document; look at what wrote it" ten empty
+	faulty "join: an answer of no" "yds-join: failed.txt, line 1: the input is an answer of no: failed" ten "$here/samples/bad/failed.txt"
+	faulty "join: another text" 'yds-join: microcontroller.csv, line 1: "MHz,mA" is no line of a document' ten "$here/samples/microcontroller.csv"
+	faulty "join: no such file" "yds-join: nowhere can't be read: No such file or directory" ten nowhere
+	faulty "join: a folder" "yds-join: folder can't be read: Is a directory" ten "$here/samples/folder"
+	refuses "join: one text" 2 failed "yds-join: fewer than 2 files: yds-join TEXT TEXT ..; see yds-join --help" join "$expected/trace.txt"
 	answers "join: a text that tells no units" 0 "# ten tells no units: they are taken to be those of points.txt" \
-		eval "recipe join.awk '$expected/points.txt' '$work/ten' | tail -n 1"
+		eval "tool join '$expected/points.txt' '$work/ten' | tail -n 1"
 	printf '# period 10\r\njob c 0 10 1' >"$work/last"
 	join "$work/last" "$work/ten" >"$work/joined"
 	if [ "$(cat "$work/joined")" = "# period 10
@@ -49,7 +49,7 @@ job a 0 10 1" ]; then pass; else fail "join: a last line without its end, and en
 # faulty NAME ERROR TEXT TEXT: the first line of the errors, with the files' bare names; the status is 1, and the last line of the output failed.
 faulty() {
 	: >"$work/empty"
-	(cd "$work" && recipe join.awk "$3" "$4" >"$work/out" 2>"$work/err")
+	(cd "$work" && tool join "$3" "$4" >"$work/out" 2>"$work/err")
 	got=$?
 	if [ $got = 1 ] && [ "$(tail -n 1 "$work/out")" = failed ] && [ "$(head -n 1 "$work/err" | sed "s|$expected/||g; s|$here/samples/bad/||; s|$here/samples/||")" = "$2" ]; then pass; return; fi
 	fail "$1 (status $got)"

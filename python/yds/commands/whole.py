@@ -40,12 +40,13 @@ jobs, else the library.
     "0 done; 1 a verdict of no, too slow, deadlines missed, or a part without an answer; 2 a fault of the words. Where "
     "a part has no answer, the last line is `failed`.",
     writes_document=True,
+    streams=True,
 )
 
 
 def main(words: Sequence[str]) -> int:
     """Puts the answers together, or tells both bounds."""
-    return run(COMMAND, words, whole, stream=True)
+    return run(COMMAND, words, whole)
 
 
 def whole(given: Given, write: Callable[[str], None]) -> int:
