@@ -23,6 +23,18 @@ pub fn is_shown_least(
     requires known { All (λ level. All (λ number. number < length rows.now) level.members) certificate.now }
     ensures { IfOk result (λ shown. IsTrue shown → IsLeast rows.now schedule.now.slots) }
 {
-    let judgement = check(alloc, rows, schedule, certificate)?;
-    Ok(matches!(&judgement, Judgement::Accepted))
+    match check(alloc, rows, schedule, certificate) {
+        Ok(judgement) => Ok(is_accepted(&judgement)),
+        Err(error) => Err(error),
+    }
+}
+
+/// Whether the judgement is that the levels show it.
+fn is_accepted(judgement: &Judgement) -> bool
+    ensures { IsTrue result → judgement.now ≡ Judgement.Accepted }
+{
+    match judgement {
+        Judgement::Accepted => true,
+        _ => false,
+    }
 }
