@@ -90,7 +90,7 @@ answers() {
 from() { input=$1; shift; "$@" <"$input"; }
 recipe() { program=$1; shift; $AWK -f "$here/$program" "$@"; }
 # tool NAME ..: a command of the package yds, as yds-NAME.
-tool() { command=$1; shift; "$PYTHON" "$here/bin/yds-$command" "$@"; }
+tool() { command=$1; shift; "$PYTHON" "$here/../python/yds/commands/_start.py" "yds-$command" "$@"; }
 
 trace() { recipe trace.awk "$@"; }
 points() { tool points "$@"; }
@@ -234,7 +234,7 @@ test_comma() {
 	LC_ALL=$comma $AWK 'BEGIN { exit "1.5" * 2 == 3 }' || return
 	text="this awk has a decimal comma in this locale; say export LC_ALL=C first"
 	refuses "comma: trace" 1 failed "trace.awk: $text" env LC_ALL="$comma" $AWK -f "$here/trace.awk" -v tasks=decode:16.667,audio:10 trace-report.txt
-	same "comma: misses has its own locale" 1 misses.txt from /dev/null env LC_ALL="$comma" "$PYTHON" "$here/bin/yds-misses" late-twice.txt
+	same "comma: misses has its own locale" 1 misses.txt from /dev/null env LC_ALL="$comma" "$here/bin/yds-misses" late-twice.txt
 }
 
 energy() { tool energy "$@"; }

@@ -574,51 +574,51 @@ level 2 has the work 8 and the length 6: expected the speed 1.33333333333333"
 	refuses "explain: no answer" 1 "" "yds-explain: no answer of check; give the document, and after it the answer" tool explain "$work/plan"
 }
 
-answer() { recipe answer.awk "$@"; }
+answer() { tool answer "$@"; }
 tables() {
 	text "answer: a verdict" 0 '{"verdicts":[{"verdict":"late","slot":2,"job":"audio","to":21+1/2,"to_exact":"21+1/2","deadline":20}]}' \
-		eval "echo 'late slot 2 audio 21+1/2 deadline 20' | recipe answer.awk | sed 's/21.5/21+1\/2/'"
+		eval "echo 'late slot 2 audio 21+1/2 deadline 20' | tool answer | sed 's/21.5/21+1\/2/'"
 	text "answer: misses of a trace" 0 '{"verdicts":[{"verdict":"late","slot":6,"job":"audio.1","to":1294,"to_exact":"1294","deadline":1200,"late":94,"late_exact":"94","due":5123.412623},{"verdict":"late","slot":19,"job":"decode.2","to":5319,"to_exact":"5319","deadline":5150,"late":169,"late_exact":"169","due":5123.452123}],"missed":[{"missed":2}]}' \
 		answer "$expected/misses.txt"
 	text "answer: misses whose end isn't known" 0 "verdict,job,given,given_exact,wanted,not_ended_ms,due
 work,render.0,20000,20000,20001,13.000,100.017000
-work,audio.1,0,0,1,15.000,100.015000" answer -v csv=verdicts "$expected/misses-starving.txt"
+work,audio.1,0,0,1,15.000,100.015000" answer --csv verdicts "$expected/misses-starving.txt"
 	text "answer: a job that wasn't done even then" 0 '{"verdicts":[{"verdict":"late","slot":3,"job":"b","to":6,"to_exact":"6","deadline":5,"late_at_least":1.5,"late_at_least_exact":"1+1/2","given":4,"given_exact":"4","wanted":5}]}' \
-		eval "echo 'late slot 3 b 6 deadline 5, by at least 1+1/2: given 4 wanted 5' | recipe answer.awk"
-	refuses "answer: a miss in another form" 1 "" 'answer.awk: line 1: "late slot 2 a b deadline c, by 3" is no line of an answer' eval "echo 'late slot 2 a b deadline c, by 3' | recipe answer.awk"
+		eval "echo 'late slot 3 b 6 deadline 5, by at least 1+1/2: given 4 wanted 5' | tool answer"
+	refuses "answer: a miss in another form" 1 "" 'yds-answer: line 1: "late slot 2 a b deadline c, by 3" is no line of an answer' eval "echo 'late slot 2 a b deadline c, by 3' | tool answer"
 	text "answer: misses of jobs that are there without their runs" 0 "verdict,job,reason,due
-\"late, without its runs\",render.1,\"render.1 (ran on CPU 1), 25.000 ms after its deadline; window 5000 6600\",200.066000" answer -v csv=verdicts "$expected/misses-elsewhere.txt"
+\"late, without its runs\",render.1,\"render.1 (ran on CPU 1), 25.000 ms after its deadline; window 5000 6600\",200.066000" answer --csv verdicts "$expected/misses-elsewhere.txt"
 	text "answer: misses of jobs that were left out" 0 "verdict,job,reason,due
 left out,render.1,\"render.1 (ran on CPU 1), 25.000 ms after its deadline; window 5000 6600\",200.066000" \
-		eval "sed 's/late, without its runs/left out/' '$expected/misses-elsewhere.txt' | recipe answer.awk -v csv=verdicts"
+		eval "sed 's/late, without its runs/left out/' '$expected/misses-elsewhere.txt' | tool answer --csv verdicts"
 	text "answer: a miss that a comment alone tells" 0 '{"verdicts":[{"verdict":"late in a run within one tick","job":"render.0","reason":"render.0, 1.001 ms after its deadline","due":200.002000}]}' \
-		eval "echo 'late in a run within one tick: render.0, 1.001 ms after its deadline # due at 200.002000 s' | recipe answer.awk"
+		eval "echo 'late in a run within one tick: render.0, 1.001 ms after its deadline # due at 200.002000 s' | tool answer"
 	text "answer: misses by less than a unit" 0 "audio.0 work
-audio.1 late by less than a unit of time" eval "recipe answer.awk '$expected/misses-short-late.txt' | jq -r '.verdicts[] | .job + \" \" + .verdict'"
+audio.1 late by less than a unit of time" eval "tool answer '$expected/misses-short-late.txt' | jq -r '.verdicts[] | .job + \" \" + .verdict'"
 	text "answer: a refusal" 0 '{"refusals":[{"line":1,"column":9,"reason":"EmptyWindow"}]}' answer "$expected/compare-refused.txt"
 	text "answer: too slow" 0 '{"too_slow":[{"work":100,"length":1,"top":5}]}' answer "$expected/compare-too-slow.txt"
 	text "answer: energies" 0 "side,energy,energy_exact
 plan,4531,4531
 avr,4775.17933333333,4775+269/1500
-oa,4567.13666666667,4567+41/300" answer -v csv=energies "$expected/compare-a.txt"
-	text "answer: misses" 0 '{"misses":[{"side":"at-64","deadlines":3,"first":"radio.0"}]}' eval "echo '# at-64 misses 3 deadlines, the first radio.0' | recipe answer.awk"
-	refuses "answer: a table that isn't there" 1 "" "answer.awk: no slots; there are refusals" answer -v csv=slots "$expected/compare-refused.txt"
+oa,4567.13666666667,4567+41/300" answer --csv energies "$expected/compare-a.txt"
+	text "answer: misses" 0 '{"misses":[{"side":"at-64","deadlines":3,"first":"radio.0"}]}' eval "echo '# at-64 misses 3 deadlines, the first radio.0' | tool answer"
+	refuses "answer: a table that isn't there" 1 "" "yds-answer: no slots; there are refusals" answer --csv slots "$expected/compare-refused.txt"
 	refuses "answer: no such table" 2 "" \
-		"answer.awk: csv=slot: there are jobs points slots runs ticks levels pieces members grids energies verdicts refusals too_slow times roundings misses refused_jobs missed one_level report breaks trial comments" \
-		answer -v csv=slot "$expected/compare-refused.txt"
-	refuses "answer: another line" 1 "" 'answer.awk: line 1: "document?plan?avr?oa?rounded?answer" is no line of an answer' answer "$expected/folder.tsv"
+		"yds-answer: --csv slot: there are jobs points slots runs ticks levels pieces members grids energies verdicts refusals too_slow times roundings misses refused_jobs missed one_level report breaks trial comments; see yds-answer --help" \
+		answer --csv slot "$expected/compare-refused.txt"
+	refuses "answer: another line" 1 "" "yds-answer: $expected/folder.tsv, line 1: "'"document?plan?avr?oa?rounded?answer" is no line of an answer' answer "$expected/folder.tsv"
 	cp "$expected/compare-a.txt" "$expected/compare-refused.txt" "$work"
 	: >"$work/empty.txt"
 	text "answer: files" 1 "file,side,energy,energy_exact
 compare-a.txt,plan,4531,4531
 compare-a.txt,avr,4775.17933333333,4775+269/1500
-compare-a.txt,oa,4567.13666666667,4567+41/300" recipe_in "$work" answer.awk -v csv=energies compare-a.txt compare-refused.txt empty.txt
+compare-a.txt,oa,4567.13666666667,4567+41/300" tool_in "$work" answer --csv energies compare-a.txt compare-refused.txt empty.txt
 	cp "$work/err" "$work/notes"
-	text "answer: what a file hasn't" 0 "answer.awk: no energies in compare-refused.txt; there are refusals
-answer.awk: no energies in empty.txt; there is nothing" cat "$work/notes"
+	text "answer: what a file hasn't" 0 "yds-answer: no energies in compare-refused.txt; there are refusals
+yds-answer: no energies in empty.txt; there is nothing" cat "$work/notes"
 	printf 'job a\\b"c,d 0 4 8\n# a\ttab, "quotes" and \\\n' >"$work/name"
 	text "answer: a hostile name" 0 'name,release,deadline,work
-"a\b""c,d",0,4,8' answer -v csv=jobs "$work/name"
+"a\b""c,d",0,4,8' answer --csv jobs "$work/name"
 	want plan jq || return
 	"$YDS" plan <"$here/../examples/three-jobs.txt" >"$work/plan"
 	text "answer: slots" 0 "job,from,from_exact,to,to_exact,work,work_exact,speed
@@ -626,7 +626,7 @@ a,0,0,2,2,2,2,1
 b,2,2,4,4,2.66666666666667,2+2/3,1.33333333333
 c,4,4,6,6,6,6,3
 b,6,6,10,10,5.33333333333333,5+1/3,1.33333333333
-a,10,10,12,12,2,2,1" answer -v csv=slots "$work/plan"
+a,10,10,12,12,2,2,1" answer --csv slots "$work/plan"
 	answer "$work/name" >"$work/name.json"
 	text "answer: a hostile name in JSON" 0 'a\b"c,d
 # a	tab, "quotes" and \' jq -r '.jobs[0].name, .comments[0].text' "$work/name.json"

@@ -34,7 +34,7 @@ job sense.0 0 50 700" from "$work/units" tasks
 	refuses "tasks: no such file" 1 failed "yds-tasks: nowhere can't be read: No such file or directory" tasks nowhere
 	refuses "tasks: no such option" 2 failed "yds-tasks: more than 1 file; see yds-tasks --help" tasks period=9 sensor-tasks.txt
 	refuses "tasks: another word of --lost" 2 failed "yds-tasks: --lost keep: there is only --lost cut; see yds-tasks --help" tasks --lost keep sensor-tasks.txt
-	refuses "tasks: no program" 1 failed "yds-tasks: yds_cli expand ended with status 1: " env YDS=false "$PYTHON" "$here/bin/yds-tasks" sensor-tasks.txt
+	refuses "tasks: no program" 1 failed "yds-tasks: yds_cli expand ended with status 1: " env YDS=false "$here/bin/yds-tasks" sensor-tasks.txt
 }
 
 jobs_after_the_horizon() {

@@ -78,7 +78,7 @@ reads_together() {
 	refuses "units: slots, $kind" 1 failed "slots.awk: line 7: $text" recipe slots.awk "$work/two"
 	refuses "units: scale, $kind" 1 failed "yds-scale: $work/two-jobs, line 6, column $column: $dashed" tool scale --work 2 "$work/two-jobs"
 	refuses "units: battery, $kind" 1 "" "yds-battery: $work/two, line 7, column $column: $dashed" tool battery --mah 1 --volts 1 --period 1 "$work/two"
-	refuses "units: answer, $kind" 1 "" "answer.awk: line 7: $text" from "$work/two" recipe answer.awk
+	refuses "units: answer, $kind" 1 "" "yds-answer: line 7, column $column: $dashed" from "$work/two" tool answer
 	refuses "units: misses, $kind" 1 "" "yds-misses: $work/two, line 7, column $column: $dashed" tool misses "$work/two"
 	refuses "units: parts, $kind" 1 "" "yds-parts: line 7: $text" tool parts --folder "$work/parts" "$work/two"
 	text_of_part=$(cat "$work/parts/part-00001.txt" 2>/dev/null)
