@@ -74,7 +74,7 @@ point 400 250
 # rounded: 2404 MHz to 2400 MHz
 # rounded: 3203 MHz to 3200 MHz" points "$work/part"
 	printf 'kHz,uW\n0,1\n32.768,30\n' >"$work/part"
-	refuses "units: a clock of a watch" 1 failed "yds-points: 32.768 kHz is speed 0; give a finer --khz" points --uw 1 "$work/part"
+	refuses "units: a clock of a watch" 1 failed "yds-points: 32.768 kHz is speed 0; give a finer --khz, as --khz 1" points --uw 1 "$work/part"
 	text "units: a clock of a watch in units of 8 kHz" 0 "# table: speed unit 8 kHz, power unit 1 uW
 point 0 1
 point 4 30
