@@ -200,6 +200,7 @@ test_many_runs() {
 # Each recipe is a command, and each command a recipe; the manual page and the manual name them all.
 test_commands() {
 	for file in "$here"/*.awk "$here"/*.sh "$here"/*.jq; do
+		[ -e "$file" ] || continue
 		name=${file##*/}
 		case $name in test.sh | command.sh | plot*.awk) continue ;; esac
 		name=yds-${name%.*}
@@ -223,7 +224,7 @@ test_commands() {
 	(cd "$work" && "$here/bin/yds-trace" $t ./cpu=0) >"$work/named"
 	same "commands: a file with a name like an option" 0 trace.txt cat "$work/named"
 	refuses "commands: an unknown option" 2 failed \
-		"yds-energy: there is no option nme=; there are name= at= (a file of this name is written ./nme=x); see yds-energy --help" "$here/bin/yds-energy" nme=x
+		"yds-slots: there is no option nme=; there are most= speeds= (a file of this name is written ./nme=x); see yds-slots --help" "$here/bin/yds-slots" nme=x
 	refuses "commands: an option behind a file" 2 failed "yds-trace: the options come before the files: cpu=1; see yds-trace --help" \
 		"$here/bin/yds-trace" $t trace-report.txt cpu=1
 	refuses "commands: two dashes" 2 failed "yds-trace: --cpu is no option; options are words NAME=VALUE; see yds-trace --help" "$here/bin/yds-trace" --cpu 0 trace-report.txt
@@ -238,7 +239,7 @@ test_commands() {
 			COMP_WORDS=(yds-plot g); _yds_recipe yds-plot; echo "${COMPREPLY[*]}"
 			COMP_WORDS=(yds-trace jobs = fr); COMP_CWORD=3; _yds_recipe yds-trace; echo "${COMPREPLY[*]}"
 			for command in "$2"/*; do complete -p "${command##*/}" >/dev/null || echo "no completion of $command"; done' bash "$here/../completions/yds_cli.bash" "$here/bin")
-		if [ "$got" = "$(printf -- '--help name= at=\ngantt\n')" ]; then pass; else fail "commands: completion: $got"; fi
+		if [ "$got" = "$(printf -- '--help --name= --at= --most-waste= --help --version\ngantt\n')" ]; then pass; else fail "commands: completion: $got"; fi
 	fi
 	test_installed_commands
 }
