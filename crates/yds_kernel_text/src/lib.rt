@@ -13,3 +13,6 @@ mod reader;
 pub use advance::Advance;
 pub use limits::ROOM;
 pub use reader::TraceReader;
+
+#[cfg(test)]
+mod tests;
