@@ -29,8 +29,8 @@
 #   # begins: NAME TICK, # ends: NAME TICK               its true begin or end, where its first or last run is within one tick and so
 #                                                         in no line, and no other comment tells it
 #   # 8 jobs written, 3 left out, 2 late without their runs    the last line; the 2 are among the 8
-# A deadline that is more than 100 times the mean distance of its task's begins, or less than a hundredth, is told there and on
-# standard error: it is likely in another unit.
+# A deadline, or APART, that is more than 100 times the mean distance of its task's begins, or less than a hundredth, is told there
+# and on standard error: it is likely in another unit.
 #
 # Options, each as NAME=VALUE (to awk itself as -v NAME=VALUE):
 #   tasks=LIST   NAME:DEADLINE[:APART] or PID=NAME:DEADLINE[:APART], parted by commas, in milliseconds.
@@ -817,8 +817,9 @@ function check_limits(    j, a, d, name) {
     if (out > 100000) return fail(sprintf("%.0f runs are more than 100000; give from= and to=, or long=1 for parts.awk", out))
 }
 
-# A deadline that is more than 100 times the mean distance of a task's begins, or less than a hundredth of it, is likely in another unit.
-function wrong_unit(t,    j, first, before, n, mean, ratio) {
+# A deadline, or APART, that is more than 100 times the mean distance of a task's begins, or less than a hundredth of it, is likely in
+# another unit.
+function wrong_unit(t, name, value,    j, first, before, n, mean, ratio) {
     for (j = 1; j <= number_of_jobs; j++) {
         if (task_of_job[j] != t || (j in begin_unknown)) continue
         if (!n++) first = begin[j]
@@ -826,15 +827,17 @@ function wrong_unit(t,    j, first, before, n, mean, ratio) {
     }
     if (n < 2 || before == first || jobs != "") return ""
     mean = (before - first) / (n - 1)
-    ratio = deadline[t] / mean
+    ratio = value / mean
     if (ratio <= 100 && ratio >= 0.01) return ""
-    return sprintf("the deadline of %s is %.9g ms, and its jobs begin %.6g ms apart; deadlines are in milliseconds, and this looks like %s", label[t], \
-        deadline[t] / 1000000, mean / 1000000, ratio < 1 ? "seconds" : ratio < 31623 ? "microseconds" : "nanoseconds")
+    return sprintf("%s of %s is %.9g ms, and its jobs begin %.6g ms apart; %s in milliseconds, and this looks like %s", name, label[t], \
+        value / 1000000, mean / 1000000, name == "APART" ? "it is" : "deadlines are", ratio < 1 ? "seconds" : ratio < 31623 ? "microseconds" : "nanoseconds")
 }
 function find_wrong_units(    t) {
     for (t = 1; t <= number_of_tasks; t++) {
-        told_unit[t] = wrong_unit(t)
+        told_unit[t] = wrong_unit(t, "the deadline", deadline[t])
+        told_apart[t] = apart[t] ? wrong_unit(t, "APART", apart[t]) : ""
         if (told_unit[t] != "") print "trace.awk: " told_unit[t] | "cat 1>&2"
+        if (told_apart[t] != "") print "trace.awk: " told_apart[t] | "cat 1>&2"
     }
     close("cat 1>&2")
 }
@@ -900,7 +903,10 @@ function write_comments(    i, j, t) {
     if (lost_places) print "# places where events were lost: " lost_places
     for (t = 1; t <= number_of_tasks; t++)
         if (is_uneven(t)) print "# " label[t] " may sleep within a job: some of its wake-ups are less than two thirds of their mean distance apart; see APART"
-    for (t = 1; t <= number_of_tasks; t++) if (told_unit[t] != "") print "# " told_unit[t]
+    for (t = 1; t <= number_of_tasks; t++) {
+        if (told_unit[t] != "") print "# " told_unit[t]
+        if (told_apart[t] != "") print "# " told_apart[t]
+    }
     if (!wakes) print "# no wake-up of these tasks in the trace: each job begins at its first run, and what it waited before isn't seen"
     if (low != "" && low < first_time) print "# the trace begins at " clock(first_time) " s, after from="
     if (high != "" && high > trace_end) print "# the trace ends at " clock(trace_end) " s, before to="

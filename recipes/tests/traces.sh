@@ -358,6 +358,14 @@ traces_of_wrong_units() {
 			cat "$work/told" "$work/errors"
 		fi
 	done
+	# APART in seconds joins nothing.
+	for try in 0.012:seconds 0.16:seconds 0.17: 12:; do
+		trace -v "tasks=decode:16.667:${try%:*},audio:10" trace-late.txt >"$work/document" 2>"$work/errors"
+		grep '^# APART of' "$work/document" | sed 's/begin [0-9.]* ms/begin some ms/' >"$work/told"
+		wanted="# APART of decode is ${try%:*} ms, and its jobs begin some ms apart; it is in milliseconds, and this looks like ${try#*:}"
+		[ -n "${try#*:}" ] || wanted=
+		if [ "$(cat "$work/told")" = "$wanted" ]; then pass; else fail "traces: APART of ${try%:*} ms: $(cat "$work/told")"; fi
+	done
 	# The wrong unit is told before what fails for it.
 	refuses "traces: a deadline in nanoseconds" 1 failed \
 		"trace.awk: the deadline of decode is 16667000 ms, and its jobs begin 16.667 ms apart; deadlines are in milliseconds, and this looks like nanoseconds" \
