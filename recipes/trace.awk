@@ -43,7 +43,7 @@
 #   others=MS    the time of all other tasks as jobs others.0, others.1, .. with windows of so many ms
 #   lost=cut     go on where events were lost: the jobs that may have been open there are left out
 #   strict=1     fail where a job is left out for another reason than from= and to=
-#   long=1       any number of jobs, runs and times, for a document that parts.awk cuts
+#   long=1       any number of jobs, runs and times, for a document that yds-parts cuts
 #   jobs=FILE    take FILE's lines in place of the job lines, time 0 at from=; `tasks` is then a list of names. The runs of a
 #                task's k-th job after from=, counted from 0, go to FILE's job NAME.k, or to NAME where that is the job
 #   ticks=N      ticks in a unit of time (1); above 1 only with jobs=FILE
@@ -813,8 +813,8 @@ function check_limits(    j, a, d, name) {
         if (work[other[j]] > 1000000) return fail(other[j] " has a work above 1000000; give a shorter others=, or a coarser us= or khz=")
     if (long) return
     if (kept + jobs_without_runs + number_of_others > 4000 && jobs == "")
-        return fail(sprintf("%.0f jobs are more than 4000; give from= and to=, or long=1 for parts.awk", kept + jobs_without_runs + number_of_others))
-    if (out > 100000) return fail(sprintf("%.0f runs are more than 100000; give from= and to=, or long=1 for parts.awk", out))
+        return fail(sprintf("%.0f jobs are more than 4000; give from= and to=, or long=1 for yds-parts", kept + jobs_without_runs + number_of_others))
+    if (out > 100000) return fail(sprintf("%.0f runs are more than 100000; give from= and to=, or long=1 for yds-parts", out))
 }
 
 # A deadline, or APART, that is more than 100 times the mean distance of a task's begins, or less than a hundredth of it, is likely in

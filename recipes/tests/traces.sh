@@ -306,7 +306,7 @@ run audio.3 30029 30877 1416
 			printf "  a-5 [000] %.6f: sched_switch: a:5 [120] S ==> swapper/0:0 [120]\n", t + 0.002
 		}
 	}' >"$work/many"
-	refuses "traces: too many jobs" 1 failed "trace.awk: 4100 jobs are more than 4000; give from= and to=, or long=1 for parts.awk" trace -v tasks=a:10 "$work/many"
+	refuses "traces: too many jobs" 1 failed "trace.awk: 4100 jobs are more than 4000; give from= and to=, or long=1 for yds-parts" trace -v tasks=a:10 "$work/many"
 	trace -v tasks=a:10 -v long=1 "$work/many" >"$work/long"
 	says "traces: long" 0 "job a.4099 4099000 4100000 20000
 # 4100 jobs written, none left out" tail -n 4110 "$work/long"
