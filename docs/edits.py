@@ -34,6 +34,11 @@ LATER = [
     "yds_trace",
     "yds_trace_laws",
     "yds_trace_examples",
+    "yds_answer_plans",
+    "yds_answer_verdicts",
+    "yds_answer_jobs",
+    "yds_answer_points",
+    "yds_callers",
 ]
 MOST_OF_CRATE = 8
 MOST_OF = {"yds_run": 12, "yds_admit": 12, "yds_document": 12}
