@@ -1,5 +1,5 @@
 -- A job that is late by a unit or more makes the document infeasible; so do work without a slot, and a front that misses a run.
-use Rattle.yds_model.proofs.Common.{◌≡◌, ◌∙◌, ◌≢◌, ℕ, zero, suc, ◌+◌, ◌-◌, ◌*◌, ◌<◌, ◌≤◌, ◌==◌, ◌&&◌, ◌||◌, List, [], ◌∷◌, map, length, take, drop, reverse, Bool, true, false, nat_lt, nat_le, if◌then◌else◌, Option, Some, None, is_some, is_none, refl, sym, ap, subst, arith, inl, inr, cases_Bool, cases_lt, or_parts, lt-ltb, leb-false, All, All-head, All-tail, get_or, sum_by, sum_by-cons, sum_by-take-drop, drop-cons, add-one, ne_eqb, eq-eqb, recursion_from_All, All-from_recursion, Job, job_at, WrittenSlot, WholeSlot, work_given}
+use Rattle.yds_model.proofs.Common.{◌≡◌, ◌∙◌, ◌≢◌, ℕ, zero, suc, ◌+◌, ◌-◌, ◌*◌, ◌<◌, ◌≤◌, ◌==◌, ◌&&◌, ◌||◌, List, [], ◌∷◌, map, length, take, drop, reverse, Bool, true, false, nat_lt, nat_le, if◌then◌else◌, Option, Some, None, is_some, is_none, refl, sym, ap, subst, arith, inl, inr, cases_Bool, cases_lt, or_parts, lt-ltb, leb-false, All, All-head, All-tail, get_or, sum_by, sum_by-cons, sum_by-take-drop, drop-cons, add-one, ne_eqb, recursion_from_All, All-from_recursion, Job, job_at, WrittenSlot, WholeSlot, work_given}
 use Rattle.std.specs.List.{AllByRecursion, filter_map, flat_map, enumerate_from, slice_index_or}
 use Rattle.yds_kernel.specs.Event.{Said}
 use Rattle.yds_model.specs.Feasible.{IsFeasible}
@@ -11,6 +11,7 @@ use Rattle.yds_trace.specs.WrittenTime.{Units, Run, written_time, work_of_run, w
 use Rattle.yds_trace.specs.Document.{Judged, Written, Placed, stands, written_end, written_runs, is_hidden, owed, with_runs, without_runs, written_of, written_jobs, all_judged, all_runs, units_of, document_of, placed_runs}
 use Rattle.yds_trace_laws.specs.AsSlots.{job_read, jobs_read, slots_read}
 use Rattle.yds_trace_laws.specs.Laws.{FeasibleMeansInTime, WorkNeedsASlot, FrontsAreInfeasible}
+use Rattle.yds_model.proofs.Horizon.{part_own}
 use Rattle.yds_trace_laws.proofs.Ordered.{in_order-sum, in_order-all, in_order-all_back, append-all, map-all}
 use Rattle.yds_trace_laws.proofs.Times.{lateness_is_kept}
 use Rattle.yds_trace_laws.proofs.Placing.{IsAt, found, mine, place, if_other, given_at, IsWithin, within_at}
@@ -187,9 +188,6 @@ runs_of_known jobs =
     (in_order-all (λ placed. placed.job < length jobs) (λ (placed : Placed). placed.run.from) (as_they_stand jobs)
     (known_jobs 0 (length jobs) jobs (omega arith)))
 
-own_work : (number job work : ℕ) → number ≡ job → (if number == job then work else 0) ≡ work
-own_work number job work same = rw (eq-eqb number job same)
-
 pub fronts_are_infeasible : FrontsAreInfeasible
 fronts_are_infeasible jobs count enough positive within feasible =
     let d : Placed = record { job = 0; run = record { from = 0; to = 0; speed = 0 } } in
@@ -208,7 +206,7 @@ fronts_are_infeasible jobs count enough positive within feasible =
       sum_by-take-drop (mine missing.job) (all_runs jobs) count,
       ap (λ runs. sum_by (mine missing.job) runs) rest,
       sum_by-cons (mine missing.job) missing (drop (suc count) (all_runs jobs)),
-      own_work missing.job missing.job (work_of_run missing.run) refl,
+      part_own missing.job missing.job (work_of_run missing.run) refl,
       in_order-sum (mine missing.job) (λ (placed : Placed). placed.run.from) (as_they_stand jobs),
       given_at 0 missing.job missing.job jobs job (omega arith) at,
     ))
