@@ -1,8 +1,9 @@
 //! Calls `yds_checker`.
 
-ghost use Rattle.std.specs.Prelude.{◌≡◌, ◌<◌, ◌≤◌, length, IsTrue, IfOk};
+ghost use Rattle.std.specs.Prelude.{◌≡◌, ◌<◌, ◌≤◌, ◌↔◌, length, IsTrue, IfOk};
 ghost use Rattle.std.specs.List.{All};
 ghost use Rattle.yds_model.specs.Excess.{IsLeast};
+ghost use Rattle.yds_model.specs.Proper.{IsProper};
 
 use std::alloc::Global;
 use yds_certificate::Certificate;
@@ -11,7 +12,7 @@ use yds_model::limits::MAX_JOBS;
 use yds_model::{JobRow, Memory};
 use yds_slots::Schedule;
 
-/// Whether these levels show that the schedule is least, whoever made the two.
+/// Whether these levels are a proper certificate of the schedule, whoever made the two. Then the schedule is least.
 pub fn is_shown_least(
     alloc: Global,
     rows: &[JobRow],
@@ -21,7 +22,8 @@ pub fn is_shown_least(
     requires jobs { schedule.now.jobs ≡ length rows.now }
     requires few { length rows.now ≤ MAX_JOBS }
     requires known { All (λ level. All (λ number. number < length rows.now) level.members) certificate.now }
-    ensures { IfOk result (λ shown. IsTrue shown → IsLeast rows.now schedule.now.slots) }
+    ensures proper { IfOk result (λ shown. IsTrue shown ↔ IsProper rows.now schedule.now.slots certificate.now) }
+    ensures least { IfOk result (λ shown. IsTrue shown → IsLeast rows.now schedule.now.slots) }
 {
     match check(alloc, rows, schedule, certificate) {
         Ok(judgement) => Ok(is_accepted(&judgement)),
@@ -31,7 +33,7 @@ pub fn is_shown_least(
 
 /// Whether the judgement is that the levels show it.
 fn is_accepted(judgement: &Judgement) -> bool
-    ensures { IsTrue result → judgement.now ≡ Judgement.Accepted }
+    ensures { IsTrue result ↔ judgement.now ≡ Judgement.Accepted }
 {
     match judgement {
         Judgement::Accepted => true,

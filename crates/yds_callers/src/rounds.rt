@@ -1,10 +1,11 @@
 //! Calls `yds_round`.
 
-ghost use Rattle.std.specs.Prelude.{◌≤◌, length, List, IfOk};
+ghost use Rattle.std.specs.Prelude.{◌≡◌, ◌≤◌, ◌⊎◌, length, List, IfOk, IfErr};
 ghost use Rattle.yds_model.specs.Level.{Level};
 ghost use Rattle.yds_model.specs.Plan.{IsPlan};
 ghost use Rattle.yds_model.specs.Rounding.{IsRounding};
 ghost use Rattle.yds_model.specs.Slot.{WrittenSlot};
+ghost use Rattle.yds_round.specs.Fault.{IsCauseOfRoundFault};
 
 use std::alloc::Global;
 use yds_fraction::Amount;
@@ -18,8 +19,10 @@ use yds_table::Table;
 /// the level that the points are too slow for.
 pub fn energy_on_points(alloc: Global, rows: &[JobRow], table: &Table) -> Result<Amount, RoundFault>
     requires { length rows.now ≤ MAX_JOBS }
-    ensures { IfOk result (λ energy. (slots : List WrittenSlot) × (levels : List Level) × (rounded : List WrittenSlot)
+    ensures energy { IfOk result (λ energy. (slots : List WrittenSlot) × (levels : List Level) × (rounded : List WrittenSlot)
         × IsPlan rows.now slots levels × IsRounding rows.now table.now slots levels rounded energy) }
+    ensures cause { IfErr result (λ fault. (fault ≡ RoundFault.Memory) ⊎ ((slots : List WrittenSlot) × (levels : List Level)
+        × IsPlan rows.now slots levels × IsCauseOfRoundFault levels table.now fault)) }
 {
     let planned = plan(alloc, rows)?;
     let rounded = round(alloc, rows, &planned, table)?;

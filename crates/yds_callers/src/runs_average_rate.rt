@@ -1,7 +1,9 @@
 //! Calls `yds_avr`.
 
-ghost use Rattle.std.specs.Prelude.{◌≤◌, length, IfOk, IfSome};
+ghost use Rattle.std.specs.Prelude.{◌≡◌, ◌≤◌, ℕ, List, length, None, IfOk, IfSome};
 ghost use Rattle.yds_laws.specs.RunLaws.{IsExactAverageRate};
+ghost use Rattle.yds_model.specs.AverageRate.{IsAverageRateRun};
+ghost use Rattle.yds_model.specs.Slot.{WrittenSlot};
 
 use std::alloc::Global;
 use yds_avr::avr;
@@ -10,7 +12,7 @@ use yds_model::limits::{MAX_GRID, MAX_JOBS};
 use yds_model::{JobRow, Memory};
 use yds_slots::Schedule;
 
-/// The schedule of Average Rate itself, or None where some job's part isn't whole on this grid.
+/// The schedule of Average Rate itself, or None where its run rounds on this grid: some job's part of a stretch isn't whole.
 pub fn exact_average_rate(
     alloc: Global,
     rows: &[JobRow],
@@ -19,7 +21,8 @@ pub fn exact_average_rate(
     requires few { length rows.now ≤ MAX_JOBS }
     requires some_grid { 1 ≤ grid }
     requires grid_in_range { grid ≤ MAX_GRID }
-    ensures { IfOk result (λ exact. IfSome exact (λ schedule. IsExactAverageRate rows.now grid schedule.slots)) }
+    ensures exact { IfOk result (λ exact. IfSome exact (λ schedule. IsExactAverageRate rows.now grid schedule.slots)) }
+    ensures none { IfOk result (λ exact. exact ≡ None → (rounded : ℕ) × (slots : List WrittenSlot) × (1 ≤ rounded) × IsAverageRateRun rows.now grid rounded slots) }
 {
     let run = avr(alloc, rows, grid)?;
     if run.rounded > 0 {
