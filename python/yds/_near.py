@@ -5,7 +5,7 @@ from __future__ import annotations
 import math
 from dataclasses import dataclass
 from fractions import Fraction
-from typing import Any, Callable, Dict, Iterable, List, Optional, Sequence, Tuple
+from typing import Any, Callable, Dict, Iterable, List, Optional, Sequence, Set, Tuple
 
 from yds._forms import Form, name, read
 from yds._numbers import Decimalish, decimal, total
@@ -59,7 +59,31 @@ def near(jobs: Sequence[Job], speeds: Iterable[int], slots: Iterable[Any], most:
     bound = decimal(most)
     if not 0 <= bound < Fraction(1, 2):
         raise ValueError(f"most is from 0 to below 1/2, and not {most!r}")
-    return _Search(jobs, speeds, _taken(slots, bound), bound).found()
+    try:
+        return Search(jobs, speeds, _taken(slots, bound), bound).found()
+    except Unfit as fault:
+        raise ValueError(_told(fault)) from None
+
+
+class Unfit(ValueError):
+    """What no document has: a slot that vanishes, or numbers without a common denominator."""
+
+    def __init__(self, cause: str, place: int, job: str, value: Fraction) -> None:
+        self.cause, self.place, self.job, self.value = cause, place, job, value
+        """cause: 'short', and value is what both ends of the slot become; 'ends'; or 'works', and value is what the job
+        wants. place is that of the slot, or of the job's first."""
+        super().__init__(cause)
+
+
+def _told(fault: Unfit) -> str:
+    if fault.cause == "short":
+        return f"slots[{fault.place}] is so short that both its ends become {fault.value}: take a smaller most"
+    if fault.cause == "ends":
+        return f"the ends of slots[{fault.place}] have no common denominator up to 2^60: take a greater most"
+    return (
+        f"the works of job {fault.job} have no common denominator up to 2^60, "
+        f"and no move by most makes them add up to {fault.value}: take a greater most"
+    )
 
 
 def _taken(slots: Iterable[Any], most: Fraction) -> List[Row]:
@@ -75,56 +99,76 @@ def _taken(slots: Iterable[Any], most: Fraction) -> List[Row]:
     return [(job, start, end, work) for job, start, end, work in read(form, slots)]
 
 
-class _Search:
+class Search:
     """The given slots, and those nearby."""
 
-    def __init__(self, jobs: Sequence[Job], speeds: Iterable[int], given: List[Row], most: Fraction) -> None:
+    def __init__(
+        self,
+        jobs: Sequence[Job],
+        speeds: Iterable[int],
+        given: List[Row],
+        most: Fraction,
+        rates: Optional[Sequence[Fraction]] = None,
+    ) -> None:
+        """speeds: those of the points. rates: the speed of each slot, where these and no works were given."""
         self._jobs = {job.name: job for job in jobs}
         self._speeds = set(speeds)
         self._given = given
         self._most = most
-        self._mended: List[Mended] = []
+        self._rates = rates
         for place, (job, *_) in enumerate(given):
             if job not in self._jobs:
                 raise ValueError(f"slots[{place}].job: the document has no job {job!r}")
+        self.mended: List[Mended] = []
+        self.at_rates: Set[str] = set()
+        """The jobs whose works are speed times time, with the ends as they are moved."""
+        ends = [(_simplest_near(start, most), _simplest_near(end, most)) for _, start, end, _ in given]
+        works = self._works(ends)
+        self.moved = [(row[0], *ends[place], works[place]) for place, row in enumerate(given)]
+        self.kept = sorted(
+            (place for place, row in enumerate(self.moved) if row[3]),
+            key=lambda place: (given[place][1], given[place][2]),
+        )
+        """The places of the slots with work, in the order of their times as given."""
+        for place in sorted(self.kept):
+            self._look_at(place, self.moved[place])
+        self._bounds()
 
     def found(self) -> Near:
         """The schedule nearby, with all that is told of it."""
-        works = self._works()
-        moved = [
-            (job, self._time(start), self._time(end), works[place])
-            for place, (job, start, end, _) in enumerate(self._given)
-        ]
-        kept = [place for place, row in enumerate(moved) if row[3]]
-        for place in kept:
-            self._look_at(place, moved[place])
-        self._bounds(moved, kept)
-        error, index, field = self._greatest_move(moved)
-        was, is_now = (self._at_points(rows, kept) for rows in (self._given, moved))
+        error, index, field = self._greatest_move()
+        to_points, off_points = self.points()
         return Near(
-            tuple(Slot(*moved[place]) for place in kept),
+            tuple(Slot(*self.moved[place]) for place in sorted(self.kept)),
             error,
             index,
             field,
-            tuple(self._mended),
-            tuple(place for place, row in enumerate(moved) if not row[3]),
-            tuple(sorted(is_now - was)),
-            tuple(sorted(was - is_now)),
+            tuple(self.mended),
+            self.left_out,
+            to_points,
+            off_points,
         )
 
-    def _time(self, value: Fraction) -> Fraction:
-        return _simplest_near(value, self._most)
+    @property
+    def left_out(self) -> Tuple[int, ...]:
+        """The places of slots without work, or without any once they are moved."""
+        return tuple(place for place, row in enumerate(self.moved) if not row[3])
+
+    def points(self) -> Tuple[Tuple[int, ...], Tuple[int, ...]]:
+        """The places of slots that come to the speed of a point, and of those that leave one."""
+        was, is_now = (self._at_points(rows) for rows in (self._given, self.moved))
+        return tuple(sorted(is_now - was)), tuple(sorted(was - is_now))
 
     def _look_at(self, place: int, moved: Row) -> None:
-        """Raises ValueError where the slot vanished, or no document can have its ends."""
-        _, start, end, _ = moved
+        """Raises Unfit where the slot vanished, or no document can have its ends."""
+        job, start, end, _ = moved
         given = self._given[place]
         if start == end and given[1] != given[2]:
-            raise ValueError(f"slots[{place}] is so short that both its ends become {start}: take a smaller most")
+            raise Unfit("short", place, job, start)
         if common([start.denominator, end.denominator]) > _GREATEST:
-            raise ValueError(f"the ends of slots[{place}] have no common denominator up to 2^60: take a greater most")
+            raise Unfit("ends", place, job, start)
 
-    def _works(self) -> Dict[int, Fraction]:
+    def _works(self, ends: Sequence[Tuple[Fraction, Fraction]]) -> Dict[int, Fraction]:
         """The work of each slot, moved job by job."""
         places: Dict[str, List[int]] = {}
         for place, (job, _, _, work) in enumerate(self._given):
@@ -134,13 +178,27 @@ class _Search:
         for job, its in places.items():
             given = [self._given[place][3] for place in its]
             wanted = Fraction(self._jobs[job].work)
-            moved = self._works_of(job, given, wanted)
+            moved = self._by_rates(job, its, ends, wanted)
+            if moved is None:
+                moved = self._works_of(job, its[0], given, wanted)
             if total(given) != wanted and total(moved) == wanted:
-                self._mended.append(Mended("work", job, None, abs(total(given) - wanted)))
+                self.mended.append(Mended("work", job, None, abs(total(given) - wanted)))
             works.update(zip(its, moved))
         return works
 
-    def _works_of(self, job: str, given: List[Fraction], wanted: Fraction) -> List[Fraction]:
+    def _by_rates(
+        self, job: str, its: List[int], ends: Sequence[Tuple[Fraction, Fraction]], wanted: Fraction
+    ) -> Optional[List[Fraction]]:
+        """Speed times time of the job's slots, where that adds up to what it wants."""
+        if self._rates is None or not self._most:
+            return None
+        moved = [self._rates[place] * (ends[place][1] - ends[place][0]) for place in its]
+        if total(moved) != wanted or not _has_one_denominator(moved):
+            return None
+        self.at_rates.add(job)
+        return moved
+
+    def _works_of(self, job: str, first: int, given: List[Fraction], wanted: Fraction) -> List[Fraction]:
         """The works of a job's slots: those that add up to what it wants, if there are some, and else as given."""
         ways: Tuple[Callable[[], Optional[List[Fraction]]], ...] = (
             lambda: [_simplest_near(work, self._most) for work in given],
@@ -152,41 +210,37 @@ class _Search:
             if moved is not None and total(moved) == wanted and _has_one_denominator(moved):
                 return moved
         if not _has_one_denominator(given):
-            raise ValueError(
-                f"the works of job {job} have no common denominator up to 2^60, "
-                f"and no move by most makes them add up to {wanted}: take a greater most"
-            )
+            raise Unfit("works", first, job, wanted)
         return given
 
-    def _bounds(self, moved: List[Row], kept: List[int]) -> None:
+    def _bounds(self) -> None:
         """What fails of each slot as given and holds as moved."""
-        order = sorted(kept, key=lambda place: (self._given[place][1], self._given[place][2]))
-        for place in order:
-            (job, start, end, _), (_, new_start, new_end, _) = self._given[place], moved[place]
+        before: Optional[int] = None
+        for place in self.kept:
+            (job, start, end, _), (_, new_start, new_end, _) = self._given[place], self.moved[place]
             row = self._jobs[job]
             if start < row.release <= new_start:
-                self._mended.append(Mended("early", job, place, row.release - start))
+                self.mended.append(Mended("early", job, place, row.release - start))
             if end > row.deadline >= new_end:
-                self._mended.append(Mended("late", job, place, end - row.deadline))
-        for before, after in zip(order, order[1:]):
-            over = self._given[before][2] - self._given[after][1]
-            if over > 0 and moved[before][2] <= moved[after][1]:
-                self._mended.append(Mended("overlap", self._given[after][0], after, over))
+                self.mended.append(Mended("late", job, place, end - row.deadline))
+            if before is not None and start < self._given[before][2] and new_start >= self.moved[before][2]:
+                self.mended.append(Mended("overlap", job, place, self._given[before][2] - start))
+            before = place
 
-    def _greatest_move(self, moved: List[Row]) -> Tuple[Fraction, Optional[int], Optional[str]]:
+    def _greatest_move(self) -> Tuple[Fraction, Optional[int], Optional[str]]:
         """How far a number was moved at most, and which."""
         greatest: Tuple[Fraction, Optional[int], Optional[str]] = (Fraction(0), None, None)
-        for place, (old, new) in enumerate(zip(self._given, moved)):
+        for place, (old, new) in enumerate(zip(self._given, self.moved)):
             for field, one, other in zip(("start", "end", "work"), old[1:], new[1:]):
                 if abs(one - other) > greatest[0]:
                     greatest = abs(one - other), place, field
         return greatest
 
-    def _at_points(self, rows: Sequence[Row], kept: Iterable[int]) -> "set[int]":
+    def _at_points(self, rows: Sequence[Row]) -> Set[int]:
         """The places of slots that run at the speed of a point."""
         return {
             place
-            for place in kept
+            for place in self.kept
             if rows[place][1] < rows[place][2] and rows[place][3] / (rows[place][2] - rows[place][1]) in self._speeds
         }
 
@@ -224,8 +278,11 @@ def _shared(given: Sequence[Fraction], wanted: Fraction, most: Fraction) -> Opti
     """The works, all moved by one amount so that they add up; None where one would be moved by more than most."""
     if not most:
         return None
-    scale = 10 ** (len(str(math.ceil(4 / most))))
-    near_by = [work if work.denominator <= scale else Fraction(round(work * scale), scale) for work in given]
+    scale = 1
+    while scale * most < 4:
+        scale *= 10
+    half = Fraction(1, 2)
+    near_by = [work if work.denominator <= scale else Fraction(math.floor(work * scale + half), scale) for work in given]
     amount = (wanted - total(near_by)) / len(given)
     moved = [work + amount for work in near_by]
     if any(new <= 0 or abs(new - old) > most for new, old in zip(moved, given)):
