@@ -388,7 +388,7 @@ wakes 1" tool changes "$work/slots"
 	refuses "changes: no slot" 1 "" "yds-changes: no slot and no run line; give a trace's document, or the answer of plan, round, avr or oa" tool changes "$here/../examples/three-jobs.txt"
 }
 
-slots() { recipe slots.awk "$@"; }
+slots() { tool slots "$@"; }
 levels_of() { "$YDS" plan <"$1" | grep -E '^(level|piece|member) '; }
 schedules() {
 	want audit check plan round || return
@@ -396,7 +396,7 @@ schedules() {
 	slots lp-schedule.txt >"$work/word"
 	answers "slots: a linear program's decimals at their word" 1 "off-point slot 2 j5 28 57+833333/1000000 179" from "$work/word" "$YDS" audit --points
 	answers "slots: and whether in time" 0 feasible from "$work/word" "$YDS" audit
-	slots -v most=0.000001 lp-schedule.txt >"$work/near"
+	slots --most 0.000001 lp-schedule.txt >"$work/near"
 	answers "slots: the linear program's error" 0 "# 22 slots of another program, error at most 3.34e-07, the greatest in line 30, TO" head -n 1 "$work/near"
 	answers "slots: how many of them come to a point's speed" 0 "# 11 slots are at a point's speed here and not in the input" sed -n 2p "$work/near"
 	answers "slots: a linear program's schedule on the points" 0 feasible from "$work/near" "$YDS" audit --points
@@ -405,7 +405,7 @@ schedules() {
 	slots simulator-schedule.txt >"$work/word"
 	levels_of "$work/word" | cat "$work/word" - >"$work/judged"
 	answers "slots: a simulator's decimals at their word" 1 "K7 slot 2" from "$work/judged" "$YDS" check
-	slots -v most=0.0000001 simulator-schedule.txt >"$work/near"
+	slots --most 0.0000001 simulator-schedule.txt >"$work/near"
 	levels_of "$work/near" | cat "$work/near" - >"$work/judged"
 	answers "slots: a simulator's schedule is least" 0 accepted from "$work/judged" "$YDS" check
 	text "slots: the simulator's fractions" 0 "slot a 0 2 2
@@ -423,15 +423,15 @@ slot a 10 12 2" grep '^slot' "$work/near"
 # The same schedule told by speeds: 57.833333 - 28 at the speed 6 are 178.999998, and 179 once the end is 57+5/6.
 speeds_of_slots() {
 	$AWK '$1 == "slot" { $5 = int($5 / ($4 - $3) + 0.5) } { print }' lp-schedule.txt >"$work/by-speed"
-	slots -v speeds=1 "$work/by-speed" >"$work/word"
+	slots --speeds "$work/by-speed" >"$work/word"
 	answers "slots: by speeds, at their word, on the points" 1 work eval "('$YDS' audit --points <'$work/word' | cut -d' ' -f1; exit 1)"
-	slots -v speeds=1 -v most=0.000001 "$work/by-speed" >"$work/near"
+	slots --speeds --most 0.000001 "$work/by-speed" >"$work/near"
 	answers "slots: by speeds, the error" 0 "# 22 slots of another program, error at most 3.34e-07, the greatest in line 30, TO" head -n 1 "$work/near"
 	answers "slots: by speeds" 0 feasible from "$work/near" "$YDS" audit --points
-	slots -v most=0.000001 lp-schedule.txt | grep '^slot' >"$work/by-work"
+	slots --most 0.000001 lp-schedule.txt | grep '^slot' >"$work/by-work"
 	text "slots: by speeds and by works the same" 0 "$(cat "$work/by-work")" grep '^slot' "$work/near"
 	printf 'job a 0 9 4\nslot a 3 2 4\n' >"$work/bad"
-	refuses "slots: by speeds, ends exchanged" 1 failed "slots.awk: line 2: TO is before FROM" slots -v speeds=1 "$work/bad"
+	refuses "slots: by speeds, ends exchanged" 1 failed "yds-slots: $work/bad, line 2, column 10: TO is before FROM" slots --speeds "$work/bad"
 }
 # Where GLPK is installed, its schedules of three documents, within a millionth: on the points, and of round's energy.
 linear_programs() {
@@ -440,7 +440,7 @@ linear_programs() {
 		$AWK -f least-energy.awk "folder/$document.txt" >"$work/data"
 		glpsol -m least-energy.mod -d "$work/data" -y "$work/lines" >/dev/null
 		grep '^point' "folder/$document.txt" | cat - "$work/lines" >"$work/printed"
-		slots -v most=0.000001 "$work/printed" >"$work/near"
+		slots --most 0.000001 "$work/printed" >"$work/near"
 		answers "slots: GLPK on the points, document $document" 0 feasible from "$work/near" "$YDS" audit --points
 		told=$(energy "$work/near" | $AWK "$decimal" | head -n 1)
 		if [ "$told" = "trace $("$YDS" round <"folder/$document.txt" | sed -n 's/^energy/x energy/p' | $AWK "$decimal" | cut -d' ' -f2)" ]; then pass; else fail "slots: GLPK's energy, document $document: $told"; fi
@@ -466,35 +466,35 @@ decimals_of_plans() {
 			$1 == "slot" { for (i = 3; i <= 5; i++) if (split($i, p, /[+\/]/) == 3) $i = sprintf("%.9f", p[1] + p[2] / p[3]); print }' "$work/plan" >"$work/decimals"
 		slots "$work/decimals" >"$work/word"
 		answers "slots: nine decimals at their word, seed $seed" 1 work eval "('$YDS' audit <'$work/word' | cut -d' ' -f1; exit 1)"
-		slots -v most=0.00000001 "$work/decimals" >"$work/near"
+		slots --most 0.00000001 "$work/decimals" >"$work/near"
 		answers "slots: nine decimals, seed $seed" 0 feasible from "$work/near" "$YDS" audit
 		if grep -q '^# [0-9]* conditions fail in the input and hold here, by at most' "$work/near"; then pass; else fail "slots: mended in silence, seed $seed"; fi
 	done
 }
-# What is late by less than most= isn't called in time in silence, and what is in time stays so.
+# What is late by less than --most isn't called in time in silence, and what is in time stays so.
 bounds_and_rounding() {
 	printf 'job a 0 10 10\njob b 0 12 2\nslot a 0 10.0000004 10.0\nslot b 10.0000003 12 2\nslot b 12 12 0\nslot a 1 2 0.0\n' >"$work/late"
 	slots "$work/late" >"$work/word"
 	answers "slots: late at its word" 1 "late slot 1 a 10+1/2500000 deadline 10" from "$work/word" "$YDS" audit
-	text "slots: late by less than most=" 0 "# 2 slots of another program, error at most 4e-07, the greatest in line 3, TO
+	text "slots: late by less than --most" 0 "# 2 slots of another program, error at most 4e-07, the greatest in line 3, TO
 # 2 conditions fail in the input and hold here, by at most 4e-07; the first: line 3, TO is after the deadline
 # the slots are sorted by time
 # left out: 2 slots without work, the first in line 5
 job a 0 10 10
 job b 0 12 2
 slot a 0 10 10
-slot b 10 12 2" slots -v most=0.0000005 "$work/late"
-	slots -v most=0.0000001 "$work/late" >"$work/near"
-	answers "slots: late by more than most=" 1 late eval "('$YDS' audit <'$work/near' | cut -d' ' -f1; exit 1)"
+slot b 10 12 2" slots --most 0.0000005 "$work/late"
+	slots --most 0.0000001 "$work/late" >"$work/near"
+	answers "slots: late by more than --most" 1 late eval "('$YDS' audit <'$work/near' | cut -d' ' -f1; exit 1)"
 	printf 'job a 0 9 4\nslot a -1e-9 9 4\nslot a 9 9 -0.0000003\nslot a 3 4 -0.0\n' >"$work/below"
 	text "slots: a little below 0" 0 "# 1 slot of another program, error 0
 # 2 numbers are below 0 in the input and 0 here, by at most 3e-07
 # left out: 2 slots without work, the first in line 3
 job a 0 9 4
-slot a 0 9 4" eval "recipe slots.awk -v most=0.000001 '$work/below' | grep -v sorted"
+slot a 0 9 4" eval "tool slots --most 0.000001 '$work/below' | grep -v sorted"
 	# Each end is a little within its bound, and no simpler fraction may leave it.
 	printf 'job a 1 4 2\njob b 3 7 2\nslot a 1.0004 3.3333 2\nslot b 3.3334 6.9996 2\n' >"$work/within"
-	slots -v most=0.001 "$work/within" >"$work/near"
+	slots --most 0.001 "$work/within" >"$work/near"
 	answers "slots: in time stays in time" 0 feasible from "$work/near" "$YDS" audit
 	answers "slots: no condition was mended" 0 0 eval "grep -c 'fail in the input' '$work/near'; true"
 	# 0.7071 + 1.3003 + 1.9926 are 4; the simplest fractions within a thousandth, 29/41, 13/10 and 239/120, aren't.
@@ -503,41 +503,41 @@ slot a 0 9 4" eval "recipe slots.awk -v most=0.000001 '$work/below' | grep -v so
 job a 0 9 4
 slot a 0 1 0+7071/10000
 slot a 1 2 1+3003/10000
-slot a 2 3 1+9926/10000" slots -v most=0.001 "$work/sum"
+slot a 2 3 1+9926/10000" slots --most 0.001 "$work/sum"
 	# 1.41421 + 2.58570 miss 4 by 0.00009: more than 2 * 0.00004, and less than 2 * 0.00005.
 	printf 'job a 0 9 4\nslot a 0 1 1.41421\nslot a 1 2 2.58570\n' >"$work/short"
-	slots -v most=0.00004 "$work/short" >"$work/near"
+	slots --most 0.00004 "$work/short" >"$work/near"
 	answers "slots: a sum that is too far off" 1 "work a given 3+99991/100000 wanted 4" from "$work/near" "$YDS" audit
 	text "slots: a sum that is near" 0 "# 2 slots of another program, error at most 4.5e-05, the greatest in line 2, WORK
 # 1 condition fails in the input and holds here, by at most 9e-05; the first: job a was given too little
 job a 0 9 4
 slot a 0 1 1+82851/200000
-slot a 1 2 2+117149/200000" slots -v most=0.00005 "$work/short"
+slot a 1 2 2+117149/200000" slots --most 0.00005 "$work/short"
 	# 0.123456 of time at the speed 2 are 0.246912. Within a thousandth they become 7/57 and 16/65, of the speed 2+2/455.
 	printf 'point 0 0\npoint 2 4\njob a 0 9 1\nslot a 0 0.123456 0.246912\nslot a 1 2 0.753088\n' >"$work/points"
-	answers "slots: off a point by rounding" 0 "# 1 slot is at a point's speed in the input and not here, the first in line 4" eval "recipe slots.awk -v most=0.001 '$work/points' | grep 'point.s speed'"
+	answers "slots: off a point by rounding" 0 "# 1 slot is at a point's speed in the input and not here, the first in line 4" eval "tool slots --most 0.001 '$work/points' | grep 'point.s speed'"
 	# 2^60 - 1 is a multiple of 3; 2^60 isn't.
 	printf 'job a 0 9 4\nslot a 1/1152921504606846975 1/3 4.0\n' >"$work/great"
 	text "slots: long numbers" 0 "# 1 slot of another program, error 0
 job a 0 9 4
 slot a 0+1/1152921504606846975 0+384307168202282325/1152921504606846975 4" slots "$work/great"
 	sed 's/846975/846976/' "$work/great" >"$work/too-great"
-	refuses "slots: no common denominator" 1 failed "slots.awk: line 2: the two ends have no common denominator up to 2^60; give most=, as 0.000001" slots "$work/too-great"
+	refuses "slots: no common denominator" 1 failed "yds-slots: $work/too-great, line 2: the two ends have no common denominator up to 2^60; give --most, as 0.000001" slots "$work/too-great"
 }
 what_slots_refuses() {
 	printf 'job a 0 9 4\nslot a 0 -0.001 4\n' >"$work/bad"
-	refuses "slots: a number below 0" 1 failed "slots.awk: line 2: TO -0.001 is no number of 0 or more" slots "$work/bad"
+	refuses "slots: a number below 0" 1 failed "yds-slots: $work/bad, line 2, column 10: TO -0.001 is no number of 0 or more" slots "$work/bad"
 	printf 'job a 0 9 4\nslot a 0 nan 4\n' >"$work/bad"
-	refuses "slots: no number" 1 failed "slots.awk: line 2: TO nan is no number, as 3, 1.25, 2.5e-3, 10/3 or 3+1/3" slots "$work/bad"
+	refuses "slots: no number" 1 failed "yds-slots: $work/bad, line 2, column 10: TO nan is no number, as 3, 1.25, 2.5e-3, 10/3 or 3+1/3" slots "$work/bad"
 	printf 'job a 0 9 4.5\nslot a 0 9 4.5\n' >"$work/bad"
-	refuses "slots: a job of half a unit" 1 failed "slots.awk: line 1: 4.5 isn't whole; a job's times and work are, in a finer unit" slots "$work/bad"
+	refuses "slots: a job of half a unit" 1 failed "yds-slots: $work/bad, line 1, column 11: 4.5 isn't whole; a job's times and work are, in a finer unit" slots "$work/bad"
 	printf 'job a 0 9 4\nslot a 0 9 4\nslot b 0 9 4\n' >"$work/bad"
-	refuses "slots: no such job" 1 failed "slots.awk: line 3: no job b stands before this slot" slots "$work/bad"
+	refuses "slots: no such job" 1 failed "yds-slots: $work/bad, line 3, column 6: no job b stands before this slot" slots "$work/bad"
 	printf 'job a 0 9 4\nslot a 3.33 3.34 4\n' >"$work/bad"
-	refuses "slots: shorter than most=" 1 failed "slots.awk: line 2: the slot is so short that both its ends become 3+1/3; give a smaller most=" slots -v most=0.01 "$work/bad"
-	refuses "slots: most= too great" 2 failed "slots.awk: most=1 is no number from 0 to below 1/2" slots -v most=1 "$work/bad"
-	refuses "slots: none" 1 failed "slots.awk: no slot line; give the schedule as slot NAME FROM TO WORK" slots "$here/../examples/three-jobs.txt"
-	refuses "slots: a refusal" 1 failed "slots.awk: line 1: the input is an answer of no: refused 1 9 EmptyWindow" slots "$expected/compare-refused.txt"
+	refuses "slots: shorter than --most" 1 failed "yds-slots: $work/bad, line 2: the slot is so short that both its ends become 3+1/3; give a smaller --most" slots --most 0.01 "$work/bad"
+	refuses "slots: --most too great" 2 failed "yds-slots: --most 1 is no number from 0 to below 1/2; see yds-slots --help" slots --most 1 "$work/bad"
+	refuses "slots: none" 1 failed "yds-slots: no slot line; give the schedule as slot NAME FROM TO WORK" slots "$here/../examples/three-jobs.txt"
+	refuses "slots: a refusal" 1 failed "yds-slots: $expected/compare-refused.txt, line 1: the input is an answer of no: refused 1 9 EmptyWindow" slots "$expected/compare-refused.txt"
 }
 
 # explained NAME VERDICT TEXT: what yds-explain says of the document $work/judged.

@@ -224,7 +224,7 @@ test_commands() {
 	(cd "$work" && "$here/bin/yds-trace" $t ./cpu=0) >"$work/named"
 	same "commands: a file with a name like an option" 0 trace.txt cat "$work/named"
 	refuses "commands: an unknown option" 2 failed \
-		"yds-slots: there is no option nme=; there are most= speeds= (a file of this name is written ./nme=x); see yds-slots --help" "$here/bin/yds-slots" nme=x
+		"yds-trace: there is no option nme=; there are tasks= cpu= us= khz= start= from= to= others= lost= strict= long= jobs= ticks= (a file of this name is written ./nme=x); see yds-trace --help" "$here/bin/yds-trace" nme=x
 	refuses "commands: an option behind a file" 2 failed "yds-trace: the options come before the files: cpu=1; see yds-trace --help" \
 		"$here/bin/yds-trace" $t trace-report.txt cpu=1
 	refuses "commands: two dashes" 2 failed "yds-trace: --cpu is no option; options are words NAME=VALUE; see yds-trace --help" "$here/bin/yds-trace" --cpu 0 trace-report.txt

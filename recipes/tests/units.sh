@@ -75,7 +75,7 @@ reads_together() {
 	refuses "units: energy, $kind" 1 "" "yds-energy: $work/two, line 7, column $column: $dashed" energy "$work/two"
 	refuses "units: jobs, $kind" 1 "" "yds-jobs: $work/two, line 7, column $column: $dashed" tool jobs "$work/two"
 	refuses "units: changes, $kind" 1 "" "yds-changes: $work/two, line 7, column $column: $dashed" tool changes "$work/two"
-	refuses "units: slots, $kind" 1 failed "slots.awk: line 7: $text" recipe slots.awk "$work/two"
+	refuses "units: slots, $kind" 1 failed "yds-slots: $work/two, line 7, column $column: $dashed" tool slots "$work/two"
 	refuses "units: scale, $kind" 1 failed "yds-scale: $work/two-jobs, line 6, column $column: $dashed" tool scale --work 2 "$work/two-jobs"
 	refuses "units: battery, $kind" 1 "" "yds-battery: $work/two, line 7, column $column: $dashed" tool battery --mah 1 --volts 1 --period 1 "$work/two"
 	refuses "units: answer, $kind" 1 "" "yds-answer: line 7, column $column: $dashed" from "$work/two" tool answer
