@@ -111,7 +111,9 @@ slot a 0 9 4
 
     def test_a_point_is_left(self) -> None:
         """0.123456 of time at the speed 2 are 0.246912. Within a thousandth they become 7/57 and 16/65."""
-        out = self.told("point 0 0\npoint 2 4\njob a 0 9 1\nslot a 0 0.123456 0.246912\nslot a 1 2 0.753088\n", "--most=0.001")
+        out = self.told(
+            "point 0 0\npoint 2 4\njob a 0 9 1\nslot a 0 0.123456 0.246912\nslot a 1 2 0.753088\n", "--most=0.001"
+        )
         self.assertIn("\n# 1 slot is at a point's speed in the input and not here, the first in line 4\n", out)
 
     def test_the_greatest_denominator(self) -> None:
@@ -150,7 +152,10 @@ slot a 0 9 4
             ("slot a 0 9", "line 2, column 11: a slot wants NAME FROM TO WORK"),
             ("refused 1 9 EmptyWindow", "line 2: the input is an answer of no: refused 1 9 EmptyWindow"),
             ("", "no slot line; give the schedule as slot NAME FROM TO WORK"),
-            ("ticks 2\nrun a 0 2 1\nslot a 0 1 4", "line 3: runs in ticks and slots in one document; write all as slots"),
+            (
+                "ticks 2\nrun a 0 2 1\nslot a 0 1 4",
+                "line 3: runs in ticks and slots in one document; write all as slots",
+            ),
             ("run a 0.5 2 1", "line 2: a run has whole ticks and a whole speed; write it as a slot, and give --speeds"),
             (
                 "# time unit 10 us\n# time unit 100 us\nslot a 0 1 4",
@@ -380,11 +385,15 @@ class Second:
             lines.append(f"# {to} slot{'s are' if to > 1 else ' is'} at a point's speed here and not in the input")
         if off:
             are = "s are" if len(off) > 1 else " is"
-            lines.append(f"# {len(off)} slot{are} at a point's speed in the input and not here, the first in line {min(off)}")
+            lines.append(
+                f"# {len(off)} slot{are} at a point's speed in the input and not here, the first in line {min(off)}"
+            )
         if order != sorted(order):
             lines.append("# the slots are sorted by time")
         if gone:
-            lines.append(f"# left out: {len(gone)} slot{'s' if len(gone) > 1 else ''} without work, the first in line {gone[0]}")
+            lines.append(
+                f"# left out: {len(gone)} slot{'s' if len(gone) > 1 else ''} without work, the first in line {gone[0]}"
+            )
         lines += self.rest
         for place in kept:
             name = self.slots[place][1]
@@ -414,7 +423,10 @@ def a_number(pick: random.Random) -> str:
 
 def any_slots(pick: random.Random) -> List[str]:
     """Slots of any numbers."""
-    lines = [f"job a {pick.randrange(5)} {pick.randrange(6, 20)} {pick.randrange(9)}", f"job b 0 20 {pick.randrange(9)}.0"]
+    lines = [
+        f"job a {pick.randrange(5)} {pick.randrange(6, 20)} {pick.randrange(9)}",
+        f"job b 0 20 {pick.randrange(9)}.0",
+    ]
     for _ in range(pick.randrange(1, 6)):
         lines.append(f"slot {pick.choice('ab')} {a_number(pick)} {a_number(pick)} {a_number(pick)}")
     return lines
@@ -428,7 +440,9 @@ def as_printed(pick: random.Random) -> List[str]:
         begin, parts, work = now, pick.randrange(1, 4), pick.randrange(1, 12)
         for part in range(parts):
             end = begin + Fraction(pick.randrange(1, 60), 5 * pick.choice([1, 2, 3, 6, 7, 11]))
-            share = Fraction(work, parts) if pick.random() < 0.8 else Fraction(work * (part + 1) * 2, parts * (parts + 1))
+            share = (
+                Fraction(work, parts) if pick.random() < 0.8 else Fraction(work * (part + 1) * 2, parts * (parts + 1))
+            )
             values = (begin + pick.choice([0, noise]), end, share)
             slots.append(" ".join([f"slot j{number}", *(f"{float(value):.{digits}f}" for value in values)]))
             begin = end
@@ -442,7 +456,9 @@ def as_printed(pick: random.Random) -> List[str]:
 
 class DrawnTest(unittest.TestCase):
     def test_the_second_reading_by_hand(self) -> None:
-        self.assertEqual(Second(LATE, "0.0000005", False).answer(), call("slots", "--most=5e-7", given=LATE.encode()).out)
+        self.assertEqual(
+            Second(LATE, "0.0000005", False).answer(), call("slots", "--most=5e-7", given=LATE.encode()).out
+        )
         self.assertEqual(least_within(Fraction("57.833333"), Fraction(1, 10**6)), Fraction(347, 6))
 
     def test_drawn_schedules(self) -> None:

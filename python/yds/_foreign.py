@@ -115,7 +115,9 @@ class _Reading:
 
     def _slot(self, line: Line, fields: List[str]) -> None:
         if len(fields) != 5:
-            raise line.fault(f"a slot wants NAME FROM TO {'SPEED' if self._tells_speeds else 'WORK'}", min(len(fields), 5))
+            raise line.fault(
+                f"a slot wants NAME FROM TO {'SPEED' if self._tells_speeds else 'WORK'}", min(len(fields), 5)
+            )
         if fields[1] not in self._found.jobs:
             raise line.fault(f"no job {printable(fields[1])} stands before this slot", 1)
         start = self._number(line, fields, 2, "FROM", MOST_TIME)

@@ -282,7 +282,9 @@ def _shared(given: Sequence[Fraction], wanted: Fraction, most: Fraction) -> Opti
     while scale * most < 4:
         scale *= 10
     half = Fraction(1, 2)
-    near_by = [work if work.denominator <= scale else Fraction(math.floor(work * scale + half), scale) for work in given]
+    near_by = [
+        work if work.denominator <= scale else Fraction(math.floor(work * scale + half), scale) for work in given
+    ]
     amount = (wanted - total(near_by)) / len(given)
     moved = [work + amount for work in near_by]
     if any(new <= 0 or abs(new - old) > most for new, old in zip(moved, given)):
