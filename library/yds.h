@@ -22,7 +22,7 @@ extern "C" {
 #endif
 
 /* The version of this header. yds_version() tells that of the library with which the program runs: it may be later. */
-#define YDS_VERSION "1.0.0"
+#define YDS_VERSION "2.0.0"
 
 /* No text has more bytes than this, whatever the words and the input are. */
 #define YDS_MOST_TEXT ((size_t)8388608)
@@ -93,7 +93,7 @@ enum yds_status {
 uint8_t yds_answer(const struct yds_word *words, size_t word_count, const void *input, size_t input_length, uint64_t first_key, uint64_t second_key,
                    void *room, size_t room_length, size_t *needed);
 
-/* The version of the library, such as "1.0.0", with a byte 0 behind it. It stays as long as the library is loaded. */
+/* The version of the library, such as "2.0.0", with a byte 0 behind it. It stays as long as the library is loaded. */
 const char *yds_version(void);
 
 #ifdef __cplusplus

@@ -1,17 +1,20 @@
 #!/bin/sh
-# check-build.sh: whether the program that was built here is the released one (`make check-build`).
+# check-build.sh: whether the programs that were built here are the released ones (`make check-build`).
 #
-#   sh packaging/check-build.sh             compares what was built with the line of this version in packaging/released
-#   sh packaging/check-build.sh --record    writes that line anew (`make record-build`), before a release
+#   sh packaging/check-build.sh             compares what was built with the lines of this version in packaging/released
+#   sh packaging/check-build.sh --record    writes these lines anew (`make record-build`), before a release
 #
-# A line of packaging/released: the version, the toolchain, the sum of the sources that are proved and compiled, the sum of the
-# object file that they are compiled to, and the sum of the dynamic program, which the toolchain's linker makes of it. The sums
+# A line of packaging/released: the version, the program, the toolchain, the sum of the sources that are proved and compiled, the sum of
+# the object file that they are compiled to, and the sum of the dynamic program, which the toolchain's linker makes of it. The sums
 # are SHA-256. A static program depends on the compiler and the C library that linked it, too: it is linked once more of the
-# same object file, and has to be the same bytes. Status 0: it is the released program; 1: it isn't, with the reason.
+# same object file, and has to be the same bytes. Status 0: they are the released programs; 1: one isn't, with the reason.
 
 . "$(dirname "$0")/common.sh"
-for file in $program $program.o $program-dynamic; do
-	[ -f $file ] || die "$file isn't there; make builds it"
+CC=${CC:-cc}
+for name in $programs; do
+	for file in build/$name build/$name.o build/$name-dynamic; do
+		[ -f "$file" ] || die "$file isn't there; make builds it"
+	done
 done
 sum() { sha256sum | cut -d ' ' -f 1; }
 
@@ -28,44 +31,53 @@ toolchain() {
 	tr -s ' \n' '  ' <"$(dirname "$(dirname "$(readlink -f "$rt_path")")")/KIT-ID" | awk '{ print $1 }'
 }
 
-# same_program: whether build/yds_cli is made of the object file.
+# same_program NAME: whether build/NAME is made of the object file.
 same_program() {
-	is_static || { echo "$program is that program."; return; }
-	static build/again 2>/dev/null && cmp -s $program build/again
+	! cmp -s "build/$1" "build/$1-dynamic" || { echo "build/$1 is that program."; return; }
+	static "$1" build/again 2>/dev/null && cmp -s "build/$1" build/again
 	same=$?
 	rm -f build/again
-	[ $same = 0 ] || die "$program isn't what $("$CC" --version | head -n 1) links of that object file: did another compiler or C library link it?"
-	echo "$program is what $("$CC" --version | head -n 1) links of that object file."
+	[ $same = 0 ] || die "build/$1 isn't what $("$CC" --version | head -n 1) links of that object file: did another compiler or C library link it?"
+	echo "build/$1 is what $("$CC" --version | head -n 1) links of that object file."
 }
 
-CC=${CC:-cc}
+# compare NAME: the line of a program, and what was built.
+compare() {
+	object=$(sum <"build/$1.o")
+	dynamic=$(sum <"build/$1-dynamic")
+	name=$1
+	set -- $(grep "^$version $name " packaging/released)
+	[ $# = 6 ] || die "packaging/released has no line of $name of version $version, so there is nothing to compare with"
+	if [ "$5" = "$object" ] && [ "$6" = "$dynamic" ]; then
+		echo "build/$name.o is the released object file of version $version: $object"
+		echo "build/$name-dynamic is the released program: $dynamic"
+		same_program "$name"
+		return
+	fi
+	echo "What was built here isn't $name of version $version as it was released."
+	echo "released $5 $6"
+	echo "built    $object $dynamic"
+	if [ "$4" != "$sources" ]; then
+		echo "The sources differ from the released ones: take those of the version, and build again."
+	elif [ "$3" != "$(toolchain)" ]; then
+		echo "The sources are the released ones, but the toolchain isn't: it was $3, and here it is $(toolchain)."
+	else
+		echo "Sources and toolchain are the released ones. Was build/$name made by 'make', and not copied from elsewhere?"
+	fi
+	return 1
+}
+
 sources=$(sources_sum)
-object=$(sum <$program.o)
-dynamic=$(sum <$program-dynamic)
 if [ "$1" = --record ]; then
 	{
 		grep -v "^$version " packaging/released
-		echo "$version $(toolchain) $sources $object $dynamic"
+		for name in $programs; do
+			echo "$version $name $(toolchain) $sources $(sum <"build/$name.o") $(sum <"build/$name-dynamic")"
+		done
 	} >build/released.new && mv build/released.new packaging/released
-	tail -n 1 packaging/released
+	grep "^$version " packaging/released
 	exit
 fi
-set -- $(grep "^$version " packaging/released)
-[ $# = 5 ] || die "packaging/released has no line of version $version, so there is nothing to compare with"
-if [ "$4" = "$object" ] && [ "$5" = "$dynamic" ]; then
-	echo "$program.o is the released object file of version $version: $object"
-	echo "$program-dynamic is the released program: $dynamic"
-	same_program
-	exit
-fi
-echo "What was built here isn't version $version as it was released."
-echo "released $4 $5"
-echo "built    $object $dynamic"
-if [ "$3" != "$sources" ]; then
-	echo "The sources differ from the released ones: take those of the version, and build again."
-elif [ "$2" != "$(toolchain)" ]; then
-	echo "The sources are the released ones, but the toolchain isn't: it was $2, and here it is $(toolchain)."
-else
-	echo "Sources and toolchain are the released ones. Was $program made by 'make', and not copied from elsewhere?"
-fi
-exit 1
+status=0
+for name in $programs; do compare "$name" || status=1; done
+exit $status

@@ -5,7 +5,9 @@ umask 022
 LC_ALL=C
 export LC_ALL
 version=$(cat VERSION) || exit 1
-program=build/yds_cli
+# The programs are those that have a manual page, and the commands around them those of recipes/bin: there is no other list.
+programs=$(cd docs && ls ./*.1 | sed 's/^\.\/\(.*\)\.1$/\1/')
+commands=$(cd recipes/bin && ls)
 out=build/dist
 
 die() {
@@ -13,8 +15,8 @@ die() {
 	exit 1
 }
 
-# want COMMAND PACKAGE ..: ends where a command isn't there, and names Debian's package that has it.
-want() {
+# needs COMMAND PACKAGE ..: ends where a command isn't there, and names Debian's package that has it.
+needs() {
 	while [ $# -gt 1 ]; do
 		command -v "$1" >/dev/null 2>&1 || die "the command '$1' isn't here; on Debian: apt-get install $2"
 		shift 2
@@ -37,16 +39,28 @@ set_epoch() {
 # same_times FOLDER: everything in it has the time of the commit.
 same_times() { find "$1" -exec touch -h -d "@$SOURCE_DATE_EPOCH" {} +; }
 
-# sums: the sum of each file of this version in $out, in the file SHA256SUMS.
+# sums: the sum of each file of this version in $out, in the file SHA256SUMS; and where they are.
 sums() {
-	(cd "$out" && rm -f SHA256SUMS && sha256sum -- *"$version"* >../SHA256SUMS.new && mv ../SHA256SUMS.new SHA256SUMS && cat SHA256SUMS)
+	(cd "$out" && rm -f SHA256SUMS && sha256sum -- *"$version"* >../SHA256SUMS.new && mv ../SHA256SUMS.new SHA256SUMS && cat SHA256SUMS) || return 1
+	echo "These files are in $out, and their sums in $out/SHA256SUMS."
 }
 
-# static PROGRAM: links the proved object file into a static program.
+# are_built: ends where a program isn't there.
+are_built() {
+	for name in $programs; do
+		[ -x "build/$name" ] || die "build/$name isn't there; make builds it"
+	done
+}
+
+# static NAME FILE: links the proved object file of the program into a static one, FILE.
 static() {
 	kit=$(dirname "$(dirname "$(readlink -f "$(command -v rt)")")")
-	"${CC:-cc}" -static -s -Wl,--build-id=none -o "$1" build/yds_cli.o "$kit/c/libos_c.a" "$kit/c/liblibc_c.a"
+	"${CC:-cc}" -static -s -Wl,--build-id=none -o "$2" "build/$1.o" "$kit/c/libos_c.a" "$kit/c/liblibc_c.a"
 }
 
-# is_static: whether build/yds_cli is another program than the toolchain's dynamic one.
-is_static() { ! cmp -s $program build/yds_cli-dynamic; }
+# are_static: whether each program is another one than the toolchain's dynamic one.
+are_static() {
+	for name in $programs; do
+		! cmp -s "build/$name" "build/$name-dynamic" || return 1
+	done
+}

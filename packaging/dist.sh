@@ -2,15 +2,17 @@
 # dist.sh: makes the archives of a release, in build/dist (`make dist`).
 #
 #   yds_cli-VERSION.tar.gz                       the sources of the commit
-#   yds_cli-VERSION-linux-x86_64.tar.gz          the static program, with its manual pages, completion, recipes, examples and the commands in Python
+#   yds_cli-VERSION-linux-x86_64.tar.gz          the static programs and the commands yds-.., with their manual pages, completion, recipes, examples
+#                                                and the pages for readers
 #   yds-VERSION-py3-none-manylinux2014_x86_64.whl    the Python package, where build/libyds.so is there (`make library`)
 #   SHA256SUMS                                   the sums of these, and of the packages where they are there
 #
 # Two builds of one commit, with the same compiler and C library for the static program, are the same bytes.
 
 . "$(dirname "$0")/common.sh"
-want git git tar tar gzip gzip
-is_static || die "$program isn't static; make links it so where gcc and libc6-dev are"
+needs git git tar tar gzip gzip
+are_built
+are_static || die "a program isn't static; make links it so where gcc and libc6-dev are"
 [ -z "$(git status --porcelain)" ] || die "there are changes that no commit has; a release is made of a commit"
 set_epoch
 mkdir -p $out
@@ -20,10 +22,13 @@ git archive --prefix="$name/" HEAD | gzip -9n >"$out/$name.tar.gz"
 stage=build/stage
 folder=$stage/$name-linux-x86_64
 rm -rf $stage
-make --no-print-directory install-program install-tools DESTDIR="$PWD/$folder" PREFIX= >/dev/null || die "make install failed"
-cp README.md CHANGELOG.md LICENSE-MIT LICENSE-APACHE VERSION "$folder"
+DESTDIR=$PWD/$folder PREFIX='' sh packaging/install.sh put programs tools && python3 packaging/pages.py "$folder" || die "the archive couldn't be filled"
+python3 docs/check.py "$folder" >build/dist.log || { cat build/dist.log; die "a page of the archive has a link that leads nowhere"; }
+cp LICENSE-MIT LICENSE-APACHE VERSION "$folder"
 {
-	echo "This program, bin/yds_cli, is one file that needs no library. It runs on any Linux, on a processor of x86-64-v2 or later."
+	for name in $programs; do
+		echo "This program, bin/$name, is one file that needs no library. It runs on any Linux, on a processor of x86-64-v2 or later."
+	done
 	echo "It has the object file that was proved and compiled by the toolchain. It is linked by gcc and Debian's"
 	echo "C library in place of the toolchain's linker:"
 	echo

@@ -13,7 +13,7 @@
 # 'N passed, M failed'; the exit status is 1 where M isn't 0. What is missing is named, and counts as failed.
 
 . "$(dirname "$0")/common.sh"
-want debootstrap debootstrap chroot coreutils dpkg-deb dpkg git git
+needs debootstrap debootstrap chroot coreutils dpkg-deb dpkg git git
 [ "$(id -u)" = 0 ] || die "chroot and debootstrap want root"
 [ -x $program ] || die "$program isn't there; make builds it"
 MIRROR=${MIRROR:-http://deb.debian.org/debian}

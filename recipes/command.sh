@@ -11,6 +11,7 @@
 #
 #   --help      the head of the recipe: what it reads and writes, and its options
 #   --options   the words that the recipe knows, for the completion
+#   --man       the same as a manual page
 #
 # Exit status: the recipe's; 2 for a wrong option.
 
@@ -46,6 +47,25 @@ options_of_recipe() {
 		}'
 }
 
+# The head as a manual page: its first line is the name's, and all others stay as they are.
+manual_of_recipe() {
+	head_of_recipe | $AWK -v name="$command" '
+		function literal(text) { gsub(/\\/, "\\e", text); gsub(/-/, "\\-", text); return (text ~ /^[.\047]/ ? "\\&" : "") text }
+		NR == 1 {
+			sub(/^[^:]*: /, "")
+			sub(/\.$/, "")
+			print ".TH " toupper(name) " 1 \"\" \"yds_cli\" \"yds_cli\"\n.SH NAME\n" literal(name) " \\- " literal($0)
+			print ".SH SYNOPSIS\n" literal(name) " [\\fINAME\\fR=\\fIVALUE\\fR ..] [\\fIFILE\\fR ..]"
+			print ".br\n" literal(name) " \\-\\-help\n.SH DESCRIPTION\n.nf"
+			next
+		}
+		NR > 2 { print literal($0) }
+		END {
+			print ".fi\n.SH SEE ALSO\n.BR yds_cli (1)\n.PP"
+			print "The page manual.md has this command in a walk with real output.\nDebian\\(aqs package yds\\-doc has it in /usr/share/doc/yds\\-doc/docs."
+		}'
+}
+
 [ -n "$recipe" ] && [ "$recipe" != "$recipes/command.sh" ] || {
 	echo "$command: there is no recipe of this name in $recipes" >&2
 	exit 2
@@ -57,6 +77,10 @@ case ${1:-} in
 	;;
 --options)
 	options_of_recipe
+	exit
+	;;
+--man)
+	manual_of_recipe
 	exit
 	;;
 esac

@@ -273,8 +273,11 @@ def manual_of(command: Command) -> str:
     for option in command.options:
         words = ", ".join(word for word in (option.short, f"--{option.name}") if word)
         lines += [".TP", f"\\fB{_roff(words)}\\fR {_roff(option.value)}".rstrip(), _roff(option.told) + "."]
-    lines += [".SH EXIT STATUS", _roff(command.statuses), ".SH SEE ALSO", ".BR yds_cli (1)"]
-    return "\n".join(lines)
+    lines += [".SH EXIT STATUS", _roff(command.statuses), ".SH SEE ALSO", ".BR yds_cli (1)", ".PP"]
+    return "\n".join([*lines, "The page manual.md has this command in a walk with real output.", _PACKAGED])
+
+
+_PACKAGED = "Debian\\(aqs package yds\\-doc has it in /usr/share/doc/yds\\-doc/docs."
 
 
 def _paragraphs(text: str) -> List[str]:

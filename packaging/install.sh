@@ -1,0 +1,136 @@
+#!/bin/sh
+# install.sh: puts what is built where it is used, or takes it away (`make install`, `make uninstall`).
+#
+#   sh packaging/install.sh put PART ..       copies the parts to PREFIX
+#   sh packaging/install.sh remove PART ..    removes just these files, and the folders that are the project's own and empty
+#
+#   programs    each program with its manual page and completion, and the examples of documents
+#   tools       the commands yds-..: the Python package, the recipes with their samples, manual pages and completion
+#   library     the shared object
+#   headers     what a compiler needs beside it: the headers, the static library and the file for pkg-config
+#   pages       the manual, the format, what is proved and the other pages for readers, with their pictures
+#
+# Environment: PREFIX (/usr/local), DESTDIR (a folder in which all of it is put, for packages; empty), LIBDIR (the folder of
+# libraries; PREFIX/lib), INSTALLED (another file for build/yds_cli). PREFIX and DESTDIR may have blanks.
+
+. "$(dirname "$0")/common.sh"
+PREFIX=${PREFIX-/usr/local}
+LIBDIR=${LIBDIR:-$PREFIX/lib}
+start=lib/python3/dist-packages/yds/commands/_start.py
+object=libyds.so.1.1
+mode=$1
+shift
+case $mode in put | remove) ;; *) die "give put or remove, and the parts" ;; esac
+
+# text PATH MODE: a file of this path, with standard input as its text; or it is removed.
+text() {
+	path=$DESTDIR$1
+	if [ "$mode" = remove ]; then
+		rm -f "$path"
+	else
+		mkdir -p "$(dirname "$path")" && cat >"$path" && chmod "$2" "$path" || die "$path can't be written"
+	fi
+}
+# file FROM PATH [MODE]: the file, copied.
+file() { if [ "$mode" = remove ]; then text "$2" 644; else text "$2" "${3:-644}" <"$1"; fi || die "$1 can't be read"; }
+# link TARGET PATH: a link.
+link() {
+	rm -f "$DESTDIR$2"
+	[ "$mode" = remove ] || { mkdir -p "$(dirname "$DESTDIR$2")" && ln -s "$1" "$DESTDIR$2"; } || die "$DESTDIR$2 can't be written"
+}
+# made PATH COMMAND ..: what the command writes, with the mode of a text.
+made() {
+	made=$1
+	shift
+	if [ "$mode" = remove ]; then text "$made" 644; else "$@" >build/install.text && file build/install.text "$made"; fi || die "$* failed"
+}
+# gone FOLDER ..: the project's own folders, once nothing is in them.
+gone() {
+	[ "$mode" = put ] || for folder in "$@"; do
+		[ ! -d "$DESTDIR$PREFIX/$folder" ] || find "$DESTDIR$PREFIX/$folder" -depth -type d -empty -delete
+	done
+}
+
+# built FILE COMMAND: ends where the file isn't there.
+built() { [ $mode = remove ] || [ -f "$1" ] || die "$1 isn't there; $2 builds it"; }
+
+programs() {
+	for name in $programs; do
+		installed=build/$name
+		[ $name != yds_cli ] || installed=${INSTALLED:-$installed}
+		built "$installed" make
+		file "$installed" "$PREFIX/bin/$name" 755
+		made "$PREFIX/share/man/man1/$name.1" sed "s/^\.Os\$/.Os $name $version/" "docs/$name.1"
+		[ ! -f completions/$name.bash ] || file completions/$name.bash "$PREFIX/share/bash-completion/completions/$name"
+	done
+	for name in examples/*.txt; do file "$name" "$PREFIX/share/yds_cli/$name"; done
+	gone share/yds_cli
+}
+
+# page_of COMMAND: its manual page, from its own table or head.
+page_of() {
+	if [ -f "python/yds/commands/${1#yds-}.py" ]; then
+		python3 python/yds/commands/_start.py "$1" --man
+	else
+		date=$(sed -n 's/^DATE = "\(.*\)"$/\1/p' python/yds/_version.py)
+		sh recipes/command.sh "$1" --man | sed "1s/ 1 \"\" \"yds_cli\"/ 1 \"$date\" \"yds_cli $version\"/"
+	fi
+}
+
+tools() {
+	PYTHONDONTWRITEBYTECODE=1
+	export PYTHONDONTWRITEBYTECODE
+	for name in $(cd python/yds && find . -name '*.py' -o -name py.typed | sort); do
+		file "python/yds/$name" "$PREFIX/lib/python3/dist-packages/yds/${name#./}"
+	done
+	[ $mode = remove ] || chmod 755 "$DESTDIR$PREFIX/$start"
+	for name in $(cd recipes && ls ./*.awk ./*.sh ./*.jq 2>/dev/null | grep -v '/test\.sh$'); do
+		file "recipes/$name" "$PREFIX/share/yds_cli/recipes/${name#./}"
+	done
+	[ $mode = remove ] || chmod 755 "$DESTDIR$PREFIX/share/yds_cli/recipes"/*.sh
+	for name in $(cd recipes/samples && find . -path ./bad -prune -o -type f -print | sort); do
+		file "recipes/samples/$name" "$PREFIX/share/yds_cli/recipes/samples/${name#./}"
+	done
+	[ $mode = remove ] || chmod 755 "$DESTDIR$PREFIX/share/yds_cli/recipes/samples"/*.sh
+	file completions/yds_cli.bash "$PREFIX/share/bash-completion/completions/yds-tools"
+	for name in $commands; do
+		if [ -f "python/yds/commands/${name#yds-}.py" ]; then target=../$start; else target=../share/yds_cli/recipes/command.sh; fi
+		link "$target" "$PREFIX/bin/$name"
+		link yds-tools "$PREFIX/share/bash-completion/completions/$name"
+		made "$PREFIX/share/man/man1/$name.1" page_of "$name"
+	done
+	if [ $mode = remove ]; then find "$DESTDIR$PREFIX/lib/python3/dist-packages/yds" -name __pycache__ -prune -exec rm -rf {} + 2>/dev/null; fi
+	gone lib/python3/dist-packages/yds share/yds_cli
+}
+
+library() {
+	built build/libyds.so "make library"
+	file build/libyds.so "$LIBDIR/$object"
+	link $object "$LIBDIR/libyds.so.1"
+}
+
+headers() {
+	built build/libyds.a "make library"
+	link libyds.so.1 "$LIBDIR/libyds.so"
+	file build/libyds.a "$LIBDIR/libyds.a"
+	file library/yds.h "$PREFIX/include/yds.h"
+	file library/yds.hpp "$PREFIX/include/yds.hpp"
+	made "$LIBDIR/pkgconfig/yds.pc" awk -v version="$version" '
+		# In a file for pkg-config a blank of a path has a backslash before it.
+		BEGIN { prefix = ENVIRON["PREFIX"]; folder = ENVIRON["LIBDIR"]; gsub(/ /, "\\ ", prefix); gsub(/ /, "\\ ", folder) }
+		function put(sign, text, at) { if ((at = index($0, sign))) $0 = substr($0, 1, at - 1) text substr($0, at + length(sign)) }
+		{ put("@PREFIX@", prefix); put("@LIBDIR@", folder); put("@VERSION@", version); print }' library/yds.pc.in
+}
+
+pages() {
+	if [ $mode = put ]; then rm -rf build/pages && python3 packaging/pages.py build/pages || die "the pages couldn't be made"; fi
+	for name in $(python3 packaging/pages.py --list); do file "build/pages/$name" "$PREFIX/share/doc/yds-doc/$name"; done
+	gone share/doc/yds-doc
+}
+
+export PREFIX LIBDIR
+[ $mode = remove ] || mkdir -p build
+for part in "$@"; do
+	case $part in programs | tools | library | headers | pages) $part ;; *) die "there is no part $part" ;; esac
+done
+rm -rf build/install.text build/pages
