@@ -19,7 +19,7 @@ from typing import Dict, Iterator, List, NamedTuple, Optional, Set
 WIDTH = 120
 
 # Folders that aren't of the repository.
-BUILT = {"build", "out", "__pycache__", ".git"}
+BUILT = {"build", "out", "debian", "__pycache__", ".git"}
 
 CODE_SPAN = re.compile(r"`(?:[^`\n]|\n(?!\s*\n))*`")
 LINK = re.compile(r"\]\(([^)\n]*)\)|^\[[^\]\n]+\]:[ ]*(.*)$", re.MULTILINE)
