@@ -47,8 +47,8 @@ sums() {
 
 # are_built: ends where a program isn't there.
 are_built() {
-	for name in $programs; do
-		[ -x "build/$name" ] || die "build/$name isn't there; make builds it"
+	for each in $programs; do
+		[ -x "build/$each" ] || die "build/$each isn't there; make builds it"
 	done
 }
 
@@ -60,7 +60,7 @@ static() {
 
 # are_static: whether each program is another one than the toolchain's dynamic one.
 are_static() {
-	for name in $programs; do
-		! cmp -s "build/$name" "build/$name-dynamic" || return 1
+	for each in $programs; do
+		! cmp -s "build/$each" "build/$each-dynamic" || return 1
 	done
 }

@@ -26,8 +26,8 @@ DESTDIR=$PWD/$folder PREFIX='' sh packaging/install.sh put programs tools && pyt
 python3 docs/check.py "$folder" >build/dist.log || { cat build/dist.log; die "a page of the archive has a link that leads nowhere"; }
 cp LICENSE-MIT LICENSE-APACHE VERSION "$folder"
 {
-	for name in $programs; do
-		echo "This program, bin/$name, is one file that needs no library. It runs on any Linux, on a processor of x86-64-v2 or later."
+	for each in $programs; do
+		echo "This program, bin/$each, is one file that needs no library. It runs on any Linux, on a processor of x86-64-v2 or later."
 	done
 	echo "It has the object file that was proved and compiled by the toolchain. It is linked by gcc and Debian's"
 	echo "C library in place of the toolchain's linker:"
