@@ -41,6 +41,7 @@ SOURCES := crates.txt $(shell find crates -path '*/out' -prune -o \( -name '*.rt
 # Some wait for those that they stand on: so there are twice as many as processors, where memory holds them.
 JOBS ?= $(shell awk -v n=$$(nproc) '/^MemTotal/ { m = int($$2 / 2097152); print m < 1 ? 1 : m < 2 * n ? m : 2 * n }' /proc/meminfo)
 PREFIX ?= /usr/local
+INSTALLED ?= $(BINARY)
 export PREFIX DESTDIR LIBDIR INSTALLED DOCUMENT EXAMPLE
 EXAMPLE ?= examples/three-jobs.txt
 DOCUMENT ?= examples/three-jobs.txt

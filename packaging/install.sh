@@ -92,11 +92,11 @@ tools() {
 		file "recipes/samples/$name" "$PREFIX/share/yds_cli/recipes/samples/${name#./}"
 	done
 	[ $mode = remove ] || chmod 755 "$DESTDIR$PREFIX/share/yds_cli/recipes/samples"/*.sh
-	file completions/yds_cli.bash "$PREFIX/share/bash-completion/completions/yds-tools"
+	file completions/yds_cli.bash "$PREFIX/share/bash-completion/completions/yds_tools"
 	for name in $commands; do
 		if [ -f "python/yds/commands/${name#yds-}.py" ]; then target=../$start; else target=../share/yds_cli/recipes/command.sh; fi
 		link "$target" "$PREFIX/bin/$name"
-		link yds-tools "$PREFIX/share/bash-completion/completions/$name"
+		link yds_tools "$PREFIX/share/bash-completion/completions/$name"
 		made "$PREFIX/share/man/man1/$name.1" page_of "$name"
 	done
 	if [ $mode = remove ]; then find "$DESTDIR$PREFIX/lib/python3/dist-packages/yds" -name __pycache__ -prune -exec rm -rf {} + 2>/dev/null; fi

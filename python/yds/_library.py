@@ -158,7 +158,7 @@ def _open() -> Library:
     except (OSError, AttributeError) as fault:
         raise ImportError(
             f"the shared object of yds can't be opened: {fault}. "
-            f"Install the wheel or the package libyds, or let YDS_LIBRARY name the file {SONAME}"
+            f"Install the wheel or the package libyds1, or let YDS_LIBRARY name the file {SONAME}"
         ) from fault
 
 
