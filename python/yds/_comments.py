@@ -77,6 +77,55 @@ def _reason_end(rest: str) -> int:
     return places[0] if places else -1
 
 
+CUT_OFF = ("before from", "after to")
+"""Reasons of jobs that were left out since the user asked for another time."""
+
+
+class LeftOut(NamedTuple):
+    """A comment that tells of several jobs of a task that were left out for one reason."""
+
+    number: int
+    task: str
+    reason: str
+
+
+_LEFT_OUT_JOBS = re.compile(r"# left out: ([0-9]{1,18}) jobs? of (.+?) \((.+)\)(?:, the first .+)?").fullmatch
+
+
+def left_out_jobs(text: str) -> Optional[LeftOut]:
+    """What a comment tells of several jobs at once; None where it is none.
+
+    >>> left_out_jobs("# left out: 356 jobs of t0 (ran on another processor), the first t0.3, the last t0.621")
+    LeftOut(number=356, task='t0', reason='ran on another processor')
+    """
+    found = _LEFT_OUT_JOBS(text)
+    return None if found is None else LeftOut(int(found.group(1)), found.group(2), found.group(3))
+
+
+class OtherSpan(NamedTuple):
+    """Who else had the processor, and from when to when, in ticks."""
+
+    name: str
+    pid: int
+    start: int
+    end: int
+
+
+_OTHER = re.compile(r"# other (.*)-([0-9]{1,10}) ([0-9]{1,30}) ([0-9]{1,30})").fullmatch
+
+
+def other_span(text: str) -> Optional[OtherSpan]:
+    """What a comment `# other NAME-PID FROM TO` tells; None where it is none, or the span has no length.
+
+    >>> other_span("# other Web Content-419 200 270")
+    OtherSpan(name='Web Content', pid=419, start=200, end=270)
+    """
+    found = _OTHER(text)
+    if found is None or int(found.group(4)) <= int(found.group(3)):
+        return None
+    return OtherSpan(found.group(1), int(found.group(2)), int(found.group(3)), int(found.group(4)))
+
+
 _CLOCK = re.compile(r"time 0 is ([0-9]+)\.([0-9]+) s").search
 _TIME_UNIT = re.compile(r"time unit ([0-9]+) us").search
 

@@ -20,7 +20,7 @@ import os
 import signal
 import sys
 from textwrap import fill
-from typing import Any, Callable, List, NamedTuple, NoReturn, Optional, Sequence
+from typing import Any, Callable, List, NamedTuple, NoReturn, Optional, Sequence, Union
 
 from yds._version import DATE, VERSION
 
@@ -56,6 +56,8 @@ class Files(NamedTuple):
     called: str
     least: int = 0
     most: Optional[int] = None
+    few: str = ""
+    """What is told where there are fewer than the least."""
 
     def form(self) -> str:
         """How a line of usage has them."""
@@ -126,6 +128,7 @@ def parse(command: Command, words: Sequence[str]) -> Given:
     files = [*given.files, *words[end + 1 :]]
     if len(files) < command.files.least:
         few = "no file" if command.files.least == 1 else f"fewer than {command.files.least} files"
+        few = command.files.few or few
         raise WordsError(f"{few}: {command.usage()}")
     if command.files.most is not None and len(files) > command.files.most:
         most = f"more than {command.files.most} file" + ("" if command.files.most == 1 else "s")
@@ -146,7 +149,9 @@ def _refuse_old(command: Command, words: Sequence[str]) -> None:
         raise WordsError(f"{word} is no word of this command: write {new}; a file of this name is ./{word}")
 
 
-Work = Callable[[Given, Callable[[str], None]], int]
+Written = Union[str, bytes]
+"""A line, or bytes that are written as they are."""
+Work = Callable[[Given, Callable[[Written], None]], int]
 """The work of a command: its words and a call that writes a line in, its status out."""
 
 
@@ -165,7 +170,7 @@ def _answer(command: Command, words: Sequence[str], work: Work) -> int:
         return _put(command, [told[words[0]](command)], DONE)
     try:
         given = parse(command, words)
-        held: List[str] = []
+        held: List[Written] = []
         status = work(given, _write if command.streams else held.append)
     except WordsError as fault:
         return _fail(command, f"{fault}; see {command.name} --help", WORDS)
@@ -180,9 +185,13 @@ def _answer(command: Command, words: Sequence[str], work: Work) -> int:
     return _put(command, held, status)
 
 
-def _write(line: str) -> None:
+def _write(line: Written) -> None:
     """Writes a line as it comes."""
-    sys.stdout.buffer.write(line.encode("latin-1") + b"\n")
+    sys.stdout.buffer.write(_bytes_of(line))
+
+
+def _bytes_of(line: Written) -> bytes:
+    return line if isinstance(line, bytes) else line.encode("latin-1") + b"\n"
 
 
 def _told(fault: BaseException) -> str:
@@ -201,10 +210,10 @@ def _fail(command: Command, told: str, status: int) -> int:
     return _put(command, ["failed"] if command.writes_document else [], status)
 
 
-def _put(command: Command, lines: Sequence[str], status: int) -> int:
+def _put(command: Command, lines: Sequence[Written], status: int) -> int:
     """Writes the lines; a disk that is full is a fault, too."""
     try:
-        sys.stdout.buffer.writelines(line.encode("latin-1") + b"\n" for line in lines)
+        sys.stdout.buffer.writelines(map(_bytes_of, lines))
         sys.stdout.flush()
     except BrokenPipeError:
         raise

@@ -3,23 +3,211 @@
 Each call takes axes, or makes a figure with one where it is given none, and gives the axes back, so that titles,
 ranges and colours are matplotlib's business. ImportError is raised where there is no matplotlib. Numbers are floats
 here, each the nearest to the exact one.
+
+`gantt`, `speed`, `slack`, `curve`, `energy` and `ratios` are the pictures of yds-plot. Without axes their figure has a
+title, a key and notes, and is none of pyplot's; on axes that are given the key stands above them. The axes' label
+(`axes.get_label()`) is the picture in words, and `svg` writes it into a page. `jobs`, `speeds` and `energies` are
+plain ones of documents, profiles and comparisons.
 """
 
 from __future__ import annotations
 
+from fractions import Fraction
 from importlib import import_module
-from typing import TYPE_CHECKING, Any, Iterable, List, Optional, Sequence, Tuple
+from io import BytesIO
+from typing import TYPE_CHECKING, Any, Dict, Iterable, List, Optional, Sequence, Tuple, Union
 
+from yds._bars import Energies, Side, bars
+from yds._canvas import loaded
+from yds._excess import excess
+from yds._gantt import gantt as gantt_values
+from yds._ratios import ratios as ratios_values
+from yds._scales import Units
+from yds._sheets import Drawing, chosen, on_axes, on_sheet
+from yds._slacks import slack_of, slacks
+from yds._speeds import speed as speed_values
+from yds._svg import drawn
 from yds._tables import Profile
+from yds._text import Row, Rows, lines_of
+from yds._timeline import Timeline
+from yds._timeline import timeline as timeline_of
 from yds.rows import Exact, Job, Slot
 
 if TYPE_CHECKING:
+    from yds.document import Document
+    from yds.jobs import JobRow
     from yds.results import Comparison, Curve
+    from yds.tables import Energies as EnergyTable
 
-__all__ = ["curve", "energies", "jobs", "speeds"]
+__all__ = [
+    "Side",
+    "Timeline",
+    "Units",
+    "curve",
+    "energies",
+    "energy",
+    "gantt",
+    "jobs",
+    "ratios",
+    "slack",
+    "speed",
+    "speeds",
+    "svg",
+    "timeline",
+]
 
 _MOST_NAMES = 40
 """So many jobs have their names at the axis; of more, the names would lie on each other."""
+Drawable = Union[Timeline, "Document", Iterable[Row]]
+"""A document, or its rows, or what `timeline` read of them."""
+Size = Tuple[int, int]
+"""Width and height in pixels of 1/72 of an inch."""
+
+
+def timeline(document: Drawable, units: Optional[Units] = None) -> Timeline:
+    """What pictures over time need of a document: read once, it can be drawn often.
+
+    `units` are seconds, hertz and watts of its units, where its comments aren't to tell them. ValueError is raised
+    where it has no jobs or no slots.
+    """
+    if isinstance(document, Timeline):
+        return document if units is None else document._replace(units=units)
+    text = getattr(document, "text", None)
+    rows: Any = document if text is None else Rows(lines_of(BytesIO(text)))
+    return timeline_of(rows, units)
+
+
+def gantt(
+    document: Drawable,
+    axes: Optional[Any] = None,
+    *,
+    start: Optional[float] = None,
+    end: Optional[float] = None,
+    group: Optional[str] = None,
+    units: Optional[Units] = None,
+    title: Optional[str] = None,
+    size: Optional[Size] = None,
+) -> Any:
+    """Who runs when: a row for each job, or for each task where there are more than 12 jobs.
+
+    A run is as high as a row where it is as wide as a pixel. What is narrower is drawn by columns of pixels, as high as
+    the part of the column's time that ran. The runs are the axes' first collection, coloured by their speeds. Late jobs,
+    jobs that were left out, and who else ran are those of the document's slots and comments.
+
+    start and end (units of time) cut a part of it out; group is 'job' or 'task'; title and size are the figure's.
+    """
+    read = timeline(document, units)
+    drawing = Drawing("gantt", lambda choice: gantt_values(read, choice), 960, 0)
+    choice = chosen(start, end, group)
+    return on_sheet(drawing, choice, size, title) if axes is None else on_axes(drawing, choice, axes)
+
+
+def speed(
+    documents: Union[Drawable, Sequence[Drawable]],
+    axes: Optional[Any] = None,
+    *,
+    names: Sequence[str] = (),
+    start: Optional[float] = None,
+    end: Optional[float] = None,
+    group: Optional[str] = None,
+    units: Optional[Units] = None,
+    title: Optional[str] = None,
+    size: Optional[Size] = None,
+) -> Any:
+    """The speed over time: of one document by job or task, of a list of several a line for each under its name.
+
+    Of several, those with runs are pale areas behind the others, and a plan is drawn last. Where runs are narrower than
+    a pixel, the mean speed of each column of pixels is drawn, and of one document its greatest as well.
+    """
+    several = documents if isinstance(documents, list) else [documents]
+    read = [timeline(one, units) for one in several]
+    called = [*names, *(f"document {place + 1}" for place in range(len(names), len(read)))]
+    drawing = Drawing("speed", lambda choice: speed_values(read, called, choice), 960, 400)
+    choice = chosen(start, end, group)
+    return on_sheet(drawing, choice, size, title) if axes is None else on_axes(drawing, choice, axes)
+
+
+def slack(
+    rows: Iterable[JobRow],
+    axes: Optional[Any] = None,
+    *,
+    start: Optional[float] = None,
+    end: Optional[float] = None,
+    group: Optional[str] = None,
+    units: Units = Units(),
+    title: Optional[str] = None,
+    size: Optional[Size] = None,
+) -> Any:
+    """How long before its deadline each job was done, of the rows of `yds.jobs.table`; what is below 0 was late.
+
+    Where a job is more than four times later than any is early, the axis is logarithmic below that.
+    """
+    table = [slack_of(row) for row in rows]
+    drawing = Drawing("slack", lambda choice: slacks(table, units, choice), 960, 400)
+    choice = chosen(start, end, group)
+    return on_sheet(drawing, choice, size, title) if axes is None else on_axes(drawing, choice, axes)
+
+
+def curve(
+    told: Curve,
+    axes: Optional[Any] = None,
+    points: Iterable[Tuple[Any, Any]] = (),
+    *,
+    units: Units = Units(),
+    title: Optional[str] = None,
+    size: Optional[Size] = None,
+    **look: Any,
+) -> Any:
+    """The least work above each speed, straight between two breaks: the axes' first line. The points are uprights.
+
+    look is for matplotlib's `plot` of that line.
+    """
+    breaks = [(Fraction(one.speed), Fraction(one.excess)) for one in told.breaks]
+    speeds_of_points = [int(point[0]) for point in points]
+    drawing = Drawing("curve", lambda choice: excess(breaks, speeds_of_points, units), 720, 440)
+    if axes is None:
+        return on_sheet(drawing, chosen(None, None, None), size, title, **look)
+    return on_axes(drawing, chosen(None, None, None), axes, **look)
+
+
+def energy(
+    sides: Iterable[Side],
+    axes: Optional[Any] = None,
+    points: Iterable[Tuple[Any, Any]] = (),
+    *,
+    notes: Sequence[str] = (),
+    units: Units = Units(),
+    title: Optional[str] = None,
+    size: Optional[Size] = None,
+) -> Any:
+    """What each side spends, and how much more than the side `plan`; how many deadlines it misses.
+
+    With the points, and each side's times at them, the bars are parted by point. ValueError is raised where an energy
+    isn't power times time on these points. notes are told of energy that is in no bar.
+    """
+    told = Energies(list(sides), [(int(point[0]), int(point[1])) for point in points], list(notes), units)
+    width = 150 * len(told.sides) + 260
+    drawing = Drawing("energy", lambda choice: bars(told), width, 440)
+    choice = chosen(None, None, None)
+    return on_sheet(drawing, choice, size, title) if axes is None else on_axes(drawing, choice, axes)
+
+
+def ratios(
+    table: EnergyTable, axes: Optional[Any] = None, *, title: Optional[str] = None, size: Optional[Size] = None
+) -> Any:
+    """In how many documents of a table each side costs at most so many times the plan: of `yds.tables.read_energies`."""
+    drawing = Drawing("ratios", lambda choice: ratios_values(table), 720, 440)
+    choice = chosen(None, None, None)
+    return on_sheet(drawing, choice, size, title) if axes is None else on_axes(drawing, choice, axes)
+
+
+def svg(axes: Any, prefix: str = "", title: Optional[str] = None, told: Optional[str] = None) -> str:
+    """The axes' figure as SVG that can stand in a page: each id begins with the prefix, so that those of two pictures
+    differ; the title and the words of the picture are in it, for who can't see it. Two runs write the same text.
+
+    told is what the axes' label says where it is None, and title the begin of it.
+    """
+    return drawn(axes, prefix, title, told)
 
 
 def jobs(rows: Sequence[Job], slots: Sequence[Slot] = (), axes: Optional[Any] = None) -> Any:
@@ -74,17 +262,6 @@ def speeds(profile: Profile, axes: Optional[Any] = None, **look: Any) -> Any:
     return axes
 
 
-def curve(told: Curve, axes: Optional[Any] = None, **look: Any) -> Any:
-    """The least work above each speed, straight between two breaks. look is for matplotlib's `plot`."""
-    axes = _axes(axes)
-    axes.plot([float(one.speed) for one in told.breaks], [float(one.excess) for one in told.breaks], **look)
-    axes.set_xlim(left=0)
-    axes.set_ylim(bottom=0)
-    axes.set_xlabel("speed")
-    axes.set_ylabel("least work above it")
-    return axes
-
-
 def energies(told: Comparison, axes: Optional[Any] = None) -> Any:
     """The energy of the plan and of both policies as bars. Where the top point is too slow, the name says so."""
     axes = _axes(axes)
@@ -100,14 +277,5 @@ def _heights(numbers: Iterable[Any]) -> List[float]:
 
 
 def _axes(axes: Optional[Any]) -> Any:
-    """The given axes, or those of a new figure."""
-    if axes is not None:
-        return axes
-    try:
-        pyplot: Any = import_module("matplotlib.pyplot")
-    except ImportError as fault:
-        raise ImportError(
-            f"a picture wants matplotlib ({fault}); pip install matplotlib, or on Debian apt-get install "
-            "python3-matplotlib. In a notebook a document with slots shows itself without it"
-        ) from fault
-    return pyplot.subplots()[1]
+    """The given axes, or those of a new figure of pyplot."""
+    return loaded("matplotlib.pyplot").subplots()[1] if axes is None else axes
