@@ -32,13 +32,14 @@ energies are in the units of your document, with work = speed \\* time and energ
 
 
 class Module(NamedTuple):
-    """A module of the package: its name, its docstring, and what it has at its top."""
+    """A module of the package: its name, its docstring, what it has at its top, and from where it takes other names."""
 
     name: str
     doc: str
     body: Dict[str, ast.AST]
     order: List[str]
     given: List[str]
+    taken: Dict[str, Tuple[str, str]]
 
 
 def modules(package: Path) -> Dict[str, Module]:
@@ -58,8 +59,16 @@ def modules(package: Path) -> Dict[str, Module]:
                     if target.id == "__all__" and node.value is not None:
                         given = list(ast.literal_eval(node.value))
                     body[target.id] = ast.Tuple(elts=[node, after or ast.Pass()], ctx=ast.Load())
-        found[name] = Module(name, ast.get_docstring(tree) or "", body, list(body), given)
+        found[name] = Module(name, ast.get_docstring(tree) or "", body, list(body), given, dict(imports(tree)))
     return found
+
+
+def imports(tree: ast.Module) -> Iterator[Tuple[str, Tuple[str, str]]]:
+    """Each name that is taken from another module: that module, and the name there."""
+    for node in ast.walk(tree):
+        if isinstance(node, ast.ImportFrom) and node.module:
+            for one in node.names:
+                yield one.asname or one.name, (node.module, one.name)
 
 
 def is_overload(node: ast.AST) -> bool:
@@ -79,25 +88,26 @@ def text_below(node: Optional[ast.AST]) -> Optional[str]:
     return None
 
 
-def entries(name: str, node: ast.AST, found: Dict[str, Module]) -> Iterator[Entry]:
+def entries(name: str, place: Tuple[str, ast.AST], found: Dict[str, Module]) -> Iterator[Entry]:
     """What a name has: its head, its docstring; and of a class its public members."""
+    home, node = place
     if isinstance(node, ast.FunctionDef):
         yield head(name, node), "", ast.get_docstring(node)
     elif isinstance(node, ast.ClassDef):
         given = {other for module in found.values() for other in module.given} | {"NamedTuple", "IntEnum"}
         bases = [base for base in map(ast.unparse, node.bases) if base in given or hasattr(builtins, base)]
         yield f"class {name}" + (f"({', '.join(bases)})" if bases else ""), "", ast.get_docstring(node)
-        yield from members(node, found, given)
+        yield from members(home, node, found, given)
     elif isinstance(node, ast.Tuple):
         assignment, after = node.elts
         value = getattr(assignment, "value", None)
         yield f"{name} = {ast.unparse(value)}" if value is not None else name, "", text_below(after)
 
 
-def members(node: ast.ClassDef, found: Dict[str, Module], given: Set[str]) -> Iterator[Entry]:
+def members(home: str, node: ast.ClassDef, found: Dict[str, Module], given: Set[str]) -> Iterator[Entry]:
     """The public members, and those of bases that aren't given to others, each once."""
     seen = set()
-    for kind in [node, *hidden_bases(node, found, given)]:
+    for kind in [node, *hidden_bases(home, node, found, given)]:
         for member, after in zip(kind.body, [*kind.body[1:], None]):
             name = getattr(getattr(member, "target", member), "id", getattr(member, "name", "_"))
             if not is_public(name) or name in seen or is_overload(member):
@@ -109,13 +119,13 @@ def members(node: ast.ClassDef, found: Dict[str, Module], given: Set[str]) -> It
                 yield head(f".{name}", member), "member", ast.get_docstring(member)
 
 
-def hidden_bases(node: ast.ClassDef, found: Dict[str, Module], given: Set[str]) -> Iterator[ast.ClassDef]:
+def hidden_bases(home: str, node: ast.ClassDef, found: Dict[str, Module], given: Set[str]) -> Iterator[ast.ClassDef]:
     """The classes on which it stands and that aren't given to others."""
     for base in map(ast.unparse, node.bases):
-        place = defined(found, base)
+        place = defined(found, home, base)
         if base not in given and place is not None and isinstance(place[1], ast.ClassDef):
             yield place[1]
-            yield from hidden_bases(place[1], found, given)
+            yield from hidden_bases(*place, found, given)
 
 
 def head(name: str, node: ast.FunctionDef) -> str:
@@ -161,15 +171,14 @@ def wrapped(code: str) -> str:
     return textwrap.indent("\n".join([*lines, room]), "    ")
 
 
-def defined(found: Dict[str, Module], name: str) -> Optional[Tuple[str, ast.AST]]:
-    """The module that has the name, and what it is there."""
-    for module in found.values():
-        if name in module.body and isinstance(module.body[name], Call):
-            return module.name, module.body[name]
-    for module in found.values():
-        if name in module.body:
-            return module.name, module.body[name]
-    return None
+def defined(found: Dict[str, Module], home: str, name: str) -> Optional[Tuple[str, ast.AST]]:
+    """The module that has a module's name, and what it is there. A name that is a module itself is none of these."""
+    module = found.get(home)
+    if module is None or f"{home}.{name}" in found:
+        return None
+    if name in module.body:
+        return home, module.body[name]
+    return defined(found, *module.taken[name]) if name in module.taken else None
 
 
 def written(found: Dict[str, Module]) -> Tuple[str, List[str]]:
@@ -181,11 +190,11 @@ def written(found: Dict[str, Module]) -> Tuple[str, List[str]]:
         parts.append(f"## {module.name}\n")
         parts.append(markdown(module.doc) + "\n")
         for name in module.given:
-            place = defined(found, name)
-            if f"{module.name}.{name}" in found or place is None or place in shown:
+            place = defined(found, module.name, name)
+            if place is None or place in shown:
                 continue
             shown.add(place)
-            for told, kind, doc in entries(f"{module.name}.{name}", place[1], found):
+            for told, kind, doc in entries(f"{module.name}.{name}", place, found):
                 if doc is None:
                     missing.append(f"{module.name}.{name} {told}")
                 if kind == "":
