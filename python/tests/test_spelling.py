@@ -6,11 +6,12 @@ import random
 import sys
 import unittest
 from fractions import Fraction
-from typing import Any, Callable, List
+from typing import Any, Dict, List, Sequence, Set, Tuple
 from unittest import mock
 
 import yds
-from yds import _spelling
+from yds import _fractions, _slots
+from yds._forms import FOREIGN_SLOTS
 
 
 def documents(count: int) -> List[yds.Document]:
@@ -25,11 +26,12 @@ def documents(count: int) -> List[yds.Document]:
     return drawn
 
 
-def not_reduced(word: str) -> Fraction:
-    """A Fraction as one would be if two of its names were others."""
-    made = _spelling._quickly(word)
-    made._numerator *= 2  # type: ignore[attr-defined]
-    made._denominator *= 2  # type: ignore[attr-defined]
+def not_reduced(words: Sequence[str]) -> List[Fraction]:
+    """Fractions as they would be if two of their names were others."""
+    made = _fractions.quickly(words)
+    for one in made:
+        one._numerator *= 2  # type: ignore[attr-defined]
+        one._denominator *= 2  # type: ignore[attr-defined]
     return made
 
 
@@ -39,28 +41,29 @@ class Fractions(unittest.TestCase):
         for _ in range(2000):
             denominator = draw.randrange(1, draw.choice((3, 100, 2**60)))
             word = f"{draw.randrange(10 ** draw.randrange(1, 13))}+{draw.randrange(denominator)}/{denominator}"
-            quick, plain = _spelling._quickly(word), _spelling._plainly(word)
+            (quick,), (plain,) = _fractions.quickly([word]), _fractions.plainly([word])
             self.assertEqual((quick, hash(quick), repr(quick)), (plain, hash(plain), repr(plain)))
             self.assertEqual(copy.copy(quick) + 1 - pickle.loads(pickle.dumps(quick)), 1)
 
     def test_a_python_with_other_fractions_has_the_plain_way(self) -> None:
-        def fails(_: str) -> Fraction:
+        def fails(_: Sequence[str]) -> List[Fraction]:
             raise AttributeError("'Fraction' object has no attribute '_numerator'")
 
-        others: List[Callable[[str], Fraction]] = [fails, not_reduced, lambda word: Fraction(1)]
+        others: List[_fractions.Read] = [fails, not_reduced, lambda words: [Fraction(1)], lambda words: []]
         for other in others:
-            self.assertIs(_spelling._quickest(other), _spelling._plainly)
+            self.assertIs(_fractions._quickest(other), _fractions.plainly)
 
     def test_the_pythons_for_which_the_quick_way_is_kept(self) -> None:
         if sys.version_info < (3, 14):
-            self.assertIs(_spelling._value, _spelling._quickly)
+            self.assertIs(_fractions.read, _fractions.quickly)
 
     def test_slots_are_the_same_by_both_ways(self) -> None:
         for document in documents(30):
             text = document.plan().text
-            quick = _spelling.read_slots(text)
-            with mock.patch.object(_spelling, "_value", _spelling._plainly):
-                self.assertEqual(_spelling.read_slots(text), quick)
+            quick = _slots.own_slots(text)
+            self.assertEqual(_slots.read_slots(text), quick)
+            with mock.patch.object(_fractions, "read", _fractions.plainly):
+                self.assertEqual(_slots.read_slots(text), quick)
 
 
 class OwnLines(unittest.TestCase):
@@ -71,7 +74,7 @@ class OwnLines(unittest.TestCase):
         for number, document in enumerate(drawn):
             other = drawn[number - 1]
             for answer in (document.plan(), document.avr(7), document.oa(), document.admit(2)):
-                self.assertIsInstance(answer.slots, _spelling.Own)
+                self.assertIsInstance(answer.slots, _slots.Own)
                 for judged in (document, other):
                     self.assertEqual(*(self.told(judged, slots) for slots in (answer.slots, list(answer.slots))))
 
@@ -93,17 +96,80 @@ class OwnLines(unittest.TestCase):
         cut = yds.Run.from_text(plan.avr().text.rstrip(b"\n"))
         self.assertTrue(yds.schedule.judge(plan, cut.slots))
 
+    def test_jobs_that_are_called_as_the_lines_are(self) -> None:
+        document = yds.Document([("slot", 0, 4, 8), ("slot2", 1, 3, 2)])
+        plan = document.plan()
+        self.assertIsInstance(plan.slots, _slots.Own)
+        self.assertEqual(plan.slots, _slots.read_slots(plan.text))
+        stored = yds.Plan.from_text(plan.text.replace(b"\nslot slot2", b"\n\tslot slot2"))
+        self.assertEqual((type(stored.slots), stored.slots), (tuple, plan.slots))
+
     def test_copies_and_parts_are_tuples(self) -> None:
         slots = yds.Document([("a", 0, 4, 8), ("b", 1, 3, 2)]).plan().slots
         for other in (copy.copy(slots), copy.deepcopy(slots), pickle.loads(pickle.dumps(slots)), slots[:], slots + ()):
             self.assertEqual((type(other), other), (tuple, slots))
         document = yds.Document([("a", 0, 4, 8), ("b", 1, 3, 2)])
         self.assertEqual(yds.schedule.judge(document, slots[:-1]).cause, "work")
-        self.assertEqual(yds.schedule.judge(document, _spelling.Own(slots[:-1])).cause, "work")
+        self.assertEqual(yds.schedule.judge(document, _slots.Own(slots[:-1])).cause, "work")
 
     def test_no_slots(self) -> None:
         self.assertEqual(yds.schedule.judge(yds.Document([("a", 0, 4, 1)]), yds.Document().plan().slots).cause, "work")
         self.assertTrue(yds.schedule.judge(yds.Document([("a", 0, 4, 0)]), yds.Document([("a", 0, 4, 0)]).plan().slots))
+
+
+def drawn_slots(draw: random.Random) -> List[Tuple[str, Any, Any, Any]]:
+    """Rows of ints and Fractions, most in turn, of which a few overlap, touch by an equal number, or run backward."""
+    now: Any = draw.randrange(3)
+    rows = []
+    for _ in range(draw.randrange(7)):
+        start = now if draw.random() < 0.6 else now + Fraction(draw.randrange(-1, 4), draw.choice((1, 3)))
+        now = start + Fraction(draw.randrange(-1, 9), draw.choice((1, 1, 2, 6, 7)))
+        if draw.random() < 0.5 and Fraction(now).denominator == 1:
+            now = int(now)
+        work = Fraction(draw.randrange(9), draw.choice((1, 4, 6, 2**40)))
+        rows.append((draw.choice("abc"), start, now, int(work) if work.denominator == 1 else work))
+    return rows
+
+
+class Spelling(unittest.TestCase):
+    """The lines of drawn slots say the same numbers, over the denominators that a document asks for."""
+
+    def test_what_is_spelled_is_read_again(self) -> None:
+        draw = random.Random(11)
+        for _ in range(2000):
+            rows = drawn_slots(draw)
+            kind = draw.choice((list, tuple, iter, lambda rows: [list(row) for row in rows]))
+            lines, in_turn = _slots.spelled(_slots.Columns.of(FOREIGN_SLOTS, kind(rows)))
+            self.assertEqual(_slots.read_slots(lines), tuple(yds.Slot(*row) for row in rows), rows)
+            grains: Dict[str, Set[str]] = {}
+            for _, job, *words in (line.split() for line in lines.decode().splitlines()):
+                start, end, work = (word.partition("/")[2] for word in words)
+                self.assertTrue(start == end or not start or not end, lines)
+                grains.setdefault(job, set()).add(work)
+            self.assertTrue(all(len(found - {""}) <= 1 for found in grains.values()), lines)
+            times = [time for _, start, end, _ in rows for time in (start, end)]
+            gaps = [after - before for before, after in zip(times, times[1:])]
+            self.assertEqual(in_turn, all(gap > 0 if not place % 2 else gap >= 0 for place, gap in enumerate(gaps)))
+
+    def test_what_is_no_exact_row_is_told(self) -> None:
+        for row, told in (
+            (("a", 0, 1.5, 1), r"slots\[1\]\.end: 1\.5 is neither"),
+            (("a", True, 1, 1), r"slots\[1\]\.start: True is a truth value"),
+            (("a b", 0, 1, 1), r"slots\[1\]\.job: 'a b' is no name"),
+            ((7, 0, 1, 1), r"slots\[1\]\.job: a name is a string"),
+            (("", 0, 1, 1), r"slots\[1\]\.job: '' is no name"),
+            (("j" * 65, 0, 1, 1), r"slots\[1\]\.job: .* is no name"),
+            (("a", 0, 1), r"slots\[1\] has 3 fields"),
+            (("a", 0, 1, 1, 1), r"slots\[1\] has 5 fields"),
+        ):
+            for kind in (list, iter):
+                with self.subTest(row), self.assertRaisesRegex((TypeError, ValueError), told):
+                    _slots.Columns.of(FOREIGN_SLOTS, kind([("b", 0, 1, 1), row]))
+
+    def test_below_zero(self) -> None:
+        for start in (-1, Fraction(-1, 2), Fraction(-1)):
+            with self.subTest(start), self.assertRaisesRegex(yds.Refused, r"slots\[0\]\.start: a number has no sign"):
+                yds.schedule.judge(yds.Document([("a", 0, 4, 1)]), [("a", start, 1, 1)])
 
 
 if __name__ == "__main__":

@@ -6,12 +6,13 @@ import re
 from collections.abc import Iterable as IterableType
 from fractions import Fraction
 from reprlib import repr as short
-from typing import Any, Callable, Iterable, Iterator, NamedTuple, Tuple
+from typing import Any, Callable, Collection, Iterable, Iterator, NamedTuple, Tuple
 
 from yds._numbers import DECIMALS, exact, whole
 
 _NO_ORDER = (set, frozenset, dict)
 _NAME = re.compile(r"[!-~]{1,64}")
+_NAMES = re.compile(r"[!-~]{1,64}( [!-~]{1,64})*")
 
 
 class Form(NamedTuple):
@@ -58,9 +59,12 @@ def _fault(form: Form, place: int, values: Tuple[Any, ...]) -> Exception:
     raise AssertionError(f"every field of {form.table}[{place}] is taken")
 
 
-def is_name(value: str) -> bool:
-    """Whether the string is one field of a document."""
-    return _NAME.fullmatch(value) is not None
+def are_names(values: Collection[Any]) -> bool:
+    """Whether each of these, one at least, is a string that is one field of a document."""
+    if set(map(type, values)) != {str}:
+        return False
+    joined = " ".join(values)
+    return joined.count(" ") == len(values) - 1 and _NAMES.fullmatch(joined) is not None
 
 
 def name(value: Any) -> str:

@@ -7,7 +7,7 @@ from functools import cached_property
 from itertools import zip_longest
 from typing import Any, ClassVar, Dict, Iterable, List, NamedTuple, Optional, Sequence, Tuple, Type, TypeVar, Union
 
-from yds import _shown, _spelling
+from yds import _shown, _slots, _spelling
 from yds._forms import JOBS, POINTS, SLOTS, TASKS, name, read
 from yds._library import Answer, Status, answer, as_bytes
 from yds._measured import Measured
@@ -72,8 +72,8 @@ class Document(Measured):
         levels: Iterable[Level] = (),
     ) -> None:
         head = _spelling.joined(_spelling.lines("job", JOBS, jobs), _spelling.lines("point", POINTS, points))
-        rest = _spelling.joined(_spelling.slot_lines(list(read(SLOTS, slots))), _spelling.level_lines(levels))
-        self.__dict__.update(_text=head + rest, _head=head)
+        lines = _slots.spelled(_slots.Columns.of(SLOTS, slots)).lines
+        self.__dict__.update(_text=head + lines + _spelling.joined(_spelling.level_lines(levels)), _head=head)
 
     @classmethod
     def from_text(cls: Type[D], text: Union[bytes, str]) -> D:
@@ -154,7 +154,7 @@ class Document(Measured):
     @cached_property
     def slots(self) -> Tuple[Slot, ...]:
         """The slots and runs in the order of their lines."""
-        return _spelling.own_slots(self._text) if self._written else _spelling.read_slots(self._readable)
+        return _slots.own_slots(self._text) if self._written else _slots.read_slots(self._readable)
 
     @cached_property
     def levels(self) -> Tuple[Level, ...]:

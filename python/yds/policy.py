@@ -25,10 +25,10 @@ from fractions import Fraction
 from numbers import Rational, Real
 from typing import Any, Callable, Dict, List, NamedTuple, Optional, Sequence, Tuple, Union
 
-from yds import _spelling
 from yds._numbers import exact as exact_number
 from yds._numbers import integer, is_truth
 from yds._powers import Span
+from yds._slots import Columns, spelled
 from yds.document import FINE_GRID, GRIDS, Document, _Answered
 from yds.errors import Refused
 from yds.results import Verdict
@@ -341,8 +341,7 @@ def _plain(number: Any) -> Any:
 def _judged(document: Document, simulator: _Simulator) -> Simulation:
     """The answer, with the library's verdict."""
     slots = simulator.slots()
-    rows: List[Tuple[str, Any, Any, Any]] = list(slots)
-    made = Simulation._made(document._head + _spelling.joined(_spelling.slot_lines(rows)), written=True)
+    made = Simulation._made(document._head + spelled(Columns(*zip(*slots))).lines, written=True)
     made.__dict__.update(jobs=document.jobs, points=document.points, slots=tuple(slots), levels=())
     try:
         verdict = made.audit()

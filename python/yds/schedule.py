@@ -8,14 +8,14 @@ moved by that.
 from __future__ import annotations
 
 from dataclasses import replace
-from fractions import Fraction
-from typing import Any, Callable, Iterable, List, Optional, Sequence, Tuple, TypeVar
+from typing import Callable, Iterable, Optional, Sequence, Tuple, TypeVar
 
-from yds._forms import FOREIGN_SLOTS, is_name, read
+from yds._forms import FOREIGN_SLOTS
 from yds._near import Mended, Near
 from yds._near import near as _near
 from yds._numbers import Decimalish
-from yds._spelling import Own, joined, level_lines, slot_lines
+from yds._slots import Columns, Own, spelled
+from yds._spelling import joined, level_lines
 from yds._tables import Profile, columns, profile, to_pandas
 from yds.document import Document
 from yds.errors import Refused
@@ -27,7 +27,6 @@ __all__ = ["DecimalSlot", "Mended", "Near", "Profile", "check", "columns", "judg
 DecimalSlot = Tuple[str, Decimalish, Decimalish, Decimalish]
 """A slot of decimals: the job, its start and end (units of time), and its work (units of work)."""
 
-ExactSlot = Tuple[str, Fraction, Fraction, Fraction]
 Told = TypeVar("Told", Verdict, Judgement)
 
 
@@ -103,39 +102,13 @@ def _lines(slots: Iterable[SlotLike]) -> Tuple[Sequence[int], bytes]:
     """The lines of the slots in the order of their times, and the place of each in the given list."""
     if isinstance(slots, Own) and slots.lines is not None:
         return range(len(slots)), slots.lines
-    order, given = _in_time(_given(slots))
-    return order, joined(slot_lines(given))
-
-
-def _in_time(given: List[ExactSlot]) -> Tuple[Sequence[int], List[ExactSlot]]:
-    """The slots in the order of their times, and the place of each in the given list."""
-    if all(_is_before(one[1], other[1]) for one, other in zip(given, given[1:])):
-        return range(len(given)), given
-    order = sorted(range(len(given)), key=lambda place: (given[place][1], given[place][2]))
-    return order, [given[place] for place in order]
-
-
-def _given(slots: Iterable[SlotLike]) -> List[ExactSlot]:
-    """The rows in exact numbers. Where all are exact already only their names are looked at, each once."""
-    if isinstance(slots, (tuple, list)) and all(map(_is_exact, slots)) and all(map(is_name, {row[0] for row in slots})):
-        return list(slots)
-    return list(read(FOREIGN_SLOTS, slots))
-
-
-def _is_exact(row: Any) -> bool:
-    """Whether it is a row of a name and three Fractions."""
-    return (
-        isinstance(row, tuple)
-        and len(row) == 4
-        and type(row[0]) is str
-        and type(row[1]) is Fraction
-        and type(row[2]) is Fraction
-        and type(row[3]) is Fraction
-    )
-
-
-def _is_before(one: Fraction, other: Fraction) -> bool:
-    return one.numerator * other.denominator < other.numerator * one.denominator
+    columns = Columns.of(FOREIGN_SLOTS, slots)
+    lines, in_turn = spelled(columns)
+    if in_turn:
+        return range(len(columns.jobs)), lines
+    starts, ends = columns.starts, columns.ends
+    order = sorted(range(len(starts)), key=lambda place: (starts[place], ends[place]))
+    return order, spelled(columns.in_order(order)).lines
 
 
 def _told(call: Callable[[], Told], judged: Document, order: Sequence[int]) -> Told:
