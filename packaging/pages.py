@@ -54,7 +54,9 @@ def copy(folder: Path) -> None:
         if name.endswith(".md"):
             text, dead = without_dead_links(name, (ROOT / name).read_text(encoding="utf-8"), there)
             if dead:
-                text += "\nThese files are in the archive of the sources alone:\n\n" + "".join(f"- {file}\n" for file in dead)
+                text += "\nThese files are in the archive of the sources alone:\n\n" + "".join(
+                    f"- {file}\n" for file in dead
+                )
             target.write_text(text, encoding="utf-8")
         else:
             target.write_bytes((ROOT / name).read_bytes())

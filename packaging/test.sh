@@ -3,22 +3,37 @@
 #
 #   sh packaging/test.sh [SUITE ..]      Debian's bookworm (12) and trixie (13) without one
 #
-# For each suite debootstrap makes a root of the base system alone, in ROOTS, where it is kept for the next time, or else in a folder that
-# goes when the test ends. (The toolchain refuses links, so it isn't in build.) There the package is installed
-# with apt, the commands of README.md and the rows of `make check` are answered by the installed program, and the package is
-# removed: then every file outside the package manager's own folders has to be as it was. The static program answers the
-# rows in a root that has nothing but itself. Two builds in two folders have to be the same bytes.
+# For each suite debootstrap makes a root of the base system, with python3 and man-db, in ROOTS, where it is kept for the next time, or
+# else in a folder that goes when the test ends. (The toolchain refuses links, so it isn't in build.) All that follows runs there without
+# a network and without this repository, by someone who isn't root where that can be:
 #
-# It wants root, debootstrap, and the network for the roots (MIRROR names another one of Debian). The last line is
-# 'N passed, M failed'; the exit status is 1 where M isn't 0. What is missing is named, and counts as failed.
+#   text tools  python3-yds alone, as on a processor for which there is no program: debian/tests/text-tools
+#   walk        the packages are installed by README's line; the program answers the rows of `make check`; the first example
+#               (debian/tests/first-example); the manual pages; README's and the manual's commands are typed as the pages in the package
+#               have them (typed.py); a page to send on; then the packages are removed, and every file outside the package
+#               manager's own folders has to be as it was
+#   manual      the same commands where the packages are installed that the manual names (jq, parallel, python3-matplotlib, ..), and
+#               the library's test (debian/tests/library)
+#   upgrade     1.0.0 is installed, upgraded, tried and removed. Its packages are stand-ins: the same names, fields and files
+#               (packaging/released-files), of which each says only its name
+#
+# Then the static programs answer the rows in a root that has nothing but themselves. Two builds in two folders have to be the same
+# bytes, and so those of the sources' archive. Each log is kept in build/packages-test.
+#
+# It needs root, debootstrap, and the network for the roots (MIRROR names another one of Debian). HOUR=1 types the manual's trace of
+# an hour, too. The last line is 'N passed, M failed'; the exit status is 1 where M isn't 0. What is missing is named, and counts as failed.
 
 . "$(dirname "$0")/common.sh"
-needs debootstrap debootstrap chroot coreutils dpkg-deb dpkg git git
-[ "$(id -u)" = 0 ] || die "chroot and debootstrap want root"
-[ -x $program ] || die "$program isn't there; make builds it"
+needs debootstrap debootstrap chroot coreutils unshare util-linux dpkg-deb dpkg git git
+[ "$(id -u)" = 0 ] || die "chroot and debootstrap need root"
+are_built
 MIRROR=${MIRROR:-http://deb.debian.org/debian}
+MANUAL="jq parallel python3-matplotlib gnuplot-nox gcc libc6-dev pkg-config"
+logs=build/packages-test
 work=$(mktemp -d) || exit 1
 trap 'rm -rf "$work"' EXIT
+rm -rf $logs
+mkdir -p $logs
 passed=0
 failed=0
 pass() { passed=$((passed + 1)); echo "passed: $1"; }
@@ -27,14 +42,20 @@ fail() { failed=$((failed + 1)); echo "FAILED: $1"; }
 try() {
 	name=$1
 	shift
-	if "$@" >"$work/log" 2>&1; then pass "$name: $(tail -n 1 "$work/log")"; else fail "$name"; tail -n 12 "$work/log"; fi
+	if "$@" >"$work/log" 2>&1; then pass "$name: $(tail -n 1 "$work/log")"; else fail "$name"; tail -n 25 "$work/log"; fi
+	{ echo "== $name"; cat "$work/log"; } >>"$logs/${suite:-all}.log"
 }
-# inside COMMAND ..: in the root of the suite.
+# inside COMMAND ..: in the root of the suite, with a network; alone COMMAND ..: without; user COMMAND ..: without, by nobody, in /home/reader.
 inside() { env -i PATH=/usr/sbin:/usr/bin:/sbin:/bin LC_ALL=C HOME=/ DEBIAN_FRONTEND=noninteractive chroot "$root" "$@"; }
+alone() { env -i PATH=/usr/sbin:/usr/bin:/sbin:/bin LC_ALL=C HOME=/ DEBIAN_FRONTEND=noninteractive unshare -n chroot "$root" "$@"; }
+user() {
+	env -i PATH=/usr/bin:/bin LC_ALL=C.UTF-8 HOME=/home/reader unshare -n chroot "$root" \
+		setpriv --reuid 65534 --regid 65534 --clear-groups sh -c 'cd && "$@"' sh "$@"
+}
 
 # files: each file of the root with its kind, mode and, where it is a file, its sum.
 files() {
-	(cd "$root" && find . -xdev \( -path ./proc -o -path ./sys -o -path ./dev -o -path ./tmp -o -path ./run \
+	(cd "$root" && find . -xdev \( -path ./proc -o -path ./sys -o -path ./dev -o -path ./tmp -o -path ./run -o -path ./srv -o -path ./home \
 		-o -path ./var/log -o -path ./var/cache -o -path ./var/lib/dpkg -o -path ./var/lib/apt \) -prune -o -printf '%p %y %m\n' | sort
 	find usr etc opt root -xdev -type f -exec sha256sum {} + | sort -k 2)
 }
@@ -46,67 +67,156 @@ rows() {
 	sh examples/check.sh "$work/program"
 }
 
-# readme: the commands of README.md, by the installed program and recipes; only the test itself comes from here.
-readme() {
-	rm -rf "$root/srv/yds_cli"
-	cp -r "$root/usr/share/yds_cli" "$root/srv/yds_cli" &&
-		cp -r recipes/test.sh recipes/expected recipes/tests "$root/srv/yds_cli/recipes" &&
-		cp README.md "$root/srv/yds_cli" && mkdir "$root/srv/yds_cli/docs" && cp docs/manual.md "$root/srv/yds_cli/docs" &&
-		inside env YDS=/usr/bin/yds_cli sh /srv/yds_cli/recipes/test.sh readme
-	got=$?
-	rm -rf "$root/srv/yds_cli"
-	return $got
+# base SUITE: the root of the suite, made once.
+base() {
+	base=${ROOTS:-$work/roots}/$1
+	if [ ! -f "$base.done" ]; then
+		rm -rf "$base"
+		mkdir -p "$base"
+		debootstrap --variant=minbase --include=python3,man-db "$1" "$base" "$MIRROR" >"$work/log" 2>&1 || { fail "$1: debootstrap"; tail -n 3 "$work/log"; return 1; }
+		: >"$base.done"
+	fi
+	[ ! -f "$base.full.done" ] || return 0
+	rm -rf "$base.full"
+	cp -a "$base" "$base.full"
+	root=$base.full
+	# shellcheck disable=SC2086
+	inside sh -c 'apt-get update && apt-get install -y --no-install-recommends "$@"' sh $MANUAL >"$work/log" 2>&1 || { fail "$1: $MANUAL"; tail -n 3 "$work/log"; return 1; }
+	: >"$base.full.done"
 }
 
-try_suite() {
-	suite=$1 root=${ROOTS:-$work/roots}/$1
-	if [ ! -f "$root.done" ]; then
-		rm -rf "$root"
-		mkdir -p "$root"
-		debootstrap --variant=minbase "$suite" "$root" "$MIRROR" >"$work/log" 2>&1 || { fail "$suite: debootstrap"; tail -n 3 "$work/log"; return; }
-		: >"$root.done"
-	fi
-	inside apt-get install -y --no-install-recommends python3 >/dev/null 2>&1
+# fresh FROM: a root of its own, as FROM is, which knows of no mirror; with the packages and this folder's tests in /srv.
+fresh() {
+	root=$work/root
+	rm -rf "$root"
+	cp -a "$1" "$root"
+	rm -rf "$root"/var/lib/apt/lists/*
+	mkdir -p "$root/srv/tests" "$root/home/reader"
+	cp build/dist/*_"$version"_*.deb "$root/srv"
+	cp debian/tests/first-example debian/tests/text-tools debian/tests/library packaging/typed.py "$root/srv/tests"
+	chmod 755 "$root/srv/tests"/*
+	chown -R 65534:65534 "$root/home/reader"
+}
+
+# as_readme_says: the line of README.md by which the packages are installed, typed where they are.
+as_readme_says() {
+	line=$(sed -n 's/^    # \(apt install .*\)/\1/p' README.md | head -n 1)
+	[ -n "$line" ] || { echo "README.md has no line by which packages are installed"; return 1; }
+	echo "# $line"
+	alone sh -c "cd /srv && $line -y </dev/null" && echo "$line"
+}
+library_too() { alone sh -c "cd /srv && apt install -y ./libyds1_${version}_amd64.deb ./libyds-dev_${version}_amd64.deb </dev/null"; }
+
+# type_pages LOG WORD ..: the commands of README.md and of the manual as the package has them.
+type_pages() {
+	log=$1
+	shift
+	user python3 /srv/tests/typed.py --log "/home/reader/$log" "$@" /usr/share/doc/yds-doc/README.md /usr/share/doc/yds-doc/docs/manual.md
+	got=$?
+	cp "$root/home/reader/$log" "$logs/$suite-$log"
+	return $got
+}
+hour() { [ -n "${HOUR:-}" ] || echo "--leave-out=Long traces and many machines"; }
+
+# pages_of_man: each program and command has a page, without a fault, and a line of its own in the list of pages.
+pages_of_man() {
+	user sh -c '
+		for name in /usr/bin/yds_* /usr/bin/yds-*; do
+			name=${name##*/}
+			man --warnings "$name" >/dev/null 2>page || { echo "no page of $name"; exit 1; }
+			[ ! -s page ] || { echo "$name:"; cat page; exit 1; }
+		done
+		whatis $(cd /usr/bin && ls -d yds_* yds-*) | sed "s/^[^-]* - //" | sort | uniq -d | grep . && { echo "one description of two commands"; exit 1; }
+		whatis $(cd /usr/bin && ls -d yds_* yds-*) | wc -l | sed "s/$/ pages, each with a description of its own/"'
+}
+
+# a_page: what one sends on, of the first example, as a file that fetches nothing.
+a_page() {
+	if [ ! -x "$root/usr/bin/yds-page" ]; then echo "yds-page isn't there: the page to send on is left out"; return; fi
+	user sh -c 'ln -sfn /usr/share/yds_cli/recipes recipes
+		yds-points --domain cpu0 recipes/samples/energy-model.txt > points.txt &&
+		yds-trace tasks=decode:16.667,audio:10 recipes/samples/trace-late.txt > trace.txt &&
+		yds-join points.txt trace.txt > late.txt && { yds-page late.txt > late.html; echo "status $?"; } && grep -q "decode.2" late.html &&
+		! grep -oE "(src|href)=\"https?:[^\"]*\"" late.html && wc -c late.html'
+}
+
+try_walk() {
+	fresh "$base"
+	alone apt-get --version >/dev/null
 	files >"$work/before"
-	cp build/dist/yds-cli_"$version"_amd64.deb "$root/srv/yds-cli.deb"
-	cp build/dist/python3-yds_"$version"_all.deb "$root/srv/python3-yds.deb"
-	try "$suite: install" inside apt-get install -y --no-install-recommends /srv/yds-cli.deb /srv/python3-yds.deb
+	try "$suite: python3-yds alone" alone sh -c "cd /srv && apt install -y ./python3-yds_${version}_all.deb </dev/null"
+	try "$suite: text tools without program and library" user /srv/tests/text-tools
+	try "$suite: install as README says" as_readme_says
 	try "$suite: rows" rows "$root" /usr/bin/yds_cli
-	try "$suite: README" readme
-	try "$suite: the manual page has the version" inside sh -c "zcat /usr/share/man/man1/yds_cli.1.gz | grep '^.Os yds_cli $version\$'"
-	if [ -f build/dist/libyds_"$version"_amd64.deb ]; then library; fi
-	try "$suite: remove" inside apt-get purge -y yds-cli python3-yds
-	rm -f "$root/srv/yds-cli.deb" "$root/srv/python3-yds.deb"
+	try "$suite: the first example" user /srv/tests/first-example
+	try "$suite: manual pages" pages_of_man
+	try "$suite: README's and the manual's commands, nothing else installed" type_pages bare.log "$(hour)"
+	try "$suite: a page to send on" a_page
+	try "$suite: remove" alone apt-get purge -y yds-cli python3-yds yds-doc
 	files >"$work/after"
 	try "$suite: nothing is left" sh -c 'diff "$1" "$2" && echo "$(wc -l <"$1") lines of files and sums are as before"' sh "$work/before" "$work/after"
 }
 
-# library: the C library and the Python module, with Python from Debian; they go before the root is compared.
-library() {
-	rm -rf "$root.library"
-	cp -a "$root" "$root.library"
-	plain=$root root=$root.library
-	cp build/dist/libyds_"$version"_amd64.deb build/dist/python3-yds_"$version"_all.deb "$root/srv"
-	inside apt-get update >/dev/null 2>&1
-	try "$suite: install the library and the module" inside sh -c 'apt-get install -y --no-install-recommends /srv/libyds_*.deb /srv/python3-yds_*.deb'
-	printf 'job a 0 4 8\n' | $program plan >"$root/srv/wanted"
-	try "$suite: the module answers" inside python3 -c 'import yds
-status, text = yds.answer(["plan"], b"job a 0 4 8\n")
-assert int(status) == 0 and bytes(text) == open("/srv/wanted", "rb").read()
-print("as the program")'
-	try "$suite: the module and the library leave nothing" inside sh -c 'apt-get purge -y python3-yds libyds &&
-		[ -z "$(ls -d /usr/lib/python3/dist-packages/yds /usr/lib/libyds* /usr/include/yds.h 2>/dev/null)" ] && echo "nothing of them"'
-	rm -rf "$root"
-	root=$plain
+try_manual() {
+	fresh "$base.full"
+	try "$suite: install where the manual's packages are" as_readme_says
+	try "$suite: README's and the manual's commands" type_pages full.log "$(hour)"
+	try "$suite: a page to send on, with pictures" a_page
+	if [ ! -f build/dist/libyds1_"$version"_amd64.deb ]; then fail "$suite: there is no package of the library; make library builds it"; return; fi
+	try "$suite: install the library" library_too
+	try "$suite: the library" user /srv/tests/library
+}
+
+# stand_in NAME: a package of 1.0.0 with the names of its files, each of which says only its own.
+stand_in() {
+	tree=$work/old/$1
+	mkdir -p "$tree/DEBIAN"
+	while read -r package path kind target; do
+		[ "$package" = "$1" ] || continue
+		mkdir -p "$(dirname "$tree$path")"
+		if [ "$kind" = link ]; then ln -s "$target" "$tree$path"; else echo "$path of 1.0.0" >"$tree$path"; fi
+		[ "$kind" != program ] || chmod 755 "$tree$path"
+	done <packaging/released-files
+	case $1 in
+	yds-cli) printf 'Package: yds-cli\nArchitecture: amd64\nSuggests: jq, gnuplot-nox, parallel, trace-cmd, bash-completion\n' ;;
+	libyds) printf 'Package: libyds\nArchitecture: amd64\nDepends: libc6 (>= 2.14)\n' ;;
+	python3-yds) printf 'Package: python3-yds\nArchitecture: all\nDepends: python3 (>= 3.8), libyds (= 1.0.0)\n' ;;
+	esac >"$tree/DEBIAN/control"
+	printf 'Version: 1.0.0\nMaintainer: the yds_cli authors <maintainers@yds-cli.invalid>\nDescription: a stand-in of 1.0.0\n' >>"$tree/DEBIAN/control"
+	dpkg-deb --root-owner-group --build "$tree" "$root/srv/$1_1.0.0.deb"
+}
+
+# upgraded: nothing of 1.0.0 is left but what 2.0.0 has, too.
+upgraded() {
+	alone dpkg -l yds-cli python3-yds libyds1 libyds-dev yds-doc >"$work/list" || return 1
+	if alone dpkg -s libyds 2>/dev/null | grep -q '^Status: install ok installed'; then echo "libyds is still there"; return 1; fi
+	left=$(cd "$root" && find usr -type f -exec grep -l ' of 1\.0\.0$' {} + 2>/dev/null)
+	[ -z "$left" ] || { echo "of 1.0.0 is left: $left"; return 1; }
+	awk '/^ii/ { print $2, $3 }' "$work/list"
+}
+
+try_upgrade() {
+	fresh "$base"
+	files >"$work/before"
+	for package in yds-cli libyds python3-yds; do stand_in $package; done >"$work/log" 2>&1
+	try "$suite: install 1.0.0" alone sh -c 'cd /srv && apt install -y ./yds-cli_1.0.0.deb ./libyds_1.0.0.deb ./python3-yds_1.0.0.deb </dev/null'
+	rm -f "$root"/srv/*_1.0.0.deb
+	try "$suite: upgrade" alone sh -c 'cd /srv && apt install -y ./*.deb </dev/null'
+	try "$suite: nothing of 1.0.0 is left" upgraded
+	try "$suite: the first example, after the upgrade" user /srv/tests/first-example
+	try "$suite: Python's module, after the upgrade" user python3 -c 'import yds
+print(yds.__version__, [str(level.speed) for level in yds.Document(jobs=[("a", 0, 4, 8)]).plan().levels])'
+	try "$suite: remove, after the upgrade" alone apt-get purge -y yds-cli python3-yds libyds1 libyds-dev yds-doc
+	files >"$work/after"
+	try "$suite: nothing is left, after the upgrade" sh -c 'diff "$1" "$2" && echo "$(wc -l <"$1") lines of files and sums are as before"' sh "$work/before" "$work/after"
 }
 
 # same_bytes: builds the packages a second time, in a copy of the repository in another folder.
 same_bytes() {
-	git clone -q . "$work/copy" && mkdir "$work/copy/build" && cp build/yds_cli.o build/yds_cli-dynamic "$work/copy/build" || return 1
-	for file in build/libyds.*; do
-		[ ! -f $file ] || cp $file "$work/copy/build"
-	done
-	(cd "$work/copy" && sh packaging/link.sh && touch build/* && make -s deb && make -s dist) >/dev/null || return 1
+	git clone -q . "$work/copy" && mkdir "$work/copy/build" && for file in build/*.o build/*-dynamic build/libyds.*; do
+		[ ! -f "$file" ] || cp "$file" "$work/copy/build"
+	done || return 1
+	(cd "$work/copy" && for name in $programs; do sh packaging/link.sh "$name" || exit 1; done && touch build/* && make -s deb && make -s dist) >/dev/null || return 1
 	cat "$work/copy/build/dist/SHA256SUMS"
 	diff build/dist/SHA256SUMS "$work/copy/build/dist/SHA256SUMS" && echo "$(wc -l <build/dist/SHA256SUMS) files are the same bytes"
 }
@@ -115,25 +225,55 @@ same_bytes() {
 from_archive() {
 	tar -xzf build/dist/yds_cli-"$version".tar.gz -C "$work" || return 1
 	folder=$work/yds_cli-$version
-	mkdir "$folder/build" && cp build/yds_cli build/yds_cli-dynamic "$folder/build" && touch "$folder/build/yds_cli" || return 1
+	mkdir "$folder/build" && for name in $programs; do cp "build/$name" "build/$name-dynamic" "$folder/build" || return 1; done
 	[ ! -f build/libyds.so ] || cp -p build/libyds.* "$folder/build"
+	touch "$folder"/build/*
 	(cd "$folder" && make -s deb) || return 1
 	for package in "$folder"/build/dist/*.deb; do cmp "$package" "build/dist/${package##*/}" || return 1; done
 	echo "the same packages"
 }
 
+# without_debhelper: dpkg-deb alone makes packages of the same files.
+without_debhelper() {
+	mkdir "$work/by-debhelper" && cp build/dist/*.deb "$work/by-debhelper" && BY=dpkg-deb sh packaging/deb.sh || return 1
+	for package in build/dist/*.deb; do
+		contents "$package" >"$work/one" && contents "$work/by-debhelper/${package##*/}" | diff "$work/one" - || return 1
+	done
+	cp "$work/by-debhelper"/*.deb build/dist
+	echo "the same files"
+}
+contents() { dpkg-deb -c "$1" | awk '{ print $1, $6, $8 }' | sort; }
+
+# lint: no fault and no warning but those that an override answers.
+lint() {
+	lintian --allow-root --fail-on error,warning build/dist/*.deb && echo "no error and no warning"
+}
+
+suite=
 rm -rf build/dist
 try "make deb" make -s deb
 try "make dist" make -s dist
 try "two builds in two folders" same_bytes
 if [ -f build/dist/yds_cli-"$version".tar.gz ]; then try "the sources' archive" from_archive; fi
-for suite in ${*:-bookworm trixie}; do try_suite "$suite"; done
-if is_static; then
-	mkdir "$work/empty"
-	cp $program "$work/empty/yds_cli"
-	try "the static program in an empty root: rows" rows "$work/empty" /yds_cli
+if command -v dh >/dev/null; then try "packages by dpkg-deb alone" without_debhelper; else fail "debhelper isn't here; on Debian: apt-get install debhelper dh-python"; fi
+if command -v lintian >/dev/null; then try "lintian" lint; else fail "lintian isn't here; on Debian: apt-get install lintian"; fi
+for suite in ${*:-bookworm trixie}; do
+	base "$suite" || continue
+	try_walk
+	try_manual
+	try_upgrade
+done
+suite=
+if are_static; then
+	for program in $programs; do
+		[ "$program" = yds_cli ] || continue
+		mkdir "$work/empty"
+		cp build/yds_cli "$work/empty/yds_cli"
+		try "the static program in an empty root: rows" rows "$work/empty" /yds_cli
+	done
 else
-	fail "$program isn't static"
+	fail "a program isn't static"
 fi
+echo "The logs are in $logs."
 echo "$passed passed, $failed failed"
 [ $failed = 0 ]

@@ -1,33 +1,36 @@
-"""Where the library and the program are that an answer comes from, without opening them."""
+"""Where the library and the program are that an answer comes from, and of which version."""
 
 from __future__ import annotations
 
+import ctypes
 import os
-import re
 import shutil
 from pathlib import Path
 
 from yds._version import VERSION
 
 SONAME = "libyds.so.1"
-_FOLDERS = ("/usr/local/lib", "/usr/lib/x86_64-linux-gnu", "/usr/lib", "/lib")
 
 
 def library() -> str:
-    """A line about the shared object."""
-    beside = Path(__file__).with_name(SONAME)
+    """A line about the shared object: the one that answers come from."""
     named = os.environ.get("YDS_LIBRARY")
-    places = [Path(named)] if named else [beside, *(Path(folder, SONAME) for folder in _FOLDERS)]
-    found = next((place for place in places if place.exists()), None)
-    if found is None:
-        return "library: not found; commands that need an answer run the program"
-    if found == beside and not found.is_symlink():
-        return f"library: {found}, which came with the package"
-    told = re.search(r"\.so\.([0-9]+\.[0-9]+\.[0-9]+)$", str(found.resolve()))
-    if told is None:
-        return f"library: {found}, whose name doesn't tell its version"
-    wrong = "" if told.group(1) == VERSION else f", and the package is {VERSION}: install both of one version"
-    return f"library: {found}, version {told.group(1)}{wrong}"
+    beside = Path(__file__).with_name(SONAME)
+    place = named or (str(beside) if beside.exists() else SONAME)
+    try:
+        opened = ctypes.CDLL(place)
+    except OSError as fault:
+        if place == SONAME:
+            return "library: not found; commands that need an answer run the program"
+        return f"library: {place} can't be opened: {fault}; commands that need an answer run the program"
+    try:
+        call = opened.yds_version
+    except AttributeError:
+        return f"library: {place}, which tells no version, as that of 1.0.0"
+    call.restype = ctypes.c_char_p
+    told = call().decode("ascii", "replace")
+    wrong = "" if told == VERSION else f", and the package is {VERSION}: install both of one version"
+    return f"library: {place}, version {told}{wrong}"
 
 
 def program() -> str:

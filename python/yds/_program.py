@@ -41,5 +41,12 @@ def of_environment() -> Answer:
     except ImportError:
         found = shutil.which("yds_cli")
         if found is None:
-            raise
+            raise ImportError(MISSING) from None
         return of_program(found)
+
+
+MISSING = (
+    "this needs an answer, and neither the program yds_cli nor the library is here: install the package yds-cli or "
+    "libyds1, or the wheel, or let YDS name the file yds_cli, or YDS_LIBRARY the file libyds.so.1"
+)
+"""What is told where nothing answers. What only moves text works without either."""
