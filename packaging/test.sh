@@ -40,17 +40,20 @@ pass() { passed=$((passed + 1)); echo "passed: $1"; }
 fail() { failed=$((failed + 1)); echo "FAILED: $1"; }
 # try NAME COMMAND ..: its last line of output is told.
 try() {
-	name=$1
+	tried=$1
 	shift
-	if "$@" >"$work/log" 2>&1; then pass "$name: $(tail -n 1 "$work/log")"; else fail "$name"; tail -n 25 "$work/log"; fi
-	{ echo "== $name"; cat "$work/log"; } >>"$logs/${suite:-all}.log"
+	if "$@" >"$work/log" 2>&1; then pass "$tried: $(tail -n 1 "$work/log")"; else fail "$tried"; tail -n 25 "$work/log"; fi
+	{ echo "== $tried"; cat "$work/log"; } >>"$logs/${suite:-all}.log"
 }
 # inside COMMAND ..: in the root of the suite, with a network; alone COMMAND ..: without; user COMMAND ..: without, by nobody, in /home/reader.
 inside() { env -i PATH=/usr/sbin:/usr/bin:/sbin:/bin LC_ALL=C HOME=/ DEBIAN_FRONTEND=noninteractive chroot "$root" "$@"; }
-alone() { env -i PATH=/usr/sbin:/usr/bin:/sbin:/bin LC_ALL=C HOME=/ DEBIAN_FRONTEND=noninteractive unshare -n chroot "$root" "$@"; }
+alone() {
+	env -i PATH=/usr/sbin:/usr/bin:/sbin:/bin LC_ALL=C HOME=/ DEBIAN_FRONTEND=noninteractive ROOT="$root" unshare -n -m \
+		sh -c 'mount -t proc proc "$ROOT/proc" && exec chroot "$ROOT" "$@"' sh "$@"
+}
 user() {
-	env -i PATH=/usr/bin:/bin LC_ALL=C.UTF-8 HOME=/home/reader unshare -n chroot "$root" \
-		setpriv --reuid 65534 --regid 65534 --clear-groups sh -c 'cd && "$@"' sh "$@"
+	alone env -u DEBIAN_FRONTEND PATH=/usr/bin:/bin LC_ALL=C.UTF-8 HOME=/home/reader USER=reader \
+		setpriv --reuid 65534 --regid 65534 --clear-groups sh -c 'cd && exec "$@"' sh "$@"
 }
 
 # files: each file of the root with its kind, mode and, where it is a file, its sum.
