@@ -6,7 +6,7 @@ A comment of another form is none of these, and stays a text.
 from __future__ import annotations
 
 import re
-from typing import Dict, List, NamedTuple, Optional, Tuple
+from typing import Dict, List, NamedTuple, Optional, Set, Tuple
 
 from yds._text import Comment, counted
 
@@ -174,6 +174,24 @@ class Ends:
         return True
 
 
+_MOVED = re.compile(r"# deadline moved: ([^ ]+) by ([0-9]{1,18})").fullmatch
+
+
+def moved_of(text: str) -> Optional[Tuple[str, int]]:
+    """The job whose deadline the comment says was moved to its end, and by how many units of time; None of another one.
+
+    >>> moved_of("# deadline moved: decode.2 by 169")
+    ('decode.2', 169)
+    """
+    found = _MOVED(text)
+    return None if found is None else (found.group(1), int(found.group(2)))
+
+
+def moved_by(job: str, units: int) -> str:
+    """The comment that says it."""
+    return f"# deadline moved: {job} by {units}"
+
+
 _NOT_DUE = re.compile(r"# not due by [0-9]+: ").match
 _WRITTEN = re.compile(r"# [0-9]+ jobs? written, ([0-9]+) left out").match
 IN_NO_LINE = ": this energy is in no line"
@@ -187,6 +205,8 @@ class Missing:
         self.left_out = 0
         self.without_runs = 0
         self.unknown: List[str] = []
+        self.moved: Set[str] = set()
+        """The jobs whose deadlines were moved to their ends."""
 
     def take(self, text: str) -> None:
         """Reads a comment."""
@@ -198,6 +218,9 @@ class Missing:
         elif text.startswith((f"# {WITHOUT_RUNS}: ", f"# {NOT_ENDED}: ")):
             self.without_runs += text.startswith(f"# {WITHOUT_RUNS}: ")
             self.unknown.append(text.split(": ", 1)[1].split(" ")[0].rstrip(","))
+        else:
+            moved = moved_of(text)
+            self.moved |= {moved[0]} if moved is not None else set()
 
     def told(self) -> List[str]:
         """Comments that say it, of the whole document."""
@@ -208,6 +231,8 @@ class Missing:
             lines.append(without_runs(self.without_runs))
         if self.unknown:
             lines.append("# " + unknown_works(len(self.unknown), self.unknown[0]))
+        if self.moved:
+            lines.append(with_moved(len(self.moved)))
         return lines
 
 
@@ -217,6 +242,14 @@ def left_out_of(number: int) -> str:
         number,
         "job was left out of the document, with its energy",
         "jobs were left out of the document, with their energy",
+    )
+
+
+def with_moved(number: int) -> str:
+    """A comment that tells of deadlines that were moved to the ends of late jobs."""
+    late = counted(number, "job was", "jobs were")
+    return (
+        f"# {late} late: all energies are with {counted(number, 'deadline', 'deadlines')} moved to where the job ended"
     )
 
 

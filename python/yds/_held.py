@@ -50,6 +50,14 @@ class HeldJob:
         self.late = True
         return True
 
+    def end_later(self, by: int) -> bool:
+        """Takes so much off the deadline, which was moved; True where the job is seen to be late by it, and wasn't before."""
+        self.deadline -= by
+        if self.late or self.end is None or self.end[0] <= self.deadline * self.end[1]:
+            return False
+        self.late = True
+        return True
+
     @property
     def is_done(self) -> bool:
         """Whether the slots give all of its work."""
@@ -80,6 +88,12 @@ class Held:
         if job.take(row, self.slots):
             self.late.append(job)
         return job
+
+    def take_moved(self, name: str, by: int) -> None:
+        """A deadline of the document is later by so much than that of the job."""
+        job = self._named.get(name)
+        if job is not None and job.deadline - by > job.release and job.end_later(by):
+            self.late.append(job)
 
     def job_of(self, name: str, line: Line, kind: str) -> HeldJob:
         """The job of this name, which has to stand before."""

@@ -48,7 +48,7 @@ def misses(lines: Iterable[Line], answer: Optional[Answer] = None) -> Misses:
         status, verdict = _audit(reading, kept, answer)
         missed: List[Miss] = []
         told = Told(reading)
-        if status == _NO and _is_miss(verdict):
+        if (status == _NO and _is_miss(verdict)) or (not status and reading.held.late):
             missed = told.by_slots()
             with tempfile.TemporaryFile() as mended:
                 _mend(reading, kept, mended)

@@ -4,7 +4,7 @@ from __future__ import annotations
 
 from typing import Dict, Iterator, List, NamedTuple, Optional, Sequence, Set, Tuple
 
-from yds._comments import LEFT_OUT, LESS_THAN_UNIT, NOT_ENDED, WITHIN_TICK, WITHOUT_RUNS, Clock, Ends, Note, note_of
+from yds._comments import LEFT_OUT, LESS_THAN_UNIT, NOT_ENDED, WITHIN_TICK, WITHOUT_RUNS, Clock, Ends, Note, moved_of, note_of
 from yds._held import Held, HeldJob, Moment, is_before
 from yds._text import Comment, Job, Line, Row, Rows, Slot, Ticks
 
@@ -36,9 +36,11 @@ class Reading:
         if isinstance(row, Comment):
             self.clock.take(row.text)
             self.ends.take(row.text)
-            note = note_of(row.text)
+            note, moved = note_of(row.text), moved_of(row.text)
             if note is not None and note.late is not None:
                 self.notes.append(note)
+            if moved is not None:
+                self.held.take_moved(*moved)
         elif isinstance(row, Job):
             self.held.take_job(row)
         elif isinstance(row, Slot):

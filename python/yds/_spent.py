@@ -151,6 +151,8 @@ class Reading:
         misses = Misses()
         late = {job.name for job in self.held.jobs if job.late or not job.is_done}
         for name, due in self._known_late:
+            if name in self.missing.moved:
+                continue
             if self.held.named(name) is None:
                 misses.add(name, due)
             else:

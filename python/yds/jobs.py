@@ -5,16 +5,28 @@ from __future__ import annotations
 import re
 from fractions import Fraction
 from math import inf
-from typing import Dict, Iterable, List, NamedTuple, Optional, Tuple, Union
+from typing import Dict, Iterable, Iterator, List, NamedTuple, Optional, Set, Tuple, Union
 
-from yds._comments import LEFT_OUT, LESS_THAN_UNIT, WITHIN_TICK, WITHOUT_RUNS, Clock, Ends, Note, note_of
+from yds._comments import (
+    LEFT_OUT,
+    LESS_THAN_UNIT,
+    NOT_ENDED,
+    WITHIN_TICK,
+    WITHOUT_RUNS,
+    Clock,
+    Ends,
+    Note,
+    moved_by,
+    moved_of,
+    note_of,
+)
 from yds._held import Held, HeldJob
 from yds._judged import Misses, misses
 from yds._missed import Miss
 from yds._priced import Prices, Sum, speed_text
-from yds._text import Comment, Fault, Job, Point, Row, Slot, Ticks
+from yds._text import Comment, Fault, Job, Line, Point, Row, Rows, Slot, Ticks
 
-__all__ = ["JobRow", "Jobs", "Miss", "Misses", "Number", "misses", "table"]
+__all__ = ["JobRow", "Jobs", "Miss", "Misses", "Moved", "Number", "late_moved", "misses", "table"]
 
 Number = Union[Fraction, float]
 """An exact number, or inf."""
@@ -66,6 +78,9 @@ class _Reading:
         self.order: List[Union[HeldJob, Note]] = []
         self.notes: Dict[str, Note] = {}
         self.late_ms: Dict[str, str] = {}
+        self.open_ms: Dict[str, str] = {}
+        """Of each job that hadn't ended where the trace ends, how long after its deadline that is."""
+        self.within_tick: Set[str] = set()
         self.energies: Dict[str, Sum] = {}
         self._unpriced: List[Slot] = []
 
@@ -90,6 +105,9 @@ class _Reading:
 
     def _take_comment(self, row: Comment) -> None:
         self.clock.take(row.text)
+        moved = moved_of(row.text)
+        if moved is not None:
+            self.held.take_moved(*moved)
         if self.ends.take(row.text):
             return
         refused = _REFUSED(row.text)
@@ -104,6 +122,9 @@ class _Reading:
             self.notes[note.job] = note
         elif note.kind in (WITHIN_TICK, LESS_THAN_UNIT) and note.late is not None:
             self.late_ms[note.job] = note.late
+            self.within_tick |= {note.job} if note.kind == WITHIN_TICK else set()
+        elif note.kind == NOT_ENDED and note.late is not None:
+            self.open_ms[note.job] = note.late
 
     def finish(self) -> None:
         """Says that all rows are read."""
@@ -214,3 +235,81 @@ class _Filled:
         if not unit:
             raise Fault("no comment tells the unit of time; give --us")
         return Fraction(milliseconds) * 1000 / unit
+
+
+class Moved(NamedTuple):
+    """A document in which each late job's deadline is where it ended, rounded up to a unit of time."""
+
+    lines: List[str]
+    moved: List[str]
+    """The jobs whose deadlines were moved."""
+    unended: List[str]
+    """Those among them that hadn't ended: their deadlines are where the last is known of them."""
+    undone: List[str]
+    """Jobs that didn't get their work, and of which nothing is known after their deadline: these stay."""
+
+
+def late_moved(source: Iterable[Line], microseconds: Optional[int] = None) -> Moved:
+    """The document of these lines with the deadlines of late jobs moved. microseconds: those of a unit of time."""
+    kept: List[Line] = []
+    reading = _Reading()
+    for row in Rows(_kept(source, kept)):
+        reading.take(row)
+    reading.finish()
+    if microseconds is not None:
+        reading.clock.unit = microseconds
+    return _Moving(reading).document(kept)
+
+
+def _kept(source: Iterable[Line], kept: List[Line]) -> Iterator[Line]:
+    for line in source:
+        kept.append(line)
+        yield line
+
+
+class _Moving:
+    """Where the windows of late jobs end."""
+
+    def __init__(self, reading: _Reading) -> None:
+        self._reading = reading
+        self._filled = _Filled(reading)
+        self._found = Moved([], [], [], [])
+
+    def document(self, kept: Iterable[Line]) -> Moved:
+        """The lines, each moved job with a comment below it."""
+        for line in kept:
+            fields = line.fields
+            if moved_of(line.text) is not None:
+                continue
+            if fields[:1] == ["job"]:
+                self._take(fields[1], line.text)
+            else:
+                self._found.lines.append(line.text)
+        return self._found
+
+    def _take(self, name: str, text: str) -> None:
+        job = self._reading.held.named(name)
+        assert job is not None
+        end = self._end(job)
+        if end is None or end <= job.deadline:
+            self._found.lines.append(text)
+            self._found.undone.extend([name] if not job.is_done and name not in self._reading.notes else [])
+            return
+        until = -(-end.numerator // end.denominator)
+        work = job.wanted - (name in self._reading.within_tick and job.work == (job.wanted - 1) * job.grain)
+        self._found.lines.extend([f"job {name} {job.release} {until} {work}", moved_by(name, until - job.deadline)])
+        self._found.moved.append(name)
+        self._found.unended.extend([] if job.is_done or name in self._reading.within_tick else [name])
+
+    def _end(self, job: HeldJob) -> Optional[Fraction]:
+        """The job's end, or until when it is known not to have ended; None where that isn't known."""
+        if job.name in self._reading.notes:
+            return None
+        row = self._filled.row(job)
+        if row.end is not None and row.end != inf:
+            return Fraction(row.end)
+        known = [Fraction(*job.end)] if job.end is not None else []
+        open_ms = self._reading.open_ms.get(job.name)
+        if open_ms is not None and self._reading.clock.unit:
+            known.append(job.deadline + Fraction(open_ms) * 1000 / self._reading.clock.unit)
+        return max(known, default=None)

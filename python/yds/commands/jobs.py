@@ -10,9 +10,9 @@ from typing import Callable, List, Optional, Sequence, Tuple
 
 from yds._comments import workless
 from yds._priced import decimal
-from yds._text import Fault, Rows, lines
+from yds._text import Fault, Rows, counted, lines
 from yds._words import DONE, Command, Files, Given, Option, WordsError, run
-from yds.jobs import JobRow, Jobs, Number, table
+from yds.jobs import JobRow, Jobs, Moved, Number, late_moved, table
 
 COMMAND = Command(
     "yds-jobs",
@@ -38,6 +38,19 @@ brackets after the name and what is known of them.
 
 What isn't known, and the energy without points, is `-`, in CSV nothing. A job of no work needs no slot: it ends at its
 release.
+
+Where one job couldn't have met its deadline at any speed, `too-slow` is the answer to the whole document. With
+--late-moved the document itself is written, so that plans have as long for a late job as it took:
+
+    yds-jobs --late-moved points.txt late.txt > moved.txt
+
+  job decode.2 3483 5319 256000          it ended at 5319, rounded up to a unit; its deadline was 5150
+  # deadline moved: decode.2 by 169
+  # 1 deadline is moved to where the job ended, the first that of decode.2        the last line
+
+A job that hadn't ended where the trace ends has that as its deadline. `audit` knows nothing of what was moved.
+yds-misses and yds-jobs read the comments: to them the job is as late as it was. yds-energy says beside each energy that
+deadlines were moved.
 """,
     [
         Option(
@@ -50,15 +63,17 @@ release.
             "trace|SECONDS",
         ),
         Option("us", "microseconds in a unit of time, where no comment tells them", "N"),
+        Option("late-moved", "not the table: the document, with each late job's deadline moved to where it ended"),
     ],
     Files("DOCUMENT", 0, None),
 )
+_MOVED = re.compile(r"# (?:no|[0-9]+) deadlines? (?:is|are) moved").match
 COLUMNS = ["job", "release", "deadline", "begin", "end", "response", "slack", "late", "energy"]
 
 
 def main(words: Sequence[str]) -> int:
     """Writes the table of the files' jobs, or of standard input's."""
-    return run(COMMAND, words, tell)
+    return run(COMMAND._replace(writes_document="--late-moved" in words), words, tell)
 
 
 def tell(given: Given, write: Callable[[str], None]) -> int:
@@ -69,11 +84,37 @@ def tell(given: Given, write: Callable[[str], None]) -> int:
         raise WordsError(f"--zero {given.zero} is no number of seconds")
     if given.us is not None and not re.fullmatch(r"[1-9][0-9]{0,11}", given.us):
         raise WordsError(f"--us {given.us} is no whole number of microseconds")
-    found = table(Rows(lines(given.files)), None if given.us is None else int(given.us))
+    microseconds = None if given.us is None else int(given.us)
+    if given.late_moved:
+        if given.form is not None or given.zero is not None:
+            raise WordsError("--late-moved writes a document: leave --form and --zero out")
+        for line in moved(late_moved(lines(given.files), microseconds)):
+            write(line)
+        return DONE
+    found = table(Rows(lines(given.files)), microseconds)
     shown = Shown(found, given.zero, given.form == "csv")
     for line in shown.csv() if given.form == "csv" else shown.text():
         write(line)
     return DONE
+
+
+def moved(found: Moved) -> List[str]:
+    """The lines of the document, and how many deadlines were moved."""
+    told = [line for line in found.lines if not _MOVED(line)]
+    if found.moved:
+        are = counted(len(found.moved), "deadline is", "deadlines are")
+        told.append(f"# {are} moved to where the job ended, the first that of {found.moved[0]}")
+    else:
+        told.append("# no deadline is moved: no job is known to be late")
+    if found.unended:
+        had = f"{len(found.unended)} of these jobs hadn't ended"
+        told.append(f"# {had}: there the deadline is where the last is known of it; the first is {found.unended[0]}")
+    if found.undone:
+        jobs = counted(
+            len(found.undone), "job isn't done, and its deadline stays", "jobs aren't done, and their deadlines stay"
+        )
+        told.append(f"# {jobs}, the first {found.undone[0]}")
+    return told
 
 
 class Shown:
