@@ -45,17 +45,32 @@ class Fractions(unittest.TestCase):
             self.assertEqual((quick, hash(quick), repr(quick)), (plain, hash(plain), repr(plain)))
             self.assertEqual(copy.copy(quick) + 1 - pickle.loads(pickle.dumps(quick)), 1)
 
+    def test_ratios_and_differences(self) -> None:
+        draw = random.Random(2)
+        values = [Fraction(draw.randrange(-99, 99), draw.choice((1, 1, 6, 7, 9, 2**40))) for _ in range(800)]
+        for made, value, other in zip(_fractions.differences(values, values[1:]), values, values[1:]):
+            self.assertEqual((made, repr(made)), (value - other, repr(value - other)))
+        for value in values:
+            made = _fractions.quick_ratio(value.numerator * 6, value.denominator * 6)
+            self.assertEqual((made, hash(made), repr(made)), (value, hash(value), repr(value)))
+
     def test_a_python_with_other_fractions_has_the_plain_way(self) -> None:
         def fails(_: Sequence[str]) -> List[Fraction]:
             raise AttributeError("'Fraction' object has no attribute '_numerator'")
 
         others: List[_fractions.Read] = [fails, not_reduced, lambda words: [Fraction(1)], lambda words: []]
         for other in others:
-            self.assertIs(_fractions._quickest(other), _fractions.plainly)
+            plain = _fractions._quickest(other, _fractions.quick_ratio)
+            self.assertEqual(plain, (_fractions.plainly, _fractions.plain_ratio))
+        unlike: List[_fractions.Ratio] = [lambda parts, whole: Fraction(whole, parts or 1), lambda *_: Fraction(1)]
+        for one in unlike:
+            self.assertEqual(
+                _fractions._quickest(_fractions.quickly, one), (_fractions.plainly, _fractions.plain_ratio)
+            )
 
     def test_the_pythons_for_which_the_quick_way_is_kept(self) -> None:
         if sys.version_info < (3, 14):
-            self.assertIs(_fractions.read, _fractions.quickly)
+            self.assertEqual((_fractions.read, _fractions.ratio), (_fractions.quickly, _fractions.quick_ratio))
 
     def test_slots_are_the_same_by_both_ways(self) -> None:
         for document in documents(30):

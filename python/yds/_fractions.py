@@ -1,12 +1,13 @@
-"""Fractions as a document spells them, W or W+N/D, read many at once."""
+"""Fractions that are made many at once: of the words of a document, W or W+N/D, and of whole numbers."""
 
 from __future__ import annotations
 
 import math
 from fractions import Fraction
-from typing import Any, Callable, List, Sequence, Tuple
+from typing import Any, Callable, Iterable, List, Sequence, Tuple
 
 Read = Callable[[Sequence[str]], List[Fraction]]
+Ratio = Callable[[int, int], Fraction]
 
 
 def plainly(words: Sequence[str]) -> List[Fraction]:
@@ -46,18 +47,47 @@ def quickly(
     return found
 
 
-def _quickest(quick: Read) -> Read:
-    """The quick way, where it makes what Fraction itself does; else the plain one."""
+def plain_ratio(parts: int, whole: int) -> Fraction:
+    """The fraction of two ints, the second above 0."""
+    return Fraction(parts, whole)
+
+
+def quick_ratio(parts: int, whole: int) -> Fraction:
+    """The same, made as `quickly` makes them."""
+    divisor = math.gcd(parts, whole)
+    made: Any = object.__new__(Fraction)
+    made._numerator = parts // divisor
+    made._denominator = whole // divisor
+    return made  # type: ignore[no-any-return]
+
+
+def _quickest(quick: Read, quick_one: Ratio) -> Tuple[Read, Ratio]:
+    """The quick ways, where they make what Fraction itself does; else the plain ones."""
     words = ("0", "7", "2+2/3", "1+4/6", "3+0/5", f"{2**70}+{3**40}/{3**50}")
+    ratios = ((0, 3), (7, 1), (-8, 6), (2**70, 6**50))
     try:
-        same = [_seen(made) for made in quick(words)] == [_seen(made) for made in plainly(words)]
+        found = [*quick(words), *(quick_one(*ratio) for ratio in ratios)]
+        wanted = [*plainly(words), *(Fraction(*ratio) for ratio in ratios)]
+        same = [_seen(made) for made in found] == [_seen(made) for made in wanted]
     except Exception:
-        return plainly
-    return quick if same else plainly
+        same = False
+    return (quick, quick_one) if same else (plainly, plain_ratio)
 
 
 def _seen(made: Fraction) -> Tuple[object, ...]:
-    return made, hash(made), repr(made), made + 1, 1 / (made + 1)
+    return type(made), made, hash(made), repr(made), made + 1, made * 2 / 3
 
 
-read = _quickest(quickly)
+read, ratio = _quickest(quickly, quick_ratio)
+
+
+def differences(values: Iterable[Fraction], others: Iterable[Fraction]) -> List[Fraction]:
+    """Each value less the other one."""
+    found = []
+    for value, other in zip(values, others):
+        (top, bottom), (parts, whole) = value.as_integer_ratio(), other.as_integer_ratio()
+        if bottom == whole:
+            found.append(ratio(top - parts, whole))
+        else:
+            found.append(ratio(top * whole - parts * bottom, bottom * whole))
+    return found

@@ -2,11 +2,12 @@
 
 from __future__ import annotations
 
+import math
 from decimal import Decimal
 from fractions import Fraction
 from numbers import Rational
 from operator import index
-from typing import Any, Dict, Iterable, Optional, Union
+from typing import Any, Dict, Iterable, Optional, Tuple, Union
 
 Decimalish = Union[int, float, str, Decimal, Fraction]
 
@@ -102,9 +103,17 @@ def total(values: Iterable[Fraction]) -> Fraction:
     """The sum. Those of one denominator are added first, and then neighbours, so that few denominators grow long."""
     parts: Dict[int, int] = {}
     for value in values:
-        parts[value.denominator] = parts.get(value.denominator, 0) + value.numerator
-    sums = [Fraction(numerator, denominator) for denominator, numerator in sorted(parts.items())]
+        numerator, denominator = value.as_integer_ratio()
+        parts[denominator] = parts.get(denominator, 0) + numerator
+    sums = [(numerator, denominator) for denominator, numerator in sorted(parts.items())]
     while len(sums) > 1:
         rest = sums[-1:] if len(sums) % 2 else []
-        sums = [one + other for one, other in zip(sums[::2], sums[1::2])] + rest
-    return sums[0] if sums else Fraction(0)
+        sums = [_sum(one, other) for one, other in zip(sums[::2], sums[1::2])] + rest
+    return Fraction(*sums[0]) if sums else Fraction(0)
+
+
+def _sum(one: Tuple[int, int], other: Tuple[int, int]) -> Tuple[int, int]:
+    """The sum of two fractions, over the least denominator that fits both."""
+    divisor = math.gcd(one[1], other[1])
+    factor = other[1] // divisor
+    return one[0] * factor + other[0] * (one[1] // divisor), one[1] * factor

@@ -89,7 +89,9 @@ def _by_exponent(spans: Sequence[Span], exponent: Any) -> Energy:
     if isinstance(exponent, float):
         if not 1 <= exponent < math.inf:
             raise ValueError(f"an exponent is at least 1, and not {exponent!r}")
-        return math.fsum(float(span.work) ** exponent * float(span.length) ** (1 - exponent) for span in spans)
+        works = [_float(*span.work.as_integer_ratio()) for span in spans]
+        lengths = [_float(*span.length.as_integer_ratio()) for span in spans]
+        return math.fsum(work**exponent * length ** (1 - exponent) for work, length in zip(works, lengths))
     if isinstance(exponent, bool) or exponent.denominator != 1:
         raise TypeError(f"an exponent is an int, with an exact energy, or a float, and not {exponent!r}")
     if exponent < 1:
@@ -117,14 +119,16 @@ def _mixed(spans: Sequence[Span], lower: List[Tuple[Fraction, Fraction]]) -> Lis
     heads = [_float(speed.numerator, speed.denominator) for speed, _ in lower]
     found: List[List[Span]] = [[] for _ in lower]
     for span in spans:
-        work, length = span.work, span.length
-        speed = _float(work.numerator * length.denominator, work.denominator * length.numerator)
+        (work, grain), (time, unit) = span.work.as_integer_ratio(), span.length.as_integer_ratio()
+        speed = _float(work * unit, grain * time)
         place = bisect_left(heads, speed)
-        while place < len(lower) and heads[place] == speed and work > lower[place][0] * length:
+        while place < len(lower) and heads[place] == speed and span.work > lower[place][0] * span.length:
             place += 1
         if place == len(lower):
             top = lower[-1][0]
-            raise ValueError(f"{span.named} has the speed {work / length}, above the last of the table, {top}")
+            raise ValueError(
+                f"{span.named} has the speed {span.work / span.length}, above the last of the table, {top}"
+            )
         found[place].append(span)
     drawn = []
     for (low, high), some in zip(zip([lower[0], *lower], lower), found):

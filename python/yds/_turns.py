@@ -3,26 +3,24 @@
 from __future__ import annotations
 
 from fractions import Fraction
-from typing import Iterable, List, NamedTuple, Optional, Sequence
+from itertools import count, repeat
+from typing import Any, Iterable, List, NamedTuple, Optional, Sequence
 
+from yds import _fractions
 from yds._forms import FOREIGN_SLOTS, read
 from yds._numbers import exact
 from yds.rows import Exact, Slot, SlotLike
 
 
 class Turn(NamedTuple):
-    """A slot in its turn: its place in the given list, its job, when it runs, and how much work it gives."""
+    """A slot in its turn: its place in the given list, its job, when and how long it runs, and how much it gives."""
 
     place: int
     job: str
     start: Fraction
     end: Fraction
     work: Fraction
-
-    @property
-    def length(self) -> Fraction:
-        """Units of time."""
-        return self.end - self.start
+    length: Fraction
 
     @property
     def speed(self) -> Fraction:
@@ -32,7 +30,7 @@ class Turn(NamedTuple):
 
 def turns_of(slots: Iterable[SlotLike], start: Optional[Exact] = None, end: Optional[Exact] = None) -> List[Turn]:
     """The slots in the given order; ValueError where one doesn't end after its start, or lies outside start and end."""
-    turns = [Turn(place, *row) for place, row in enumerate(read(FOREIGN_SLOTS, slots))]
+    turns = _turns(list(read(FOREIGN_SLOTS, slots)))
     _check(turns, None if start is None else exact(start), None if end is None else exact(end))
     return turns
 
@@ -44,9 +42,19 @@ def in_turn(slots: Iterable[SlotLike], start: Optional[Exact] = None, end: Optio
 
 def own_in_turn(slots: Sequence[Slot]) -> List[Turn]:
     """The same of slots that a document has: their numbers are Fractions."""
-    turns = [Turn(place, *slot) for place, slot in enumerate(slots)]  # type: ignore[arg-type]
+    turns = _turns(slots)
     _check(turns, None, None)
     return _ordered(turns)
+
+
+def _turns(rows: Sequence[Any]) -> List[Turn]:
+    """The rows, of exact numbers, in their order."""
+    if not rows:
+        return []
+    jobs, starts, ends, works = zip(*rows)
+    lengths = _fractions.differences(ends, starts)
+    new: Any = tuple.__new__
+    return list(map(new, repeat(Turn), zip(count(), jobs, starts, ends, works, lengths)))
 
 
 def _ordered(turns: List[Turn]) -> List[Turn]:
@@ -65,7 +73,7 @@ def _ordered(turns: List[Turn]) -> List[Turn]:
 def _check(turns: Sequence[Turn], start: Optional[Fraction], end: Optional[Fraction]) -> None:
     """Raises ValueError where a slot by itself is none, or isn't from start to end."""
     for turn in turns:
-        if turn.end <= turn.start:
+        if turn.length.numerator <= 0:
             raise ValueError(f"slots[{turn.place}] ends at {turn.end}, and not after its start {turn.start}")
         if turn.work.numerator < 0:
             raise ValueError(f"slots[{turn.place}] has the work {turn.work}, and a work is at least 0")

@@ -25,6 +25,7 @@ from fractions import Fraction
 from numbers import Rational, Real
 from typing import Any, Callable, Dict, List, NamedTuple, Optional, Sequence, Tuple, Union
 
+from yds._fractions import ratio
 from yds._numbers import exact as exact_number
 from yds._numbers import integer, is_truth
 from yds._powers import Span
@@ -225,7 +226,8 @@ class _Simulator:
     def slots(self) -> List[Slot]:
         """What ran, in the order of time."""
         return [
-            Slot(one.name, Fraction(one.start), Fraction(one.end), Fraction(one.parts, self.grid)) for one in self._ran
+            Slot(one.name, _fraction(one.start), _fraction(one.end), _fraction(one.parts, self.grid))
+            for one in self._ran
         ]
 
     def _release(self, now: int) -> None:
@@ -253,7 +255,7 @@ class _Simulator:
             first = self._pending[0]
             part: Any = min(first.left, could - done)
             done += part
-            end: Any = now + length if done == could else now + Fraction(length * done, could)
+            end: Any = now + length if done == could else _later(now, length * done, could)
             self._run_one(first.job.name, start, end, part)
             start = end
             first.left -= part
@@ -331,6 +333,20 @@ class _Simulator:
         end = min(now + Fraction(first.left * self._length, self._could), Fraction(_LATEST))
         if end > now:
             self._run_one(self.missed, now, end, (end - now) * self._could / self._length)
+
+
+def _fraction(parts: Any, whole: int = 1) -> Fraction:
+    """So many parts of a whole, which are an int or a Fraction."""
+    if type(parts) is int:
+        return ratio(parts, whole)
+    return parts if whole == 1 else Fraction(parts, whole)  # type: ignore[no-any-return]
+
+
+def _later(now: Any, parts: Any, whole: Any) -> Fraction:
+    """The time after the quotient of both."""
+    if type(now) is int and type(parts) is int and type(whole) is int:
+        return ratio(now * whole + parts, whole)
+    return now + Fraction(parts, whole)  # type: ignore[no-any-return]
 
 
 def _plain(number: Any) -> Any:
