@@ -103,7 +103,7 @@ class Making(unittest.TestCase):
         self.assertEqual(document.text, b"job a 0 16667 1000\n")
         with self.assertRaisesRegex(ValueError, "comes to 16667 units of 1/1000, and is moved by more than 0"):
             yds.Document.from_decimal(third, denominator=1000, most=0)
-        with self.assertRaisesRegex(ValueError, "comes to 17 units of 1/1, and is moved by more than 1/10"):
+        with self.assertRaisesRegex(ValueError, "comes to 17 units of 1/1, and is moved by more than 0.1:"):
             yds.Document.from_decimal([("a", 0, "16.667", 1)], denominator=1, most="0.1")
 
     def test_a_name_is_one_field(self) -> None:
@@ -586,7 +586,7 @@ class Rows(unittest.TestCase):
                 lambda: yds.Document.from_decimal([], [(0, 0.5)], denominator=10),
             ),
             (
-                r"^slots\[0\]\.end: 4\.5 .* Fraction takes its text, as in Fraction\('0\.1'\)$",
+                r"^slots\[0\]\.end: 4\.5 .* yds\.schedule\.near finds an exact schedule near one of decimals",
                 lambda: yds.schedule.judge(yds.Document([("a", 0, 5, 1)]), jobs),
             ),
             (r"^tasks\[0\]\.work: 0\.5 .*count in finer units$", lambda: yds.expand([("a", 0, 4, 4, 0.5)], horizon=8)),

@@ -8,7 +8,7 @@ from fractions import Fraction
 from reprlib import repr as short
 from typing import Any, Callable, Collection, Iterable, Iterator, NamedTuple, Tuple
 
-from yds._numbers import DECIMALS, exact, whole
+from yds._numbers import DECIMALS, NEAR, exact, whole
 
 _NO_ORDER = (set, frozenset, dict)
 _NAME = re.compile(r"[!-~]{1,64}")
@@ -86,6 +86,11 @@ def measured(value: Any) -> Any:
     return value if type(value) is Fraction else exact(value, DECIMALS)
 
 
+def foreign(value: Any) -> Fraction:
+    """An exact number of units of time or of work, in slots of another program."""
+    return value if type(value) is Fraction else exact(value, NEAR)
+
+
 def speed(value: Any) -> int:
     """A whole number of units of speed or of power."""
     return whole(value, ". Speeds and powers are whole: count them in finer units")
@@ -96,4 +101,4 @@ POINTS = Form("points", ("speed", "power"), (speed, speed))
 SLOTS = Form("slots", ("job", "start", "end", "work"), (name, measured, measured, measured))
 LEVELS = Form("levels", ("work", "length", "pieces", "members"), (whole, whole, tuple, tuple))
 TASKS = Form("tasks", ("name", "offset", "period", "deadline", "work"), (name, whole, whole, whole, whole))
-FOREIGN_SLOTS = Form("slots", ("job", "start", "end", "work"), (name, exact, exact, exact))
+FOREIGN_SLOTS = Form("slots", ("job", "start", "end", "work"), (name, foreign, foreign, foreign))

@@ -13,6 +13,11 @@ Decimalish = Union[int, float, str, Decimal, Fraction]
 
 DECIMALS = ". Document.from_decimal(.., denominator=..) takes decimals, and counts in units of 1/denominator"
 """What is told beside a float in a document's rows."""
+NEAR = (
+    ". yds.schedule.near finds an exact schedule near one of decimals, and tells what it moved; "
+    "Fraction takes a number at its word"
+)
+"""What is told beside a float in the slots of another program."""
 
 
 def exact(value: Any, advice: str = ". Fraction takes its text, as in Fraction('0.1')") -> Fraction:
@@ -61,6 +66,7 @@ class Units:
     def __init__(self, denominator: Any, most: Optional[Decimalish] = None) -> None:
         self._denominator = integer(denominator, "the denominator", 1)
         self._most = None if most is None else decimal(most)
+        self._given = most
 
     def time(self, value: Decimalish) -> int:
         """The units of a time."""
@@ -83,7 +89,7 @@ class Units:
         units = round(given * self._denominator)
         if self._most is not None and abs(Fraction(units, self._denominator) - given) > self._most:
             raise ValueError(
-                f"{value!r} comes to {units} units of 1/{self._denominator}, and is moved by more than {self._most}: "
+                f"{value!r} comes to {units} units of 1/{self._denominator}, and is moved by more than {self._given}: "
                 "take another denominator, or a greater most"
             )
         return units

@@ -24,17 +24,19 @@ _SINGLE = ("ticks", "horizon", "grid", "energy")
 _PARTS = ("pieces", "members")
 
 _BILLION = "1,000,000,000"
+_COARSER = "choose coarser units"
 _TIME = f"a time is at most {_BILLION}"
 _FRACTION = "and the denominator of a fraction at most 2^60 = 1,152,921,504,606,846,976"
+_NEAR = f"{_FRACTION}; yds.schedule.near finds shorter fractions nearby"
 _LIMITS: Dict[Tuple[str, str], str] = {
-    ("jobs", "release"): _TIME,
-    ("jobs", "deadline"): _TIME,
-    ("jobs", "work"): "a work is at most 1,000,000",
-    ("points", "speed"): "a point's speed is at most 4,000",
-    ("points", "power"): "a power is at most 1,000,000",
-    ("slots", "start"): f"{_TIME}, {_FRACTION}",
-    ("slots", "end"): f"{_TIME}, {_FRACTION}",
-    ("slots", "work"): f"the work of a slot is at most 10^12, {_FRACTION}",
+    ("jobs", "release"): f"{_TIME}; {_COARSER}",
+    ("jobs", "deadline"): f"{_TIME}; {_COARSER}",
+    ("jobs", "work"): f"a work is at most 1,000,000; {_COARSER}",
+    ("points", "speed"): f"a point's speed is at most 4,000; {_COARSER}",
+    ("points", "power"): f"a power is at most 1,000,000; {_COARSER}",
+    ("slots", "start"): f"{_TIME}, {_NEAR}",
+    ("slots", "end"): f"{_TIME}, {_NEAR}",
+    ("slots", "work"): f"the work of a slot is at most 10^12, {_NEAR}",
     ("slots", "speed"): "a run's speed is at most 1,000,000, and its work at most 10^12",
     ("levels", "work"): "the work of a level is from 1 to 4,000,000,000",
     ("levels", "length"): f"the length of a level is from 1 to {_BILLION}",
@@ -51,9 +53,9 @@ _LIMITS: Dict[Tuple[str, str], str] = {
     ("energy", "energy"): f"an energy is at most 10^18, {_FRACTION}",
 }
 _MOST = {
-    "jobs": "a document has at most 4,000 jobs",
+    "jobs": "a document has at most 4,000 jobs; yds.parts.cut makes parts of a longer one",
     "points": "a document has at most 64 points",
-    "slots": "a document has at most 100,000 slots and runs",
+    "slots": "a document has at most 100,000 slots and runs; yds.parts.cut makes parts of a longer one",
     "levels": "a document has at most 100,000 levels",
     "pieces": "a document has at most 100,000 pieces",
     "members": "a document has at most 100,000 members",
