@@ -88,7 +88,8 @@ class OwnLines(unittest.TestCase):
         drawn = documents(40)
         for number, document in enumerate(drawn):
             other = drawn[number - 1]
-            for answer in (document.plan(), document.avr(7), document.oa(), document.admit(2)):
+            run = yds.simulate(document, lambda moment: 1.7)
+            for answer in (document.plan(), document.avr(7), document.oa(), document.admit(2), run):
                 self.assertIsInstance(answer.slots, _slots.Own)
                 for judged in (document, other):
                     self.assertEqual(*(self.told(judged, slots) for slots in (answer.slots, list(answer.slots))))

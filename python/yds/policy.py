@@ -29,7 +29,7 @@ from yds._fractions import ratio
 from yds._numbers import exact as exact_number
 from yds._numbers import integer, is_truth
 from yds._powers import Span
-from yds._slots import Columns, spelled
+from yds._slots import Columns, Own, spelled
 from yds.document import FINE_GRID, GRIDS, Document, _Answered
 from yds.errors import Refused
 from yds.results import Verdict
@@ -357,8 +357,10 @@ def _plain(number: Any) -> Any:
 def _judged(document: Document, simulator: _Simulator) -> Simulation:
     """The answer, with the library's verdict."""
     slots = simulator.slots()
-    made = Simulation._made(document._head + spelled(Columns(*zip(*slots))).lines, written=True)
-    made.__dict__.update(jobs=document.jobs, points=document.points, slots=tuple(slots), levels=())
+    own = Own(slots)
+    own.lines = spelled(Columns(*zip(*slots))).lines
+    made = Simulation._made(document._head + own.lines, written=True)
+    made.__dict__.update(jobs=document.jobs, points=document.points, slots=own, levels=())
     try:
         verdict = made.audit()
     except Refused as fault:
