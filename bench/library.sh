@@ -3,7 +3,7 @@
 #
 #   sh bench/library.sh
 #
-# Environment: YDS (the program; build/yds_cli beside this folder), CC (cc), PYTHON (python3). It wants build/libyds.so, which `make library` builds.
+# Environment: YDS (the program; build/yds_cli beside this folder), CC (cc), PYTHON (python3). It needs build/libyds.so, which `make library` builds.
 
 here=$(cd "$(dirname "$0")" && pwd)
 YDS=${YDS:-$here/../build/yds_cli}

@@ -7,7 +7,7 @@ It reads the sources of python/yds in the repository, or in FOLDER, and doesn't 
 modules give to others: the names of `__all__`. Of a class it has the fields and the public methods and properties, also
 those of bases that aren't given to others. With --check the last line is 'N passed, M failed', one for each entry and
 one for the page as a whole: an entry passes if it is a field or has a docstring, and the page if it is as it would be
-written. It wants Python 3.9 or later.
+written. It needs Python 3.9 or later.
 """
 
 import ast

@@ -49,7 +49,7 @@ enum yds_status {
     YDS_NO = 1,       /* the answer is no: the slots aren't feasible or aren't on the points, the certificate isn't proper, or the top point is too slow */
     YDS_USAGE = 2,    /* the words name no command: the text is the usage line */
     YDS_REFUSED = 3,  /* the input has a fault or is too long, or has no points where they are needed: the text is one line that tells which */
-    YDS_MEMORY = 6,   /* want of memory: there is no text, and the room is as it was */
+    YDS_MEMORY = 6,   /* lack of memory: there is no text, and the room is as it was */
     YDS_WORDS = 7     /* a word isn't UTF-8: there is no text, and the room is as it was */
 };
 

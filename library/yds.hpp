@@ -6,7 +6,7 @@
 //
 // Times, works and speeds are in units of your choice, with work = speed * time. Numbers are exact: a float is only what
 // you make of them. A no is a value: no Rounded, or a Verdict that is false. A fault is thrown: yds::Refused where the
-// rows have one, std::invalid_argument where a name or a number can be none, std::bad_alloc for want of memory.
+// rows have one, std::invalid_argument where a name or a number can be none, std::bad_alloc for lack of memory.
 // Nothing is kept between calls but two numbers, and any number of threads may call at once.
 //
 // What is proved is the call under this header. The header spells rows and reads answers, and is only tested.

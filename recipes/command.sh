@@ -108,14 +108,14 @@ while [ $count -gt 0 ]; do
 	count=$((count - 1))
 	case $word in
 	-v)
-		[ $count -gt 0 ] || wrong "-v wants NAME=VALUE"
+		[ $count -gt 0 ] || wrong "-v needs NAME=VALUE"
 		word=$1
 		shift
 		count=$((count - 1))
-		option "$word" || wrong "-v wants NAME=VALUE, and not $word"
+		option "$word" || wrong "-v needs NAME=VALUE, and not $word"
 		;;
 	-v?*)
-		option "${word#-v}" || wrong "-v wants NAME=VALUE, and not ${word#-v}"
+		option "${word#-v}" || wrong "-v needs NAME=VALUE, and not ${word#-v}"
 		word=${word#-v}
 		;;
 	-?*) wrong "$word is no option; options are words NAME=VALUE" ;;

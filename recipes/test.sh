@@ -6,7 +6,7 @@
 #
 # Environment: YDS (the program; build/yds_cli beside this folder), AWK (awk), PYTHON (python3), HOUR (with any value the manual's trace of
 # an hour is tried too, which takes minutes; without it that section is left out and counted). The last line is
-# 'N passed, M failed', and the exit status is 1 where M isn't 0. What wants a missing package, or a command that
+# 'N passed, M failed', and the exit status is 1 where M isn't 0. What needs a missing package, or a command that
 # the program doesn't have, is left out and counted on a line of its own.
 
 here=$(cd "$(dirname "$0")" && pwd)
@@ -110,7 +110,7 @@ test_trace() {
 		trace -v $t trace-lost.txt
 	refuses "trace: no tasks" 2 failed "trace.awk: no tasks= given" trace trace-report.txt
 	refuses "trace: a deadline that is no number" 2 failed "trace.awk: tasks=.. decode:x isn't NAME:MILLISECONDS" trace -v tasks=decode:x trace-report.txt
-	refuses "trace: ticks without jobs" 2 failed "trace.awk: ticks=1000 wants jobs=FILE: only with ticks=1 is the work of each run whole" \
+	refuses "trace: ticks without jobs" 2 failed "trace.awk: ticks=1000 needs jobs=FILE: only with ticks=1 is the work of each run whole" \
 		trace -v $t -v ticks=1000 trace-report.txt
 	refuses "trace: an empty trace" 1 failed "trace.awk: no line of a trace was read; the input is the text of trace-cmd report, perf script or the trace file" \
 		trace -v $t /dev/null
@@ -392,7 +392,7 @@ test_page() {
 }
 
 # The commands of the manual and of the README, with the output that stands below them. Each section is a session of its
-# own in a new folder; one that wants a missing package or command is left out.
+# own in a new folder; one that needs a missing package or command is left out.
 test_manual() { commands_of ../../docs/manual.md; }
 test_readme() { commands_of ../../README.md; }
 commands_of() {

@@ -115,7 +115,7 @@ function read_units() {
     if (!is_whole(us)) return usage("us=" us " is no whole number of microseconds")
     if (!is_whole(khz)) return usage("khz=" khz " is no whole number of kilohertz")
     if (!is_whole(ticks)) return usage("ticks=" ticks " is no whole number")
-    if (ticks > 1 && jobs == "") return usage("ticks=" ticks " wants jobs=FILE: only with ticks=1 is the work of each run whole")
+    if (ticks > 1 && jobs == "") return usage("ticks=" ticks " needs jobs=FILE: only with ticks=1 is the work of each run whole")
     tick = us * 1000 / ticks
     if (tick != int(tick)) return usage("ticks=" ticks " are no whole nanoseconds each")
     if (start != "" && (!is_number(start) || start + 0 == 0)) return usage("start=" start " is no number of kilohertz above 0")
@@ -129,7 +129,7 @@ function read_choices() {
     if (lost != "" && jobs != "") return usage("lost=cut can't be told which jobs of jobs=FILE are missing")
     if (strict != "" && strict != 1) return usage("strict=" strict ": there is only strict=1")
     if (long != "" && long != 1) return usage("long=" long ": there is only long=1")
-    if (jobs != "" && from == "") return usage("jobs=FILE wants from=, the second of the trace's clock at which FILE's time 0 is")
+    if (jobs != "" && from == "") return usage("jobs=FILE needs from=, the second of the trace's clock at which FILE's time 0 is")
     if (tasks == "") return usage("no tasks= given")
 }
 function read_tasks(    i, n, list) {
@@ -268,7 +268,7 @@ function is_cut_short(line) {
     return line ~ /\[[0-9]+\][ \t]+([^ \t]+[ \t]+)?[0-9]+(\.[0-9]*(:[ \t]*[A-Za-z0-9_:]*)?)?$/
 }
 # The lines that may matter are those of this CPU, with a listed task, on this CPU's frequency, on losses, and of applications. Lost events
-# want the last line of each CPU, and with lost=cut no line is passed over.
+# need the last line of each CPU, and with lost=cut no line is passed over.
 function pass_over(    k) {
     wanted = "\\[0*" leading_number(cpu) "\\]|cpu_id=0*" leading_number(cpu) "|EVENTS|PERF_RECORD_LOST|buffer started|tracing_mark_write|print"
     for (k in number_of_pid) wanted = wanted "|" k

@@ -5,7 +5,7 @@
 #   sh robustness/faults.sh [PART ..]      parts: memory reads writes random streams; all without one
 #
 # Environment: YDS (the program; build/yds_cli-dynamic beside this folder, of the same object file as build/yds_cli: only a dynamic
-# program can be broken so), CC (cc). It wants a C compiler and glibc: preload.c stands between the program and the C library. The last
+# program can be broken so), CC (cc). It needs a C compiler and glibc: preload.c stands between the program and the C library. The last
 # line is 'N passed, M failed', with a pass for each run; the exit status is 1 where M isn't 0.
 
 here=$(cd "$(dirname "$0")" && pwd)

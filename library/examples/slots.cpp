@@ -16,7 +16,7 @@ int main() {
 	for (const std::uint64_t work : {6, 9}) {
 		jobs[2].work = work;
 		const std::optional<yds::Rounded> rounded = yds::round(jobs, points);
-		std::cout << "c wants " << work << ": " << (rounded ? "energy " + to_string(rounded->energy) : "the top point is too slow") << '\n';
+		std::cout << "c needs " << work << ": " << (rounded ? "energy " + to_string(rounded->energy) : "the top point is too slow") << '\n';
 	}
 
 	const yds::Run run = yds::optimal_available(jobs);

@@ -6,7 +6,7 @@
  *   answers words           words that aren't UTF-8, no words, odd words, null pointers to nothing, and the version
  *   answers memory ROWS     each allocation for every row, and for documents of 200 jobs, refused in turn, alone and with all after it
  *
- * ROWS is the folder of worked rows. `memory` wants REFUSING to be defined, and the static library linked with
+ * ROWS is the folder of worked rows. `memory` needs REFUSING to be defined, and the static library linked with
  * -Wl,--wrap=malloc,--wrap=realloc,--wrap=free. The last line is 'N passed, M failed', and the exit status is 1 where M isn't 0.
  */
 #define _GNU_SOURCE

@@ -3,7 +3,7 @@
 #
 #   sh library/test/test.sh [PART ..]      parts: names rows words threads memory examples earlier install fuzz; all without one
 #
-# It wants build/yds_cli, build/libyds.a and build/libyds.so, compilers for C and C++, nm, readelf and pkg-config. The example in Rust is
+# It needs build/yds_cli, build/libyds.a and build/libyds.so, compilers for C and C++, nm, readelf and pkg-config. The example in Rust is
 # tried where rustc is. DOCUMENTS drawn documents (20,000 without it) of SEED (1) are answered by the library and by the program. CC, CXX
 # and RUSTC name other compilers.
 # The last line is 'N passed, M failed'; the exit status is 1 where M isn't 0.
@@ -65,7 +65,7 @@ part_names() {
 	try "the archive shows two names" sh -c '[ "$(nm -g --defined-only build/libyds.a | awk "NF == 3 { print \$3 }" | sort | xargs)" = "yds_answer yds_version" ]'
 	try "the shared object shows two names" sh -c '[ "$(nm -D --defined-only build/libyds.so | awk "\$2 == \"T\" { print \$3 }" | sort | xargs)" = "yds_answer@@YDS_1 yds_version@@YDS_1.1" ]'
 	try "the soname" sh -c 'readelf -d build/libyds.so | grep -q "SONAME.*\[libyds.so.1\]"'
-	try "the shared object wants the C library alone" sh -c '[ "$(readelf -d build/libyds.so | grep -c NEEDED)" = 1 ] && readelf -d build/libyds.so | grep -q "NEEDED.*\[libc.so.6\]"'
+	try "the shared object needs the C library alone" sh -c '[ "$(readelf -d build/libyds.so | grep -c NEEDED)" = 1 ] && readelf -d build/libyds.so | grep -q "NEEDED.*\[libc.so.6\]"'
 	try "no relocation of code" sh -c '! readelf -d build/libyds.so | grep -q TEXTREL'
 	for standard in c99 c11 c17; do
 		try "the header in $standard" "$CC" -std=$standard -Wall -Wextra -pedantic-errors -Werror -fsyntax-only -x c library/yds.h

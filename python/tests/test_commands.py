@@ -88,11 +88,11 @@ class CommandsTest(unittest.TestCase):
         (self.folder / "part-00002.plan").write_bytes(b"")
         status, out, err = self.whole(".plan")
         self.assertEqual((status, out), (1, b"failed\n"))
-        self.assertIn("part-00002.plan: is empty: want of memory, or the program didn't run\n", err)
+        self.assertIn("part-00002.plan: is empty: lack of memory, or the program didn't run\n", err)
         (self.folder / "part-00002.plan").unlink()
         status, out, err = self.whole(".plan")
         self.assertEqual((status, out), (1, b"failed\n"))
-        self.assertIn("part-00003.plan: is the answer to part 3, and part 2 wants its place\n", err)
+        self.assertIn("part-00003.plan: is the answer to part 3, and that to part 2 is missing\n", err)
         self.assertEqual(self.whole(".txt")[:2], (1, b"failed\n"))
 
     def test_bounds_and_waste(self) -> None:

@@ -64,7 +64,7 @@ class CutTest(unittest.TestCase):
         self.assertEqual(texts(other, 1), texts(SHORT, 1))
 
     def test_faults(self) -> None:
-        order = "line 3: job c is released at 3, and one above it at 5; the jobs want the order of their releases: "
+        order = "line 3: job c is released at 3, and one above it at 5; the jobs need the order of their releases: "
         for document, message in [
             (("job a 0 4 8", "job b 5 6 1", "job c 3 9 1"), order),
             (("job a 0 4 8", "job b 4 6 1", "", "job a 6 9 1"), "line 4: a job of the name a is there already, at line 1"),

@@ -115,7 +115,7 @@ class JobsTest(unittest.TestCase):
             self.assertEqual(call("jobs", *words), (0, wanted, ""))
 
     def test_by_hand(self) -> None:
-        """a is done at 2+1/3 and wants nothing more; b got 4+1/2 of 5; c wants nothing."""
+        """a is done at 2+1/3 and needs nothing more; b got 4+1/2 of 5; c needs nothing."""
         text = b'job a 0 9 4\njob "b,2 0 10 5\njob c 3 4 0\nslot a 1 2+1/3 4\nslot "b,2 3 4 4\nslot "b,2 4 5 0+1/2\n'
         wanted = 'a,0,9,1,2.333333,2.333333,6.666667,0,\n"""b,2",0,10,3,inf,inf,-inf,inf,\nc,3,4,3,3,0,1,0,\n'
         called = call("jobs", "--form", "csv", given=text)
@@ -305,11 +305,11 @@ class ExplainTest(unittest.TestCase):
             ("K1 late slot 1 a 3 deadline 2", "", "K1 late slot 1 a 3 deadline 2\n"),
             ("K2 level 2", "piece 0 2\n:piece 0 3\n", "the piece 0 3 of level 2 overlaps the piece 2 10 of level 1\n"),
             ("K2 level 1", "piece 2 10\n:", "level 1 has no piece; expected at least one\n"),
-            ("K3 job a", "member a\n:", "the job a wants 4: found in 0 member lines, expected in one\n"),
+            ("K3 job a", "member a\n:", "the job a needs 4: found in 0 member lines, expected in one\n"),
             (
                 "K4 level 1",
                 "level 8 8:level 9 8",
-                "work: the level's line says 9, and its members b want 8 together\nlength: the level's line says 8, and its pieces are 8 long together\n",
+                "work: the level's line says 9, and its members b need 8 together\nlength: the level's line says 8, and its pieces are 8 long together\n",
             ),
             (
                 "K5 level 2",

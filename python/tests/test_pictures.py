@@ -148,7 +148,7 @@ class Loading(unittest.TestCase):
 
     def test_where_there_is_none(self) -> None:
         with mock.patch.dict("sys.modules", {"matplotlib.pyplot": None}):
-            with self.assertRaisesRegex(ImportError, r"a picture wants matplotlib \(.*\); pip install matplotlib"):
+            with self.assertRaisesRegex(ImportError, r"a picture needs matplotlib \(.*\); pip install matplotlib"):
                 THREE.plan().plot()
 
 

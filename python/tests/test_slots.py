@@ -149,7 +149,7 @@ slot a 0 9 4
             ("job b 0 9 4.5", "line 2, column 11: 4.5 isn't whole; a job's times and work are, in a finer unit"),
             ("job a 0 9 4", "line 2, column 5: a second job is named a"),
             ("slot b 0 9 4", "line 2, column 6: no job b stands before this slot"),
-            ("slot a 0 9", "line 2, column 11: a slot wants NAME FROM TO WORK"),
+            ("slot a 0 9", "line 2, column 11: a slot needs NAME FROM TO WORK"),
             ("refused 1 9 EmptyWindow", "line 2: the input is an answer of no: refused 1 9 EmptyWindow"),
             ("", "no slot line; give the schedule as slot NAME FROM TO WORK"),
             (
@@ -175,7 +175,7 @@ slot a 0 9 4
                 "the slot is so short that both its ends become 3+1/3; give a smaller --most",
             ),
             (["--speeds"], "slot a 3 2 4", "column 10: TO is before FROM"),
-            (["--speeds"], "slot a 3 4", "column 11: a slot wants NAME FROM TO SPEED"),
+            (["--speeds"], "slot a 3 4", "column 11: a slot needs NAME FROM TO SPEED"),
         ]:
             called = call("slots", *words, given=f"job a 0 9 4\n{text}\n".encode())
             self.assertEqual(called[:2], (1, "failed\n"))
@@ -301,7 +301,7 @@ class Second:
         """The works of a job's slots by their places, and whether they are speed times time; None where none are."""
         places = [place for place, slot in enumerate(self.slots) if slot[1] == name and slot[4] > 0]
         given = [self.slots[place][4] for place in places]
-        wants = self.jobs[name][2]
+        needs = self.jobs[name][2]
         tried = []
         if self.by_speed and self.most:
             tried.append([self.slots[place][5] * (ends[place][1] - ends[place][0]) for place in places])
@@ -309,12 +309,12 @@ class Second:
         if self.most:
             step = next(10**power for power in range(30) if 10**power * self.most >= 4)
             coarse = [x if x.denominator <= step else Fraction(int((2 * x * step + 1) // 2), step) for x in given]
-            each = (wants - sum(coarse)) / len(coarse)
+            each = (needs - sum(coarse)) / len(coarse)
             shared = [x + each for x in coarse]
             if all(x > 0 and abs(x - y) <= self.most for x, y in zip(shared, given)):
                 tried.append(shared)
         for turn, works in enumerate(tried):
-            if sum(works) == wants and math.lcm(*(x.denominator for x in works)) <= 2**60:
+            if sum(works) == needs and math.lcm(*(x.denominator for x in works)) <= 2**60:
                 return dict(zip(places, works)), turn == 0 and self.by_speed and self.most > 0
         if math.lcm(*(x.denominator for x in given)) > 2**60:
             return None

@@ -110,7 +110,7 @@ class Columns(unittest.TestCase):
         try:
             import pandas
         except ImportError:
-            with self.assertRaisesRegex(ImportError, r"to_pandas wants pandas \(.*\); columns\(\) has"):
+            with self.assertRaisesRegex(ImportError, r"to_pandas needs pandas \(.*\); columns\(\) has"):
                 schedule.to_pandas(self.SLOTS)
             self.skipTest("pandas isn't here")
         frame = yds.Document(THREE).plan().to_pandas()
@@ -121,7 +121,7 @@ class Columns(unittest.TestCase):
         self.assertEqual(list(schedule.to_pandas([]).columns), list(self.WANTED))
         self.assertEqual(schedule.to_pandas(self.SLOTS, exact=True)["speed"][0], Fraction(4, 3))
         with mock.patch("yds._tables.import_module", side_effect=ImportError("none here")):
-            with self.assertRaisesRegex(ImportError, r"to_pandas wants pandas \(none here\)"):
+            with self.assertRaisesRegex(ImportError, r"to_pandas needs pandas \(none here\)"):
                 schedule.to_pandas(self.SLOTS)
 
 

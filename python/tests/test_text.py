@@ -56,13 +56,13 @@ class RowsTest(unittest.TestCase):
 
     def test_faults_tell_their_place(self) -> None:
         for text, told in [
-            ("\njob a 0 4x 8\n", "x.txt, line 2, column 9: a job wants NAME RELEASE DEADLINE WORK, in whole numbers"),
-            ("job a 0 4\n", "x.txt, line 1, column 10: a job wants NAME RELEASE DEADLINE WORK, in whole numbers"),
+            ("\njob a 0 4x 8\n", "x.txt, line 2, column 9: a job needs NAME RELEASE DEADLINE WORK, in whole numbers"),
+            ("job a 0 4\n", "x.txt, line 1, column 10: a job needs NAME RELEASE DEADLINE WORK, in whole numbers"),
             ("run a 0 4 1\n", "x.txt, line 1, column 1: a run before any line of ticks"),
             ("slot a 4 4 1\n", "x.txt, line 1, column 10: a slot without length"),
             (
                 "slot a 0 1+1/0 1\n",
-                "x.txt, line 1, column 10: a slot wants NAME FROM TO WORK, in numbers or fractions W+N/D",
+                "x.txt, line 1, column 10: a slot needs NAME FROM TO WORK, in numbers or fractions W+N/D",
             ),
             (" failed\n", "x.txt, line 1: the input is an answer of no:  failed"),
             (

@@ -135,7 +135,7 @@ class WholeTest(unittest.TestCase):
         found = texts(SHORT, 1)
         plans = answered(found, "plan")
         for place, answer, message in [
-            (1, b"", "the answer of part 2: is empty: want of memory, or the program didn't run"),
+            (1, b"", "the answer of part 2: is empty: lack of memory, or the program didn't run"),
             (2, b"job c 9 12 3\nslot c 9 12 3\nlevel 3", "the answer of part 3: ends without a line feed: it was cut"),
             (2, b"job c 9 12 3\npoint 0 1\npoint 2 5\nslot c 9 12 3\n", "isn't whole: the levels have 0 of the jobs' work of 3"),
             (1, b"refused 2 9 EmptyWindow\n", "refused 2 9 EmptyWindow, in the text of part 2: job b 4 6 4"),
@@ -152,7 +152,7 @@ class WholeTest(unittest.TestCase):
             self.assertIn(message, str(raised.exception))
         for some, message in [
             (slice(0, 2), "is not the last part; the answers to the parts after it aren't among those named"),
-            (slice(0, 3, 2), "is the answer to part 3, and part 2 wants its place"),
+            (slice(0, 3, 2), "is the answer to part 3, and that to part 2 is missing"),
             (slice(0, 0), "no answer is named"),
         ]:
             with self.subTest(some), self.assertRaisesRegex(parts.PartsError, message):

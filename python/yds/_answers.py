@@ -111,7 +111,7 @@ class Answers:
         except OSError:
             return self.refuse(place, "can't be read")
         if not size:
-            self.refuse(place, "is empty: want of memory, or the program didn't run")
+            self.refuse(place, "is empty: lack of memory, or the program didn't run")
         elif last != b"\n":
             self.refuse(place, "ends without a line feed: it was cut")
 
@@ -126,7 +126,7 @@ class Answers:
         if head is None:
             return self.refuse(place, f"{self.part_name(place)} is no part of a long document")
         if head.number != place + 1:
-            self.refuse(place, f"is the answer to part {head.number}, and part {place + 1} wants its place")
+            self.refuse(place, f"is the answer to part {head.number}, and that to part {place + 1} is missing")
             self.stop_at_faults()
         if head.last and place + 1 < len(self.parts):
             self.refuse(place + 1, "the part before it is the last")

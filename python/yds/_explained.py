@@ -57,7 +57,7 @@ class Judged:
             [] if kind == "member" else [int(field) for field in fields[1:] if field.isdigit() and len(field) <= 30]
         )
         if kind != "member" and len(numbers) != 2:
-            raise line.fault(f"a {kind} wants two whole numbers", 1)
+            raise line.fault(f"a {kind} needs two whole numbers", 1)
         if kind == "level":
             if not numbers[1]:
                 raise line.fault("a level has a length above 0", 2)
@@ -128,7 +128,7 @@ class Judged:
     def _member_lines(self, job: Job) -> List[str]:
         times = sum(level.members.count(job.name) for level in self._levels)
         expected = "one" if job.work else "none or one"
-        return [f"the job {job.name} wants {job.work}: found in {times} member lines, expected in {expected}"]
+        return [f"the job {job.name} needs {job.work}: found in {times} member lines, expected in {expected}"]
 
     def _sums(self, number: int) -> List[str]:
         level = self._levels[number - 1]
@@ -136,7 +136,7 @@ class Judged:
         lengths = sum(end - start for start, end in level.pieces)
         members = "".join(f" {name}" for name in level.members)
         return [
-            f"work: the level's line says {level.work}, and its members{members} want {works} together",
+            f"work: the level's line says {level.work}, and its members{members} need {works} together",
             f"length: the level's line says {level.length}, and its pieces are {lengths} long together",
         ]
 

@@ -116,7 +116,7 @@ class _Reading:
     def _slot(self, line: Line, fields: List[str]) -> None:
         if len(fields) != 5:
             raise line.fault(
-                f"a slot wants NAME FROM TO {'SPEED' if self._tells_speeds else 'WORK'}", min(len(fields), 5)
+                f"a slot needs NAME FROM TO {'SPEED' if self._tells_speeds else 'WORK'}", min(len(fields), 5)
             )
         if fields[1] not in self._found.jobs:
             raise line.fault(f"no job {printable(fields[1])} stands before this slot", 1)
@@ -133,7 +133,7 @@ class _Reading:
 
     def _job(self, line: Line, fields: List[str]) -> None:
         if len(fields) != 5:
-            raise line.fault("a job wants NAME RELEASE DEADLINE WORK", min(len(fields), 5))
+            raise line.fault("a job needs NAME RELEASE DEADLINE WORK", min(len(fields), 5))
         if fields[1] in self._found.jobs:
             raise line.fault(f"a second job is named {printable(fields[1])}", 1)
         row = [self._whole(line, fields, place) for place in (2, 3, 4)]

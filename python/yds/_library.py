@@ -26,7 +26,7 @@ class Status(IntEnum):
     REFUSED = 3
     """The document is refused: the text is the line that says where and why."""
     MEMORY = 6
-    """Want of memory: there is no text."""
+    """Lack of memory: there is no text."""
     WORDS = 7
     """A word isn't UTF-8: there is no text."""
 

@@ -256,7 +256,7 @@ class Long:
             self.points.append(line)
         elif kind == b"ticks":
             if len(fields) != 2 or not _WHOLE(fields[1]) or not 1 <= int(fields[1]) <= MOST_TIME:
-                raise PartsError("ticks want one number from 1 to 1000000000", number)
+                raise PartsError("ticks need one number from 1 to 1000000000", number)
             if self.ticks is not None:
                 raise PartsError("a second line of ticks", number)
             self.ticks = int(fields[1])
@@ -312,7 +312,7 @@ class Long:
         if begin >= end:
             raise PartsError(f"job {name} has its deadline {end} at or before its release {begin}", number)
         raise PartsError(
-            f"job {name} is released at {begin}, and one above it at {self._release}; the jobs want the order of their "
+            f"job {name} is released at {begin}, and one above it at {self._release}; the jobs need the order of their "
             "releases: (grep '^job' LONG | sort -k3n; grep -v '^job' LONG)",
             number,
         )

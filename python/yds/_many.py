@@ -37,7 +37,7 @@ def map(call: Callable[[Item], Told], documents: Iterable[Item], processes: Opti
     The documents may be anything that can be pickled: a seed, or a text, from which the call makes the document itself,
     is quicker to hand over, and so is a number as its answer than a plan. They are taken as they are needed, so they may
     be a generator's. Without `processes` there are as many as this process may use processors. With 1 all is done in
-    this process, as a debugger wants it.
+    this process, as a debugger needs it.
 
     The call is handed over by its name: TypeError is raised where it has none, as a lambda. What it raises is raised
     here, of the earliest document that is known to have failed, and a note says which that is (from Python 3.11 on).

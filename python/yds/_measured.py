@@ -87,7 +87,7 @@ class Measured:
         return turns, [Span(f"slots[{turn.place}]", turn.work, turn.length) for turn in turns]
 
     def _some_slots(self) -> Tuple[Slot, ...]:
-        """The slots; ValueError where there are none, and jobs want work."""
+        """The slots; ValueError where there are none, and jobs need work."""
         if not self.slots and any(job.work for job in self.jobs):
             raise ValueError("the document has jobs and no slots: document.plan() answers with some")
         return self.slots

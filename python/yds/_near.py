@@ -71,7 +71,7 @@ class Unfit(ValueError):
     def __init__(self, cause: str, place: int, job: str, value: Fraction) -> None:
         self.cause, self.place, self.job, self.value = cause, place, job, value
         """cause: 'short', and value is what both ends of the slot become; 'ends'; or 'works', and value is what the job
-        wants. place is that of the slot, or of the job's first."""
+        needs. place is that of the slot, or of the job's first."""
         super().__init__(cause)
 
 
@@ -189,7 +189,7 @@ class Search:
     def _by_rates(
         self, job: str, its: List[int], ends: Sequence[Tuple[Fraction, Fraction]], wanted: Fraction
     ) -> Optional[List[Fraction]]:
-        """Speed times time of the job's slots, where that adds up to what it wants."""
+        """Speed times time of the job's slots, where that adds up to what it needs."""
         if self._rates is None or not self._most:
             return None
         moved = [self._rates[place] * (ends[place][1] - ends[place][0]) for place in its]
@@ -199,7 +199,7 @@ class Search:
         return moved
 
     def _works_of(self, job: str, first: int, given: List[Fraction], wanted: Fraction) -> List[Fraction]:
-        """The works of a job's slots: those that add up to what it wants, if there are some, and else as given."""
+        """The works of a job's slots: those that add up to what it needs, if there are some, and else as given."""
         ways: Tuple[Callable[[], Optional[List[Fraction]]], ...] = (
             lambda: [_simplest_near(work, self._most) for work in given],
             lambda: given,

@@ -67,5 +67,5 @@ def to_pandas(slots: Iterable[SlotLike], exact: bool = False) -> Any:
     try:
         pandas: Any = import_module("pandas")
     except ImportError as fault:
-        raise ImportError(f"to_pandas wants pandas ({fault}); columns() has the same numbers as lists") from fault
+        raise ImportError(f"to_pandas needs pandas ({fault}); columns() has the same numbers as lists") from fault
     return pandas.DataFrame(columns(slots, exact), columns=list(COLUMNS))

@@ -175,13 +175,13 @@ class Other(NamedTuple):
 Row = Union[Job, Task, Point, Slot, Ticks, Horizon, Comment, Other]
 
 _FORMS = {
-    "job": "a job wants NAME RELEASE DEADLINE WORK, in whole numbers",
-    "task": "a task wants NAME OFFSET PERIOD DEADLINE WORK, in whole numbers",
-    "point": "a point wants SPEED POWER, in whole numbers",
-    "run": "a run wants NAME FROM TO SPEED, in whole numbers",
-    "slot": "a slot wants NAME FROM TO WORK, in numbers or fractions W+N/D",
-    "ticks": "ticks want one number of 1 or more",
-    "horizon": "a horizon wants one whole number",
+    "job": "a job needs NAME RELEASE DEADLINE WORK, in whole numbers",
+    "task": "a task needs NAME OFFSET PERIOD DEADLINE WORK, in whole numbers",
+    "point": "a point needs SPEED POWER, in whole numbers",
+    "run": "a run needs NAME FROM TO SPEED, in whole numbers",
+    "slot": "a slot needs NAME FROM TO WORK, in numbers or fractions W+N/D",
+    "ticks": "ticks need one number of 1 or more",
+    "horizon": "a horizon needs one whole number",
 }
 
 

@@ -67,5 +67,5 @@ def _too_slow(given: Answers) -> Sequence[bytes]:
     line = b"too-slow work %d length %d top %d\n"
     if not given.open_cuts:
         return [line % (sum(one.work for one in same), sum(one.length for one in same), same[-1].top)]
-    comment = b"# that is of part %d by itself; windows are open at %d cuts, and the whole may want a higher speed\n"
+    comment = b"# that is of part %d by itself; windows are open at %d cuts, and the whole may need a higher speed\n"
     return [line % same[0][1:], comment % (same[0].part + 1, given.open_cuts)]

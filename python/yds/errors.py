@@ -83,7 +83,7 @@ class UsageError(YdsError, ValueError):
 
 
 class OutOfMemory(YdsError, MemoryError):
-    """The library couldn't take the memory that the answer wants."""
+    """The library couldn't take the memory that the answer needs."""
 
     def __str__(self) -> str:
-        return "the library couldn't take the memory that the answer wants"
+        return "the library couldn't take the memory that the answer needs"

@@ -55,7 +55,7 @@ class Verdict(Result):
     given: Optional[Fraction] = None
     """work: how much work the job's slots give it."""
     wanted: Optional[int] = None
-    """work: how much it wants."""
+    """work: how much it needs."""
 
     @property
     def feasible(self) -> bool:
@@ -140,7 +140,7 @@ class Judgement(Result):
 
 @dataclass(frozen=True, repr=False)
 class TooSlow(Result):
-    """A no of `round` and `compare`: some jobs want more work in a time than the top point can do. It is false."""
+    """A no of `round` and `compare`: some jobs need more work in a time than the top point can do. It is false."""
 
     work: int
     """Units of work of the plan's first level."""

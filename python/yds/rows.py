@@ -12,7 +12,7 @@ Exact = Union[int, Fraction]
 
 
 class Job(NamedTuple):
-    """A job may run from its release to its deadline (units of time) and wants its work (units of work): whole."""
+    """A job may run from its release to its deadline (units of time) and needs its work (units of work): whole."""
 
     name: str
     release: int

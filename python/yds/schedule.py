@@ -1,7 +1,7 @@
 """Schedules of other programs, judged, and as tables of numbers.
 
 A schedule is a list of slots in any order. Their ends and works may be ints or Fractions of any denominators: the ends
-of each slot are brought to one denominator, and the works of each job to one, as the library wants them. No number is
+of each slot are brought to one denominator, and the works of each job to one, as the library needs them. No number is
 moved by that.
 """
 

@@ -7,7 +7,7 @@
 #   ssh           the way to them: `$MACHINES/ssh alpha true`, `PARALLEL_SSH=$MACHINES/ssh parallel -S 2/alpha,2/beta ..`
 #   fail          `$MACHINES/fail beta` ends its sshd and what runs there, as a machine that fails
 #   start         `$MACHINES/start beta` starts it again; each ends by itself after ten minutes
-# The keys are made for this and thrown away. When COMMAND ends, or at a signal, both sshd are ended. As root it wants the folder /run/sshd,
+# The keys are made for this and thrown away. When COMMAND ends, or at a signal, both sshd are ended. As root it needs the folder /run/sshd,
 # which it makes, and takes away again, where it isn't there.
 #
 # Exit status: that of COMMAND; 127 where ssh, ssh-keygen or sshd (Debian: openssh-server) isn't there; 1 where sshd doesn't start.

@@ -554,9 +554,9 @@ what_check_found() {
 	sed 's/^piece 2 4$/piece 4 2/' "$work/plan" >"$work/judged"
 	explained "explain: K2, ends exchanged" "K2 level 2" "the piece 4 2 of level 2 ends before it has begun"
 	sed 's/^member b$/&\n&/' "$work/plan" >"$work/judged"
-	explained "explain: K3" "K3 job b" "the job b wants 8: found in 2 member lines, expected in one"
+	explained "explain: K3" "K3 job b" "the job b needs 8: found in 2 member lines, expected in one"
 	sed 's/^level 8 6$/level 9 7/' "$work/plan" >"$work/judged"
-	explained "explain: K4" "K4 level 2" "work: the level's line says 9, and its members b want 8 together
+	explained "explain: K4" "K4 level 2" "work: the level's line says 9, and its members b need 8 together
 length: the level's line says 7, and its pieces are 6 long together"
 	sed '/^level 6 2/,/^member c/d' "$work/plan" >"$work/judged"
 	sed -n '/^level 6 2/,/^member c/p' "$work/plan" >>"$work/judged"

@@ -6,7 +6,7 @@ test_jobs() {
 	same "jobs: on the trace's clock, as CSV" 0 jobs-late.csv jobs --zero trace --form csv "$expected/points.txt" "$expected/trace-late.txt"
 	same "jobs: left out" 0 jobs-elsewhere.csv jobs --form csv "$expected/trace-elsewhere.txt"
 	same "jobs: starving" 0 jobs-starving.txt jobs "$expected/trace-starving.txt"
-	# By hand: a is done at 2+1/3 and wants nothing more; b got 4+1/2 of 5; c wants nothing.
+	# By hand: a is done at 2+1/3 and needs nothing more; b got 4+1/2 of 5; c needs nothing.
 	printf 'job a 0 9 4\njob "b,2 0 10 5\njob c 3 4 0\nslot a 1 2+1/3 4\nslot "b,2 3 4 4\nslot "b,2 4 5 0+1/2\n' >"$work/fractions"
 	jobs --form csv "$work/fractions" >"$work/table"
 	if [ "$(tail -n +2 "$work/table")" = 'a,0,9,1,2.333333,2.333333,6.666667,0,

@@ -1,4 +1,4 @@
-# The commands of docs/library.md. They want the library, which `make library` builds, and a C compiler.
+# The commands of docs/library.md. They need the library, which `make library` builds, and a C compiler.
 
 test_library() {
 	build=$(cd "$here/../build" && pwd)

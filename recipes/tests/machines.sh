@@ -1,6 +1,6 @@
 # machines.sh: the parts of a long document through GNU parallel, on this machine and on two, one of which fails. Sourced by test.sh.
 #
-# The two machines are two sshd of this one, at 127.0.0.1 (samples/two-machines.sh). What wants parallel or openssh-server is left out
+# The two machines are two sshd of this one, at 127.0.0.1 (samples/two-machines.sh). What needs parallel or openssh-server is left out
 # where it isn't there.
 
 test_machines() {

@@ -90,7 +90,7 @@ cut_fails() {
 test_parts_faults() {
 	refuses "parts: no folder" 2 "" "yds-parts: no --folder DIR is given; see yds-parts --help" parts "$work/long"
 	refuses "parts: too many jobs for a part" 2 "" "yds-parts: --jobs 4001 is no number from 1 to 4000; see yds-parts --help" parts --folder "$work/cut" --jobs 4001 "$work/long"
-	order="the jobs want the order of their releases: (grep '^job' LONG | sort -k3n; grep -v '^job' LONG)"
+	order="the jobs need the order of their releases: (grep '^job' LONG | sort -k3n; grep -v '^job' LONG)"
 	cut_fails "out of order" "line 3: job c is released at 3, and one above it at 5; $order" 'job a 0 4 8' 'job b 5 6 1' 'job c 3 9 1'
 	cut_fails "no place to cut" "there is no place to cut from job a to job b: a window is always open, and a job always has runs on both sides. With the next one these jobs are 3, above 2. The one whose runs reach furthest is a; take it out, or let it be a job for each piece" \
 		'job a 0 9 2' 'job b 1 9 1' 'job c 2 9 1' 'ticks 1' 'run a 0 1 1' 'run b 1 2 1' 'run c 2 3 1' 'run a 3 4 1'
@@ -145,9 +145,9 @@ test_whole_faults() {
 	third=$work/faults/part-00003.plan
 	plan_again
 	: >"$second"
-	no_whole "an empty answer" "$second: is empty: want of memory, or the program didn't run"
+	no_whole "an empty answer" "$second: is empty: lack of memory, or the program didn't run"
 	rm "$second"
-	no_whole "an answer is missing" "$third: is the answer to part 3, and part 2 wants its place"
+	no_whole "an answer is missing" "$third: is the answer to part 3, and that to part 2 is missing"
 	plan_again
 	rm "$third"
 	no_whole "the last answer is missing" "$second: is not the last part; the answers to the parts after it aren't among those named"

@@ -289,7 +289,7 @@ job a.1 0 200 10000" trace -v tasks=a:2 -v lost=cut "$work/unsure"
 }
 
 traces_cut_at_the_ends() {
-	refuses "traces: jobs of a file want from=" 2 failed "trace.awk: jobs=FILE wants from=, the second of the trace's clock at which FILE's time 0 is" \
+	refuses "traces: jobs of a file need from=" 2 failed "trace.awk: jobs=FILE needs from=, the second of the trace's clock at which FILE's time 0 is" \
 		trace -v tasks=decode,audio -v jobs=frames.txt -v us=1000 -v khz=1000 -v ticks=1000 trace-report.txt
 	# FILE's time 0 is after the first job of each task: its jobs are those from there on.
 	says "traces: jobs of a file are counted from from=" 0 "run audio.0 29 2970 408

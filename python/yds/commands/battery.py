@@ -148,7 +148,7 @@ class Reading:
                 raise line.fault(f"{fields[2]} is no speed", 2)
             self._times.setdefault(fields[0], []).append((int(fields[2]), self._value(line, fields, 3)))
         elif len(fields) > 1 and fields[1] in ("energy", "time"):
-            raise line.fault(f"a line of {fields[1]} wants NAME {fields[1]} and its numbers", len(fields))
+            raise line.fault(f"a line of {fields[1]} needs NAME {fields[1]} and its numbers", len(fields))
 
     def _value(self, line: Line, fields: Sequence[str], place: int) -> Fraction:
         if not _FRACTION(fields[place]):
