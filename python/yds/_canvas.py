@@ -60,7 +60,7 @@ def loaded(name: str) -> Any:
         return import_module(name)
     except ImportError as fault:
         raise ImportError(
-            f"a picture wants matplotlib ({fault}); pip install matplotlib, or on Debian apt-get install "
+            f"a picture needs matplotlib ({fault}); pip install matplotlib, or on Debian apt-get install "
             "python3-matplotlib. In a notebook a document with slots shows itself without it"
         ) from fault
 
