@@ -23,7 +23,7 @@ License-File: LICENSE-MIT
 License-File: LICENSE-APACHE
 Requires-Python: >=3.9
 Provides-Extra: plot
-Requires-Dist: matplotlib; extra == 'plot'
+Requires-Dist: matplotlib >= 3.6; extra == 'plot'
 Classifier: Operating System :: POSIX :: Linux
 Classifier: Programming Language :: Python :: 3
 Classifier: Typing :: Typed

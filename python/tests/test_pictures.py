@@ -20,6 +20,7 @@ try:
 except ImportError:
     matplotlib = None
 
+NEEDS = ("matplotlib", "libyds")
 THREE = yds.Document([("a", 0, 12, 4), ("b", 2, 10, 8), ("c", 4, 6, 6)], [(0, 0), (1, 1), (2, 4), (4, 16)])
 SVG = "{http://www.w3.org/2000/svg}"
 
@@ -140,7 +141,7 @@ class Html(unittest.TestCase):
 
 
 class Loading(unittest.TestCase):
-    def test_matplotlib_is_loaded_when_it_is_wanted(self) -> None:
+    def test_matplotlib_is_loaded_when_it_is_needed(self) -> None:
         code = (
             "import sys, yds; yds.Document([('a', 0, 4, 8)]).plan()._repr_svg_(); sys.exit('matplotlib' in sys.modules)"
         )

@@ -15,7 +15,7 @@ from tempfile import TemporaryDirectory
 from typing import Any, Optional
 
 import simulated
-from called import EXPECTED, ROOT, broken, call
+from called import EXPECTED, ROOT, SAMPLES, broken, call
 
 from yds._bars import bars, read_energies
 from yds._excess import excess, place_labels, point_rows, read_breaks
@@ -31,6 +31,7 @@ from yds._text import Fault, Rows, lines_of
 from yds._timeline import Timeline, timeline
 from yds.tables import read_energies as read_table
 
+BAD = SAMPLES / "bad"
 POINTS = (EXPECTED / "points.txt").read_text()
 # A trace of 190 ms with a miss of 0.9 ms, a job that never ran, one that got too little.
 DOCUMENT = (
@@ -389,7 +390,7 @@ decode.5 (left out: not ended),5000,6000,,,,,,
         table = self.table(self.TABLE + "decode.6,6000,7000,6000,19500,13500,-12500,12500,1\n")
         picture = slacks(table, units_of("10us"), Choice())
         self.assertEqual(picture.linear, 8.0)
-        self.assertEqual(picture.frame.y_label, "slack (ms), logarithmic below -8 ms")
+        self.assertEqual(list(picture.frame.hints), ["below -8 ms the axis is logarithmic"])
         self.assertTrue(picture.frame.y[0] <= -125 and picture.frame.y[1] >= 8)
 
     def test_more_than_5000_jobs(self) -> None:
@@ -461,6 +462,75 @@ decode.5 (left out: not ended),5000,6000,,,,,,
         self.assertEqual(oa.shares, [0, 0, 50, 50, 100, 100])
 
 
+class Samples(unittest.TestCase):
+    """The samples of the manual, as they were drawn before."""
+
+    BOTH = POINTS + (EXPECTED / "trace.txt").read_text()
+    LATE = (EXPECTED / "trace-late.txt").read_text()
+
+    def test_speed(self) -> None:
+        picture = drawn_speed(self.BOTH, 9600)
+        self.assertEqual((picture.frame.x_label, picture.frame.y_label), ("time (ms)", "speed (MHz)"))
+        self.assertEqual([key.text for key in picture.frame.key], ["audio", "decode"])
+        self.assertEqual(len(picture.boxes[0][1]), self.BOTH.count("\nrun audio"))
+        self.assertEqual(sum(len(boxes) for _, boxes in picture.boxes), self.BOTH.count("\nrun "))
+
+    def test_gantt(self) -> None:
+        picture = drawn_gantt(self.LATE)
+        self.assertEqual((len(picture.windows), len(picture.overruns), len(picture.deadlines)), (8, 1, 8))
+        part = drawn_gantt(self.LATE, part=Range(3000, 5400))
+        self.assertEqual((part.rows, part.ends), (["decode.1", "audio.3", "decode.2", "audio.4"], ["", "", "late", ""]))
+
+    def test_curve(self) -> None:
+        told = read_breaks(rows(self.BOTH + (EXPECTED / "curve.txt").read_text()))
+        picture = excess(told.breaks, told.points, told.units)
+        self.assertEqual(picture.frame.y_label, "least work above it (Mcycles)")
+        self.assertEqual(picture.labels, ["", "481", "589", "620"])
+
+    def test_energy(self) -> None:
+        answers = "".join((EXPECTED / name).read_text() for name in ("compare-governor.txt", "energy.txt"))
+        picture = bars(read_energies(rows(self.BOTH + answers)))
+        self.assertEqual(picture.labels[0], ("1.98 mJ", ""))
+        self.assertEqual((picture.names[3], picture.labels[3]), ("governor", ("2.69 mJ", "+36.1 %")))
+        self.assertEqual(
+            [key.text for key in picture.frame.key], ["410 MHz", "600 MHz", "820 MHz", "1010 MHz", "1420 MHz"]
+        )
+
+    def test_ratios(self) -> None:
+        picture = ratios(read_table(lines_of(io.BytesIO((EXPECTED / "folder.tsv").read_bytes()))))
+        self.assertEqual([side.name for side in picture.sides], ["avr", "oa"])
+        self.assertEqual(picture.frame.title, "Energy beside the plan's, 3 documents")
+
+    def test_names_of_no_tasks(self) -> None:
+        text = "".join(f"job j{j} {j} {j + 9} 1\nslot j{j} {j} {j + 1} 1\n" for j in range(1, 14))
+        picture = drawn_gantt(text)
+        self.assertEqual((len(picture.rows), picture.rows[-1]), (13, "j13"))
+
+    def test_units_of_words_and_none(self) -> None:
+        text = "job a 0 2000 9000\nslot a 0 2000 9000\n"
+        picture = speed([read(text, units_of("1ms,1kHz"))], [""], Choice())
+        self.assertEqual((picture.frame.x_label, picture.frame.y_label), ("time (s)", "speed (kHz)"))
+        own = (ROOT / "examples" / "own-slots.txt").read_text()
+        picture = drawn_speed(own)
+        self.assertEqual(
+            (picture.frame.x_label, picture.frame.y_label), ("time (units)", "speed (work per unit of time)")
+        )
+
+    def test_a_side_that_misses_deadlines_by_way_of_the_other_commands(self) -> None:
+        """The trace is late, and the point 10 isn't for that."""
+        with TemporaryDirectory() as folder:
+            path = Path(folder) / "late.txt"
+            path.write_text("point 0 0\npoint 1 1\npoint 10 100\njob a 0 10 10\nticks 1\nrun a 5 15 1\n")
+            told = "plan energy 10\n" + call("energy", "--name", "governor", path).out
+            told += call("energy", "--name", "flat-out", "--at", "10", path).out
+            names = [name for name in bars(read_energies(rows(told))).names if "misses" in name]
+            self.assertEqual(names, ["governor\nmisses 1 deadline"])
+            both = Path(folder) / "both.txt"
+            both.write_text(told)
+            picture = ratios(read_table(lines_of(io.BytesIO(call("collect", both).out.encode()))))
+            self.assertEqual([side.name for side in picture.sides][2:], ["governor (1 without)", "flat-out"])
+
+
 class Words(unittest.TestCase):
     def setUp(self) -> None:
         folder = TemporaryDirectory()
@@ -529,6 +599,16 @@ class Words(unittest.TestCase):
             found = call("plot", kind, "-t", "text", "-s", "80x24", self.file(text))
             self.assertEqual((found.status, found.err), (0, ""))
             self.assertTrue(all(len(line) <= 130 for line in found.out.split("\n")))
+        found = call(
+            "plot",
+            "energy",
+            "-t",
+            "text",
+            self.file("plan energy 3\nslower energy 1\n# slower misses 3 deadlines, x\n"),
+        )
+        self.assertIn("slower, misses 3 deadlines |", found.out)
+        found = call("plot", "gantt", "-t", "text", EXPECTED / "trace-late.txt")
+        self.assertRegex(found.out, r"decode\.2 .*!.* late")
         found = call("plot", "ratios", "-t", "text", EXPECTED / "folder.tsv")
         self.assertIn("* avr, o oa", found.out)
 
@@ -543,6 +623,7 @@ class Words(unittest.TestCase):
         path = self.file("refused 1 9 EmptyWindow\n")
         for kind in ("speed", "gantt", "curve", "energy"):
             self.refused(f"{path}, line 1: the input is an answer of no: refused 1 9 EmptyWindow", kind, path)
+        self.refused(f"{BAD / 'failed.txt'}, line 1: the input is an answer of no: failed", "gantt", BAD / "failed.txt")
         path = self.file("job a 0 9 1\nlate slot 1 a 11 deadline 10\n")
         self.refused(f"{path}, line 2: the input is an answer of no: late slot 1 a 11 deadline 10", "gantt", path)
         path = EXPECTED / "folder.tsv"
@@ -562,6 +643,16 @@ class Words(unittest.TestCase):
                 two,
                 *words,
             )
+
+    def test_names_run_nothing(self) -> None:
+        here = os.getcwd()
+        self.addCleanup(os.chdir, here)
+        os.chdir(self.folder)
+        for kind in ("gantt", "speed"):
+            found = call("plot", kind, "-t", "text", BAD / "hostile.txt")
+            self.assertEqual((found.status, found.err), (0, ""))
+            self.assertIn("`touch${IFS}x`", found.out)
+        self.assertEqual(list(self.folder.iterdir()), [])
 
     def test_broken_lines_are_refused(self) -> None:
         for line in ("job a 0 400 800", "run a 0 200 4", "point 3 9"):
@@ -593,6 +684,7 @@ class Words(unittest.TestCase):
             words, capture_output=True, text=True, env={**os.environ, "PYTHONPATH": str(ROOT / "python")}
         )
         self.assertEqual((done.returncode, done.stdout), (1, ""))
+        self.assertIn("yds-plot: a picture needs matplotlib (", done.stderr)
         self.assertIn("pip install matplotlib, or on Debian apt-get install python3-matplotlib", done.stderr)
 
 

@@ -6,12 +6,15 @@ import re
 from fractions import Fraction
 from typing import Dict, Iterable, List, NamedTuple, Optional, Sequence, Tuple
 
-from yds._framed import Frame, Key, in_words
+from yds._framed import Choice, Frame, Key, in_words
+from yds._pixels import text_width
 from yds._scales import VERDICTS, Units, energy_scale, short, speed_scale, units_of_told
 from yds._text import Comment, Fault, Other, Point, Row, counted, printable
 from yds._text import Units as ToldUnits
 
 IDLE = "#bdbdbd"
+NAME, NUMBER = 12.0, 12.5
+"""Sizes of a bar's name and of its energy, in pixels."""
 _MISSES = re.compile(r"# ([^ ]+) misses ([0-9]{1,18}) deadlines?").match
 _CAVEAT = re.compile(
     r"# ((?:part [0-9]+: )?(?:not due by [0-9]+: |[0-9]+ jobs? (?:was|were) |the work of [0-9]+ jobs? isn't known, since ).*)"
@@ -49,6 +52,13 @@ class Part(NamedTuple):
     above: float
 
 
+class Upright(NamedTuple):
+    """Whether the bars' names, and what stands above them, are written upwards, since they have no room beside another."""
+
+    names: bool
+    labels: bool
+
+
 class Bars(NamedTuple):
     """The picture, in the words of the axes."""
 
@@ -60,6 +70,7 @@ class Bars(NamedTuple):
     """The parts of each colour; none where the bars aren't parted by point."""
     labels: List[Tuple[str, str]]
     """What stands above each bar: its energy, and below that how much it is above the plan's."""
+    are_upright: Upright
 
 
 def read_energies(rows: Iterable[Row]) -> Energies:
@@ -115,7 +126,7 @@ def _number(row: Other, place: int, count: int) -> Fraction:
     return above if found.group(3) is None else above + Fraction(int(found.group(2)), int(found.group(3)))
 
 
-def bars(told: Energies, units: Optional[Units] = None) -> Bars:
+def bars(told: Energies, units: Optional[Units] = None, choice: Choice = Choice()) -> Bars:
     """The picture of the sides. ValueError where the points aren't those with which the energies were made."""
     units = told.units if units is None else units
     shown = [float(side.energy) for side in told.sides if side.energy is not None]
@@ -125,6 +136,12 @@ def bars(told: Energies, units: Optional[Units] = None) -> Bars:
     parts, key = _parts(told, units, scale.factor) if is_parted else ([], [])
     names = [_named(side) for side in told.sides]
     notes = [*told.caveats, *_least_point(told, units)]
+    labels = [_label(side, told.sides, height, scale.word) for side, height in zip(told.sides, heights)]
+    room = choice.inner(92, 24) / (len(names) + 0.2) - 6
+    lines = [line for name in names for line in name.split("\n")]
+    wide = max(text_width(line, NAME) for line in lines)
+    below = 14 + 16 * (1 + any("\n" in name for name in names)) if wide <= room else int(wide) + 18
+    are_upright = Upright(wide > room, max(text_width(text, NUMBER) for label in labels for text in label) > room)
     top = max([height for height in heights if height is not None], default=0.0)
     frame = Frame(
         "Energy",
@@ -134,11 +151,11 @@ def bars(told: Energies, units: Optional[Units] = None) -> Bars:
         scale.label,
         key,
         notes,
-        below=56 if any("\n" in name for name in names) else 38,
+        right=24,
+        below=below,
     )
-    labels = [_label(side, told.sides, height, scale.word) for side, height in zip(told.sides, heights)]
     words = [f"{side.name}: {' '.join(text for text in label if text)}" for side, label in zip(told.sides, labels)]
-    return Bars(in_words(frame._replace(x_label="", y_label=scale.label), *words), names, heights, parts, labels)
+    return Bars(in_words(frame, *words), names, heights, parts, labels, are_upright)
 
 
 def _named(side: Side) -> str:

@@ -196,6 +196,7 @@ def dress(axes: Any, frame: Frame) -> None:
     axes.set_ylabel(frame.y_label)
     axes.set_axisbelow(True)
     axes.tick_params(length=4)
+    axes.ticklabel_format(style="plain", useOffset=False)
     axes.set_label(frame.told)
 
 

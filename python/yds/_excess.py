@@ -5,7 +5,7 @@ from __future__ import annotations
 from fractions import Fraction
 from typing import Iterable, List, NamedTuple, Optional, Sequence, Tuple
 
-from yds._framed import SMALL, Frame, in_words
+from yds._framed import SMALL, Choice, Frame, in_words
 from yds._pixels import Label, placed, text_width
 from yds._scales import VERDICTS, Units, short, speed_scale, units_of_told, work_scale
 from yds._text import Comment, Fault, Line, Other, Point, Row, printable
@@ -80,7 +80,9 @@ def _break(line: Line, fields: List[str]) -> Tuple[Fraction, Fraction]:
         raise line.fault(f"a break without numbers: {printable(line.text)}") from None
 
 
-def excess(breaks: Sequence[Tuple[Fraction, Fraction]], points: Sequence[int], units: Units) -> Excess:
+def excess(
+    breaks: Sequence[Tuple[Fraction, Fraction]], points: Sequence[int], units: Units, choice: Choice = Choice(720.0)
+) -> Excess:
     """The picture of the breaks of a curve, at rising speeds."""
     greatest = float(breaks[-1][0]) or 1.0
     above = sorted(float(point) for point in points if point > greatest)
@@ -106,13 +108,12 @@ def excess(breaks: Sequence[Tuple[Fraction, Fraction]], points: Sequence[int], u
         above=36 if shown else 14,
     )
     told = [f"{short(one)}: {short(two)}" for one, two in corners[:40]]
-    return Excess(
-        in_words(frame, "Breaks at " + ", ".join(told)),
-        corners,
-        labels,
-        [(point * speed.factor, short(point * speed.factor)) for point in shown],
-        beyond,
-    )
+    uprights = [(point * speed.factor, short(point * speed.factor)) for point in shown]
+    picture = Excess(in_words(frame, "Breaks at " + ", ".join(told)), corners, labels, uprights, beyond)
+    if None not in place_labels(picture, choice.inner(frame.left, frame.right), 300.0)[1:]:
+        return picture
+    hint = f"there are {len(breaks) - 1} breaks; where there is no room the speed isn't written"
+    return picture._replace(frame=picture.frame._replace(hints=[hint]))
 
 
 def place_labels(picture: Excess, width: float, height: float) -> List[Optional[Placed]]:

@@ -4,7 +4,7 @@ from __future__ import annotations
 
 from typing import Any, List, Sequence, Tuple
 
-from yds._bars import PALETTE, Bars
+from yds._bars import NUMBER, PALETTE, Bars
 from yds._canvas import (
     Rectangle,
     boxes,
@@ -30,8 +30,6 @@ from yds._speeds import Level, Speed
 
 WINDOW_HALF, RUN_HALF = 0.38, 0.27
 """Half the height of a window and of a run, in rows."""
-PLAIN_LABEL = 12.5
-"""The size of an energy's number."""
 
 
 def gantt(picture: Gantt, axes: Any) -> None:
@@ -301,52 +299,28 @@ def energy(picture: Bars, axes: Any) -> None:
         boxes(axes, [(one.side + 0.7, one.side + 1.3, one.below, one.above) for one in parts], colour, zorder=2)
     if not picture.parts:
         axes.bar(list(places), [height or 0.0 for height in picture.heights], 0.6, color="#0072b2", zorder=2)
-    _bar_labels(picture, axes)
-
-
-def _bar_labels(picture: Bars, axes: Any) -> None:
-    """The energies above the bars, as far as they have room beside each other; else they stand upright."""
-    room = width_of(axes) / (picture.frame.x[1] - picture.frame.x[0]) - 6
-    texts = [text for pair in picture.labels for text in pair]
-    names = [line for name in picture.names for line in name.split("\n")]
-    is_close = max((text_width(text, PLAIN_LABEL) for text in texts), default=0) > room
-    if max((text_width(name, 12) for name in names), default=0) > room:
-        for label in axes.get_xticklabels():
-            label.set_rotation(30)
-            label.set_horizontalalignment("right")
-            label.set_rotation_mode("anchor")
-    for place, ((told, change), height) in enumerate(zip(picture.labels, picture.heights)):
-        colour = TEXT if height is not None else WARNING
-        if is_close:
-            text = f"{told} {change}".strip()
-            _beside(
-                axes,
-                (place + 1, height or 0),
-                axes.transData,
-                (0, 4),
-                text,
-                color=colour,
-                ha="center",
-                va="bottom",
-                rotation=90,
-            )
-            continue
-        above = 19 if change else 4
-        _beside(
-            axes,
-            (place + 1, height or 0),
-            axes.transData,
-            (0, above),
-            told,
-            color=colour,
-            ha="center",
-            va="bottom",
-            size=PLAIN_LABEL,
+    if picture.are_upright.names:
+        axes.tick_params(axis="x", labelrotation=90)
+    if picture.are_upright.labels:
+        longest = max(text_width(" ".join(label), NUMBER) for label in picture.labels) + 8
+        high = max(height_of(axes), longest * 1.4)
+        axes.set_ylim(0, (max(height or 0.0 for height in picture.heights) or 1.0) * high / (high - longest))
+    for place, (label, height) in enumerate(zip(picture.labels, picture.heights)):
+        _bar_label(
+            axes, (place + 1, height or 0.0), label, WARNING if height is None else TEXT, picture.are_upright.labels
         )
-        if change:
-            _beside(
-                axes, (place + 1, height or 0), axes.transData, (0, 4), change, color=SOFT, ha="center", va="bottom"
-            )
+
+
+def _bar_label(axes: Any, place: Tuple[float, float], label: Tuple[str, str], colour: str, is_upright: bool) -> None:
+    """The energy above a bar, and how much it is above the plan's."""
+    told, change = label
+    words = {"ha": "center", "va": "bottom"}
+    if is_upright:
+        _beside(axes, place, axes.transData, (0, 4), f"{told} {change}".strip(), color=colour, rotation=90, **words)
+        return
+    _beside(axes, place, axes.transData, (0, 19 if change else 4), told, color=colour, size=NUMBER, **words)
+    if change:
+        _beside(axes, place, axes.transData, (0, 4), change, color=SOFT, **words)
 
 
 def ratios(picture: Ratios, axes: Any) -> None:

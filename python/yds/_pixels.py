@@ -155,16 +155,21 @@ class Label(NamedTuple):
 def placed(labels: Sequence[Label], height: float, top: float, reach: float) -> List[Optional[Label]]:
     """Labels moved up until they touch none of those before; None for one that would be above `top`, or too far up."""
     found: List[Optional[Label]] = []
+    standing: List[Label] = []
     for label in labels:
-        moved = label
-        blocking = True
-        while blocking:
-            others = [one for one in found if one is not None and one.touches(moved, height)]
-            blocking = bool(others)
-            if blocking:
-                moved = moved._replace(y=max(one.y for one in others) + height)
-        fits = moved.y + height <= top and moved.y - label.y <= reach
-        found.append(moved if fits else None)
+        moved: Optional[Label] = label
+        while moved is not None:
+            blocking = [one.y for one in standing if one.touches(moved, height)]
+            if not blocking:
+                break
+            # A hair more than the height: so the next look finds it free of these.
+            moved = moved._replace(y=max(blocking) + height * 1.001)
+            moved = None if moved.y - label.y > reach else moved
+        if moved is not None and moved.y + height <= top and moved.y - label.y <= reach:
+            standing.append(moved)
+            found.append(moved)
+        else:
+            found.append(None)
     return found
 
 

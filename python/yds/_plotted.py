@@ -132,14 +132,14 @@ def _curve(files: Sequence[str], units: Optional[Units]) -> Drawing:
     from yds._excess import excess, read_breaks
 
     read = read_breaks(Rows(lines(files)))
-    return Drawing("curve", lambda choice: excess(read.breaks, read.points, units or read.units), 720, 440)
+    return Drawing("curve", lambda choice: excess(read.breaks, read.points, units or read.units, choice), 720, 440)
 
 
 def _energy(files: Sequence[str], units: Optional[Units]) -> Drawing:
     from yds._bars import bars, read_energies
 
     read = read_energies(Rows(lines(files)))
-    return Drawing("energy", lambda choice: bars(read, units), 150 * len(read.sides) + 260, 440)
+    return Drawing("energy", lambda choice: bars(read, units, choice), 150 * len(read.sides) + 260, 440)
 
 
 def _ratios(files: Sequence[str], units: Optional[Units]) -> Drawing:

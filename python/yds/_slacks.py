@@ -122,7 +122,8 @@ def slacks(table: Sequence[Slack], units: Units, choice: Choice) -> Slacks:
     known = [float(one.slack) for one in jobs if one.slack is not None]
     least, most = min([*known, 0.0]), max([*known, 0.0])
     time = time_scale(units, end, "release")
-    length = time_scale(units, max(most, -least), "slack")
+    linear = _linear(least, most)
+    length = time_scale(units, linear or max(most, -least), "slack")
     groups = grouped(dict(enumerate(one.job for one in jobs)), choice.group)
     if len(groups.names) > len(COLOURS):
         groups = Groups(groups.kind, ["jobs"], dict.fromkeys(groups.of, 0))
@@ -148,7 +149,6 @@ def slacks(table: Sequence[Slack], units: Units, choice: Choice) -> Slacks:
         for one in jobs
         if one.is_left_out and one.slack is not None and one.release is not None
     ]
-    linear = _linear(least, most)
     edge = (end - first) * 0.01
     frame = frame._replace(
         title=frame.title + (": the least of each column of pixels" if is_least else ""),
@@ -158,8 +158,7 @@ def slacks(table: Sequence[Slack], units: Units, choice: Choice) -> Slacks:
         notes=_notes(jobs, unknown, units, choice),
     )
     if linear is not None:
-        label = f"{length.label}, logarithmic below {time_scale(units, linear).told(-linear)}"
-        frame = frame._replace(y_label=label)
+        frame = frame._replace(hints=[f"below {length.told(-linear)} the axis is logarithmic"])
     told = f"{counted(len(known), 'job', 'jobs')}, the least slack {length.told(least) if known else 'unknown'}"
     return Slacks(in_words(frame, told), dots, undone, rings, None if linear is None else linear * length.factor)
 
@@ -170,7 +169,7 @@ def _is_in(release: Fraction, choice: Choice) -> bool:
 
 def _linear(least: float, most: float) -> Optional[float]:
     """Down to which lateness the axis is linear; None where it is throughout."""
-    return most if 0 < most * 4 < -least else None
+    return most if 0 < most * 2 < -least else None
 
 
 def _range(least: float, most: float, linear: Optional[float]) -> Tuple[float, float]:

@@ -4,7 +4,7 @@ from __future__ import annotations
 
 from typing import Dict, List, NamedTuple, Optional, Sequence, Set, Tuple
 
-from yds._framed import COLOURS, SOFT, Choice, Frame, Groups, Key, Range, grouped, in_words, shortened_name
+from yds._framed import COLOURS, SOFT, Choice, Frame, Groups, Key, grouped, in_words, shortened_name
 from yds._gantt import span
 from yds._pixels import Columns, Stretch, columns_of, dense_columns, outside, shares
 from yds._scales import Scale, Units, short, speed_scale, time_scale
@@ -212,7 +212,7 @@ def _of_several(
         for line in lines
     ]
     hints = ["where runs are narrower than a pixel: the mean speed of its time"] if is_mean else []
-    notes = [note for note in (_below_points(one, name) for one, name in zip(documents, names)) if note]
+    notes = [note for note in (_below_points(one, name, scale) for one, name in zip(documents, names)) if note]
     told = f"Documents: {', '.join(names)}"
     frame = in_words(frame._replace(title="Speed over time", key=key, notes=notes, hints=hints), told)
     plans = [one.is_plan for one in documents]
@@ -237,13 +237,10 @@ def _steps(boxes: Sequence[Box], columns: Columns) -> Tuple[List[float], List[fl
     return [*times, until, columns.end], [*speeds, 0.0, 0.0]
 
 
-def _below_points(document: Timeline, name: str) -> Optional[str]:
+def _below_points(document: Timeline, name: str, scale: Scale) -> Optional[str]:
     """A note where a plan runs below the least point, which no processor of these points does."""
     least = min((speed for speed, _ in document.points if speed > 0), default=0)
     if not document.is_plan or not any(run.speed < least for run in document.runs):
         return None
-    told = speed_scale(document.units, least).told(least)
-    return f"{name} runs below the least point, {told}: the answer of `yds_cli round` is a schedule on the points"
-
-
-__all__ = ["Box", "Level", "Line", "Range", "Speed", "speed"]
+    told = f"{name} runs below the least point, {scale.told(least)}"
+    return f"{told}: the answer of `yds_cli round` is a schedule on the points"

@@ -58,6 +58,8 @@ class Files(NamedTuple):
     most: Optional[int] = None
     few: str = ""
     """What is told where there are fewer than the least."""
+    words: Sequence[str] = ()
+    """What the first may be, where it is no file: for the completion."""
 
     def form(self) -> str:
         """How a line of usage has them."""
@@ -262,7 +264,8 @@ def _option_lines(command: Command) -> List[str]:
 def options_of(command: Command) -> str:
     """The words that begin an option, for the completion: one that has a value ends with a space's place, as --name=."""
     words = [f"--{option.name}{'=' if option.value else ''}" for option in command.options]
-    return "\n".join([*words, *(option.short for option in command.options if option.short), "--help", "--version"])
+    words += [option.short for option in command.options if option.short]
+    return "\n".join([*words, *command.files.words, "--help", "--version"])
 
 
 def version_of(command: Command) -> str:

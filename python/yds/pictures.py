@@ -140,7 +140,7 @@ def slack(
 ) -> Any:
     """How long before its deadline each job was done, of the rows of `yds.jobs.table`; what is below 0 was late.
 
-    Where a job is more than four times later than any is early, the axis is logarithmic below that.
+    Where a job is later by more than twice what any is early, the axis is logarithmic below that.
     """
     table = [slack_of(row) for row in rows]
     drawing = Drawing("slack", lambda choice: slacks(table, units, choice), 960, 400)
@@ -164,7 +164,7 @@ def curve(
     """
     breaks = [(Fraction(one.speed), Fraction(one.excess)) for one in told.breaks]
     speeds_of_points = [int(point[0]) for point in points]
-    drawing = Drawing("curve", lambda choice: excess(breaks, speeds_of_points, units), 720, 440)
+    drawing = Drawing("curve", lambda choice: excess(breaks, speeds_of_points, units, choice), 720, 440)
     if axes is None:
         return on_sheet(drawing, chosen(None, None, None), size, title, **look)
     return on_axes(drawing, chosen(None, None, None), axes, **look)
@@ -187,7 +187,7 @@ def energy(
     """
     told = Energies(list(sides), [(int(point[0]), int(point[1])) for point in points], list(notes), units)
     width = 150 * len(told.sides) + 260
-    drawing = Drawing("energy", lambda choice: bars(told), width, 440)
+    drawing = Drawing("energy", lambda choice: bars(told, None, choice), width, 440)
     choice = chosen(None, None, None)
     return on_sheet(drawing, choice, size, title) if axes is None else on_axes(drawing, choice, axes)
 

@@ -56,7 +56,7 @@ Each picture has its words in it, for who can't see it, and two runs write the s
         ),
         Option("range", "only this time, in the document's units", "FROM:TO", "-r"),
     ],
-    Files("KIND [FILE]", 1, None, "the first word is the kind of picture: " + ", ".join(KINDS)),
+    Files("KIND [FILE]", 1, None, f"the first word is the kind of picture ({', '.join(KINDS)})", KINDS),
 )
 
 
