@@ -5,6 +5,7 @@
 #   make run        plans the document EXAMPLE with the program unproved, says so, proves what it is made of, builds it, and plans it again
 #   make test       the gate: every proof, test, refused edit and stored run, and the checks that checks/gate.py lists
 #   make tools-check    the tests of the commands that need Python's own library alone; the gate has them, too
+#   make tools-test     their other tests, which need matplotlib, mypy, pytest and others: what isn't there is left out, and named
 #   make check      the built program answers every example and stored row byte for byte, within seconds
 #   make recipes    every recipe on its sample, with the built program
 #   make faults     refuses the built program memory, reads and writes in turn, and random bytes, and breaks its streams
@@ -52,7 +53,7 @@ DOCUMENTS ?= 100000
 LIBRARY := build/libyds.so
 LINKER_CACHE = test -n "$$DESTDIR" || ldconfig 2>/dev/null || echo "ldconfig, run by root, lets programs find libyds.so.1 there"
 
-.PHONY: all help run try test tools-check check recipes faults fuzz costly bench bench-library library library-test wheel sdist install install-program install-tools install-pages install-library uninstall uninstall-program uninstall-tools uninstall-pages uninstall-library map deb dist check-build record-build packages-test clean tool
+.PHONY: all help run try test tools-check tools-test check recipes faults fuzz costly bench bench-library library library-test wheel sdist install install-program install-tools install-pages install-library uninstall uninstall-program uninstall-tools uninstall-pages uninstall-library map deb dist check-build record-build packages-test clean tool
 
 all: $(BINARY) build/proved
 
@@ -93,6 +94,9 @@ test: tool
 
 tools-check:
 	@python3 checks/tools.py
+
+tools-test:
+	@python3 checks/second.py
 
 check: $(BINARY)
 	@sh examples/check.sh ../$(BINARY)
