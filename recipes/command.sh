@@ -1,7 +1,7 @@
 #!/bin/sh
 # command.sh: the recipes as commands. A link to this file is named after the recipe that it runs: yds-trace runs
-# trace.awk, yds-plot runs plot.sh. `make install` puts such links on the PATH. In the
-# repository the files of recipes/bin call this one with their name as first word.
+# trace.awk. `make install` puts such links on the PATH. In the repository the files of recipes/bin call this one with
+# their name as first word.
 #
 #   yds-trace cpu=0 tasks=decode:16.667,audio:10 report.txt > trace.txt
 #

@@ -1,7 +1,7 @@
 #!/bin/sh
 # test.sh: runs each recipe on its sample and compares what it writes, byte for byte, with what is stored.
 #
-#   sh recipes/test.sh [PART ..]      parts: trace points comma energy rtapp plot folder page manual readme,
+#   sh recipes/test.sh [PART ..]      parts: trace points comma energy rtapp folder page manual readme,
 #                               and the files of tests/; all without one
 #
 # Environment: YDS (the program; build/yds_cli beside this folder), AWK (awk), PYTHON (python3), HOUR (with any value the manual's trace of
@@ -29,6 +29,7 @@ left_out=0
 
 pass() { passed=$((passed + 1)); }
 fail() { failed=$((failed + 1)); echo "FAILED: $1"; }
+has_matplotlib() { "$PYTHON" -c 'import matplotlib' 2>/dev/null; }
 has() { command -v "$1" >/dev/null 2>&1 || [ -x "/usr/sbin/$1" ]; }
 # Whether the program has the command: an empty document isn't answered by the usage line.
 knows() {
@@ -46,7 +47,8 @@ known=" "
 want() {
 	for word in "$@"; do
 		case $word in
-		jq | gnuplot | parallel | bash | mandoc | sshd) has "$word" || { left_out=$((left_out + 1)); return 1; } ;;
+		jq | parallel | bash | mandoc | sshd) has "$word" || { left_out=$((left_out + 1)); return 1; } ;;
+		matplotlib) has_matplotlib || { left_out=$((left_out + 1)); return 1; } ;;
 		*) knows "$word" || { left_out=$((left_out + 1)); return 1; } ;;
 		esac
 	done
@@ -282,7 +284,6 @@ test_energy() {
 # An energy line's number with three decimals.
 decimal='{ n = split($3, part, /[+\/]/); printf "%s %.3f\n", $1, (n == 3 ? part[1] + part[2] / part[3] : $3) }'
 
-plot() { sh "$here/plot.sh" "$@"; }
 # holds NAME FILE TEXT ..: the file has each of these texts.
 holds() {
 	name=$1 file=$2
@@ -297,63 +298,6 @@ counts() {
 	got=$(grep -cF -- "$3" "$2")
 	if [ "$got" = "$4" ]; then pass; else fail "$1: $got of '$3' and not $4"; fi
 }
-test_plot() {
-	refuses "plot: no kind" 2 "" "plot.sh: the first word is the kind of picture" plot
-	want gnuplot || return
-	cat "$expected/points.txt" "$expected/trace.txt" >"$work/both"
-	plot speed <"$work/both" >"$work/speed.svg"
-	holds "plot speed" "$work/speed.svg" '<title>yds_cli speed</title>' 'time (ms)' 'speed (MHz)' '>audio<' '>decode<' '>1420<'
-	counts "plot speed: boxes of audio" "$work/speed.svg" "<polygon fill = 'rgb(  0, 114, 178)'" "$(($(grep -c '^run audio' "$work/both") + 1))"
-	plot gantt <"$expected/trace-late.txt" >"$work/gantt.svg"
-	holds "plot gantt" "$work/gantt.svg" '>decode.2<' '>window<' '>late<' '>deadline<' 'speed (MHz)'
-	counts "plot gantt: windows" "$work/gantt.svg" "<polygon fill = 'rgb(233, 233, 233)'" 9
-	counts "plot gantt: late" "$work/gantt.svg" "<polygon fill = 'rgb(245, 166,  35)'" 2
-	(cat "$work/both" "$expected/curve.txt") | plot curve >"$work/curve.svg"
-	holds "plot curve" "$work/curve.svg" 'least work above it (Mcycles)' '>481<' '>589<' '>620<'
-	cat "$work/both" "$expected/compare-governor.txt" "$expected/energy.txt" | plot energy >"$work/energy.svg"
-	holds "plot energy" "$work/energy.svg" 'energy (mJ)' '>1.98 mJ<' '>+36.1 %<' '>governor<' '>1420 MHz<'
-	printf 'plan energy 3\navr too-slow units 10 from 1 to 2 top 1\n' | plot energy >"$work/slow.svg"
-	holds "plot energy: too slow" "$work/slow.svg" '>too slow<'
-	counts "plot energy: no percentage" "$work/slow.svg" ' %<' 0
-	plot ratios "$expected/folder.tsv" >"$work/ratios.svg"
-	holds "plot ratios" "$work/ratios.svg" '3 documents' '>avr<' '>oa<' 'share of the documents (%)'
-	printf 'document\tplan\tavr\toa\town\trounded\tanswer\na\t3\t-\t4\t5\t0\tok\nb\t3\t4\t4\t-\t0\tok\n' >"$work/sides.tsv"
-	plot ratios "$work/sides.tsv" >"$work/sides.svg"
-	holds "plot ratios: sides without an energy" "$work/sides.svg" '>avr (1 too slow)<' '>own (1 without)<'
-	plot gantt -r 3000:5400 "$expected/trace-late.txt" >"$work/range.svg"
-	counts "plot gantt -r: no row of a job outside" "$work/range.svg" '>audio.0<' 0
-	holds "plot gantt -r" "$work/range.svg" '>decode.2<' '>late<'
-	$AWK 'BEGIN { for (j = 1; j <= 13; j++) print "job j" j, j, j + 9, 1 "\nslot j" j, j, j + 1, 1 }' | plot gantt >"$work/jobs.svg"
-	holds "plot gantt: names of no tasks" "$work/jobs.svg" '>Who runs when, by job<' '>j13<'
-	"$YDS" plan <"$work/both" >"$work/plan.txt"
-	plot speed "$work/both" "$work/plan.txt" >"$work/two.svg"
-	holds "plot speed of two" "$work/two.svg" '>both<' '>plan<'
-	plot speed -u 1ms,1kHz "$work/plan.txt" >"$work/units.svg"
-	holds "plot -u" "$work/units.svg" 'time (s)' 'speed (kHz)'
-	plot speed <"$here/../examples/own-slots.txt" >"$work/plain.svg"
-	holds "plot without units" "$work/plain.svg" 'time (units)' 'speed (work per unit of time)'
-	if plot gantt -t png <"$work/both" | od -An -c | head -n 1 | grep -q 'P *N *G'; then pass; else fail "plot: png"; fi
-	if plot gantt -t dumb <"$expected/trace-late.txt" | grep -q 'decode.2 .*|!'; then pass; else fail "plot: dumb"; fi
-	(cd "$work" && plot gantt <"$here/samples/bad/hostile.txt" >"$work/hostile.svg" && plot speed <"$here/samples/bad/hostile.txt" >>"$work/hostile.svg" &&
-		plot gantt -t dumb <"$here/samples/bad/hostile.txt" >/dev/null)
-	if [ -e "$work/touch" ] || [ -e "$work/x" ]; then fail "plot: a name was run"; else pass; fi
-	holds "plot: hostile names" "$work/hostile.svg" '>`touch${IFS}x`<' '>a%d&amp;&lt;b><'
-	if has xmllint; then
-		for file in speed gantt curve energy slow ratios two; do
-			if xmllint --noout "$work/$file.svg" 2>/dev/null; then pass; else fail "plot: $file.svg is not well-formed"; fi
-		done
-	fi
-	refuses "plot: options after a file" 2 "" "plot.sh: the options come before the files: -t" plot speed "$work/both" -t png
-	sed 's/speed unit 10000 kHz/speed unit 1000 kHz/' "$expected/points.txt" | cat - "$expected/trace.txt" >"$work/units"
-	refuses "plot: two units of speed" 1 "" "plot.sh: line 20: a unit of speed of 10000 kHz here and 1000 kHz before; give points and trace the same khz=" plot speed "$work/units"
-	refuses "plot: no slot" 1 "" "plot.sh: no slot; give a trace's document or the answer of plan, round, avr or oa" plot speed frames.txt
-	refuses "plot: no break" 1 "" "plot.sh: no break line; is this the answer of curve?" plot curve "$work/both"
-	refuses "plot: no energy" 1 "" "plot.sh: no energy line; is this the answer of compare?" plot energy "$work/both"
-	refuses "plot: a refusal" 1 "" "plot.sh: the input is an answer of no: refused 1 9 EmptyWindow" plot speed "$expected/compare-refused.txt"
-	refuses "plot: what failed" 1 "" "plot.sh: the input is an answer of no: failed" from "bad/failed.txt" plot gantt
-	refuses "plot: a slot without length" 1 "" "plot.sh: line 2: a slot or run without length: slot a 3 3 1" from "bad/flat.txt" plot speed
-}
-
 test_folder() {
 	cp "$expected"/compare-a.txt "$expected"/compare-refused.txt "$expected"/compare-too-slow.txt "$work"
 	(cd "$work" && tool collect compare-a.txt compare-refused.txt compare-too-slow.txt >energies.tsv)
@@ -426,8 +370,8 @@ commands_of() {
 			case $(cat "$title") in
 			"Long traces and many machines" | "A window that is always open") [ -n "${HOUR:-}" ] || { left_out=$((left_out + 1)); echo "tried with HOUR=1 alone: ${page##*/}, $(cat "$title")"; continue; } ;;
 			esac
-			words=$(cat "$section".*.command | grep -oE 'yds_cli [a-z]+( --json)?|plot\.sh|yds-plot|jq |parallel ' |
-				sed 's/.*--json/json/; s/yds_cli //; s/^plot.sh\|^yds-plot/gnuplot/' | sort -u)
+			words=$(cat "$section".*.command | grep -oE 'yds_cli [a-z]+( --json)?|yds-plot|jq |parallel ' |
+				sed 's/.*--json/json/; s/yds_cli //; s/^yds-plot/matplotlib/' | sort -u)
 			# shellcheck disable=SC2086
 			want $words || continue
 			mkdir -p "$section.folder/bin" "$section.folder/build"
@@ -454,12 +398,13 @@ commands_of() {
 	done
 }
 
+texts() { grep -o '>[^<]*</text>' "$1"; }
 # same_pictures FOLDER: a picture of docs/pictures has the texts of the one of this name that the commands have drawn.
 same_pictures() {
 	for picture in "$1"/*.svg; do
 		stored=$here/../docs/pictures/${picture##*/}
 		[ -f "$picture" ] && [ -f "$stored" ] || continue
-		if [ "$(grep '<text>' "$picture")" = "$(grep '<text>' "$stored")" ]; then pass; else fail "docs/pictures/${picture##*/} isn't what the commands draw; draw it anew with them"; fi
+		if [ "$(texts "$picture")" = "$(texts "$stored")" ]; then pass; else fail "docs/pictures/${picture##*/} isn't what the commands draw; draw it anew with them"; fi
 	done
 }
 
@@ -471,7 +416,7 @@ for file in "$here"/tests/*.sh; do
 	more="$more ${name%.sh}"
 done
 
-parts=${*:-trace points comma energy rtapp plot folder page manual readme$more}
+parts=${*:-trace points comma energy rtapp folder page manual readme$more}
 for part in $parts; do
 	rm -rf "$work"
 	mkdir "$work" || exit 1
@@ -479,9 +424,10 @@ for part in $parts; do
 	test_$part
 done
 missing=
-for word in jq gnuplot parallel mandoc sshd; do
-	has $word || case $word in gnuplot) missing="$missing gnuplot-nox" ;; sshd) missing="$missing openssh-server" ;; *) missing="$missing $word" ;; esac
+for word in jq parallel mandoc sshd; do
+	has $word || case $word in sshd) missing="$missing openssh-server" ;; *) missing="$missing $word" ;; esac
 done
+has_matplotlib || missing="$missing python3-matplotlib"
 [ -z "$missing" ] || echo "missing packages; on Debian: apt-get install$missing"
 [ $left_out = 0 ] || echo "$left_out left out"
 echo "$passed passed, $failed failed"

@@ -77,7 +77,6 @@ jobs_that_are_not_whole() {
 	tells "told: by yds-collect, of parts" 0 "# whole: part 2: 1 job was left out of the document, with its energy" cat "$work/table"
 	tells "told: by yds-summary, of parts" 0 "# in 1 of them jobs have energy that is in no line, or work that isn't known; see the comments of the table" tool summary "$work/table"
 	tells "told: by yds-battery, of parts" 0 "# part 1: 3 jobs were left out of the document, with their energy" tool battery --mah 9 --volts 1 --uw 1 --period 10 "$work/whole.txt"
-	want gnuplot || return
-	plot energy "$work/side.txt" >"$work/side.svg"
-	holds "told: in the picture" "$work/side.svg" '>not due by 1000: big, 1 of 1 jobs, work 600000: this energy is in no line<' '>the work of 2 jobs isn’t known'
+	tool plot energy -t text "$work/side.txt" >"$work/side"
+	holds "told: in the picture" "$work/side" 'not due by 1000: big, 1 of 1 jobs, work 600000: this energy is in no line' "the work of 2 jobs isn't known"
 }

@@ -83,9 +83,7 @@ reads_together() {
 	refuses "units: parts, $kind" 1 "" "yds-parts: line 7: $text" tool parts --folder "$work/parts" "$work/two"
 	text_of_part=$(cat "$work/parts/part-00001.txt" 2>/dev/null)
 	if [ "$text_of_part" = failed ]; then pass; else fail "units: parts, $kind: $text_of_part"; fi
-	if want gnuplot; then
-		refuses "units: plot, $kind" 1 "" "plot.sh: line 7: $text" sh "$here/plot.sh" gantt "$work/two"
-		refuses "units: plot with units of its own, $kind" 1 "" "plot.sh: line 7: $text" sh "$here/plot.sh" gantt -u 10us,10MHz,1mW "$work/two"
-	fi
+	refuses "units: plot, $kind" 1 "" "yds-plot: $work/two, line 7, column $column: $dashed" tool plot gantt "$work/two"
+	refuses "units: plot with units of its own, $kind" 1 "" "yds-plot: $work/two, line 7, column $column: $dashed" tool plot gantt -u 10us,10MHz,1mW "$work/two"
 	if energy "$work/one" >"$work/out" 2>&1 && tool misses "$work/one" >"$work/out" 2>&1; then pass; else fail "units: one unit of $kind"; cat "$work/out"; fi
 }
