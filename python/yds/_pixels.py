@@ -13,8 +13,8 @@ _WIDE.update({sign: 0.4 for sign in " .,:;'|!()[]-tfr/\\\"`"})
 def text_width(text: str, size: float) -> float:
     """How wide a text is, about, in pixels: in DejaVu Sans of so many pixels, which is wide among the plain fonts.
 
-    >>> round(text_width("render.0", 10))
-    47
+    >>> text_width("render.0", 10)
+    44.5
     """
     return size * sum(_WIDE.get(sign, 0.65 if ord(sign) < 0x1100 else 1.05) for sign in text)
 
