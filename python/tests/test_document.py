@@ -1,9 +1,11 @@
 """Documents: what they are made of, what is refused, and what each method answers. The values are worked by hand."""
 
 import copy
+import io
 import pickle
 import re
 import unittest
+from contextlib import redirect_stdout
 from decimal import Decimal
 from fractions import Fraction
 from typing import Any, Callable, List
@@ -12,6 +14,7 @@ from unittest import mock
 import stored
 import yds
 from yds import _places
+from yds.commands import draw
 
 THREE = [("a", 0, 12, 4), ("b", 2, 10, 8), ("c", 4, 6, 6)]
 POLICIES = [("a", 0, 3, 2), ("b", 1, 2, 1)]
@@ -395,6 +398,39 @@ class Answers(unittest.TestCase):
         trial = yds.trial(0, 2)
         self.assertEqual((trial.jobs, trial.levels, trial.slots, trial.peak), (2, 2, 2, (53709, 18257)))
         self.assertIsNone(yds.trial(0, 0).peak)
+
+    def test_drawn_jobs(self) -> None:
+        """Those of trial, of yds-draw, and of the generator as its page tells it."""
+        for seed in (0, 5, 2**32 - 1):
+            levels = yds.draw(seed, 30).plan().levels
+            trial = yds.trial(seed, 30)
+            self.assertEqual((trial.levels, trial.peak), (len(levels), (levels[0].work, levels[0].length)))
+        draws, state = [], 7
+        for _ in range(60):
+            state = (1664525 * state + 1013904223) % 2**32
+            draws.append(state // 65536)
+        wanted = []
+        for place, (x, y, z) in enumerate(zip(draws[::3], draws[1::3], draws[2::3])):
+            start = 200 * x // 65536
+            wanted.append((f"j{place}", start, start + 1 + 150 * y // 65536, 1 + 120 * z // 65536))
+        document = yds.draw(7, release=200, window=150, work=120, points=[(0, 1), (9, 9)])
+        self.assertEqual((document.jobs, document.points), (tuple(wanted), ((0, 1), (9, 9))))
+        written = io.TextIOWrapper(io.BytesIO())
+        with redirect_stdout(written):
+            self.assertEqual(draw.main("--seed 7 --jobs 20 --release 200 --window 150 --work 120".split()), 0)
+        self.assertEqual(yds.Document.from_text(written.buffer.getvalue()).jobs, document.jobs)
+
+    def test_numbers_that_cannot_be_drawn(self) -> None:
+        for message, wrong in (
+            (r"^the seed is a whole number of at least 0, and not -1$", {"seed": -1}),
+            (r"^the seed is at most 4,294,967,295, and not 4294967296$", {"seed": 2**32}),
+            (r"^the number of jobs is at most 4,000, and not 4001$", {"jobs": 4001}),
+            (r"^work is a whole number of at least 1, and not 0$", {"work": 0}),
+            (r"^window is at most 1,000,000,000, and not", {"window": 10**9 + 1}),
+            (r"^release and window together are above 1,000,000,000", {"release": 10**9 - 1, "window": 2}),
+        ):
+            with self.subTest(message), self.assertRaisesRegex(ValueError, message):
+                yds.draw(**{"seed": 0, **wrong})
 
     def test_audit(self) -> None:
         def verdict(*slots: tuple, points: bool = False) -> yds.Verdict:

@@ -31,7 +31,7 @@ if TYPE_CHECKING:
     from yds import energy, pictures, schedule
     from yds._library import Answer, Status, answer
     from yds._many import map
-    from yds.document import Admission, Document, Expansion, OneLevel, Plan, Rounded, Run, expand, trial
+    from yds.document import Admission, Document, Expansion, OneLevel, Plan, Rounded, Run, draw, expand, trial
     from yds.errors import OutOfMemory, Refused, UsageError, YdsError
     from yds.policy import Moment, Pending, Policy, Simulation, simulate
     from yds.results import (
@@ -91,6 +91,7 @@ __all__ = [
     "Verdict",
     "YdsError",
     "answer",
+    "draw",
     "energy",
     "expand",
     "map",
@@ -103,7 +104,7 @@ __all__ = [
 _FROM = {
     "yds._library": "Answer Status answer",
     "yds._many": "map",
-    "yds.document": "Admission Document Expansion OneLevel Plan Rounded Run expand trial",
+    "yds.document": "Admission Document Expansion OneLevel Plan Rounded Run draw expand trial",
     "yds.errors": "OutOfMemory Refused UsageError YdsError",
     "yds.policy": "Moment Pending Policy Simulation simulate",
     "yds.results": "Break Comparison Curve Judgement Least Overload Refusal Report ReportLevel Side TooSlow Trial "

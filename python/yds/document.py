@@ -7,7 +7,7 @@ from functools import cached_property
 from itertools import zip_longest
 from typing import Any, ClassVar, Dict, Iterable, List, NamedTuple, Optional, Sequence, Tuple, Type, TypeVar, Union
 
-from yds import _shown, _slots, _spelling
+from yds import _draws, _shown, _slots, _spelling
 from yds._forms import JOBS, POINTS, SLOTS, TASKS, name, read
 from yds._library import Answer, Status, answer, as_bytes
 from yds._measured import Measured
@@ -542,3 +542,38 @@ def trial(seed: int, jobs: int) -> Trial:
     words = ["trial", str(integer(seed, "the seed")), str(integer(jobs, "the number of jobs"))]
     limit = "a seed is from 0 to 4,294,967,295, and a trial has at most 1,000 jobs"
     return Trial.read(_ask(words, b"", limit).text)
+
+
+def draw(
+    seed: int,
+    jobs: int = 20,
+    release: Optional[int] = None,
+    window: Optional[int] = None,
+    work: Optional[int] = None,
+    points: Iterable[PointLike] = (),
+) -> Document:
+    """A document of so many jobs (at most 4,000), drawn from the seed as `yds-draw` and `trial` draw them.
+
+    A seed (0 to 4,294,967,295) has the same jobs on each machine. Releases are below `release`, windows at most as long
+    as `window`, works at most `work`, and each is at least 1; without them they are trial's own. The points are those
+    that are given.
+
+    >>> draw(seed=0, jobs=2).jobs[0]
+    Job(name='j0', release=154700, deadline=172957, work=53709)
+    >>> draw(7, jobs=50, release=200, window=150, work=120).plan().check().accepted
+    True
+    """
+    limits = (
+        ("the seed", seed, 0, _draws.MOST_SEED),
+        ("the number of jobs", jobs, 0, _draws.MOST_JOBS),
+        ("release", release, 1, _draws.LAST_TIME - 1),
+        ("window", window, 1, _draws.LAST_TIME),
+        ("work", work, 1, _draws.MOST_WORK),
+    )
+    for what, value, least, most in limits:
+        if value is not None and integer(value, what, least) > most:
+            raise ValueError(f"{what} is at most {most:,}, and not {value!r}")
+    sizes = _draws.Sizes(release, window, work)
+    if sizes.last > _draws.LAST_TIME:
+        raise ValueError(f"release and window together are above {_draws.LAST_TIME:,}, the last time of a document")
+    return Document(_draws.jobs(seed, jobs, sizes), points)

@@ -4,8 +4,9 @@ from __future__ import annotations
 
 import re
 import sys
-from typing import Callable, Iterator, Optional, Sequence
+from typing import Callable, Optional, Sequence
 
+from yds._draws import LAST_TIME, MOST_JOBS, MOST_SEED, MOST_WORK, Sizes, jobs
 from yds._words import DONE, Command, Files, Given, Option, WordsError, run
 
 COMMAND = Command(
@@ -33,7 +34,6 @@ Output: a comment with the options, and the job lines. In units of your choice.
     "0 done; 2 a fault of the words (then `failed` is written, which yds_cli refuses).",
     writes_document=True,
 )
-LAST_TIME = 1_000_000_000
 
 
 def main(words: Sequence[str]) -> int:
@@ -43,20 +43,17 @@ def main(words: Sequence[str]) -> int:
 
 def tell(given: Given, write: Callable[[str], None]) -> int:
     """Writes the comment, and the jobs."""
-    seed, count = number(given, "seed", 0, 4294967295), number(given, "jobs", 0, 4000)
+    seed, count = number(given, "seed", 0, MOST_SEED), number(given, "jobs", 0, MOST_JOBS)
     release, window = number(given, "release", 1, LAST_TIME - 1), number(given, "window", 1, LAST_TIME)
-    work = number(given, "work", 1, 1_000_000)
-    if (release or 0) + (window or 0) > LAST_TIME:
+    sizes = Sizes(release, window, number(given, "work", 1, MOST_WORK))
+    if sizes.last > LAST_TIME:
         raise WordsError(f"--release and --window together are above {LAST_TIME}, the last time of a document")
     told = f"# drawn with seed {seed or 0}"
     told += "" if release is None else f", releases below {release}"
     told += "" if window is None else f", windows up to {window}"
-    write(told + ("" if work is None else f", work up to {work}"))
-    numbers = draws(seed or 0)
-    for place in range(20 if count is None else count):
-        start = drawn(next(numbers), release, 10)
-        end = start + 1 + drawn(next(numbers), window, 1)
-        write(f"job j{place} {start} {end} {1 + drawn(next(numbers), work, 1)}")
+    write(told + ("" if sizes.work is None else f", work up to {sizes.work}"))
+    for job in jobs(seed or 0, 20 if count is None else count, sizes):
+        write(f"job {job.name} {job.release} {job.deadline} {job.work}")
     return DONE
 
 
@@ -69,18 +66,6 @@ def number(given: Given, name: str, least: int, most: int) -> Optional[int]:
         limits = f"up to {most}" if not least else f"from {least} to {most}"
         raise WordsError(f"--{name} {text} is no whole number {limits}")
     return int(text)
-
-
-def draws(seed: int) -> Iterator[int]:
-    """The draws from a seed, each below 65536."""
-    while True:
-        seed = (1664525 * seed + 1013904223) % 2**32
-        yield seed // 65536
-
-
-def drawn(draw: int, limit: Optional[int], scale: int) -> int:
-    """A number below the limit; without one the draw itself, so many times."""
-    return scale * draw if limit is None else limit * draw // 65536
 
 
 if __name__ == "__main__":
