@@ -528,7 +528,7 @@ def expand(tasks: Union[bytes, str, Iterable[TaskLike]], horizon: Optional[int] 
         text = tasks.encode("utf-8") if isinstance(tasks, str) else as_bytes(tasks)
     else:
         if horizon is None:
-            raise TypeError("rows of tasks need a horizon")
+            raise TypeError("rows of tasks need a horizon: expand(tasks, horizon=12)")
         text = _spelling.joined([f"horizon {whole(horizon)}"], _spelling.lines("task", TASKS, tasks))
     return Expansion._of(_ask(["expand"], text))
 
