@@ -67,9 +67,12 @@ programs() {
 	gone share/yds_cli
 }
 
+# is_python COMMAND: whether it is a command of the Python package, by its file in recipes/bin.
+is_python() { grep -q _start.py "recipes/bin/$1"; }
+
 # page_of COMMAND: its manual page, from its own table or head.
 page_of() {
-	if [ -f "python/yds/commands/${1#yds-}.py" ]; then
+	if is_python "$1"; then
 		python3 python/yds/commands/_start.py "$1" --man
 	else
 		date=$(sed -n 's/^DATE = "\(.*\)"$/\1/p' python/yds/_version.py)
@@ -94,7 +97,7 @@ tools() {
 	[ $mode = remove ] || chmod 755 "$DESTDIR$PREFIX/share/yds_cli/recipes/samples"/*.sh
 	file completions/yds_cli.bash "$PREFIX/share/bash-completion/completions/yds_tools"
 	for name in $commands; do
-		if [ -f "python/yds/commands/${name#yds-}.py" ]; then target=../$start; else target=../share/yds_cli/recipes/command.sh; fi
+		if is_python "$name"; then target=../$start; else target=../share/yds_cli/recipes/command.sh; fi
 		link "$target" "$PREFIX/bin/$name"
 		link yds_tools "$PREFIX/share/bash-completion/completions/$name"
 		made "$PREFIX/share/man/man1/$name.1" page_of "$name"
