@@ -96,6 +96,12 @@ class TableTest(unittest.TestCase):
             ),
             ("26,1\n27,1e1\n", (), "line 2: 1e1 is no number; the columns are MHz and mW"),
             ("MHz,mW\n48\n", (), "line 2: 1 columns, and the heading has the units of 2"),
+            (
+                "MHz\tmW\n26\t2,6\n",
+                (),
+                "line 2: 3 columns (with decimal commas, write semicolons in place of the tabs: else a comma parts columns), "
+                "and the heading has the units of 2",
+            ),
             ("MHz,mW\n48,1\n48.0,2\n", (), "line 3: 48 MHz stands on line 2 too; leave one of them out"),
             ("MHz,mA,V\n48,1,0\n", (), "line 2: a current at 0 volts"),
             (

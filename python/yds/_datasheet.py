@@ -83,6 +83,8 @@ class Table:
             self._units, self._measured = ["mhz", "ma" if current else "mw"], "ma" if current else "mw"
         if len(numbers) != len(self._units):
             more = f"{len(numbers)} columns"
+            if "\t" in line.text and "," in line.text and ";" not in line.text:
+                more += " (with decimal commas, write semicolons in place of the tabs: else a comma parts columns)"
             if self._has_heading:
                 raise line.fault(f"{more}, and the heading has the units of {len(self._units)}")
             unit = "mA" if current else "mW"
