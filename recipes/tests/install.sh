@@ -19,4 +19,13 @@ test_install() {
 	in_root uninstall
 	left=$(find "$work/stage" -type f -o -type l | head -n 3)
 	if [ -z "$left" ] && [ ! -d "$work/stage/usr/share/yds_cli" ]; then pass; else fail "uninstall: left $left"; fi
+	# A PREFIX with a blank; the pages have no link that leads nowhere.
+	blank() { make -s -C "$here/.." -o build/yds_cli -o build/libyds.so "$1" INSTALLED="$YDS" PREFIX="$work/my folder" >"$work/log" 2>&1; }
+	blank install
+	answers "install: into a folder with a blank" 0 accepted from /dev/null sh -c '"$1" trial 0 9 | tail -n 1' sh "$work/my folder/bin/yds_cli"
+	answers "install: a command there" 0 "# drawn with seed 0" "$work/my folder/bin/yds-draw" --seed 0 --jobs 2
+	if "$PYTHON" "$here/../docs/check.py" "$work/my folder/share/doc/yds-doc" >"$work/log"; then pass; else fail "install: $(head -n 1 "$work/log")"; fi
+	blank uninstall
+	if [ -z "$(find "$work/my folder" ! -type d)" ]; then pass; else fail "uninstall: of a folder with a blank"; fi
+	answers "make help" 0 "Builds, tries, tests and installs yds_cli. \`make help\` writes these lines." make -s -C "$here/.." help
 }
