@@ -43,12 +43,13 @@ SOURCES := crates.txt $(shell find crates -path '*/out' -prune -o \( -name '*.rt
 JOBS ?= $(shell awk -v n=$$(nproc) '/^MemTotal/ { m = int($$2 / 2097152); print m < 1 ? 1 : m < 2 * n ? m : 2 * n }' /proc/meminfo)
 PREFIX ?= /usr/local
 INSTALLED ?= $(BINARY)
-export PREFIX DESTDIR LIBDIR INSTALLED DOCUMENT EXAMPLE
 EXAMPLE ?= examples/three-jobs.txt
 DOCUMENT ?= examples/three-jobs.txt
 COMMAND ?= plan
 SEED ?= 1
 DOCUMENTS ?= 100000
+# A variable that is exported before it is given a value is empty.
+export PREFIX DESTDIR LIBDIR INSTALLED DOCUMENT EXAMPLE
 
 LIBRARY := build/libyds.so
 LINKER_CACHE = test -n "$$DESTDIR" || ldconfig 2>/dev/null || echo "ldconfig, run by root, lets programs find libyds.so.1 there"

@@ -27,5 +27,8 @@ test_install() {
 	if "$PYTHON" "$here/../docs/check.py" "$work/my folder/share/doc/yds-doc" >"$work/log"; then pass; else fail "install: $(head -n 1 "$work/log")"; fi
 	blank uninstall
 	if [ -z "$(find "$work/my folder" ! -type d)" ]; then pass; else fail "uninstall: of a folder with a blank"; fi
+	printf '#!/bin/sh\ncat\n' >"$work/my folder/rt" && chmod 755 "$work/my folder/rt" && echo "job a 0 1 1" >"$work/my folder/a job.txt"
+	answers "make try: its own document" 0 "# three jobs, each window inside the one before" env PATH="$work/my folder:$PATH" make -s -C "$here/.." try
+	answers "make try: a document elsewhere" 0 "job a 0 1 1" env PATH="$work/my folder:$PATH" make -s -C "$here/.." try DOCUMENT="$work/my folder/a job.txt"
 	answers "make help" 0 "Builds, tries, tests and installs yds_cli. \`make help\` writes these lines." make -s -C "$here/.." help
 }
