@@ -42,7 +42,7 @@ link() {
 made() {
 	made=$1
 	shift
-	if [ "$mode" = remove ]; then text "$made" 644; else "$@" >build/install.text && file build/install.text "$made"; fi || die "$* failed"
+	if [ "$mode" = remove ]; then text "$made" 644; else "$@" >"$own/text" && file "$own/text" "$made"; fi || die "$* failed"
 }
 # gone FOLDER ..: the project's own folders, once nothing is in them.
 gone() {
@@ -126,14 +126,14 @@ headers() {
 }
 
 pages() {
-	if [ $mode = put ]; then rm -rf build/pages && python3 packaging/pages.py build/pages || die "the pages couldn't be made"; fi
-	for name in $(python3 packaging/pages.py --list); do file "build/pages/$name" "$PREFIX/share/doc/yds-doc/$name"; done
+	[ $mode = remove ] || python3 packaging/pages.py "$own/pages" || die "the pages couldn't be made"
+	for name in $(python3 packaging/pages.py --list); do file "$own/pages/$name" "$PREFIX/share/doc/yds-doc/$name"; done
 	gone share/doc/yds-doc
 }
 
 export PREFIX LIBDIR
-[ $mode = remove ] || mkdir -p build
+own=$(mktemp -d) || exit 1
+trap 'rm -rf "$own"' EXIT
 for part in "$@"; do
 	case $part in programs | tools | library | headers | pages) $part ;; *) die "there is no part $part" ;; esac
 done
-rm -rf build/install.text build/pages
