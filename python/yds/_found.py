@@ -3,9 +3,11 @@
 from __future__ import annotations
 
 import ctypes
+import hashlib
 import os
 import shutil
 from pathlib import Path
+from typing import List
 
 from yds._version import VERSION
 
@@ -38,3 +40,22 @@ def program() -> str:
     named = os.environ.get("YDS")
     found = named or shutil.which("yds_cli")
     return "program: yds_cli isn't on the PATH" if found is None else f"program: {found}, which tells no version"
+
+
+def answering() -> List[str]:
+    """A line on what answers, the library or the program: its name and its sum, without the folders of this machine."""
+    named = os.environ.get("YDS")
+    told = library()
+    if not named and "run the program" not in told:
+        place, _, rest = told[len("library: ") :].partition(", ")
+        return [f"answered by the library {os.path.basename(place)}, {rest}{_sum(place)}"]
+    found = shutil.which(named or "yds_cli")
+    return [] if found is None else [f"answered by the program {os.path.basename(found)}{_sum(found)}"]
+
+
+def _sum(place: str) -> str:
+    """The file's sum, behind a comma; nothing where there is no such file, as where the loader finds it."""
+    if not os.path.isfile(place):
+        return ""
+    with open(place, "rb") as source:
+        return f", SHA-256 {hashlib.sha256(source.read()).hexdigest()}"

@@ -1,0 +1,146 @@
+"""What a document's comments tell of jobs that couldn't be judged, and whether that can hide a missed deadline."""
+
+from __future__ import annotations
+
+import re
+from typing import Dict, Iterable, List, NamedTuple, Optional, Sequence, Tuple
+
+from yds._comments import LEFT_OUT, left_out_jobs, note_of
+from yds._gathered import task_of
+from yds._text import counted
+
+
+class Unjudged(NamedTuple):
+    """Something that wasn't judged."""
+
+    told: str
+    """What, and why."""
+    hides: bool
+    """Whether it can hide a missed deadline."""
+    why: str
+    """Why it can, or can't."""
+    jobs: int = 0
+    """How many jobs that are."""
+
+
+_REFUSED = re.compile(r"# refuse ([^ ]+) from [0-9]+ to [0-9]+ work ").match
+_NOT_DUE = re.compile(r"# not due by [0-9]+: (.+)").fullmatch
+_WRITTEN = re.compile(r"# ([0-9]{1,18}) jobs? written, ").match
+_LOST = re.compile(r"# places where events were lost: ([0-9]{1,18})").fullmatch
+_WRONG_UNIT = re.compile(r"# (the deadline|APART) of .*, and this looks like (micro|nano)?seconds").fullmatch
+_OF_TRACE = re.compile(r"# CPU [0-9]+ of a kernel trace; ").match
+_SAID = re.compile(r"# (places where|the trace (begins|ends) at|no wake-up of|[0-9]+ switch|.* may sleep within)").match
+
+_CUT = "it lies outside what was asked for"
+_KNOWN = "its begin and its end are known, and it wasn't late"
+_UNKNOWN = "it isn't known whether it was late"
+_REASONS: List[Tuple[str, bool, str]] = [
+    ("before from", False, _CUT),
+    ("after to", False, _CUT),
+    ("not ended", False, "its deadline wasn't over when the trace ended"),
+    ("ran on ", False, _KNOWN),
+    ("frequency not known", False, _KNOWN),
+]
+"""The begins of reasons, whether a job left out for it can be late, and why."""
+
+
+def unjudged(comments: Sequence[str], jobs: int) -> List[Unjudged]:
+    """What wasn't judged, by the comments of a document that has so many jobs; what can hide a miss goes first."""
+    lossy = any(map(_LOST, comments))
+    found = [*_left_out(comments, lossy), *_others(comments), *_by_count(comments, jobs)]
+    return sorted(found, key=lambda one: not one.hides)
+
+
+class _Group:
+    """Jobs of one task that were left out for one reason."""
+
+    def __init__(self, first: str, count: int = 1) -> None:
+        self.first = self.last = first
+        self.count = count
+
+
+def _left_out(comments: Iterable[str], lossy: bool) -> List[Unjudged]:
+    """The jobs that were left out, by task and reason."""
+    groups: Dict[Tuple[str, str], _Group] = {}
+    told: List[Tuple[str, int, str]] = []
+    for text in comments:
+        several = left_out_jobs(text)
+        if several is not None:
+            told.append((text.split(": ", 1)[1], several.number, several.reason))
+            continue
+        note = note_of(text)
+        if note is None or note.kind != LEFT_OUT or note.late is not None:
+            continue
+        key = task_of(note.job), note.reason
+        if key in groups:
+            groups[key].count += 1
+            groups[key].last = note.job
+        else:
+            groups[key] = _Group(note.job)
+    for (task, reason), group in groups.items():
+        if group.count == 1:
+            told.append((f"{group.first} ({reason})", 1, reason))
+        else:
+            which = f"the first {group.first}, the last {group.last}"
+            told.append((f"{group.count} jobs of {task} ({reason}), {which}", group.count, reason))
+    return [Unjudged(f"left out: {text}", *_judged(reason, lossy), count) for text, count, reason in told]
+
+
+def _judged(reason: str, lossy: bool) -> Tuple[bool, str]:
+    """Whether a job that was left out for this reason can be late, and why."""
+    for begin, hides, why in _REASONS:
+        if reason.startswith(begin):
+            if lossy and why == _KNOWN:
+                return True, "events were lost, and perhaps its end"
+            return hides, why
+    return True, _UNKNOWN
+
+
+def _others(comments: Iterable[str]) -> List[Unjudged]:
+    """What else the comments tell."""
+    found = []
+    for text in comments:
+        refused, not_due, lost = _REFUSED(text), _NOT_DUE(text), _LOST(text)
+        if refused is not None:
+            found.append(Unjudged(f"refused by admit: {refused.group(1)}", True, "it isn't served at all", 1))
+        elif not_due is not None:
+            found.append(Unjudged(text[2:], True, "these jobs aren't in the document"))
+        elif lost is not None:
+            found.append(Unjudged(text[2:], True, "whole jobs may have been there"))
+        elif _WRONG_UNIT(text):
+            found.append(Unjudged(text[2:], True, "in another unit each job may be in time, or late"))
+        elif _SAID(text):
+            found.append(Unjudged(text[2:], False, _why_said(text)))
+        elif text.startswith("# left out: ") and " within one tick" in text:
+            found.append(Unjudged(text[2:], False, "a job that was late in one is told"))
+    return found
+
+
+def _why_said(text: str) -> str:
+    if " switch" in text:
+        return "only how long other tasks ran isn't whole"
+    if " may sleep" in text:
+        return "but one job may be taken for several, or several for one"
+    if "no wake-up of" in text:
+        return "but a job may have waited before, unseen"
+    return "what is before or behind it isn't judged"
+
+
+def _by_count(comments: Iterable[str], jobs: int) -> List[Unjudged]:
+    """What the closing line of a trace's document tells: how many jobs were written."""
+    written: Optional[int] = None
+    of_trace = False
+    for text in comments:
+        of_trace = of_trace or _OF_TRACE(text) is not None
+        found = _WRITTEN(text)
+        if found is not None:
+            written = (written or 0) + int(found.group(1))
+    if not of_trace and written is None:
+        return []
+    if written is None:
+        told = "the closing line of the trace's document isn't there"
+        return [Unjudged(told, True, "the document may have been cut, and jobs with it")]
+    if written == jobs:
+        return []
+    told = f"the closing line tells {counted(written, 'job', 'jobs')}, and {counted(jobs, 'is', 'are')} here"
+    return [Unjudged(told, written > jobs, "jobs were taken away" if written > jobs else "jobs were added", 0)]
