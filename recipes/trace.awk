@@ -41,6 +41,8 @@
 #   start=KHZ    the speed before the first cpu_frequency line
 #   from=S to=S  seconds of the trace's clock; jobs that aren't wholly within are left out
 #   others=MS    the time of all other tasks as jobs others.0, others.1, .. with windows of so many ms
+#   others=spans who else had the CPU, where a listed task's job hadn't ended, as comments that yds-page and yds-plot read:
+#                # other NAME-PID FROM TO, in ticks, but for what is within one tick
 #   lost=cut     go on where events were lost: the jobs that may have been open there are left out
 #   strict=1     fail where a job is left out for another reason than from= and to=
 #   long=1       any number of jobs, runs and times, for a document that yds-parts cuts
@@ -61,7 +63,7 @@ function fail(text) { complain(text, 1) }
 function fail_line(text) { complain("line " NR ": " text, 1) }
 function usage(text) {
     complain(text "\nusage: yds-trace tasks=NAME:MS,.. [cpu=N] [us=N] [khz=N] [start=KHZ]" \
-        " [from=S] [to=S] [others=MS] [lost=cut] [strict=1] [long=1] [jobs=FILE] [ticks=N]" \
+        " [from=S] [to=S] [others=MS|spans] [lost=cut] [strict=1] [long=1] [jobs=FILE] [ticks=N]" \
         "\n       awk -f trace.awk -v 'tasks=?'", 2)
 }
 # Debian's awk reads and writes a comma for the decimal point where the locale has one: 16.667 would be 16.
@@ -124,7 +126,7 @@ function read_choices() {
     if (from != "" && !is_number(from)) return usage("from=" from " is no number of seconds")
     if (to != "" && !is_number(to)) return usage("to=" to " is no number of seconds")
     if (from != "" && to != "" && from + 0 >= to + 0) return usage("from=" from " isn't before to=" to)
-    if (others != "" && (!is_number(others) || others * 1000 < us)) return usage("others=" others " is no length in milliseconds of a unit or more")
+    if (others != "" && others != "spans" && (!is_number(others) || others * 1000 < us)) return usage("others=" others " is no length in milliseconds of a unit or more")
     if (lost != "" && lost != "cut") return usage("lost=" lost ": there is only lost=cut")
     if (lost != "" && jobs != "") return usage("lost=cut can't be told which jobs of jobs=FILE are missing")
     if (strict != "" && strict != 1) return usage("strict=" strict ": there is only strict=1")
@@ -506,7 +508,25 @@ function close_run_of_others(a, b) {
     if (high != "" && b > high) b = high
     if (b <= a) return
     others_time += b - a
-    if (others != "") add_run(0, a, b)
+    if (others == "spans") add_span(a, b)
+    else if (others != "") add_run(0, a, b)
+}
+# Who else had the CPU while a listed job hadn't ended; what goes on at another frequency is one span.
+function add_span(a, b,    t) {
+    for (t = 1; t <= number_of_tasks && !open[t]; t++) { }
+    if (t > number_of_tasks) return
+    if (spans && span_of[spans] == current && span_to[spans] == a) { span_to[spans] = b; return }
+    span_of[++spans] = current
+    span_from[spans] = a
+    span_to[spans] = b
+}
+function tell_spans(    i, a, b) {
+    for (i = 1; i <= spans; i++) {
+        a = floor_div(span_from[i] - zero, tick)
+        b = floor_div(span_to[i] - zero, tick)
+        if (a < 0) a = 0
+        if (b > a) printf "# other %s-%.0f %.0f %.0f\n", name_of[span_of[i]], span_of[i], a, b
+    }
 }
 function add_run(j, a, b) {
     run_job[++runs] = j
@@ -535,7 +555,7 @@ function told_name(id) { return id ? name_of[id] : "the idle task" }
 function miss_switch(i) {
     if (at[i] < start_time || since > last_time) return
     missing_switches++
-    if (others != "")
+    if (others != "" && others != "spans")
         fail("line " line_of[i] ": a switch of other tasks is missing: " told_name(who_id[i]) " leaves CPU " cpu \
             ", and the last to come was " told_name(current) "; leave others= out, since their time isn't known")
 }
@@ -912,6 +932,7 @@ function write_comments(    i, j, t) {
     if (high != "" && high > trace_end) print "# the trace ends at " clock(trace_end) " s, before to="
     if (left_out_time) printf "# %s ran on this CPU for %.3f ms\n", \
         (jobs_without_runs ? "jobs that are left out, or without their runs," : "left-out jobs"), left_out_time / 1000000
+    tell_spans()
     printf "# other tasks ran for %.3f ms of %.3f ms\n", others_time / 1000000, (last_time - start_time) / 1000000
     if (missing_switches) print "# " counted(missing_switches, "switch") " of other tasks " (missing_switches == 1 ? "is" : "are") \
         " missing: they may have run for another time than this"

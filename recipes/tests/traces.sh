@@ -30,6 +30,7 @@ test_traces() {
 	traces_without_a_whole_job
 	lines_that_are_passed_over
 	switches_that_are_missing
+	who_else_ran
 	traces_that_are_cut_short
 	other_traces
 }
@@ -453,6 +454,19 @@ traces_that_are_cut_short() {
 		eval "sed '9s/sched_.*/sched_sw/' short-late.txt | recipe trace.awk -v tasks=audio:5"
 }
 
+# Who else had the CPU while a job of a listed task hadn't ended: nothing of it stands in the document's lines.
+who_else_ran() {
+	trace -v tasks=decode:16.667,audio:10 -v others=spans trace-late.txt >"$work/document"
+	says "traces: who else ran" 0 "# other kworker/0:1-57 270 290
+# other kworker/0:1-57 2360 2376
+# other kworker/0:1-57 3650 3656" grep '^# other [^t]' "$work/document"
+	grep -v '^# other [^t]' "$work/document" >"$work/rest"
+	if cmp -s "$work/rest" "$expected/trace-late.txt"; then pass; else fail "traces: who else ran, in comments alone"; fi
+	says "traces: a hog ran to the end" 0 "# other hog-13 300 3000" trace -v tasks=render:10,audio:10 -v others=spans starving.txt
+	says "traces: from= and to= cut what others ran" 0 "# other hog-13 200 1200" \
+		eval "trace -v tasks=render:5 -v from=100.001 -v to=100.013 -v others=spans starving.txt | grep '^# other [^t]'"
+}
+
 # The recorder has left out a switch of tasks that aren't listed: nobody's deadline hangs on it, but the time of those tasks does.
 switches_that_are_missing() {
 	t=tasks=render:9
@@ -463,6 +477,8 @@ switches_that_are_missing() {
 	refuses "traces: a switch of another task is missing, with others=" 1 failed \
 		"trace.awk: line 5: a switch of other tasks is missing: kworker/0:1 leaves CPU 0, and the last to come was the idle task; leave others= out, since their time isn't known" \
 		trace -v $t -v others=10 others-missing-switch.txt
+	says "traces: a switch of another task is missing, with others=spans" 0 "# 1 switch of other tasks is missing: they may have run for another time than this
+# 2 jobs written, none left out" trace -v $t -v others=spans others-missing-switch.txt
 	trace -v $t -v to=100.0035 others-missing-switch.txt >"$work/document"
 	if grep -q 'missing' "$work/document"; then pass; else fail "traces: a switch is missing until after to="; fi
 	trace -v $t -v from=100.0105 others-missing-switch.txt >"$work/document"
