@@ -453,7 +453,7 @@ class ByHandTest(unittest.TestCase):
         self.assertEqual(read.ids["verdict"].text, "\u2717 1 of 8 jobs missed its deadline, the worst decode.2, late by 1.69 ms")
         worst = read.ids["worst"].text
         for text in (
-            "Released at 5123.435453, due at 5123.452123, first run at 5123.435463, ended at 5123.453813",
+            "Released at 5123.435453, due at 5123.452123, run first at 5123.435463, ended at 5123.453813",
             "From wake-up to first run: 0.01 ms",
             "Top speed throughout: no. Jobs that are due by then have the work 252666 within 16.67 ms",
             "1420 MHz does 236714 there",

@@ -12,7 +12,7 @@ from yds._least import least
 from yds._missed import Mended, Reading
 from yds._program import Answer
 from yds._text import Fault, Rows, counted
-from yds.results import Comparison, Curve, Report, Side, TooSlow
+from yds.results import Comparison, Curve, Overload, Report, Side, TooSlow
 
 LEAST, AVR, OA, RAN, FLAT_OUT = "least", "Average Rate", "Optimal Available", "as it ran", "top speed, then idle"
 
@@ -27,6 +27,8 @@ class Bar(NamedTuple):
     """Units of time at each point's speed."""
     told: List[str]
     """What is told beside it."""
+    overload: Optional[Overload] = None
+    """Where the top point is too slow for it."""
 
 
 class Energies(NamedTuple):
@@ -102,12 +104,8 @@ def energies(given: Gathered, asked: Asked, grid: int) -> Optional[Energies]:
 
 
 def _bar(name: str, side: Side) -> Bar:
-    told = []
-    if side.overload is not None:
-        told.append(f"the top speed {side.overload.top} is too slow for it from {side.overload.start} on")
-    if side.rounded:
-        told.append(f"rounded up to the grid {counted(side.rounded, 'time', 'times')}")
-    return Bar(name, side.energy, side.times or {}, told)
+    told = [f"rounded up to the grid {counted(side.rounded, 'time', 'times')}"] if side.rounded else []
+    return Bar(name, side.energy, side.times or {}, told, side.overload)
 
 
 def _own(given: Gathered, told: List[str]) -> List[Bar]:

@@ -6,7 +6,8 @@ from fractions import Fraction
 from math import inf
 from typing import Dict, Iterable, List, NamedTuple, Optional, Sequence, Set, Tuple
 
-from yds._gathered import Gathered, number_of, task_of
+from yds._gathered import Gathered, number_of
+from yds._timeline import task_of
 from yds.jobs import JobRow, Number
 
 LEAST_GAPS = 2

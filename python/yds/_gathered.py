@@ -10,23 +10,17 @@ from typing import Dict, Iterable, List, NamedTuple, Optional, Tuple
 from yds._comments import Clock, other_span
 from yds._text import Comment, Fault, Job, Line, Point, Rows, Slot, Ticks, Units
 
-_NUMBERED = re.compile(r"(.+)\.([0-9]{1,18})").fullmatch
-
-
-def task_of(job: str) -> str:
-    """The task of a job: its name without its last dot and number.
-
-    >>> task_of("decode.12"), task_of("a"), task_of(".1")
-    ('decode', 'a', '.1')
-    """
-    found = _NUMBERED(job)
-    return job if found is None else found.group(1)
+_NUMBER = re.compile(r".+\.([0-9]{1,64})").fullmatch
 
 
 def number_of(job: str) -> Optional[int]:
-    """The number of a job in its task; None where its name has none."""
-    found = _NUMBERED(job)
-    return None if found is None else int(found.group(2))
+    """The number of a job in its task; None where its name has none.
+
+    >>> number_of("decode.12"), number_of("a")
+    (12, None)
+    """
+    found = _NUMBER(job)
+    return None if found is None else int(found.group(1))
 
 
 class Span(NamedTuple):

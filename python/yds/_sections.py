@@ -8,7 +8,7 @@ from typing import List, NamedTuple, Optional, Sequence, Tuple
 
 from yds._beside_least import LEAST, RAN, Bar, Energies
 from yds._by_task import TaskRow
-from yds._comments import workless
+from yds._comments import Missing, unknown_works, workless
 from yds._facts import Facts, Missed
 from yds._least import judged
 from yds._markup import LINE_FEED, NONE, Markup, Scale, element, exactly, join, number, of_bytes, percent, shown, table
@@ -207,8 +207,12 @@ def _bars(told: Energies, scale: Scale) -> Markup:
 
 
 def _bar(bar: Bar, most: Fraction, least: Optional[Fraction], scale: Scale) -> Markup:
+    if bar.overload is not None:
+        start, end = scale.moment(bar.overload.start), scale.moment(bar.overload.end)
+        slow = ["the top point is too slow for it, from ", start, " to ", end, f" ({scale.moment_unit})"]
+        return element("li", f"{bar.name}: ", *slow)
     if bar.energy is None:
-        return element("li", f"{bar.name}: {'; '.join(bar.told)}")
+        return element("li", f"{bar.name}: not known")
     more = ""
     if least and bar.name != LEAST:
         more = (
@@ -280,6 +284,11 @@ def speeds(facts: Facts) -> Markup:
                 ", is too slow by ",
                 element("b", scale.with_speed(report.peak - top)),
             ]
+    missing = Missing()
+    for text in facts.given.comments:
+        missing.take(text)
+    if missing.unknown:
+        parts.append(f". {unknown_works(len(missing.unknown), of_bytes(missing.unknown[0]))}")
     return element("p", *parts, ".", id="least-speed")
 
 

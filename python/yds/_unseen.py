@@ -6,8 +6,8 @@ import re
 from typing import Dict, Iterable, List, NamedTuple, Optional, Sequence, Tuple
 
 from yds._comments import LEFT_OUT, left_out_jobs, note_of
-from yds._gathered import task_of
 from yds._text import counted
+from yds._timeline import task_of
 
 
 class Unjudged(NamedTuple):

@@ -5,7 +5,8 @@ from __future__ import annotations
 from fractions import Fraction
 from typing import Dict, Iterable, Iterator, List, NamedTuple, Optional, Sequence, Tuple
 
-from yds._gathered import Gathered, Span, task_of
+from yds._gathered import Gathered, Span
+from yds._timeline import task_of
 
 Shares = List[Tuple[str, Fraction]]
 """Names with units of time, the longest first."""

@@ -15,6 +15,7 @@ from yds._waited import Shares, Waited
 from yds.jobs import Number
 
 MOST_SHARES = 8
+_NEVER = {"run first": "never run", "ended": "not ended"}
 
 
 def heading(one: Worst, scale: Scale) -> Markup:
@@ -25,7 +26,8 @@ def heading(one: Worst, scale: Scale) -> Markup:
 def when(one: Worst, scale: Scale) -> Markup:
     """Release, deadline and end, on the trace's clock where it is known."""
     row = one.missed.row
-    parts = [join([name, " at ", scale.moment(time)]) for name, time in _times(one)]
+    parts = [join([name, " at ", scale.moment(time)]) for name, time in _times(one) if time != inf]
+    parts += [Markup(_NEVER[name]) for name, time in _times(one) if time == inf]
     unit = scale.moment_unit
     if row.deadline is None:
         parts.append(Markup("when it was due isn't known"))
@@ -34,7 +36,7 @@ def when(one: Worst, scale: Scale) -> Markup:
 
 def _times(one: Worst) -> List[Tuple[str, Optional[Number]]]:
     row = one.missed.row
-    named = [("Released", row.release), ("due", row.deadline), ("first run", row.begin), ("ended", row.end)]
+    named = [("Released", row.release), ("due", row.deadline), ("run first", row.begin), ("ended", row.end)]
     return [(name, time) for name, time in named if time is not None]
 
 

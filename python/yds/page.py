@@ -25,7 +25,7 @@ from yds._worst import worst
 
 __all__ = ["GRID", "AtTop", "Facts", "Origin", "facts", "html", "html_of"]
 
-GRID = 100
+GRID = 720720
 """So many parts of a unit of work do the policies count in, where nothing is said."""
 
 

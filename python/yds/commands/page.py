@@ -45,7 +45,7 @@ The answers are those of the program that the environment's YDS names, or of the
     [
         Option("title", "what stands above the verdict (the names of the texts)", "TEXT"),
         Option("us", "microseconds in a unit of time, where no comment tells them", "N"),
-        Option("grid", "the grid of the two policies, as in `yds_cli compare --grid G` (100)", "G"),
+        Option("grid", "the grid of the two policies, as in `yds_cli compare --grid G` (720720)", "G"),
     ],
     Files("TEXT", 0, None),
     "0 the page is written, whatever it tells; 1 a fault in the input, or a document without jobs, or without slots and "
