@@ -1,7 +1,8 @@
 """A page, read: its elements, its tables, and what must not be in it."""
 
 from html.parser import HTMLParser
-from typing import Dict, List, NamedTuple, Optional, Tuple
+from typing import Dict, List, NamedTuple, Optional, Sequence, Tuple
+from urllib.parse import unquote
 
 EMPTY = frozenset(["meta", "br", "hr", "link", "img"])
 """Elements of HTML that have no end."""
@@ -40,8 +41,10 @@ class Node:
 class Page(HTMLParser):
     """A page as a tree. AssertionError is raised where it isn't well-formed, or would fetch something."""
 
-    def __init__(self, text: str) -> None:
+    def __init__(self, text: str, pages: Sequence[str] = ()) -> None:
+        """pages are the files that it may lead to."""
         super().__init__(convert_charrefs=True)
+        self._pages = pages
         self.root = self._now = Node("", {}, None)
         self.ids: Dict[str, Node] = {}
         assert all(ord(sign) < 128 and (sign.isprintable() or sign == "\n") for sign in text), "a sign that isn't plain"
@@ -82,6 +85,8 @@ class Page(HTMLParser):
         raise AssertionError(f"a comment: {data}")
 
     def _look_at(self, tag: str, attributes: Dict[str, str]) -> None:
+        if tag == "a" and list(attributes) == ["href"] and unquote(attributes["href"]) in self._pages:
+            return
         assert tag not in FETCHING, f"{tag} may fetch something"
         for name, value in attributes.items():
             assert not name.startswith("on"), f"{tag} has {name}"

@@ -2,6 +2,7 @@
 
 import hashlib
 import random
+import tempfile
 import unittest
 from fractions import Fraction
 from math import inf
@@ -528,8 +529,38 @@ class CommandTest(unittest.TestCase):
                 self.assertTrue(err.startswith("yds-page: ") and err.count("\n") == 1, err)
                 self.assertIn(told, err)
 
+    def test_a_folder_has_a_page_for_each_and_an_index(self) -> None:
+        with tempfile.TemporaryDirectory() as held:
+            folder = Path(held)
+            (folder / "other").mkdir()
+            for name, source in (("ok.txt", "trace.txt"), ("other/ok.txt", "trace-late.txt"), ("index.txt", "trace-lost.txt")):
+                (folder / name).write_bytes((EXPECTED / source).read_bytes())
+            (folder / "a&<b> \u00fc.txt").write_bytes((EXPECTED / "trace.txt").read_bytes())
+            (folder / "failed.txt").write_bytes(b"failed\n")
+            files = [folder / name for name in ("ok.txt", "other/ok.txt", "index.txt", "a&<b> \u00fc.txt", "failed.txt", "none.txt")]
+            pages = folder / "pages"
+            status, out, err = self.called("--folder", pages, "--points", EXPECTED / "points.txt", *files)
+            self.assertEqual((status, out), (1, ""))
+            self.assertEqual([line.split(": ")[1].split(",")[0] for line in err.splitlines()], [str(files[4]), f"{files[5]} can't be read"])
+            names = sorted(path.name for path in pages.iterdir())
+            self.assertEqual(names, ["a&<b> \u00fc.html", "index-2.html", "index.html", "ok-2.html", "ok.html"])
+            read = Page((pages / "index.html").read_text(encoding="ascii"), names)
+            rows = read.table("documents")
+            self.assertEqual([row["document"].text for row in rows], [str(file) for file in files])
+            self.assertEqual([row["missed"].text for row in rows], ["0", "1", "0", "0", "\u2013", "\u2013"])
+            self.assertEqual(rows[0]["more than the least"].text, "36.1 %")
+            self.assertEqual(rows[1]["more than the least"].text, "5.4 %, with 1 deadline moved to its job's end")
+            self.assertIn("others may hide a miss", rows[2]["verdict"].text)
+            self.assertIn("there is no page: ", rows[5]["verdict"].text)
+            self.assertEqual(read.ids["verdict"].text, "2 documents of 6 met every deadline")
+            for name in names[:2] + names[3:]:
+                Page((pages / name).read_text(encoding="ascii"))
+            self.assertEqual(self.called("--folder", pages, files[0])[0], 0)
+
     def test_words(self) -> None:
         for words, told in [
+            (("--points", "x", "y"), "--points is for --folder: without it give the points as the first text"),
+            (("--folder", "x"), "--folder wants a file for each document"),
             (("--us", "0"), "--us 0 is no whole number of 1 or more"),
             (("--grid", "x"), "--grid x is no whole number of 1 or more"),
             (("--titles", "x"), "unrecognized arguments: --titles"),

@@ -66,7 +66,6 @@ class PicturesTest(unittest.TestCase):
                     svg = figure.all("svg")[0]
                     told = [read.ids[name] for name in svg.attributes["aria-labelledby"].split()]
                     self.assertTrue(all(node.text.strip() for node in told), figure.text[:80])
-                    self.assertTrue(figure.all("figcaption")[0].text)
                 self.assertLess(len(self.text), 2_500_000)
 
     def test_each_picture_is_well_formed(self) -> None:
@@ -77,10 +76,10 @@ class PicturesTest(unittest.TestCase):
 
     def test_the_surroundings_of_a_miss(self) -> None:
         read = self.page(document(10, 2))
-        worst = read.ids["worst"].all("figure")[0]
-        self.assertIn("Who ran when around renderer-", worst.text)
-        self.assertIn("others: kworker/0:1-57 for ", worst.text)
-        self.assertIn("renderer-000000.0", worst.text + read.root.text)
+        article = read.ids["worst"].all("article")[0]
+        job = article.all("h3")[0].text.split(",")[0]
+        told = article.all("figure")[0].text
+        self.assertTrue(f"Who ran when around {job}" in told and "others: kworker/0:1-57 for " in told, job)
 
     def test_hostile_names_within_pictures(self) -> None:
         name = "<script>x</script>$\\x$&#59;"
@@ -88,6 +87,12 @@ class PicturesTest(unittest.TestCase):
         read = self.page(text)
         self.assertEqual([node.text for node in read.root.all("script")], [SCRIPT])
         self.assertTrue(any(name in node.text for node in read.root.all("svg")))
+
+    def test_without_script_all_is_there(self) -> None:
+        read = self.page(document(10, 2))
+        for name in ("verdict", "by-task", "energies", "times", "all-misses", "picture-1", "picture-6", "inputs"):
+            self.assertIn(name, read.ids)
+        self.assertTrue(all("open" in node.attributes for node in read.root.all("details")))
 
     def test_two_pages_have_the_same_bytes(self) -> None:
         self.assertEqual(page.html(document(30, 3), answer=answer), page.html(document(30, 3), answer=answer))
@@ -160,15 +165,6 @@ class BrowserTest(unittest.TestCase):
         done = self.shown(hostile, "--dump-dom")
         self.assertIn(b"CONSOLE", done.stderr)
         self.assertEqual([asked for asked in self.proxy.asked if b"example" in asked], [])
-
-    def test_without_script_all_is_there(self) -> None:
-        told = page.html(document(10, 2), answer=answer)
-        done = self.shown(told, "--blink-settings=scriptEnabled=false", "--dump-dom")
-        read = Page(told)
-        for name in ("verdict", "by-task", "energies", "all-misses", "picture-1", "inputs"):
-            self.assertIn(name, read.ids)
-            self.assertIn(f'id="{name}"'.encode(), done.stdout)
-        self.assertNotIn(b"<button", done.stdout)
 
     def test_it_prints(self) -> None:
         place = self.folder / "page.pdf"

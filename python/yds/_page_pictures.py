@@ -3,6 +3,7 @@
 from __future__ import annotations
 
 import io
+import re
 from importlib import import_module
 from importlib.util import find_spec
 from math import inf
@@ -15,6 +16,10 @@ from yds._text import Fault, Rows, lines_of
 INSTALL = "pip install yds[plot], or on Debian apt-get install python3-matplotlib"
 _NAMESPACES = (' xmlns="http://www.w3.org/2000/svg"', ' xmlns:xlink="http://www.w3.org/1999/xlink"')
 """What SVG within HTML doesn't need."""
+
+
+_BETWEEN = re.compile(r">\s+<").sub
+"""Blanks between two elements, which say nothing."""
 
 
 class Pictures:
@@ -106,6 +111,7 @@ class Pictures:
         text = self._drawn.svg(axes, prefix, caption, axes.get_label())
         for namespace in _NAMESPACES:
             text = text.replace(namespace, "", 1)
+        text = _BETWEEN("><", text)
         parts = [element("figcaption", caption), element("div", Markup(text), class_="frame")]
         return element("figure", *parts, id=f"picture-{self._number}")
 

@@ -199,6 +199,16 @@ def _sentence(facts: Facts, told: Energies) -> List[Markup]:
     return [join(parts)]
 
 
+def more_than_least(facts: Facts) -> str:
+    """How much more than the least was spent, in hundredths; empty where that isn't known."""
+    told = facts.energies
+    if told is None or told.bounds is None or not told.bounds[0]:
+        return ""
+    ran = [bar.energy for bar in told.bars if bar.name == RAN and bar.energy is not None]
+    moved = f", with {told.moved}" if told.moved else ""
+    return percent(ran[0] / told.bounds[1] - 1) + moved if ran else ""
+
+
 def _bars(told: Energies, scale: Scale) -> Markup:
     most = max((bar.energy for bar in told.bars if bar.energy is not None), default=Fraction(0))
     least = told.bounds[0] if told.bounds else None

@@ -9,21 +9,35 @@ from __future__ import annotations
 
 import hashlib
 import io
+import os
 import sys
-from typing import Any, Iterable, List, Optional, Union
+from typing import Any, Iterable, List, NamedTuple, Optional, Sequence, Union
+from urllib.parse import quote
 
 from yds._at_top import AtTop
 from yds._facts import Facts, facts
 from yds._look import SCRIPT, STYLE, policy
-from yds._markup import LINE_FEED, Markup, element, join, shown
+from yds._markup import LINE_FEED, NONE, Markup, element, join, shown, table
 from yds._page_pictures import Pictures
 from yds._program import Answer, of_environment
-from yds._sections import Origin, comments, energies, misses, repeat, section, speeds, tasks, unjudged, verdict_line
-from yds._text import Line, lines_of
+from yds._sections import (
+    Origin,
+    comments,
+    energies,
+    misses,
+    more_than_least,
+    repeat,
+    section,
+    speeds,
+    tasks,
+    unjudged,
+    verdict_line,
+)
+from yds._text import Line, counted, lines_of
 from yds._version import VERSION
 from yds._worst import worst
 
-__all__ = ["GRID", "AtTop", "Facts", "Origin", "facts", "html", "html_of"]
+__all__ = ["GRID", "AtTop", "Entry", "Facts", "Origin", "entry", "facts", "html", "html_of", "index", "written"]
 
 GRID = 720720
 """So many parts of a unit of work do the policies count in, where nothing is said."""
@@ -64,6 +78,46 @@ def html_of(
     return written(found, origin, title or "A document")
 
 
+class Entry(NamedTuple):
+    """A row of an index: a document, and what its page tells, or why it has none."""
+
+    name: str
+    href: str
+    """The page's file, beside the index; empty where there is none."""
+    colour: str
+    verdict: Markup
+    jobs: int
+    missed: int
+    more: str
+    """How much more than the least was spent."""
+
+
+def entry(name: str, href: str, found: Facts) -> Entry:
+    """The row of a document."""
+    colour, line = verdict_line(found)
+    return Entry(name, href, colour, line, len(found.given.jobs), len(found.missed), more_than_least(found))
+
+
+def index(entries: Sequence[Entry], origin: Origin, title: str) -> str:
+    """A page with a row for each document, which leads to the document's own page. In ASCII."""
+    rows = []
+    for one in entries:
+        name = element("a", shown(one.name), href=quote(os.fsencode(one.href))) if one.href else shown(one.name)
+        verdict = element("span", one.verdict, class_=f"told {one.colour}")
+        rows.append([name, one.jobs or NONE, one.missed if one.href else NONE, one.more or NONE, verdict])
+    heads = ("document", "jobs", "missed", "more than the least", "verdict")
+    yes = sum(one.colour == "yes" for one in entries)
+    told = f"{counted(yes, 'document', 'documents')} of {len(entries)} met every deadline"
+    colour = "yes" if yes == len(entries) else "no"
+    head = element("header", element("p", shown(title)), element("h1", told, class_=colour, id="verdict"))
+    body = [
+        head,
+        table("A row for each document", heads, rows, "documents"),
+        section("repeat", "To repeat it", repeat(origin)),
+    ]
+    return _page(title, join(body, LINE_FEED))
+
+
 def versions() -> List[str]:
     """What made the page."""
     return [f"yds {VERSION}, Python {sys.version.split()[0]}"]
@@ -72,7 +126,11 @@ def versions() -> List[str]:
 def written(found: Facts, origin: Origin, title: str) -> str:
     """The page of what was found, in ASCII."""
     pictures = Pictures(found)
-    body = join([_head(found, title), *_parts(found, pictures, origin)], LINE_FEED)
+    return _page(title, join([_head(found, title), *_parts(found, pictures, origin)], LINE_FEED))
+
+
+def _page(title: str, body: Markup) -> str:
+    """The whole file, in ASCII."""
     head = [
         element("meta", charset="utf-8"),
         element("meta", http_equiv="Content-Security-Policy", content=policy()),
