@@ -473,6 +473,17 @@ class ByHandTest(unittest.TestCase):
         self.assertIn("Other tasks ran for 0.422 ms of 53.697 ms.", text)
         self.assertIn("6 changes of frequency, 6 of them from another CPU.", text)
 
+    def test_a_document_with_moved_deadlines(self) -> None:
+        """What yds-jobs --late-moved writes has the same misses, and energies that say so."""
+        moved = call("jobs", "--late-moved", given=self.text)
+        self.assertEqual(moved.status, 0)
+        before, after = page_of(self.text), page_of(moved.out)
+        for name in ("verdict", "by-task", "all-misses", "worst"):
+            self.assertEqual(after.ids[name].text, before.ids[name].text)
+        self.assertIn("every deadline, with 1 deadline moved to where late jobs ended, is 1376.18 MHz", after.ids["energy"].text)
+        self.assertIn("It spends 5.4 % more than the least", after.ids["energy"].text)
+        self.assertIn("all energies are with 1 deadline moved to where the job ended", after.ids["energy"].text)
+
     def test_a_deadline_in_another_unit(self) -> None:
         lines = [f"job t.{place} {place * 10} {place * 10 + 10_000} 2\n" for place in range(5)]
         read = page_of("".join([*lines, "ticks 1\n", *(f"run t.{place} {place * 10} {place * 10 + 2} 1\n" for place in range(5))]))

@@ -42,7 +42,7 @@ def at_top(given: Gathered, asked: Asked, job: str, went: Optional[Waited], ende
     """
     if len(given.points) < 2:
         return None
-    top, due = given.points[-1][0], given.jobs[job].deadline
+    top, due = given.points[-1][0], given.due(job)
     end = went.end_at(top) if went is not None and ended else None
     if end is not None and end <= due:
         return AtTop(YES, top, end, None)
@@ -63,8 +63,9 @@ def _due_by(given: Gathered, job: str) -> List[Tuple[str, int, int, int]]:
     With the earliest deadline first, no other job is before it. Jobs whose windows end before all that follow begin
     don't matter, and aren't there.
     """
-    due = given.jobs[job].deadline
-    rows = [(one.name, one.release, one.deadline, one.work) for one in given.jobs.values() if one.deadline <= due]
+    due = given.due(job)
+    jobs = ((one.name, one.release, given.due(one.name), one.work) for one in given.jobs.values())
+    rows = [row for row in jobs if row[2] <= due]
     rows.sort(key=lambda row: (row[2], row[0] == job))
     kept: List[Tuple[str, int, int, int]] = []
     since = given.jobs[job].release

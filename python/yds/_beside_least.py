@@ -9,9 +9,9 @@ from yds import _spent
 from yds._gathered import Gathered
 from yds._heads import MOST_BYTES, MOST_JOBS, MOST_TIME
 from yds._least import least
-from yds._missed import Mended, Reading
 from yds._program import Answer
 from yds._text import Fault, Rows, counted
+from yds.jobs import late_moved
 from yds.results import Comparison, Curve, Overload, Report, Side, TooSlow
 
 LEAST, AVR, OA, RAN, FLAT_OUT = "least", "Average Rate", "Optimal Available", "as it ran", "top speed, then idle"
@@ -79,8 +79,11 @@ def _is_within(given: Gathered) -> bool:
     return len(given.jobs) <= MOST_JOBS and latest <= MOST_TIME and len(given.question()) <= MOST_BYTES
 
 
-def energies(given: Gathered, asked: Asked, grid: int) -> Optional[Energies]:
-    """The sides, the least first; None where the document has no points."""
+def energies(given: Gathered, asked: Asked, grid: int, microseconds: Optional[int] = None) -> Optional[Energies]:
+    """The sides, the least first; None where the document has no points.
+
+    microseconds: those of a unit of time, where no comment tells them.
+    """
     if not given.points:
         return None
     told: List[str] = []
@@ -91,7 +94,7 @@ def energies(given: Gathered, asked: Asked, grid: int) -> Optional[Energies]:
     too_slow, moved = None, ""
     if status == 1:
         too_slow = TooSlow.read(text)
-        rows, moved = _mended(given)
+        rows, moved = _moved(given, microseconds)
         if moved:
             status, text = asked.ask("compare", "--grid", str(grid), text=given.question(rows))
     if status or not text:
@@ -145,27 +148,15 @@ def _of_parts(given: Gathered, asked: Asked, own: Sequence[Bar], told: List[str]
     return Energies([bar, *own], (low, high), "", None, told)
 
 
-def _mended(given: Gathered) -> Tuple[List[Tuple[str, int, int, int]], str]:
-    """The jobs with the deadlines of late ones moved to their ends, and less work where some wasn't done; and how many."""
-    reading = Reading()
-    for _ in reading.rows(Rows(given.lines)):
-        pass
-    changes = Mended(reading)
+def _moved(given: Gathered, microseconds: Optional[int]) -> Tuple[List[Tuple[str, int, int, int]], str]:
+    """The jobs with the deadlines of late ones moved to where they ended, and how many these are."""
+    found = late_moved(given.lines, microseconds)
     rows = []
-    for job in given.jobs.values():
-        line = changes.line(job)
-        if line is not None:
-            _, name, start, end, work = line.split()
-            rows.append((name, int(start), int(end), int(work)))
-    told = []
-    if changes.deadlines:
-        told.append(
-            counted(len(changes.deadlines), "deadline moved to its job's end", "deadlines moved to their jobs' ends")
-        )
-    cut = len(changes.works)
-    if cut:
-        told.append(counted(cut, "job with the work that it got", "jobs with the work that they got"))
-    return rows, " and ".join(told)
+    for fields in (line.split() for line in found.lines):
+        if fields[:1] == ["job"]:
+            rows.append((fields[1], int(fields[2]), int(fields[3]), int(fields[4])))
+    many = len(found.moved)
+    return rows, counted(many, "deadline moved to its job's end", "deadlines moved to their jobs' ends") if many else ""
 
 
 def _line(text: bytes, status: int) -> str:

@@ -92,7 +92,7 @@ def facts(lines: Iterable[Line], answer: Answer, grid: int, microseconds: Option
         by_task(given, told.rows, names),
         together(given, told.rows, names),
         unjudged(given.comments, len(given.jobs)),
-        energies(given, asked, grid),
+        energies(given, asked, grid, microseconds),
         asked,
         [_worst(given, asked, one) for one in worst],
     )
@@ -145,11 +145,11 @@ def _worst(given: Gathered, asked: Asked, one: Missed) -> Worst:
     if name not in given.jobs:
         return Worst(one, None, None)
     has_runs = any(span.name == name for span in given.slots.all) or row.late == inf
-    is_here = has_runs and row.release == given.jobs[name].release and row.deadline == given.jobs[name].deadline
+    is_here = has_runs and row.release == given.jobs[name].release and row.deadline == given.due(name)
     ended = row.end is not None and row.end != inf
     went = None
     if is_here and one.late is not None:
-        end = row.end if ended and row.end is not None else given.jobs[name].deadline + one.late
+        end = row.end if ended and row.end is not None else given.due(name) + one.late
         begin = None if row.begin is None or row.begin == inf else Fraction(row.begin)
         went = waited(given, name, Fraction(end), begin)
     return Worst(one, went, at_top(given, asked, name, went, ended))

@@ -7,7 +7,7 @@ from bisect import bisect_left
 from fractions import Fraction
 from typing import Dict, Iterable, List, NamedTuple, Optional, Tuple
 
-from yds._comments import Clock, other_span
+from yds._comments import Clock, moved_of, other_span
 from yds._text import Comment, Fault, Job, Line, Point, Rows, Slot, Ticks, Units
 
 _NUMBER = re.compile(r".+\.([0-9]{1,64})").fullmatch
@@ -70,6 +70,8 @@ class Gathered:
     def __init__(self, lines: Iterable[Line]) -> None:
         self.lines: List[Line] = []
         self.jobs: Dict[str, Job] = {}
+        self.moved: Dict[str, int] = {}
+        """By how many units of time deadlines were moved to the ends of late jobs."""
         self.points: List[Tuple[int, int]] = []
         self.comments: List[str] = []
         self.clock = Clock()
@@ -117,7 +119,9 @@ class Gathered:
 
     def _take_comment(self, text: str) -> None:
         self.clock.take(text)
-        other = other_span(text)
+        moved, other = moved_of(text), other_span(text)
+        if moved is not None:
+            self.moved[moved[0]] = moved[1]
         if other is None:
             self.comments.append(text)
         else:
@@ -127,6 +131,10 @@ class Gathered:
     def text(self) -> bytes:
         """All lines, as the program reads them."""
         return _joined(line.text for line in self.lines)
+
+    def due(self, name: str) -> int:
+        """The deadline of this job, before it was moved to its end, if it was."""
+        return self.jobs[name].deadline - self.moved.get(name, 0)
 
     def question(self, jobs: Optional[Iterable[Tuple[str, int, int, int]]] = None) -> bytes:
         """The points, and these jobs or else the document's, as a document without slots and comments."""

@@ -274,10 +274,10 @@ def speeds(facts: Facts) -> Markup:
     scale = facts.scale
     if report is None:
         return element("p", "The least constant speed isn't told: the document is above the program's limits.")
-    parts: List[object] = [
-        "The least constant speed that meets every deadline is ",
-        element("b", scale.with_speed(report.peak)),
-    ]
+    moved = len(facts.given.moved)
+    which = f", with {counted(moved, 'deadline', 'deadlines')} moved to where late jobs ended," if moved else ""
+    speed = element("b", scale.with_speed(report.peak))
+    parts: List[object] = [f"The least constant speed that meets every deadline{which} is ", speed]
     if len(facts.given.points) > 1:
         top = Fraction(facts.given.points[-1][0])
         if top >= report.peak:

@@ -162,5 +162,5 @@ def worst(facts: Facts, one: Worst, picture: Markup) -> Markup:
             )
         )
     if one.at_top is not None:
-        parts.append(top_told(one.at_top, facts.given.jobs[one.missed.miss.job].deadline, scale))
+        parts.append(top_told(one.at_top, facts.given.due(one.missed.miss.job), scale))
     return element("article", *parts)
