@@ -528,7 +528,7 @@ class CommandTest(unittest.TestCase):
         for words, given, told in [
             ((), b"", "standard input has no line of a document; look at what wrote it"),
             ((), b"failed\n", "line 1: the input is an answer of no: failed"),
-            ((), b"job a 0 9\nticks 1\n", "line 1, column 10: a job wants NAME RELEASE DEADLINE WORK, in whole numbers"),
+            ((), b"job a 0 9\nticks 1\n", "line 1, column 10: a job needs NAME RELEASE DEADLINE WORK, in whole numbers"),
             ((), b"job a 0 9 4\n", "no slot and no run line, so there is nothing to judge; give a trace's document, or the answer"),
             ((late, late), b"", "a second job is named audio.0"),
             ((SAMPLES / "workload.json",), b"", 'is no line of a document'),
