@@ -79,17 +79,17 @@ class MovedTest(unittest.TestCase):
         self.assertEqual((before.status, after.status), (1, 0))
         self.assertEqual(
             after.out.splitlines()[-1],
-            "# 1 job was late: all energies are with 1 deadline moved to where the job ended",
+            "# with 1 deadline moved to where late jobs ended",
         )
         self.assertEqual(after.out.splitlines()[:-1], before.out.splitlines()[:-1])
         at = call("energy", "--at", "10", given=told.encode())
-        self.assertIn("# 1 job was late: all energies are with 1 deadline moved", at.out)
+        self.assertIn("# with 1 deadline moved to where late jobs ended", at.out)
 
     def test_energies_pass_it_on(self) -> None:
         """A table and the hours of energies say it, too."""
         told = "\n".join(self.moved(POINTS + LATE)) + "\n"
         energy = call("energy", "--name", "plan", given=told.encode()).out
-        words = "1 job was late: all energies are with 1 deadline moved to where the job ended"
+        words = "with 1 deadline moved to where late jobs ended"
         hours = call("battery", "--mah=1", "--volts=1", "--period=20", "--uw=1", given=(POINTS + energy).encode())
         self.assertEqual((hours.status, hours.out.splitlines()[-1]), (0, f"# {words}"))
         with tempfile.NamedTemporaryFile() as file:

@@ -6,6 +6,7 @@ import re
 from fractions import Fraction
 from typing import Dict, Iterable, List, NamedTuple, Optional, Sequence, Tuple
 
+from yds._comments import BESIDE
 from yds._framed import Choice, Frame, Key, in_words
 from yds._pixels import text_width
 from yds._scales import VERDICTS, Units, energy_scale, short, speed_scale, units_of_told
@@ -16,9 +17,7 @@ IDLE = "#bdbdbd"
 NAME, NUMBER = 12.0, 12.5
 """Sizes of a bar's name and of its energy, in pixels."""
 _MISSES = re.compile(r"# ([^ ]+) misses ([0-9]{1,18}) deadlines?").match
-_CAVEAT = re.compile(
-    r"# ((?:part [0-9]+: )?(?:not due by [0-9]+: |[0-9]+ jobs? (?:was|were) |the work of [0-9]+ jobs? isn't known, since ).*)"
-).match
+_CAVEAT = re.compile(rf"# ((?:part [0-9]+: )?(?:{BESIDE}).*)").match
 _FRACTION = re.compile(r"([0-9]{1,30})(?:\+([0-9]{1,30})/([0-9]{1,30}))?").fullmatch
 
 

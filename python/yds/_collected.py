@@ -7,14 +7,13 @@ import re
 from fractions import Fraction
 from typing import Any, Dict, Iterable, List, NamedTuple, Optional
 
+from yds._comments import BESIDE
 from yds._spelling import read_fraction
 from yds._text import Fault, Line, printable
 
 _NO = ("refused", "too-slow", "usage:", "failed")
 _MISSES = re.compile(r"# ([^ ]+) misses [0-9]+ deadlines?, ").match
-_CAVEAT = re.compile(
-    r"# (part [0-9]+: )?(not due by [0-9]+: |[0-9]+ jobs? (was|were) |the work of [0-9]+ jobs? isn't known, since )"
-).match
+_CAVEAT = re.compile(rf"# (part [0-9]+: )?(?:{BESIDE})").match
 _FRACTION = re.compile(r"[0-9]{1,30}(\+[0-9]{1,30}/[1-9][0-9]{0,29})?").fullmatch
 NO_ANSWER = "no answer"
 
@@ -31,7 +30,7 @@ class Collected(NamedTuple):
     answer: str
     """'ok', or the line that says no."""
     caveats: List[str]
-    """What is told of energy that is in no line."""
+    """What is told beside the energies, as of energy that is in no line."""
 
 
 def collect(lines: Iterable[Line]) -> Collected:

@@ -192,6 +192,12 @@ def moved_by(job: str, units: int) -> str:
     return f"# deadline moved: {job} by {units}"
 
 
+_CHANGES = re.compile(r"# ([0-9]{1,18}) changes? of frequency, ([0-9]{1,18}) of them from another CPU").fullmatch
+PARTIAL = r"not due by [0-9]+: |[0-9]+ jobs? (?:was|were) |the work of [0-9]+ jobs? isn't known, since "
+"""How a text begins that says of energies that some is in no line, or that work isn't known."""
+BESIDE = PARTIAL + r"|with [0-9]+ deadlines? moved |[0-9]+ of [0-9]+ changes of frequency were "
+"""How one begins that is told beside energies, wherever they are shown."""
+
 _NOT_DUE = re.compile(r"# not due by [0-9]+: ").match
 _WRITTEN = re.compile(r"# [0-9]+ jobs? written, ([0-9]+) left out").match
 IN_NO_LINE = ": this energy is in no line"
@@ -207,6 +213,8 @@ class Missing:
         self.unknown: List[str] = []
         self.moved: Set[str] = set()
         """The jobs whose deadlines were moved to their ends."""
+        self.shared = ""
+        """Whose changes of frequency they were, as a comment; empty where no other processor made any."""
 
     def take(self, text: str) -> None:
         """Reads a comment."""
@@ -219,8 +227,11 @@ class Missing:
             self.without_runs += text.startswith(f"# {WITHOUT_RUNS}: ")
             self.unknown.append(text.split(": ", 1)[1].split(" ")[0].rstrip(","))
         else:
-            moved = moved_of(text)
+            moved, changes = moved_of(text), _CHANGES(text)
             self.moved |= {moved[0]} if moved is not None else set()
+            if changes is not None and int(changes.group(2)):
+                made = "made on another CPU: what runs there sets these speeds, too"
+                self.shared = f"# {changes.group(2)} of {changes.group(1)} changes of frequency were {made}"
 
     def told(self) -> List[str]:
         """Comments that say it, of the whole document."""
@@ -246,11 +257,8 @@ def left_out_of(number: int) -> str:
 
 
 def with_moved(number: int) -> str:
-    """A comment that tells of deadlines that were moved to the ends of late jobs."""
-    late = counted(number, "job was", "jobs were")
-    return (
-        f"# {late} late: all energies are with {counted(number, 'deadline', 'deadlines')} moved to where the job ended"
-    )
+    """A comment beside energies that tells of deadlines that were moved to the ends of late jobs."""
+    return f"# with {counted(number, 'deadline', 'deadlines')} moved to where late jobs ended"
 
 
 def without_runs(number: int) -> str:

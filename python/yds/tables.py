@@ -8,6 +8,7 @@ from statistics import fmean, median
 from typing import Dict, Iterable, List, NamedTuple, Optional, Sequence, Set, Tuple
 
 from yds._collected import Collected, ReportRow, collect, report
+from yds._comments import PARTIAL
 from yds._text import Fault, Line
 
 __all__ = [
@@ -25,10 +26,8 @@ __all__ = [
 
 _ENERGY = re.compile(r"[0-9]{1,40}(\.[0-9]{1,40})?").fullmatch
 _MISSES = re.compile(r"# (.*?: [^ ]+) misses [0-9]+ deadlines?, ").match
-_PARTIAL = re.compile(
-    r"# (.*?): (?:part [0-9]+: )?(?:not due by [0-9]+: |[0-9]+ jobs? (?:was|were) "
-    r"|the work of [0-9]+ jobs? isn't known, since )"
-).match
+_PARTIAL = re.compile(rf"# (.*?): (?:part [0-9]+: )?(?:{PARTIAL})").match
+_MOVED = re.compile(r"# (.*?): (?:part [0-9]+: )?with [0-9]+ deadlines? moved ").match
 _NOT_SIDES = ("rounded", "answer")
 
 
@@ -51,6 +50,8 @@ class Energies(NamedTuple):
     """The documents and sides of which a comment says that deadlines are missed."""
     partial: Set[str]
     """The documents of which a comment says that energy is in no line, or work isn't known."""
+    moved: Set[str]
+    """The documents of which a comment says that deadlines of late jobs were moved."""
 
 
 class SideSummary(NamedTuple):
@@ -84,16 +85,19 @@ def read_energies(lines: Iterable[Line]) -> Energies:
     """The rows of a table that yds-collect wrote."""
     misses: Set[Tuple[str, str]] = set()
     partial: Set[str] = set()
+    moved: Set[str] = set()
     rows: List[EnergyRow] = []
     heading: List[str] = []
     for line in lines:
         if line.text.startswith("#"):
-            late, told = _MISSES(line.text), _PARTIAL(line.text)
+            late, told, late_moved = _MISSES(line.text), _PARTIAL(line.text), _MOVED(line.text)
             if late:
                 document, _, side = late.group(1).rpartition(": ")
                 misses.add((document, side))
             elif told:
                 partial.add(told.group(1))
+            elif late_moved:
+                moved.add(late_moved.group(1))
         elif line.text.strip(" \t"):
             fields = line.text.split("\t")
             if heading:
@@ -103,7 +107,7 @@ def read_energies(lines: Iterable[Line]) -> Energies:
     if not heading:
         raise Fault("no table; is this the table of yds-collect?")
     sides = [name for name in heading[1:] if name not in _NOT_SIDES and name != "plan"]
-    return Energies(sides, rows, misses, partial)
+    return Energies(sides, rows, misses, partial, moved)
 
 
 def _heading(line: Line, fields: List[str]) -> List[str]:

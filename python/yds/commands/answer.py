@@ -7,6 +7,7 @@ from typing import Callable, List, Sequence
 
 from yds._answered import Tables
 from yds._forms_of_answers import NUMBER, TABLES, Cell, Cells
+from yds._progress import beside
 from yds._text import STANDARD_INPUT, lines
 from yds._words import DONE, NO, Command, Files, Given, Option, WordsError, run
 
@@ -70,7 +71,7 @@ def tell(given: Given, write: Callable[[str], None]) -> int:
         if given.csv not in there:
             where = f" in {file}" if several else ""
             told = f"are {', '.join(there)}" if there else "is nothing"
-            sys.stderr.write(f"yds-answer: no {given.csv}{where}; there {told}\n")
+            beside(f"yds-answer: no {given.csv}{where}; there {told}\n")
             absent = True
     for text in as_csv(tables, given.csv) if given.csv in tables.rows else []:
         write(text)

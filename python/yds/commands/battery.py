@@ -7,7 +7,16 @@ import sys
 from fractions import Fraction
 from typing import Callable, Dict, List, Optional, Sequence, Tuple
 
-from yds._comments import IN_NO_LINE, NOT_ENDED, WITHOUT_RUNS, left_out_of, period_of, unknown_works, without_runs
+from yds._comments import (
+    BESIDE,
+    IN_NO_LINE,
+    NOT_ENDED,
+    WITHOUT_RUNS,
+    left_out_of,
+    period_of,
+    unknown_works,
+    without_runs,
+)
 from yds._hours import Prices, SideEnergy, SideHours, battery
 from yds._priced import decimal
 from yds._spelling import read_fraction
@@ -54,7 +63,7 @@ have their speeds.
 _DECIMAL = re.compile(r"[0-9]{1,20}\.?[0-9]{0,20}|\.[0-9]{1,20}").fullmatch
 _FRACTION = re.compile(r"[0-9]{1,30}(\+[0-9]{1,30}/[1-9][0-9]{0,29})?").fullmatch
 _MISSES = re.compile(r"# ([^ ]+) (misses [0-9]+) deadlines?, ").match
-_PASSED_ON = re.compile(r"# (part [0-9]+: )?([0-9]+ jobs? (was|were) |the work of |not due by [0-9]+: )").match
+_PASSED_ON = re.compile(rf"# (part [0-9]+: )?(?:{BESIDE})").match
 _WRITTEN = re.compile(r"# [0-9]+ jobs? written, ([0-9]+) left out").match
 
 

@@ -9,6 +9,7 @@ from typing import Callable, Optional, Sequence
 
 from yds import parts
 from yds._heads import MOST_JOBS
+from yds._progress import beside
 from yds._words import DONE, Command, Files, Given, Option, WordsError, run
 
 COMMAND = Command(
@@ -58,7 +59,7 @@ def cut(given: Given, write: Callable[[str], None]) -> int:
         raise
     if left_out:
         text = "lines of levels, pieces and members are left out; a part has no answer of check"
-        sys.stderr.write(f"yds-parts: {left_out} {text}\n")
+        beside(f"yds-parts: {left_out} {text}\n")
     return DONE
 
 

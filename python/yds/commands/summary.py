@@ -42,6 +42,8 @@ def sum_up(given: Given, write: Callable[[str], None]) -> int:
     if table.partial:
         partial = f"in {len(table.partial)} of them jobs have energy that is in no line, or work that isn't known"
         write(f"# {partial}; see the comments of the table")
+    if table.moved:
+        write(f"# in {len(table.moved)} of them deadlines of late jobs were moved; see the comments of the table")
     if counts.on_grid:
         rounded = (
             f"in {counts.on_grid} of them a policy was rounded to the grid, so its energy isn't quite the policy's"

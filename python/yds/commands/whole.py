@@ -9,6 +9,7 @@ from typing import Callable, Optional, Sequence
 
 from yds import parts
 from yds._program import of_environment
+from yds._progress import beside
 from yds._words import DONE, NO, Command, Files, Given, Option, WordsError, run
 
 COMMAND = Command(
@@ -61,10 +62,10 @@ def whole(given: Given, write: Callable[[str], None]) -> int:
         told = parts.whole([part_of(file, given.folder) for file in files], files, grid)
     except parts.PartsError as fault:
         *others, last = str(fault).split("\n")
-        sys.stderr.write("".join(f"yds-whole: {text}\n" for text in others))
+        beside("".join(f"yds-whole: {text}\n" for text in others))
         raise parts.PartsError(last) from fault
     for text in told.told:
-        sys.stderr.write(f"yds-whole: {text}\n")
+        beside(f"yds-whole: {text}\n")
     for line in told.lines:
         write(line.decode("latin-1")[:-1])
     return DONE if told.yes else NO
