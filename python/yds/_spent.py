@@ -160,7 +160,7 @@ class Reading:
         self._add(misses, late)
         is_rounded = self._is_rounded or (self._has_slots and self._in_ticks)
         shared = [self.missing.shared] if self.missing.shared else []
-        return Spent(energy, times, is_rounded, misses, [*self._told(), *shared])
+        return Spent(energy, times, is_rounded, misses, [*shared, *self._told()])
 
     def at(self, speed: int) -> Spent:
         """What all jobs spend at the point of this speed, idle for the rest."""

@@ -22,6 +22,7 @@ import sys
 from textwrap import fill
 from typing import Any, Callable, List, NamedTuple, NoReturn, Optional, Sequence, Union
 
+from yds._progress import Progress
 from yds._version import DATE, VERSION
 
 DONE, NO, WORDS = 0, 1, 2
@@ -173,7 +174,8 @@ def _answer(command: Command, words: Sequence[str], work: Work) -> int:
     try:
         given = parse(command, words)
         held: List[Written] = []
-        status = work(given, _write if command.streams else held.append)
+        with Progress(command.name, given.files, command.streams):
+            status = work(given, _write if command.streams else held.append)
     except WordsError as fault:
         return _fail(command, f"{fault}; see {command.name} --help", WORDS)
     except KeyboardInterrupt:
@@ -269,7 +271,7 @@ def options_of(command: Command) -> str:
 
 
 def version_of(command: Command) -> str:
-    """The versions of the package and of what it finds: the library and the program have none that can be asked."""
+    """The versions of the package, and of the library and the program that it finds, which have to be of one version."""
     from yds._found import library, program
 
     return "\n".join([f"{command.name} {VERSION}, of the package yds", library(), program()])

@@ -301,10 +301,12 @@ trace time 10 2
 	printf 'plan energy 100\nplan time 0 10\n' | cat - "$work/priced" >"$work/sides"
 	text "battery: a side that misses" 0 "side	milliwatts	hours	of plan (%)
 plan	0.100	6600.0	100.0
-governor	misses 1	-	-" tool battery --mah 220 --volts 3 --uw 10 --period 10 "$work/sides"
+governor	misses 1	-	-
+# 6 of 6 changes of frequency were made on another CPU: what runs there sets these speeds, too" tool battery --mah 220 --volts 3 --uw 10 --period 10 "$work/sides"
 	text "collect: a side that misses" 0 "document	plan	avr	oa	governor	rounded	answer
 sides	100.000000	-	-	-	-	ok
-# sides: governor misses 1 deadline, the first decode.2" tool collect "$work/sides"
+# sides: governor misses 1 deadline, the first decode.2
+# sides: 6 of 6 changes of frequency were made on another CPU: what runs there sets these speeds, too" tool collect "$work/sides"
 }
 
 means() {
