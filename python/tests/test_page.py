@@ -482,7 +482,7 @@ class ByHandTest(unittest.TestCase):
             self.assertEqual(after.ids[name].text, before.ids[name].text)
         self.assertIn("every deadline, with 1 deadline moved to where late jobs ended, is 1376.18 MHz", after.ids["energy"].text)
         self.assertIn("It spends 5.4 % more than the least", after.ids["energy"].text)
-        self.assertIn("all energies are with 1 deadline moved to where the job ended", after.ids["energy"].text)
+        self.assertIn("with 1 deadline moved to where late jobs ended", after.ids["energy"].text)
 
     def test_a_deadline_in_another_unit(self) -> None:
         lines = [f"job t.{place} {place * 10} {place * 10 + 10_000} 2\n" for place in range(5)]
