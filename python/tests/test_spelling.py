@@ -50,6 +50,12 @@ class Fractions(unittest.TestCase):
         values = [Fraction(draw.randrange(-99, 99), draw.choice((1, 1, 6, 7, 9, 2**40))) for _ in range(800)]
         for made, value, other in zip(_fractions.differences(values, values[1:]), values, values[1:]):
             self.assertEqual((made, repr(made)), (value - other, repr(value - other)))
+        for value, other in zip(values, values[1:]):
+            if other:
+                made = _fractions.quotient(value, abs(other))
+                self.assertEqual((made, repr(made)), (value / abs(other), repr(value / abs(other))))
+        given = [value.numerator if value.denominator == 1 else value for value in values]
+        self.assertEqual(list(map(repr, _fractions.of_numbers(given))), list(map(repr, values)))
         for value in values:
             made = _fractions.quick_ratio(value.numerator * 6, value.denominator * 6)
             self.assertEqual((made, hash(made), repr(made)), (value, hash(value), repr(value)))

@@ -4,7 +4,7 @@ from __future__ import annotations
 
 import math
 from fractions import Fraction
-from typing import Any, Callable, Iterable, List, Sequence, Tuple
+from typing import Any, Callable, Iterable, List, Sequence, Tuple, Union
 
 Read = Callable[[Sequence[str]], List[Fraction]]
 Ratio = Callable[[int, int], Fraction]
@@ -81,6 +81,11 @@ def _seen(made: Fraction) -> Tuple[object, ...]:
 read, ratio = _quickest(quickly, quick_ratio)
 
 
+def of_numbers(values: Iterable[Union[int, Fraction]]) -> List[Fraction]:
+    """The values as Fractions, which some are already."""
+    return [value if type(value) is Fraction else ratio(*value.as_integer_ratio()) for value in values]
+
+
 def differences(values: Iterable[Fraction], others: Iterable[Fraction]) -> List[Fraction]:
     """Each value less the other one."""
     found = []
@@ -91,3 +96,9 @@ def differences(values: Iterable[Fraction], others: Iterable[Fraction]) -> List[
         else:
             found.append(ratio(top * whole - parts * bottom, bottom * whole))
     return found
+
+
+def quotient(value: Fraction, other: Fraction) -> Fraction:
+    """The value by the other, which is above 0."""
+    (top, bottom), (parts, whole) = value.as_integer_ratio(), other.as_integer_ratio()
+    return ratio(top * whole, bottom * parts)

@@ -10,6 +10,7 @@ from numbers import Rational
 from typing import Any, Dict, Iterable, List, Literal, NamedTuple, Optional, Sequence, Tuple, Union
 
 from yds._forms import Form, read
+from yds._fractions import ratio
 from yds._numbers import exact, total
 from yds.rows import PointLike
 
@@ -96,8 +97,13 @@ def _by_exponent(spans: Sequence[Span], exponent: Any) -> Energy:
         raise TypeError(f"an exponent is an int, with an exact energy, or a float, and not {exponent!r}")
     if exponent < 1:
         raise ValueError(f"an exponent is at least 1, and not {exponent!r}")
-    times = int(exponent)
-    return total(span.work**times / span.length ** (times - 1) for span in spans)
+    return total(_of_span(span, int(exponent)) for span in spans)
+
+
+def _of_span(span: Span, exponent: int) -> Fraction:
+    """The speed to the exponent, times the length, which is above 0."""
+    (work, grain), (length, unit) = span.work.as_integer_ratio(), span.length.as_integer_ratio()
+    return ratio(work**exponent * unit ** (exponent - 1), grain**exponent * length ** (exponent - 1))
 
 
 def _by_table(

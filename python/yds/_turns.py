@@ -7,8 +7,9 @@ from itertools import count, repeat
 from typing import Any, Iterable, List, NamedTuple, Optional, Sequence
 
 from yds import _fractions
-from yds._forms import FOREIGN_SLOTS, read
+from yds._forms import FOREIGN_SLOTS
 from yds._numbers import exact
+from yds._slots import Columns
 from yds.rows import Exact, Slot, SlotLike
 
 
@@ -25,12 +26,12 @@ class Turn(NamedTuple):
     @property
     def speed(self) -> Fraction:
         """Work per unit of time."""
-        return self.work / self.length
+        return _fractions.quotient(self.work, self.length)
 
 
 def turns_of(slots: Iterable[SlotLike], start: Optional[Exact] = None, end: Optional[Exact] = None) -> List[Turn]:
     """The slots in the given order; ValueError where one doesn't end after its start, or lies outside start and end."""
-    turns = _turns(list(read(FOREIGN_SLOTS, slots)))
+    turns = _turns(Columns.of(FOREIGN_SLOTS, slots))
     _check(turns, None if start is None else exact(start), None if end is None else exact(end))
     return turns
 
@@ -42,19 +43,17 @@ def in_turn(slots: Iterable[SlotLike], start: Optional[Exact] = None, end: Optio
 
 def own_in_turn(slots: Sequence[Slot]) -> List[Turn]:
     """The same of slots that a document has: their numbers are Fractions."""
-    turns = _turns(slots)
+    turns = _turns(Columns(*zip(*slots)))
     _check(turns, None, None)
     return _ordered(turns)
 
 
-def _turns(rows: Sequence[Any]) -> List[Turn]:
-    """The rows, of exact numbers, in their order."""
-    if not rows:
-        return []
-    jobs, starts, ends, works = zip(*rows)
+def _turns(columns: Columns) -> List[Turn]:
+    """The rows of these columns, in their order."""
+    starts, ends, works = (_fractions.of_numbers(numbers) for numbers in columns[1:])
     lengths = _fractions.differences(ends, starts)
     new: Any = tuple.__new__
-    return list(map(new, repeat(Turn), zip(count(), jobs, starts, ends, works, lengths)))
+    return list(map(new, repeat(Turn), zip(count(), columns.jobs, starts, ends, works, lengths)))
 
 
 def _ordered(turns: List[Turn]) -> List[Turn]:

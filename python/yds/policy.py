@@ -339,14 +339,16 @@ def _fraction(parts: Any, whole: int = 1) -> Fraction:
     """So many parts of a whole, which are an int or a Fraction."""
     if type(parts) is int:
         return ratio(parts, whole)
-    return parts if whole == 1 else Fraction(parts, whole)  # type: ignore[no-any-return]
+    found: Fraction = parts if whole == 1 else Fraction(parts, whole)
+    return found
 
 
 def _later(now: Any, parts: Any, whole: Any) -> Fraction:
     """The time after the quotient of both."""
     if type(now) is int and type(parts) is int and type(whole) is int:
         return ratio(now * whole + parts, whole)
-    return now + Fraction(parts, whole)  # type: ignore[no-any-return]
+    later: Fraction = now + Fraction(parts, whole)
+    return later
 
 
 def _plain(number: Any) -> Any:
