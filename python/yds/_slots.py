@@ -78,8 +78,9 @@ def _ends(starts: Sequence[Exact], ends: Sequence[Exact]) -> Tuple[List[str], Li
                 in_turn = in_turn and start * grain >= end * other
                 word = f"{start // other}+{start % other}/{other}" if other != 1 else f"{start}"
         end, grain = last.as_integer_ratio()
-        in_turn = in_turn and start * grain < end * other
         final = f"{end // grain}+{end % grain}/{grain}" if grain != 1 else f"{end}"
+        if start * grain >= end * other:
+            in_turn = False
         if grain == other or grain == 1 or other == 1:
             firsts.append(word)
             lasts.append(final)
