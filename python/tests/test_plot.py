@@ -644,6 +644,18 @@ class Words(unittest.TestCase):
                 *words,
             )
 
+    def test_output(self) -> None:
+        path = self.file(DOCUMENT)
+        found = call("plot", "gantt", "-o", self.folder / "picture.txt", path)
+        self.assertEqual((found.status, found.out, found.err), (0, "", ""))
+        self.assertTrue((self.folder / "picture.txt").read_text().startswith("Who runs when, by job\n"))
+        out = self.folder / "no" / "picture.txt"
+        self.refused(f"{out} can't be written: No such file or directory", "gantt", "-o", out, path)
+        found = call("plot", "gantt", "-t", "text", "-o", "/dev/full", path)
+        self.assertEqual(
+            (found.status, found.err), (1, "yds-plot: /dev/full can't be written: No space left on device\n")
+        )
+
     def test_names_run_nothing(self) -> None:
         here = os.getcwd()
         self.addCleanup(os.chdir, here)

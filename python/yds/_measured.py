@@ -6,7 +6,7 @@ from fractions import Fraction
 from functools import cached_property
 from typing import Any, ClassVar, Dict, List, Optional, Tuple, overload
 
-from yds import _drawn, pictures
+from yds import _drawn
 from yds._powers import By, Energy, Power, Span, Table, checked, is_exponent, of_spans
 from yds._tables import Profile, columns, profile, to_pandas
 from yds._turns import Turn, in_turn, own_in_turn
@@ -121,6 +121,8 @@ class Measured:
         `yds.pictures.jobs` says what is drawn, and `yds.pictures` has the speed over time, too. ImportError is raised
         where there is no matplotlib.
         """
+        from yds import pictures
+
         return pictures.jobs(self.jobs, self.slots, axes)
 
     def _repr_svg_(self) -> Optional[str]:

@@ -9,7 +9,7 @@ from dataclasses import dataclass, field
 from fractions import Fraction
 from typing import Any, Dict, List, Literal, NamedTuple, Optional, Sequence, Tuple
 
-from yds import _drawn, _shown, pictures
+from yds import _drawn, _shown
 from yds._numbers import exact
 from yds._spelling import read_fraction
 from yds.rows import Exact, Level, Slot
@@ -243,6 +243,8 @@ class Curve(Result):
 
     def plot(self, axes: Optional[Any] = None, **look: Any) -> Any:
         """The curve on matplotlib's axes: see `yds.pictures.curve`."""
+        from yds import pictures
+
         return pictures.curve(self, axes, **look)
 
     def __repr__(self) -> str:
@@ -303,6 +305,8 @@ class Comparison(Result):
 
     def plot(self, axes: Optional[Any] = None) -> Any:
         """The energies as bars on matplotlib's axes: see `yds.pictures.energies`."""
+        from yds import pictures
+
         return pictures.energies(self, axes)
 
     def __repr__(self) -> str:

@@ -5,7 +5,7 @@ from __future__ import annotations
 import sys
 from typing import Callable, Sequence, Union
 
-from yds._text import printable
+from yds._text import Fault, printable
 from yds._words import DONE, Command, Files, Given, Option, WordsError, run
 
 KINDS = ("speed", "gantt", "slack", "curve", "energy", "ratios")
@@ -83,9 +83,17 @@ def tell(given: Given, write: Callable[[Union[str, bytes]], None]) -> int:
     if given.output is None:
         write(made)
     else:
-        with open(given.output, "wb") as file:
-            file.write(made)
+        deliver(made, given.output)
     return DONE
+
+
+def deliver(made: bytes, output: str) -> None:
+    """Writes the file."""
+    try:
+        with open(output, "wb") as file:
+            file.write(made)
+    except OSError as fault:
+        raise Fault(f"{output} can't be written: {fault.strerror}") from fault
 
 
 if __name__ == "__main__":
