@@ -25,9 +25,9 @@ case $mode in put | remove) ;; *) die "give put or remove, and the parts" ;; esa
 # text PATH MODE: a file of this path, with standard input as its text; or it is removed.
 text() {
 	path=$DESTDIR$1
-	if [ "$mode" = remove ]; then
-		rm -f "$path"
-	else
+	# Not through a link, and not into a program that runs.
+	rm -f "$path"
+	if [ "$mode" = put ]; then
 		mkdir -p "$(dirname "$path")" && cat >"$path" && chmod "$2" "$path" || die "$path can't be written"
 	fi
 }
