@@ -28,7 +28,7 @@ needs debootstrap debootstrap chroot coreutils unshare util-linux dpkg-deb dpkg 
 [ "$(id -u)" = 0 ] || die "chroot and debootstrap need root"
 are_built
 MIRROR=${MIRROR:-http://deb.debian.org/debian}
-MANUAL="jq parallel python3-matplotlib gnuplot-nox gcc libc6-dev pkg-config"
+MANUAL="jq parallel python3-matplotlib gcc libc6-dev pkg-config"
 logs=build/packages-test
 work=$(mktemp -d) || exit 1
 trap 'rm -rf "$work"' EXIT

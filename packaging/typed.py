@@ -64,8 +64,8 @@ def missing() -> Dict[str, str]:
     """What isn't installed here, with its reason."""
     told = {name: f"{name} isn't installed" for name in ("jq", "parallel") if shutil.which(name) is None}
     draws = [sys.executable, "-c", "import matplotlib"]
-    if subprocess.run(draws, stderr=subprocess.DEVNULL, check=False).returncode and shutil.which("gnuplot") is None:
-        told["pictures"] = "neither matplotlib nor gnuplot is installed"
+    if subprocess.run(draws, stderr=subprocess.DEVNULL, check=False).returncode:
+        told["pictures"] = "matplotlib is not installed"
     return told
 
 
