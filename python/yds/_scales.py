@@ -11,7 +11,7 @@ from yds._text import Units as ToldUnits
 VERDICTS = ("late", "early", "work", "overlap", "backward", "off-point")
 """The first words of a verdict of no, as audit writes it."""
 _PREFIXES = {"": 0, "n": -9, "u": -6, "µ": -6, "m": -3, "k": 3, "M": 6, "G": 9}
-_UNIT = re.compile(r"([0-9]{1,20}(?:\.[0-9]{1,20})?)([nuµmkMG]?)(s|Hz|W)").fullmatch
+_UNIT = re.compile(r"([0-9]{1,20}(?:\.[0-9]{1,20}|/[1-9][0-9]{0,19})?)([nuµmkMG]?)(s|Hz|W)").fullmatch
 _BASES = ("s", "Hz", "W")
 
 
@@ -45,6 +45,8 @@ def units_of(text: str) -> Units:
 
     >>> units_of("10us,,1mW")
     Units(time=Fraction(1, 100000), speed=None, power=Fraction(1, 1000))
+    >>> units_of("1/3ms").time
+    Fraction(1, 3000)
     """
     parts = text.split(",")
     if len(parts) > 3:
