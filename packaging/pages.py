@@ -18,7 +18,7 @@ PAGES = ["README.md", "CHANGELOG.md"] + [
     f"docs/{name}.md"
     for name in ("manual", "format", "library", "proved", "definitions", "ratios", "textbook", "performance")
 ]
-BESIDE = ["docs/pictures/*.svg", "library/examples/*", "library/yds.h", "library/yds.hpp"]
+BESIDE = ["docs/pictures/*.svg", "docs/pictures/*.png", "library/examples/*", "library/yds.h", "library/yds.hpp"]
 
 _LINK = re.compile(r"\[([^\[\]]*)\]\(([^()\s]*)\)")
 _ELSEWHERE = re.compile(r"[A-Za-z][A-Za-z0-9+.-]*:|#")

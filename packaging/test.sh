@@ -139,8 +139,8 @@ a_page() {
 	user sh -c 'ln -sfn /usr/share/yds_cli/recipes recipes
 		yds-points --domain cpu0 recipes/samples/energy-model.txt > points.txt &&
 		yds-trace tasks=decode:16.667,audio:10 recipes/samples/trace-late.txt > trace.txt &&
-		yds-join points.txt trace.txt > late.txt && { yds-page late.txt > late.html; echo "status $?"; } && grep -q "decode.2" late.html &&
-		! grep -oE "(src|href)=\"https?:[^\"]*\"" late.html && wc -c late.html'
+		yds-page points.txt trace.txt > late.html && grep -q "decode.2" late.html &&
+		! grep -oE "(src|href)=\"https?:[^\"]*\"" late.html && echo "$(wc -c <late.html) bytes, $(grep -o "<svg" late.html | wc -l) pictures"'
 }
 
 try_walk() {

@@ -5,7 +5,7 @@
 A command is a line of a code block that begins with `$ `, its further lines begin with `> `, and what is shown stands
 below it. Each section (`##`) is a session of bash in a new folder, with links to what /usr/share/yds_cli has. A command
 that needs a package that isn't installed is left out, and so are those behind it in its part of the section (a picture
-alone: no command reads pictures). FILE gets each command with what was shown. The last line is 'N passed, M failed', and
+alone: no command reads pictures), and later ones that miss a file of these. FILE gets each command with what was shown. The last line is 'N passed, M failed', and
 before it stands how many were left out and why; the status is 1 where M isn't 0.
 """
 
@@ -134,7 +134,10 @@ def try_section(page: Path, given: List[Command], absent: Dict[str, str], count:
         count.leave_out(command, reason)
     with tempfile.TemporaryDirectory() as folder:
         for command, shown in zip(kept, typed(kept, Path(folder))):
-            count.take(page, command, shown)
+            if stopped and shown != command.shown and "No such file or directory" in shown:
+                count.leave_out(command, "needs a file of a command that was left out")
+            else:
+                count.take(page, command, shown)
 
 
 def main(words: List[str]) -> int:
