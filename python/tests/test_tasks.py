@@ -3,11 +3,12 @@
 import json
 import random
 import unittest
+from fractions import Fraction
 from typing import Dict, List, Sequence, Tuple
 from unittest import mock
 
 from called import EXPECTED, SAMPLES, broken, call
-from yds.tasks import Task, Tasks, jobs, longer_horizon, lost_by, period
+from yds.tasks import Task, Tasks, jobs, longer_horizon, lost_by, meant, period
 
 
 def expand(words: Sequence[str], text: bytes) -> Tuple[int, bytes]:
@@ -100,6 +101,41 @@ class TasksTest(unittest.TestCase):
             "yds-tasks: no job is due by the horizon\n",
         )
         self.assertEqual(call("tasks", "--lost", "keep").status, 2)
+
+    def test_the_exact_unit(self) -> None:
+        """16.667 and 333.333 ms are whole in thirds of a millisecond; 17 would be later than the deadline."""
+        text = b"horizon 7000\ntask a 0 7 7 2\ntask v 0 16.667 16.667 30\ntask w 0 333.333 333.333 4\n"
+        self.assertEqual(
+            call("tasks", given=text),
+            (
+                1,
+                "failed\n",
+                "yds-tasks: line 3, column 10: 16.667 isn't whole; write all times and works 3 times as great, in a unit of "
+                "time of 1/3 of this one: it is 50 there, since it is taken for 16+2/3\n",
+            ),
+        )
+        for field, told in [("2.5", "2 times as great"), ("5/3", "3 times"), ("0.125", "8 times"), ("0.1", "10 times")]:
+            self.assertIn(told, call("tasks", given=f"horizon 9\ntask a 0 9 9 {field}\n".encode()).err)
+        self.assertIn("expand ended with status 3", call("tasks", given=b"horizon 9\ntask a 0 2.5 9 x\n").err)
+
+    def test_drawn_units(self) -> None:
+        """Of 2,000 numbers of small denominators, printed with decimals, each is what it was, or the decimals themselves."""
+        pick = random.Random(8)
+        for _ in range(2000):
+            below, places = pick.randrange(1, 40), pick.randrange(1, 7)
+            value = Fraction(pick.randrange(1, 2000), below)
+            scaled = value * 10**places
+            digits = f"{(2 * scaled.numerator + scaled.denominator) // (2 * scaled.denominator):0{places + 1}d}"
+            text = f"{digits[:-places]}.{digits[-places:]}"
+            exact = Fraction(int(digits), 10**places)
+            wanted = value if 2 * value.denominator**2 <= 10**places else None
+            found = meant(text)
+            assert found is not None
+            self.assertLessEqual(abs(found - exact), Fraction(1, 2 * 10**places), text)
+            if wanted is not None:
+                self.assertEqual(found, wanted, text)
+            elif found != exact:
+                self.assertLessEqual(2 * found.denominator**2, 10**places, text)
 
     def test_drawn_tasks(self) -> None:
         """What 2,000 sets of tasks lose is what a longer horizon has: released before the horizon, and due after it."""

@@ -61,7 +61,7 @@ def _wrong(version: str) -> str:
 def program() -> str:
     """A line about the program, which has no word that tells its version."""
     named = os.environ.get("YDS")
-    found = named or shutil.which("yds_cli")
+    found = shutil.which(named or "yds_cli") or named
     if found is None:
         return "program: yds_cli isn't on the PATH"
     told = _of_debian(found)

@@ -251,13 +251,13 @@ def _simplest_near(value: Fraction, most: Fraction) -> Fraction:
         return Fraction(0)
     if not most or value.denominator == 1:
         return value
-    return _simplest(max(value - most, Fraction(0)), value + most)
+    return simplest(max(value - most, Fraction(0)), value + most)
 
 
-def _simplest(low: Fraction, high: Fraction) -> Fraction:
+def simplest(low: Fraction, high: Fraction) -> Fraction:
     """The fraction of least denominator from low to high, of those the least: by their continued fractions.
 
-    >>> _simplest(Fraction(31, 100), Fraction(35, 100))
+    >>> simplest(Fraction(31, 100), Fraction(35, 100))
     Fraction(1, 3)
     """
     wholes = []

@@ -2,9 +2,13 @@
 
 from __future__ import annotations
 
+from fractions import Fraction
 from math import gcd
 from typing import Iterable, Iterator, List, NamedTuple, Optional, Sequence, Tuple
 
+from yds._foreign import number
+from yds._near import simplest
+from yds._spelling import common
 from yds._text import Comment, Horizon, Line, Rows
 from yds._text import Task as TaskRow
 
@@ -60,6 +64,51 @@ class Lost(NamedTuple):
         """Whether a horizon that is a multiple of the periods leaves out a job, too."""
         task = self.task
         return not self.released or task.offset % task.period + task.deadline > task.period
+
+
+class NotWhole(NamedTuple):
+    """A time or a work that isn't whole, and by how much all have to be multiplied so that each is."""
+
+    line: Line
+    place: int
+    """Its field, from 0."""
+    value: Fraction
+    """What it is taken for."""
+    factor: int
+
+
+def meant(text: str) -> Optional[Fraction]:
+    """What a number stands for: 16.667 for 16+2/3, of which these are the first decimals; None where it is no number.
+
+    A decimal is a fraction of small denominator only where there is no other one so small that it may stand for.
+
+    >>> meant("16.667"), meant("0.125"), meant("0.1")
+    (Fraction(50, 3), Fraction(1, 8), Fraction(1, 10))
+    """
+    value = number(text)
+    places = len(text.partition(".")[2])
+    if value is None or not places or not text.replace(".", "").isdigit():
+        return value
+    half = Fraction(1, 2 * 10**places)
+    near = simplest(max(value - half, Fraction(0)), value + half)
+    return near if 2 * near.denominator**2 <= 10**places else value
+
+
+def not_whole(lines: Iterable[Line]) -> Optional[NotWhole]:
+    """The first time or work of tasks and horizon that isn't whole; None where each is, or one is no number."""
+    first: Optional[Tuple[Line, int, Fraction]] = None
+    factor = 1
+    for line in lines:
+        fields = line.fields
+        begin = {"task": 2, "horizon": 1}.get(fields[0] if fields else "", len(fields))
+        for place in range(begin, len(fields)):
+            value = meant(fields[place])
+            if value is None:
+                return None
+            factor = common([factor, value.denominator])
+            if first is None and value.denominator > 1:
+                first = line, place, value
+    return None if first is None else NotWhole(*first, factor)
 
 
 def read(lines: Iterable[Line]) -> Tasks:

@@ -5,10 +5,11 @@ from __future__ import annotations
 import sys
 from typing import Callable, List, Sequence, Tuple
 
+from yds._foreign import number
 from yds._program import Answer, of_environment
-from yds._text import Fault, Line, lines
+from yds._text import Fault, Line, lines, printable, spelled
 from yds._words import DONE, Command, Files, Given, Option, WordsError, run
-from yds.tasks import Tasks, jobs, longer_horizon, lost_by, period, read
+from yds.tasks import NotWhole, Tasks, jobs, longer_horizon, lost_by, not_whole, period, read
 
 COMMAND = Command(
     "yds-tasks",
@@ -27,6 +28,9 @@ that tell units; comments of this command; and the answer of `yds_cli expand`.
 Jobs that are released before the horizon and due after it can't be planned within it, so expand leaves them out. A
 document without them may be feasible for a processor that is too slow for the tasks. So that is a fault, unless --lost
 cut is given.
+
+Numbers are whole. Where one isn't, the fault tells a unit in which all are: 16.667 is the begin of 16+2/3, and with
+all times and works 3 times as great it is 50. (17 would be later than a deadline of 16.667.)
 
 expand writes at most 4,000 jobs. With --long more are written, in the order of their releases, for yds-parts.
 """,
@@ -52,6 +56,9 @@ def tell(given: Given, write: Callable[[str], None]) -> int:
     if given.lost not in (None, "cut"):
         raise WordsError(f"--lost {given.lost}: there is only --lost cut")
     source = list(lines(given.files))
+    broken = not_whole(source)
+    if broken is not None:
+        raise broken.line.fault(finer(broken), broken.place)
     written = expanded(source, given.long, of_environment())
     tasks = read(source)
     if not tasks.tasks:
@@ -93,6 +100,21 @@ def expand(source: Sequence[Line], answer: Answer) -> Tuple[int, str]:
     text = "".join(line.text + "\n" for line in source).encode("latin-1")
     status, told = answer(["expand"], text)
     return int(status), told.decode("latin-1").rstrip("\n")
+
+
+def finer(broken: NotWhole) -> str:
+    """What makes each number whole: a finer unit of time, in which works are as many times as great at the same speeds."""
+    text = broken.line.fields[broken.place]
+    finer = broken.value * broken.factor
+    taken = (
+        ""
+        if number(text) == broken.value
+        else f", since it is taken for {spelled(broken.value.numerator, broken.value.denominator)}"
+    )
+    all_of_it = (
+        f"write all times and works {broken.factor} times as great, in a unit of time of 1/{broken.factor} of this one"
+    )
+    return f"{printable(text)} isn't whole; {all_of_it}: it is {finer} there{taken}"
 
 
 def refusal(tasks: Tasks) -> str:
