@@ -306,7 +306,7 @@ test_folder() {
 	cat "$expected/compare-a.txt" "$expected/energy.txt" >"$work/more.txt"
 	same "collect: no answer, and another side" 0 more.tsv tool collect "$work/empty.txt" "$work/more.txt"
 	cat "$expected/energy.txt" "$expected/energy.txt" >"$work/twice.txt"
-	refuses "collect: a side twice" 1 "" "yds-collect: twice.txt, line 10, column 1: the side governor stands twice; write its lines into a new file" from /dev/null tool_in "$work" collect twice.txt
+	refuses "collect: a side twice" 1 "" "yds-collect: twice.txt, line 11, column 1: the side governor stands twice; write its lines into a new file" from /dev/null tool_in "$work" collect twice.txt
 	refuses "collect: another file" 1 "" "yds-collect: points.txt, line 2: \"point 0 0\" is no line of compare or yds-energy" from /dev/null tool_in "$expected" collect points.txt
 	tool_in "$expected" reports report-a.json report-refused.json >"$work/reports.tsv" 2>&1
 	same "report: a table" 0 reports.tsv cat "$work/reports.tsv"

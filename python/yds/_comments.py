@@ -193,9 +193,10 @@ def moved_by(job: str, units: int) -> str:
 
 
 _CHANGES = re.compile(r"# ([0-9]{1,18}) changes? of frequency, ([0-9]{1,18}) of them from another CPU").fullmatch
+_OTHERS = re.compile(r"# other tasks ran for ([0-9]{1,12}\.[0-9]{1,3}) ms of [0-9]{1,12}\.[0-9]{1,3} ms").fullmatch
 PARTIAL = r"not due by [0-9]+: |[0-9]+ jobs? (?:was|were) |the work of [0-9]+ jobs? isn't known, since "
 """How a text begins that says of energies that some is in no line, or that work isn't known."""
-BESIDE = PARTIAL + r"|with [0-9]+ deadlines? moved |[0-9]+ of [0-9]+ changes of frequency were "
+BESIDE = PARTIAL + r"|with [0-9]+ deadlines? moved |[0-9]+ of [0-9]+ changes of frequency were |other tasks ran for "
 """How one begins that is told beside energies, wherever they are shown."""
 
 _NOT_DUE = re.compile(r"# not due by [0-9]+: ").match
@@ -215,6 +216,8 @@ class Missing:
         """The jobs whose deadlines were moved to their ends."""
         self.shared = ""
         """Whose changes of frequency they were, as a comment; empty where no other processor made any."""
+        self.others = ""
+        """For how long other tasks ran, as a comment; empty where none did."""
 
     def take(self, text: str) -> None:
         """Reads a comment."""
@@ -227,7 +230,9 @@ class Missing:
             self.without_runs += text.startswith(f"# {WITHOUT_RUNS}: ")
             self.unknown.append(text.split(": ", 1)[1].split(" ")[0].rstrip(","))
         else:
-            moved, changes = moved_of(text), _CHANGES(text)
+            moved, changes, others = moved_of(text), _CHANGES(text), _OTHERS(text)
+            if others is not None and float(others.group(1)):
+                self.others = f"{text}: that energy is in no line, and no plan makes room for them"
             self.moved |= {moved[0]} if moved is not None else set()
             if changes is not None and int(changes.group(2)):
                 made = "made on another CPU: what runs there sets these speeds, too"

@@ -86,7 +86,9 @@ class Table:
             if "\t" in line.text and "," in line.text and ";" not in line.text:
                 more += " (with decimal commas, write semicolons in place of the tabs: else a comma parts columns)"
             if self._has_heading:
-                raise line.fault(f"{more}, and the heading has the units of {len(self._units)}")
+                comma = "," in line.text and re.search(r"[\t ]", line.text.strip()) is not None
+                hint = "; with decimal commas the columns have to be parted by semicolons" if comma else ""
+                raise line.fault(f"{more}, and the heading has the units of {len(self._units)}{hint}")
             unit = "mA" if current else "mW"
             kinds = (
                 f"a table of two, MHz and {unit}, a heading with the units of more, or --top with frequencies in kHz"
@@ -131,7 +133,7 @@ class Table:
 
     def _take_heading(self, line: Line, text: str, first: str, wrong: str) -> None:
         wrong = re.sub(r"[^ -~]", "?", wrong)
-        if self._rows:
+        if self._rows or (self._has_heading and NUMBER(first)):
             unit = "mW" if self._given.volts is None else "mA"
             columns = "as in the heading" if self._has_heading else f"MHz and {unit}"
             raise line.fault(f"{wrong} is no number; the columns are {columns}")

@@ -54,7 +54,7 @@ given, and which points no plan uses, since they lie above the lower hull. A tra
             "dynamic-power-coefficient of the device tree: power is N * mV * mV * MHz / 10^6 microwatts",
             "N",
         ),
-        Option("volts", "the voltage of a table of currents", "V"),
+        Option("volts", "the voltage of a table of currents, at the supply pin", "V"),
         Option("power", "mW: an energy model of a kernel before 6.0", "mW|uW"),
         Option("top", "the power at the fastest frequency in milliwatts, where frequencies alone are given", "MW"),
     ],
