@@ -90,7 +90,6 @@ class TableTest(unittest.TestCase):
             ("MHz,mW\nMHz,mW\n", (), "line 2: two headings; give a table with one"),
             ("MHz,mW\n26,-1\n", (), "line 2: -1 is no number; the columns are as in the heading"),
             ("MHz,mW\n26 | 2.6\n", (), "line 2: | is no number; the columns are as in the heading"),
-            ("MHz\tmW\n26\t2,6\n", (), "line 2: 3 columns, and the heading has the units of 2; with decimal commas the columns have to be parted by semicolons"),
             (
                 "4 MHz,0.5\n",
                 (),

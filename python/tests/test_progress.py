@@ -28,7 +28,12 @@ class Terminal(io.StringIO):
 
 class ProgressTest(unittest.TestCase):
     def told(
-        self, files: Sequence[str], seconds: float, out: Optional[io.StringIO] = None, streams: bool = False
+        self,
+        files: Sequence[str],
+        seconds: float,
+        out: Optional[io.StringIO] = None,
+        streams: bool = False,
+        told: bool = True,
     ) -> str:
         """What a terminal is told, of a patience of a fiftieth of a second."""
         terminal = Terminal()
@@ -36,12 +41,14 @@ class ProgressTest(unittest.TestCase):
             "sys.stderr", terminal
         ), mock.patch("sys.stdout", out or io.StringIO()):
             with Progress("yds-try", files, streams):
-                time.sleep(seconds)
+                until = time.monotonic() + (60 if seconds and told else seconds)
+                while time.monotonic() < until and not terminal.getvalue():
+                    time.sleep(0.01)
         return terminal.getvalue()
 
     def test_it_is_told_and_gone(self) -> None:
         told = self.told([], 0.1)
-        self.assertTrue(told.startswith("\r\x1b[Kyds-try: 0 s"), told)
+        self.assertTrue(told.startswith("\r\x1b[Kyds-try: "), told)
         self.assertTrue(told.endswith("\r\x1b[K"))
 
     def test_what_is_quick_says_nothing(self) -> None:
@@ -51,9 +58,10 @@ class ProgressTest(unittest.TestCase):
         terminal = Terminal()
         with mock.patch.object(_progress, "PATIENCE", 0.01), mock.patch("sys.stderr", terminal):
             with Progress("yds-try", [], False):
-                time.sleep(0.05)
+                while not terminal.getvalue():
+                    time.sleep(0.01)
                 _progress.beside("yds-try: a word\n")
-        self.assertEqual(terminal.getvalue(), "\r\x1b[Kyds-try: 0 s\r\x1b[Kyds-try: a word\n")
+        self.assertIn(" s\r\x1b[Kyds-try: a word\n", terminal.getvalue())
 
     def test_no_terminal_is_told_nothing(self) -> None:
         with mock.patch.object(_progress, "PATIENCE", 0), mock.patch("sys.stderr", io.StringIO()) as told:
@@ -62,7 +70,7 @@ class ProgressTest(unittest.TestCase):
         self.assertEqual(told.getvalue(), "")
 
     def test_lines_on_a_terminal_stay_whole(self) -> None:
-        self.assertEqual(self.told([], 0.1, Terminal(), streams=True), "")
+        self.assertEqual(self.told([], 0.1, Terminal(), streams=True, told=False), "")
         self.assertNotEqual(self.told([], 0.1, Terminal(), streams=False), "")
 
     def test_how_much_is_read(self) -> None:

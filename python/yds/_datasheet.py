@@ -86,9 +86,7 @@ class Table:
             if "\t" in line.text and "," in line.text and ";" not in line.text:
                 more += " (with decimal commas, write semicolons in place of the tabs: else a comma parts columns)"
             if self._has_heading:
-                comma = "," in line.text and re.search(r"[\t ]", line.text.strip()) is not None
-                hint = "; with decimal commas the columns have to be parted by semicolons" if comma else ""
-                raise line.fault(f"{more}, and the heading has the units of {len(self._units)}{hint}")
+                raise line.fault(f"{more}, and the heading has the units of {len(self._units)}")
             unit = "mA" if current else "mW"
             kinds = (
                 f"a table of two, MHz and {unit}, a heading with the units of more, or --top with frequencies in kHz"
