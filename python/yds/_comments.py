@@ -196,7 +196,10 @@ _CHANGES = re.compile(r"# ([0-9]{1,18}) changes? of frequency, ([0-9]{1,18}) of 
 _OTHERS = re.compile(r"# other tasks ran for ([0-9]{1,12}\.[0-9]{1,3}) ms of [0-9]{1,12}\.[0-9]{1,3} ms").fullmatch
 PARTIAL = r"not due by [0-9]+: |[0-9]+ jobs? (?:was|were) |the work of [0-9]+ jobs? isn't known, since "
 """How a text begins that says of energies that some is in no line, or that work isn't known."""
-BESIDE = PARTIAL + r"|with [0-9]+ deadlines? moved |[0-9]+ of [0-9]+ changes of frequency were |other tasks ran for "
+BESIDE = (
+    PARTIAL + r"|with [0-9]+ deadlines? moved |[0-9]+ of [0-9]+ changes of frequency were "
+    r"|other tasks ran for [0-9.]+ ms of [0-9.]+ ms: "
+)
 """How one begins that is told beside energies, wherever they are shown."""
 
 _NOT_DUE = re.compile(r"# not due by [0-9]+: ").match
