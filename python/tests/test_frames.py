@@ -147,6 +147,17 @@ class ByHand(Frames):
             "yds-frames: time 0 of the jobs is no whole number of the trace's units after its own; give it to yds-trace as --from\n",
         )
 
+    def test_who_else_ran(self) -> None:
+        """Comments on others are in ticks, from the other time 0 on."""
+        trace = (
+            HEAD
+            + UNITS
+            + "job r.0 2000 2900 50\nticks 1\nrun r.0 2000 2050 1\n# other a b-7 10 20\n# other c-8 900 1100\n"
+        )
+        told = self.told(MS + "job r.0 10 19 50\n", trace, "--zero", "200.01")
+        self.assertEqual([line for line in told if line.startswith("# other ")], ["# other c-8 0 100"])
+        self.assertIn("# other a b-7 10 20", self.told(MS + "job r.0 20 29 50\n", trace))
+
     def test_other_tasks(self) -> None:
         trace = (
             HEAD + UNITS + "job r.0 0 900 50\njob others.0 0 2000 100\nticks 1\nrun r.0 0 50 1\nrun others.0 50 150 1\n"

@@ -6,7 +6,18 @@ import re
 from fractions import Fraction
 from typing import Dict, Iterable, Iterator, List, NamedTuple, Optional, Sequence, Tuple
 
-from yds._comments import LEFT_OUT, LESS_THAN_UNIT, NOT_ENDED, WITHIN_TICK, WITHOUT_RUNS, Clock, Ends, Note, note_of
+from yds._comments import (
+    LEFT_OUT,
+    LESS_THAN_UNIT,
+    NOT_ENDED,
+    WITHIN_TICK,
+    WITHOUT_RUNS,
+    Clock,
+    Ends,
+    Note,
+    note_of,
+    other_span,
+)
 from yds._priced import decimal
 from yds._text import Comment, Fault, Job, Line, Point, Row, Rows, Slot, Ticks, base, counted
 
@@ -477,7 +488,13 @@ class _Written:
         yield from self._begins_and_ends(jobs)
         yield from self._judged.left
         yield from self._unplaced(jobs)
-        yield from self._trace.comments
+        for comment in self._trace.comments:
+            span = other_span(comment)
+            if span is None:
+                yield comment
+            elif span.end > self._by.zero:
+                begin = max(span.start - self._by.zero, 0)
+                yield f"# other {span.name}-{span.pid} {begin} {span.end - self._by.zero}"
         left = len(self._judged.left) + sum(map(len, self._placed.unknown.values())) + self._placed.before
         written = len(self._frames.jobs) + (len(self._others) if len(self._whole_others) == len(self._others) else 0)
         late = self._judged.late
