@@ -22,27 +22,21 @@ mode=$1
 shift
 case $mode in put | remove) ;; *) die "give put or remove, and the parts" ;; esac
 
-# text PATH MODE: a file of this path, with standard input as its text; or it is removed.
-text() {
-	path=$DESTDIR$1
-	# Not through a link, and not into a program that runs.
-	rm -f "$path"
-	if [ "$mode" = put ]; then
-		mkdir -p "$(dirname "$path")" && cat >"$path" && chmod "$2" "$path" || die "$path can't be written"
-	fi
+# file FROM PATH [MODE]: the file, copied; not through a link, and not into a program that runs.
+file() {
+	if [ "$mode" = remove ]; then rm -f "$DESTDIR$2"; else install -D -m "${3:-644}" "$1" "$DESTDIR$2"; fi || die "$DESTDIR$2 can't be written"
 }
-# file FROM PATH [MODE]: the file, copied.
-file() { if [ "$mode" = remove ]; then text "$2" 644; else text "$2" "${3:-644}" <"$1"; fi || die "$1 can't be read"; }
 # link TARGET PATH: a link.
 link() {
 	rm -f "$DESTDIR$2"
 	[ "$mode" = remove ] || { mkdir -p "$(dirname "$DESTDIR$2")" && ln -s "$1" "$DESTDIR$2"; } || die "$DESTDIR$2 can't be written"
 }
-# made PATH COMMAND ..: what the command writes, with the mode of a text.
+# made PATH COMMAND ..: what the command writes.
 made() {
 	made=$1
 	shift
-	if [ "$mode" = remove ]; then text "$made" 644; else "$@" >"$own/text" && file "$own/text" "$made"; fi || die "$* failed"
+	[ "$mode" = remove ] || "$@" >"$own/text" || die "$* failed"
+	file "$own/text" "$made"
 }
 # gone FOLDER ..: the project's own folders, once nothing is in them.
 gone() {
@@ -70,19 +64,23 @@ programs() {
 # is_python COMMAND: whether it is a command of the Python package, by its file in recipes/bin.
 is_python() { grep -q _start.py "recipes/bin/$1"; }
 
-# page_of COMMAND: its manual page, from its own table or head.
-page_of() {
-	if is_python "$1"; then
-		python3 python/yds/commands/_start.py "$1" --man
-	else
-		date=$(sed -n 's/^DATE = "\(.*\)"$/\1/p' python/yds/_version.py)
-		sh recipes/command.sh "$1" --man | sed "1s/ 1 \"\" \"yds_cli\"/ 1 \"$date\" \"yds_cli $version\"/"
-	fi
+# pages_of_commands: the manual page of each command in $own, from its own table or head.
+pages_of_commands() {
+	python=
+	for name in $commands; do
+		if is_python "$name"; then
+			python="$python $name"
+		else
+			sh recipes/command.sh "$name" --man | sed "1s/ 1 \"\" \"yds_cli\"/ 1 \"$date\" \"yds_cli $version\"/" >"$own/$name.1"
+		fi
+	done
+	# shellcheck disable=SC2086
+	python3 packaging/man.py "$own" $python || die "the manual pages couldn't be made"
 }
 
 tools() {
-	PYTHONDONTWRITEBYTECODE=1
-	export PYTHONDONTWRITEBYTECODE
+	date=$(sed -n 's/^DATE = "\(.*\)"$/\1/p' python/yds/_version.py)
+	[ $mode = remove ] || pages_of_commands
 	for name in $(cd python/yds && find . -name '*.py' -o -name py.typed | sort); do
 		file "python/yds/$name" "$PREFIX/lib/python3/dist-packages/yds/${name#./}"
 	done
@@ -100,7 +98,7 @@ tools() {
 		if is_python "$name"; then target=../$start; else target=../share/yds_cli/recipes/command.sh; fi
 		link "$target" "$PREFIX/bin/$name"
 		link yds_tools "$PREFIX/share/bash-completion/completions/$name"
-		made "$PREFIX/share/man/man1/$name.1" page_of "$name"
+		file "$own/$name.1" "$PREFIX/share/man/man1/$name.1"
 	done
 	if [ $mode = remove ]; then find "$DESTDIR$PREFIX/lib/python3/dist-packages/yds" -name __pycache__ -prune -exec rm -rf {} + 2>/dev/null; fi
 	gone lib/python3/dist-packages/yds share/yds_cli

@@ -571,7 +571,7 @@ class CommandTest(unittest.TestCase):
     def test_words(self) -> None:
         for words, told in [
             (("--points", "x", "y"), "--points is for --folder: without it give the points as the first text"),
-            (("--folder", "x"), "--folder wants a file for each document"),
+            (("--folder", "x"), "--folder needs a file for each document"),
             (("--us", "0"), "--us 0 is no whole number of 1 or more"),
             (("--grid", "x"), "--grid x is no whole number of 1 or more"),
             (("--titles", "x"), "unrecognized arguments: --titles"),

@@ -113,7 +113,7 @@ def tell_folder(given: Given, words: Sequence[str]) -> int:
     from yds.page import Entry, entry, index
 
     if not given.files:
-        raise WordsError("--folder wants a file for each document")
+        raise WordsError("--folder needs a file for each document")
     first = [] if given.points is None else [(given.points, read(given.points))]
     os.makedirs(given.folder, exist_ok=True)
     entries: List[Entry] = []
