@@ -123,7 +123,7 @@ class EnergyTest(unittest.TestCase):
         )
         changes = "2 changes of frequency, {} of them from another CPU"
         others = (
-            "# other tasks ran for 0.500 ms of 9.000 ms: that energy is in no line, and no plan makes room for them"
+            "# other tasks ran for 0.500 ms of 9.000 ms: what they spent is in no line, and no plan makes room for them"
         )
         shared = "# 1 of 2 changes of frequency were made on another CPU: what runs there sets these speeds, too"
         for told, words, wanted in [

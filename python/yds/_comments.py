@@ -235,7 +235,7 @@ class Missing:
         else:
             moved, changes, others = moved_of(text), _CHANGES(text), _OTHERS(text)
             if others is not None and float(others.group(1)):
-                self.others = f"{text}: that energy is in no line, and no plan makes room for them"
+                self.others = f"{text}: what they spent is in no line, and no plan makes room for them"
             self.moved |= {moved[0]} if moved is not None else set()
             if changes is not None and int(changes.group(2)):
                 made = "made on another CPU: what runs there sets these speeds, too"

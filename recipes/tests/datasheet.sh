@@ -302,12 +302,12 @@ trace time 10 2
 	text "battery: a side that misses" 0 "side	milliwatts	hours	of plan (%)
 plan	0.100	6600.0	100.0
 governor	misses 1	-	-
-# other tasks ran for 0.422 ms of 53.697 ms: that energy is in no line, and no plan makes room for them
+# other tasks ran for 0.422 ms of 53.697 ms: what they spent is in no line, and no plan makes room for them
 # 6 of 6 changes of frequency were made on another CPU: what runs there sets these speeds, too" tool battery --mah 220 --volts 3 --uw 10 --period 10 "$work/sides"
 	text "collect: a side that misses" 0 "document	plan	avr	oa	governor	rounded	answer
 sides	100.000000	-	-	-	-	ok
 # sides: governor misses 1 deadline, the first decode.2
-# sides: other tasks ran for 0.422 ms of 53.697 ms: that energy is in no line, and no plan makes room for them
+# sides: other tasks ran for 0.422 ms of 53.697 ms: what they spent is in no line, and no plan makes room for them
 # sides: 6 of 6 changes of frequency were made on another CPU: what runs there sets these speeds, too" tool collect "$work/sides"
 }
 
