@@ -15,6 +15,7 @@ from called import EXPECTED, SAMPLES, call
 from page_reading import Page
 from yds import page
 from yds._look import SCRIPT
+from yds._text import Fault
 
 Number = Union[Fraction, float]
 HEAD = "# CPU 0 of a kernel trace; time 0 is 100.500000000 s\n# time unit 10 us, speed unit 10000 kHz, work unit 100 cycles\n"
@@ -370,7 +371,22 @@ class VerdictTest(unittest.TestCase):
 
     def test_another_fault_of_the_slots(self) -> None:
         read = page_of("job a 0 9 4\njob b 0 9 4\nticks 1\nrun a 0 4 1\nrun b 3 7 1\n")
-        self.assertIn("its deadlines weren't judged: overlap slot 2 b", read.ids["verdict"].text)
+        told = "overlap slot 2 b 3 previous 4, and whether deadlines were met isn't told"
+        self.assertIn(f"The schedule has a fault: {told}", read.ids["verdict"].text)
+        late = page_of("job a 0 2 4\njob b 0 9 4\nticks 1\nrun a 0 4 1\nrun b 3 7 1\n")
+        self.assertIn("previous 4; 1 of 2 jobs missed their deadlines, and others may have", late.ids["verdict"].text)
+        self.assertNotIn("worst", late.ids)
+
+    def test_what_can_hide_a_miss_is_told_beside_it(self) -> None:
+        text = (
+            "job a.0 0 9 4\nticks 1\nrun a.0 0 4 1\n# left out: a.1 (ran on CPU 1)\n# left out: a.2 (no wake-up)\n"
+            "# left out: a.3 (no wake-up)\n# left out: a.4 (after to)\n"
+        )
+        for lost, wanted in (("", "no"), ("# places where events were lost: 2\n", "yes")):
+            rows = {row["What"].text: row for row in page_of(text + lost).table("unjudged")}
+            self.assertEqual(rows["left out: a.1 (ran on CPU 1)"]["Can it hide a miss?"].text, wanted)
+            self.assertEqual(rows["left out: 2 jobs of a (no wake-up), the first a.2, the last a.3"]["Can it hide a miss?"].text, "yes")
+            self.assertEqual(rows["left out: a.4 (after to)"]["Can it hide a miss?"].text, "no")
 
     def test_a_program_that_says_nothing(self) -> None:
         for answer in (lambda words, text: (0, b""), lambda words, text: (139, b"")):
@@ -395,6 +411,14 @@ class VerdictTest(unittest.TestCase):
         self.assertEqual(read.ids["verdict"].attributes["class"], "yes")
 
 
+def _place_of(fault: BaseException) -> str:
+    """In which file it was raised."""
+    trace = fault.__traceback__
+    while trace is not None and trace.tb_next is not None:
+        trace = trace.tb_next
+    return "" if trace is None else trace.tb_frame.f_code.co_filename
+
+
 HOSTILE = [
     "<script>alert(1)</script>", "\"><img/src=x>", "</title><b>", "&lt;b&gt;", "]]>", "-->", "a'b\"c", "$\\frac{1}{2}$",
     "<svg/onload=x>.1", "javascript:x", "%s{0}", "=cmd|'x'!A0",
@@ -412,6 +436,8 @@ class HostileTest(unittest.TestCase):
         text = "".join([*jobs, "ticks 1\n", *runs, *others, *comments]).encode("latin-1")
         read = page_of(text, title="</title><script>x</script>\x1b]0;x\x07\u202e")
         self.assertEqual([node.text for node in read.root.all("script")], [SCRIPT])
+        policy = [node.attributes["content"] for node in read.root.all("meta") if "http-equiv" in node.attributes]
+        self.assertTrue(policy[0].startswith("default-src 'none'; script-src 'sha256-"))
         for tag in ("img", "svg", "i", "u", "em", "q", "hr"):
             self.assertEqual([node for node in read.root.all(tag) if not node.attributes.get("style")], [], tag)
         told = [cell["job"].text for cell in read.table("all-misses")]
@@ -420,6 +446,25 @@ class HostileTest(unittest.TestCase):
         self.assertIn("\\x00\\x7f\\x9b", read.root.text)
         self.assertIn("\\u202e", read.root.text)
         self.assertTrue(all(sign.isprintable() or sign == "\n" for sign in read.root.text))
+
+    def test_broken_bytes(self) -> None:
+        """Of 150 broken documents each is refused, or its page says yes only where the second program does."""
+        pick, pages = random.Random(7), 0
+        for seed in range(150):
+            text = bytearray(drawn(seed % 40).encode())
+            for _ in range(pick.randrange(1, 6)):
+                place = pick.randrange(len(text))
+                text[place : place + pick.randrange(3)] = pick.choice([b"", b"9", b"\x00", b"<", b"\xff", b"\n", b" ", b"#", b"-", b"+1/0"])
+            with self.subTest(seed=seed):
+                try:
+                    read = page_of(bytes(text))
+                except (ValueError, IndexError, KeyError, ZeroDivisionError) as fault:
+                    self.assertTrue(isinstance(fault, Fault) or "second_program" in _place_of(fault), repr(fault))
+                    continue
+                pages += 1
+                if read.ids["verdict"].attributes["class"] == "yes":
+                    self.assertEqual(second_program.answer(["audit"], bytes(text))[1], b"feasible\n")
+        self.assertGreater(pages, 30)
 
     def test_4000_jobs_and_many_comments(self) -> None:
         """The page of so many misses has the first 200, and says how many there are."""

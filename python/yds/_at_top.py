@@ -8,6 +8,7 @@ from typing import List, NamedTuple, Optional, Tuple
 
 from yds._beside_least import Asked
 from yds._gathered import Gathered
+from yds._heads import MOST_JOBS, MOST_TIME
 from yds._waited import Waited
 
 YES, NO, OTHERWISE, UNKNOWN = "yes", "no", "otherwise", "unknown"
@@ -30,7 +31,8 @@ class AtTop(NamedTuple):
     are too much for the top speed, whatever the order. OTHERWISE: neither; then it is the waits or the order."""
     top: int
     end: Optional[Fraction]
-    """When it would have ended in the same order, with the same waits for others, at the latest."""
+    """When it would have ended in the same order, with the same waits for others, at the latest; None where its work
+    isn't known."""
     refusal: Optional[Refusal]
     """NO: where."""
 
@@ -46,9 +48,10 @@ def at_top(given: Gathered, asked: Asked, job: str, went: Optional[Waited], ende
     end = went.end_at(top) if went is not None and ended else None
     if end is not None and end <= due:
         return AtTop(YES, top, end, None)
-    if not asked.within:
+    rows = _due_by(given, job)
+    if len(rows) > MOST_JOBS or due > MOST_TIME:
         return AtTop(UNKNOWN, top, end, None)
-    status, text = asked.ask("admit", str(top), text=given.question(_due_by(given, job)))
+    status, text = asked.ask("admit", str(top), text=given.question(rows))
     if status:
         return AtTop(UNKNOWN, top, end, None)
     refusal = _refusal(text, job)

@@ -57,6 +57,7 @@ class Facts(NamedTuple):
     energies: Optional[Energies]
     asked: Asked
     worst: List[Worst]
+    """Nothing where the slots have another fault: then they don't tell who had the processor."""
 
     @property
     def is_another_fault(self) -> bool:
@@ -94,7 +95,7 @@ def facts(lines: Iterable[Line], answer: Answer, grid: int, microseconds: Option
         unjudged(given.comments, len(given.jobs)),
         energies(given, asked, grid, microseconds),
         asked,
-        [_worst(given, asked, one) for one in worst],
+        [] if audit.status else [_worst(given, asked, one) for one in worst],
     )
 
 

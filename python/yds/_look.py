@@ -49,12 +49,12 @@ figure.large svg { max-width: none; width: 200%; }
   -webkit-print-color-adjust: exact; print-color-adjust: exact; }
 .bars .least i { background: var(--least); }
 pre { white-space: pre-wrap; background: var(--card); padding: .6rem; font-size: .85rem; }
-article { break-inside: avoid-page; }
-@media print { :root { --ground: #ffffff; --ink: #000000; --soft: #444444; --line: #bbbbbb; --card: #ffffff; --window: #e9e9e9;
+@media print { :root { --ground: #ffffff; --ink: #000000; --soft: #444444; --line: #d2d2d2; --card: #ffffff; --window: #e9e9e9;
   --yes: #00693c; --no: #a63200; --open: #7a5600; --bar: #0072b2; --least: #009e73; color-scheme: light; }
-  body { max-width: none; padding: 0; font-size: 10pt; } button { display: none; } .wide { overflow: visible; }
+  html { font-size: 10pt; } body { max-width: none; padding: 0; } button { display: none; } .wide { overflow: visible; }
   figure svg { min-width: 0; max-width: 100%; } .frame { overflow: visible; }
-  figure, tr { break-inside: avoid; } h2, h3 { break-after: avoid; } table { font-size: 8.5pt; } th, td { padding: .1rem .35rem; } }
+  figure, tr { break-inside: avoid; } summary, h3, figcaption, .caption { break-after: avoid; } table { font-size: 8.5pt; } th, td { padding: .1rem .35rem; }
+  h1 { font-size: 14pt; } h2 { font-size: 12pt; } p { margin: .4rem 0; } details { margin-top: .7rem; } }
 """
 
 SCRIPT = """

@@ -38,8 +38,9 @@ def verdict_line(facts: Facts) -> Tuple[str, Markup]:
     """The verdict in a line, with the word for its colour: yes, no, or open."""
     jobs, missed = len(facts.given.jobs), facts.missed
     if facts.is_another_fault:
-        told = f"The schedule has a fault, and its deadlines weren't judged: {facts.audit.verdict}"
-        return "no", Markup(element("span", told))
+        late = f"; {len(missed):,} of {jobs:,} jobs missed their deadlines, and others may have" if missed else ""
+        rest = late or ", and whether deadlines were met isn't told"
+        return "no", Markup(element("span", f"The schedule has a fault: {facts.audit.verdict}{rest}"))
     if missed:
         worst = facts.worst[0].missed
         told = f"{len(missed):,} of {_all_jobs(facts):,} jobs missed {'its deadline' if len(missed) == 1 else 'their deadlines'}"

@@ -142,9 +142,9 @@ def top_told(one: AtTop, due: int, scale: Scale) -> Markup:
             element("code", "yds_cli admit"),
             ").",
         )
-    return element(
-        "p", "Whether the top speed throughout would have met it isn't known: its work isn't.", class_="told"
-    )
+    why = "its work isn't" if one.end is None else "the jobs that are due by then are more than a document holds"
+    told = f"Whether the top speed throughout would have met it isn't known: {why}."
+    return element("p", *when_at_top, ". " if when_at_top else "", told, class_="told")
 
 
 def worst(facts: Facts, one: Worst, picture: Markup) -> Markup:
