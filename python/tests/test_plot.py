@@ -667,16 +667,39 @@ class Words(unittest.TestCase):
         self.assertEqual(list(self.folder.iterdir()), [])
 
     def test_broken_lines_are_refused(self) -> None:
-        for line in ("job a 0 400 800", "run a 0 200 4", "point 3 9"):
-            rest = ["point 0 0", "point 3 9", "job a 0 400 800", "ticks 1", "run a 0 200 4"]
-            for wrong in broken(line):
-                text = "\n".join(wrong if one == line else one for one in rest)
-                found = call("plot", "gantt", "-t", "text", self.file(text))
-                self.assertTrue(found.status or wrong.startswith(("job a ", "run a ", "point ")), (wrong, found))
-        for wrong in ("break 0", "break x 9", "break 0 9 9", "break 1+1/0 3", "break -1 3"):
-            found = call("plot", "curve", "-t", "text", self.file(wrong + "\n"))
-            self.assertEqual(found.status, 1, wrong)
-            self.assertIn("a break without numbers", found.err)
+        """Each field of each line, and its first word: no line is passed over that may be one misspelled."""
+        document = ["point 0 0", "point 3 9", "job a 0 400 800", "ticks 1", "run a 0 200 4"]
+        curve = ["point 0 0", "break 0 9+1/2", "break 3 0"]
+        sides = ["plan energy 3", "plan time 0 4", "oa energy 5+1/3", "oa time 0 4"]
+        table = ["document\tplan\tavr\tanswer", "a\t3\t4\tok"]
+        csv = ["job,release,deadline,begin,end,response,slack,late,energy", "a.1,5,9,,,,3,,"]
+        for kind, lines, apart in (
+            ("gantt", document, " "),
+            ("curve", curve, " "),
+            ("energy", sides, " "),
+            ("ratios", table, "\t"),
+            ("slack", csv, ","),
+        ):
+            for place, line in enumerate(lines):
+                for wrong in (
+                    [*broken(line, 0), "x" + line]
+                    if apart == " "
+                    else [line + apart, line.rsplit(apart, 1)[0], "\xff" + line]
+                ):
+                    if wrong.startswith("#") or (wrong in ("", line)):
+                        continue
+                    found = call(
+                        "plot",
+                        kind,
+                        "-t",
+                        "text",
+                        self.file("\n".join([*lines[:place], wrong, *lines[place + 1 :]]) + "\n"),
+                    )
+                    if kind in ("ratios", "slack") and place == 1 and found.status == 0:
+                        self.assertTrue(wrong.startswith("\xff"), wrong)
+                        continue
+                    self.assertEqual(found.status, 1, (kind, wrong, found.out))
+                    self.assertEqual(found.err.count("\n"), 1)
 
     def test_matplotlib_is_loaded_for_a_picture_alone(self) -> None:
         path = self.file(DOCUMENT)

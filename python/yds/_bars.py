@@ -8,8 +8,9 @@ from typing import Dict, Iterable, List, NamedTuple, Optional, Sequence, Tuple
 
 from yds._comments import BESIDE
 from yds._framed import Choice, Frame, Key, in_words
+from yds._passed import check
 from yds._pixels import text_width
-from yds._scales import VERDICTS, Units, energy_scale, short, speed_scale, units_of_told
+from yds._scales import Units, energy_scale, short, speed_scale, units_of_told
 from yds._text import Comment, Fault, Other, Point, Row, counted, printable
 from yds._text import Units as ToldUnits
 
@@ -18,6 +19,7 @@ NAME, NUMBER = 12.0, 12.5
 """Sizes of a bar's name and of its energy, in pixels."""
 _MISSES = re.compile(r"# ([^ ]+) misses ([0-9]{1,18}) deadlines?").match
 _CAVEAT = re.compile(rf"# ((?:part [0-9]+: )?(?:{BESIDE}).*)").match
+_WHOLE = re.compile(r"[0-9]{1,30}").fullmatch
 _FRACTION = re.compile(r"([0-9]{1,30})(?:\+([0-9]{1,30})/([0-9]{1,30}))?").fullmatch
 
 
@@ -94,6 +96,9 @@ def read_energies(rows: Iterable[Row]) -> Energies:
             _take(sides, row)
     if not sides:
         raise Fault("no energy line; is this the answer of compare?")
+    for side in sides.values():
+        if side.energy is None and side.times is not None:
+            raise Fault(f"the side {side.name} has times and no energy")
     found = [side._replace(misses=misses.get(side.name, 0)) for side in sides.values()]
     return Energies(found, points, list(caveats), units_of_told(units))
 
@@ -101,8 +106,7 @@ def read_energies(rows: Iterable[Row]) -> Energies:
 def _take(sides: Dict[str, Side], row: Other) -> None:
     fields = row.fields
     kind = fields[1] if len(fields) > 1 else ""
-    if fields[0] in VERDICTS:
-        raise row.line.fault(f"the input is an answer of no: {printable(row.line.text)}")
+    check(row)
     if kind not in ("energy", "too-slow", "time"):
         return
     side = sides.get(fields[0], Side(fields[0]))
@@ -111,7 +115,7 @@ def _take(sides: Dict[str, Side], row: Other) -> None:
             raise row.line.fault(f"the side {fields[0]} stands twice; write its lines into a new file", 0)
         side = side._replace(energy=_number(row, 2, 3))
     elif kind == "time":
-        if len(fields) != 4 or not fields[2].isdigit() or len(fields[2]) > 30:
+        if len(fields) != 4 or not _WHOLE(fields[2]):
             raise row.line.fault(f'"{printable(row.line.text)}" is no line of compare or yds-energy')
         side = side._replace(times={**(side.times or {}), int(fields[2]): _number(row, 3, 4)})
     sides[fields[0]] = side

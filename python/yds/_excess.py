@@ -6,8 +6,9 @@ from fractions import Fraction
 from typing import Iterable, List, NamedTuple, Optional, Sequence, Tuple
 
 from yds._framed import SMALL, Choice, Frame, in_words
+from yds._passed import check
 from yds._pixels import Label, placed, text_width
-from yds._scales import VERDICTS, Units, short, speed_scale, units_of_told, work_scale
+from yds._scales import Units, short, speed_scale, units_of_told, work_scale
 from yds._text import Comment, Fault, Line, Other, Point, Row, printable
 from yds._text import Units as ToldUnits
 from yds._text import fraction as fraction_of
@@ -62,8 +63,8 @@ def read_breaks(rows: Iterable[Row]) -> Breaks:
             told.take(row.line)
         elif isinstance(row, Other) and row.fields[0] == "break":
             found.breaks.append(_break(row.line, row.fields))
-        elif isinstance(row, Other) and row.fields[0] in VERDICTS:
-            raise row.line.fault(f"the input is an answer of no: {printable(row.line.text)}")
+        elif isinstance(row, Other):
+            check(row)
     if not found.breaks:
         raise Fault("no break line; is this the answer of curve?")
     return found._replace(units=units_of_told(told))

@@ -8,8 +8,6 @@ from typing import NamedTuple, Optional, Sequence, Tuple
 
 from yds._text import Units as ToldUnits
 
-VERDICTS = ("late", "early", "work", "overlap", "backward", "off-point")
-"""The first words of a verdict of no, as audit writes it."""
 _PREFIXES = {"": 0, "n": -9, "u": -6, "µ": -6, "m": -3, "k": 3, "M": 6, "G": 9}
 _UNIT = re.compile(r"([0-9]{1,20}(?:\.[0-9]{1,20}|/[1-9][0-9]{0,19})?)([nuµmkMG]?)(s|Hz|W)").fullmatch
 _BASES = ("s", "Hz", "W")

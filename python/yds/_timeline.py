@@ -19,9 +19,10 @@ from yds._comments import (
     other_span,
 )
 from yds._held import Held, HeldJob
+from yds._passed import check
 from yds._pixels import Stretch
-from yds._scales import VERDICTS, Units, units_of_told
-from yds._text import Comment, Fault, Job, Other, Point, Row, Slot, Ticks, printable
+from yds._scales import Units, units_of_told
+from yds._text import Comment, Fault, Job, Other, Point, Row, Slot, Ticks
 from yds._text import Units as ToldUnits
 
 LATE, NOT_DONE = "late", "not done"
@@ -116,8 +117,7 @@ class _Reading:
         elif isinstance(row, Ticks):
             self.ticks = row.ticks
         elif isinstance(row, Other):
-            if row.fields[0] in VERDICTS:
-                raise row.line.fault(f"the input is an answer of no: {printable(row.line.text)}")
+            check(row)
             self.is_plan = self.is_plan or row.fields[0] == "level"
 
     def _take_slot(self, row: Slot) -> None:
