@@ -383,6 +383,14 @@ class Files(unittest.TestCase):
                 self.assertEqual(one, other)
                 self.assertTrue(one.startswith(begin), one[:20])
 
+    def test_no_style_of_the_users_changes_a_picture(self) -> None:
+        style = self.path.parent / "matplotlibrc"
+        style.write_text(
+            "axes.facecolor: black\nfont.size: 30\ntext.usetex: True\nsvg.fonttype: path\naxes.grid: True\n"
+        )
+        for kind in ("gantt", "speed"):
+            self.assertEqual(self.plotted(kind, self.path), self.plotted(kind, self.path, MATPLOTLIBRC=str(style)))
+
     def test_titles_in_any_locale(self) -> None:
         for locale in ("C", "POSIX", "C.UTF-8", "de_DE.UTF-8", "tr_TR.UTF-8"):
             drawn = self.plotted("speed", "-T", "Größe µ", "-s", "700x300", self.path, LC_ALL=locale)

@@ -70,7 +70,9 @@ def look() -> Iterator[None]:
     """While it is open, matplotlib draws as the pictures look, and doesn't tell of signs that its font hasn't."""
     matplotlib = loaded("matplotlib")
     known = {name: value for name, value in _LOOK.items() if name in matplotlib.rcParams}
-    with matplotlib.rc_context(known), warnings.catch_warnings():
+    with matplotlib.rc_context(), warnings.catch_warnings():
+        matplotlib.rcdefaults()
+        matplotlib.rcParams.update(known)
         warnings.filterwarnings("ignore", message=r"Glyph .* missing from", category=UserWarning)
         warnings.filterwarnings("ignore", message=r"Matplotlib currently does not support", category=UserWarning)
         yield
