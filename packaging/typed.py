@@ -5,7 +5,7 @@
 A command is a line of a code block that begins with `$ `, its further lines begin with `> `, and what is shown stands
 below it. Each section (`##`) is a session of bash in a new folder, with links to what /usr/share/yds_cli has. A command
 that needs a package that isn't installed is left out, and so are those behind it in its part of the section (a picture
-alone: no command reads pictures), and later ones that miss a file of these. FILE gets each command with what was shown. The last line is 'N passed, M failed', and
+alone: no command reads pictures), and later ones that miss a file of these, with what they change behind them. FILE gets each command with what was shown. The last line is 'N passed, M failed', and
 before it stands how many were left out and why; the status is 1 where M isn't 0.
 """
 
@@ -19,7 +19,7 @@ import subprocess
 import sys
 import tempfile
 from pathlib import Path
-from typing import Dict, List, NamedTuple, Optional, TextIO
+from typing import Dict, List, NamedTuple, Optional, Set, TextIO
 
 SHARED = Path("/usr/share/yds_cli")
 NEEDED = {"jq": re.compile(r"\bjq "), "parallel": re.compile(r"\bparallel "), "pictures": re.compile(r"\byds-plot\b")}
@@ -132,9 +132,12 @@ def try_section(page: Path, given: List[Command], absent: Dict[str, str], count:
         if reason != absent.get("pictures"):
             stopped[command.part] = reason
         count.leave_out(command, reason)
+    without: Set[int] = set()
     with tempfile.TemporaryDirectory() as folder:
         for command, shown in zip(kept, typed(kept, Path(folder))):
-            if stopped and shown != command.shown and "No such file or directory" in shown:
+            lacks_a_file = bool(stopped) and "No such file or directory" in shown
+            if shown != command.shown and (lacks_a_file or command.part in without):
+                without.add(command.part)
                 count.leave_out(command, "needs a file of a command that was left out")
             else:
                 count.take(page, command, shown)
