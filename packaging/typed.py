@@ -5,8 +5,9 @@
 A command is a line of a code block that begins with `$ `, its further lines begin with `> `, and what is shown stands
 below it. Each section (`##`) is a session of bash in a new folder, with links to what /usr/share/yds_cli has. A command
 that needs a package that isn't installed is left out, and so are those behind it in its part of the section (a picture
-alone: no command reads pictures), and later ones that miss a file of these, with what they change behind them. FILE gets each command with what was shown. The last line is 'N passed, M failed', and
-before it stands how many were left out and why; the status is 1 where M isn't 0.
+alone: no command reads pictures), and later ones that miss a file of these, with what they change behind them. FILE gets
+each command with what was shown. The last line is 'N passed, M failed', and before it stands how many were left out and
+why; the status is 1 where M isn't 0.
 """
 
 from __future__ import annotations
