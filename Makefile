@@ -177,7 +177,7 @@ uninstall-library:
 	@sh packaging/install.sh remove library headers
 
 map:
-	@awk -f docs/pictures/crates.awk crates.txt >docs/pictures/crates.svg
+	@python3 docs/pictures/crates.py crates.txt >docs/pictures/crates.svg
 
 deb: $(BINARY)
 	@sh packaging/deb.sh

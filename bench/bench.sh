@@ -3,7 +3,7 @@
 #
 #   sh bench/bench.sh [TIMES]      each is run TIMES times, by turns; 21 without it
 #
-# Environment: YDS (the program; build/yds_cli beside this folder), CC (cc), CXX (c++). Each table's first lines say what it shows. Times
+# Environment: YDS (the program; build/yds_cli beside this folder), CC (cc), CXX (c++), PYTHON (python3). Each table's first lines say what it shows. Times
 # are milliseconds of the processor, the least of the runs; those of an empty document, which are the start of a process, are taken
 # off before growth and ratios are told. The last line is 'N passed, M failed': a document fails where the two programs' plans aren't the
 # same text, or where the program asks for more memory than it may. The exit status is 1 where M isn't 0.
@@ -24,7 +24,7 @@ most=16384
 kinds="drawn short long nested rising together coarse cut"
 for kind in $kinds; do
 	for jobs in 500 1000 4000; do
-		awk -v kind=$kind -v jobs=$jobs -f "$here/documents.awk" </dev/null >$kind.$jobs
+		"${PYTHON:-python3}" "$here/documents.py" $kind $jobs >$kind.$jobs
 	done
 done
 printf 'point 0 20\npoint 1 21\npoint 2 24\npoint 5 40\npoint 10 80\npoint 20 200\npoint 40 700\npoint 80 2400\npoint 400 50000\npoint 4000 1000000\n' >points

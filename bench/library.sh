@@ -25,7 +25,7 @@ plan of so many drawn jobs: answers a second, one after another
 jobs   processes   calls from C   calls from Python   the same, with rows made and slots read
 TEXT
 for jobs in 3 20 100 1000 4000; do
-	awk -v kind=drawn -v jobs=$jobs -f "$here/documents.awk" </dev/null >"$work/document"
+	"${PYTHON:-python3}" "$here/documents.py" drawn $jobs >"$work/document"
 	processes=$("$work/library" process "$work/document" "$YDS" plan) || exit 1
 	calls=$("$work/library" call "$work/document" plan) || exit 1
 	python=$("${PYTHON:-python3}" "$here/library.py" "$work/document") || exit 1

@@ -1,7 +1,7 @@
 # crates.sh: read by test.sh. The stored picture of the crates is the one that crates.txt gives.
 test_crates() {
 	picture=$here/../docs/pictures/crates.svg list=$here/../crates.txt
-	$AWK -f "$here/../docs/pictures/crates.awk" "$list" >"$work/crates.svg"
+	"$PYTHON" "$here/../docs/pictures/crates.py" "$list" >"$work/crates.svg"
 	if cmp -s "$picture" "$work/crates.svg"; then pass; else fail "crates: the stored picture isn't that of crates.txt; make map draws it"; fi
 	# Each drawn line is in the list, and each crate's name; what the list says is drawn as one line or as several in a row.
 	sed -n 's/.*<title>\(yds_[a-z_]*\) stands on \(yds_[a-z_]*\)<.*/line \1 \2/p; s/.*>\(yds_[a-z_]*\)<\/text>.*/box \1/p' "$work/crates.svg" >"$work/drawn"
@@ -33,5 +33,5 @@ test_crates() {
 		}' "$work/drawn" "$list" >"$work/wrong"
 	if [ -s "$work/wrong" ]; then fail "crates: $(head -n 1 "$work/wrong")"; else pass; fi
 	printf 'yds_cli: yds_a\nyds_a: yds_b\nyds_b: yds_cli\n' >"$work/circle"
-	refuses "crates: a circle" 1 "" "crates.awk: yds_cli stands on itself" $AWK -f "$here/../docs/pictures/crates.awk" "$work/circle"
+	refuses "crates: a circle" 1 "" "crates.py: yds_cli stands on itself" "$PYTHON" "$here/../docs/pictures/crates.py" "$work/circle"
 }
