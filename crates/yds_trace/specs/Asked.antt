@@ -1,7 +1,8 @@
 -- What is asked of a trace: whose jobs, on which processor, in which units, from when to when. All times are nanoseconds.
-use Rattle.std.specs.Prelude.{ℕ, ◌≤◌, List, [], Bool, true, false, ◌==◌, nat_le, Option, Some, None, position}
+use Rattle.std.specs.Prelude.{ℕ, ◌≤◌, List, [], Bool, true, false, ◌==◌, nat_le, nat_lt, Option, Some, None, position}
 use Rattle.std.specs.List.{slice_index_or, All}
 use Rattle.std.specs.Str.{bytes_eq}
+use Rattle.yds_trace.specs.declared.limits.TheConstants.{MAX_DEADLINE}
 use Rattle.yds_kernel.specs.Parts.{or_else}
 use Rattle.yds_kernel.specs.Event.{Thread}
 
@@ -36,6 +37,8 @@ pub record Asked : Type 0 where
   pub to : Option ℕ
   -- jobs begin at their first run, and wake-ups aren't read
   pub begin_at_run : Bool
+  -- where events were lost it goes on, and leaves out the jobs that may have been open there
+  pub cut_losses : Bool
 
 abbrev pub task_at : Asked → ℕ → Task
 task_at asked number = slice_index_or asked.tasks number no_task
@@ -71,8 +74,22 @@ abbrev pub is_after_from : Option ℕ → ℕ → Bool
 is_after_from None time = true
 is_after_from (Some from) time = nat_le from time
 
+-- before `to`
+abbrev pub is_within_to : Option ℕ → ℕ → Bool
+is_within_to None time = true
+is_within_to (Some to) time = nat_lt time to
+
+-- after `from`
+abbrev pub is_behind_from : Option ℕ → ℕ → Bool
+is_behind_from None time = true
+is_behind_from (Some from) time = nat_lt from time
+
 -- What the words are refused without: units are at least 1, and each deadline is at least a unit of time, so that each window has one.
 pub record IsAsked (asked : Asked) : Type 0 where
   pub has_unit : 1 ≤ asked.unit
   pub has_speed_unit : 1 ≤ asked.khz
   pub deadlines : All (λ task. asked.unit ≤ task.deadline) asked.tasks
+
+-- and each deadline is within the limit
+pub record IsWithin (asked : Asked) : Type 0 where
+  pub deadlines : All (λ task. task.deadline ≤ MAX_DEADLINE) asked.tasks

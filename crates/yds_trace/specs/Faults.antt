@@ -1,13 +1,16 @@
 -- What is a fault of a trace, beside the form of its lines: with it nothing can be said of the tasks that are asked for.
-use Rattle.std.specs.Prelude.{ℕ, ◌+◌, List, [], ◌∷◌, length, Bool, true, false, not, ◌==◌, ◌&&◌, nat_lt, if◌then◌else◌, Option, Some, None, is_some, position}
+use Rattle.std.specs.Prelude.{ℕ, suc, ◌+◌, List, [], ◌∷◌, length, Bool, true, false, not, ◌==◌, ◌&&◌, ◌||◌, nat_lt, if◌then◌else◌, Option, Some, None, is_some, is_none, position}
 use Rattle.yds_kernel.specs.declared.state.State.{State}
 use Rattle.yds_kernel.specs.declared.state.State.TheVariants as states
+use Rattle.yds_kernel.specs.declared.loss.Since.TheVariants as since
 use Rattle.yds_kernel.specs.Parts.{or_else}
-use Rattle.yds_kernel.specs.Event.{Thread, Happening, Switch, WakeUp, Event, Said, Stamped, Lost, Nothing}
+use Rattle.yds_kernel.specs.Event.{Thread, Happening, Switch, WakeUp, Speed, Event, Said, Stamped, Lost, Nothing}
+use Rattle.yds_trace.specs.declared.limits.TheConstants.{MAX_PROCESSOR, MAX_TIME, MAX_TOUCHES}
 use Rattle.yds_trace.specs.declared.fault.Cause.{Cause}
 use Rattle.yds_trace.specs.declared.fault.Cause.TheVariants as causes
-use Rattle.yds_trace.specs.Asked.{Task, Asked, task_of, is_number, is_numbered, is_named, is_before_to}
-use Rattle.yds_trace.specs.Past.{last_time}
+use Rattle.yds_trace.specs.Asked.{Task, Asked, task_of, is_number, is_numbered, is_named, is_before_to, is_within_to, is_behind_from}
+use Rattle.yds_trace.specs.Past.{last_time, lost_since, is_loss, is_first_switch, up_to}
+use Rattle.yds_trace.specs.Jobs.{stands_on, known_after}
 
 -- # Which thread a task is
 
@@ -54,8 +57,62 @@ is_unknown states.GoesOn = false
 is_unknown states.Sleeps = false
 is_unknown states.Unknown = true
 
+-- what the thread that leaves is refused for
+abbrev pub first_thread_fault : Asked → List Said → Happening → Option Cause
+first_thread_fault asked past (Switch previous state next) = thread_fault asked past previous
+first_thread_fault asked past _ = None
+
 abbrev pub state_fault : Asked → Thread → State → Option Cause
 state_fault asked thread state = if is_some (task_of asked.tasks thread) && is_unknown state then Some causes.UnknownState else None
+
+-- # Losses
+
+-- Events are said to be lost since a time before `to`, just before this line, on lines without a stamp.
+abbrev pub lost_just_before : Option ℕ → List Said → Bool
+lost_just_before to [] = false
+lost_just_before to (Stamped event ∷ past) = false
+lost_just_before to (Lost processor reach ∷ past) = is_within_to to (lost_since processor reach past) || lost_just_before to past
+lost_just_before to (Nothing ∷ past) = lost_just_before to past
+
+abbrev pub tells_loss : Option ℕ → Event → List Said → Bool
+tells_loss to event past = is_loss event.happening && is_within_to to (lost_since event.processor since.ItsLastLine past)
+
+-- events were lost before this line, within what is asked for, and the trace is to be whole there
+abbrev pub is_torn : Asked → List Said → Event → Bool
+is_torn asked past event =
+    not asked.cut_losses && is_behind_from asked.from event.time && (lost_just_before asked.to past || tells_loss asked.to event past)
+
+-- # How many lines tell of the tasks
+
+-- a task runs on this processor, among those from this number on
+abbrev pub runs_on : Asked → List Said → ℕ → ℕ → List Task → Bool
+runs_on asked past processor number [] = false
+runs_on asked past processor number (task ∷ tasks) =
+    stands_on processor (known_after asked number past).on || runs_on asked past processor (number + 1) tasks
+
+abbrev pub touches : Asked → List Said → Happening → Bool
+touches asked past (Switch previous state next) = is_some (task_of asked.tasks previous) || is_some (task_of asked.tasks next)
+touches asked past (WakeUp thread) = is_some (task_of asked.tasks thread)
+touches asked past (Speed processor khz) = runs_on asked past processor 0 asked.tasks
+touches asked past _ = false
+
+abbrev pub touched : Asked → List Said → ℕ
+touched asked [] = 0
+touched asked (Stamped event ∷ past) = if touches asked past event.happening then suc (touched asked past) else touched asked past
+touched asked (Lost processor reach ∷ past) = touched asked past
+touched asked (Nothing ∷ past) = touched asked past
+
+-- # Lines
+
+abbrev pub speed_fault : Happening → Option Cause
+speed_fault (Speed processor khz) = if nat_lt MAX_PROCESSOR processor then Some causes.ProcessorTooGreat else None
+speed_fault _ = None
+
+-- what an event is refused for, whatever stands before it
+abbrev pub place_fault : Event → Option Cause
+place_fault event =
+    if nat_lt MAX_PROCESSOR event.processor then Some causes.ProcessorTooGreat
+    else (if nat_lt MAX_TIME event.time then Some causes.TimeTooGreat else speed_fault event.happening)
 
 abbrev pub happening_fault : Asked → List Said → Happening → Option Cause
 happening_fault asked past (Switch previous state next) =
@@ -63,14 +120,30 @@ happening_fault asked past (Switch previous state next) =
 happening_fault asked past (WakeUp thread) = thread_fault asked past thread
 happening_fault asked past _ = None
 
+-- what an event not after `to` is refused for
 abbrev pub event_fault : Asked → List Said → Event → Option Cause
 event_fault asked past event =
     if nat_lt event.time (last_time past) then Some causes.TimeGoesBack else happening_fault asked past event.happening
 
--- what a line with this past is refused for; none is after `to`
+-- Of an event after `to` only the thread is looked at that had its processor until then.
+abbrev pub stayed_fault : Asked → List Said → Event → Option Cause
+stayed_fault asked past event =
+    if is_first_switch event (up_to asked.to past) then first_thread_fault asked past event.happening else None
+
+abbrev pub stamped_fault : Asked → List Said → Event → Option Cause
+stamped_fault asked past event =
+    or_else (place_fault event)
+    (or_else (if is_before_to asked.to event.time then event_fault asked past event else stayed_fault asked past event)
+    (if is_torn asked past event then Some causes.EventsLost else None))
+
+-- The lines up to this one tell too much of the tasks.
+abbrev pub length_fault : Asked → List Said → Option Cause
+length_fault asked lines = if nat_lt MAX_TOUCHES (touched asked (up_to asked.to lines)) then Some causes.TooLong else None
+
+-- what a line with this past is refused for
 abbrev pub said_fault : Asked → List Said → Said → Option Cause
-said_fault asked past (Stamped event) = if is_before_to asked.to event.time then event_fault asked past event else None
-said_fault asked past (Lost processor reach) = None
+said_fault asked past (Stamped event) = or_else (stamped_fault asked past event) (length_fault asked (Stamped event ∷ past))
+said_fault asked past (Lost processor reach) = if nat_lt MAX_PROCESSOR processor then Some causes.ProcessorTooGreat else None
 said_fault asked past Nothing = None
 
 -- the first line that is refused: its number, counted from 1, and why
@@ -81,3 +154,44 @@ numbered number (Some cause) = Some (number, cause)
 abbrev pub first_fault : Asked → List Said → Option (ℕ × Cause)
 first_fault asked [] = None
 first_fault asked (said ∷ past) = or_else (first_fault asked past) (numbered (length past + 1) (said_fault asked past said))
+
+-- # The whole trace
+
+abbrev pub has_stamp : List Said → Bool
+has_stamp [] = false
+has_stamp (Stamped event ∷ past) = true
+has_stamp (Lost processor reach ∷ past) = has_stamp past
+has_stamp (Nothing ∷ past) = has_stamp past
+
+-- the first task, from this number on, that no line names
+abbrev pub unseen_from : Asked → List Said → ℕ → List Task → Option ℕ
+unseen_from asked past number [] = None
+unseen_from asked past number (task ∷ tasks) =
+    if is_none (pid_before asked number past) then Some number else unseen_from asked past (number + 1) tasks
+
+abbrev pub wakes_task : Asked → Happening → Bool
+wakes_task asked (WakeUp thread) = is_some (task_of asked.tasks thread)
+wakes_task asked _ = false
+
+-- a wake-up of a task is among the lines
+abbrev pub has_wake_up : Asked → List Said → Bool
+has_wake_up asked [] = false
+has_wake_up asked (Stamped event ∷ past) = wakes_task asked event.happening || has_wake_up asked past
+has_wake_up asked (Lost processor reach ∷ past) = has_wake_up asked past
+has_wake_up asked (Nothing ∷ past) = has_wake_up asked past
+
+abbrev pub unseen_fault : Option ℕ → Option Cause
+unseen_fault None = None
+unseen_fault (Some number) = Some (causes.Unseen number)
+
+-- what a trace whose lines are all taken is refused for
+abbrev pub whole_fault : Asked → List Said → Option Cause
+whole_fault asked past =
+    if not (has_stamp past) then Some causes.NoLine
+    else (if not asked.cut_losses && lost_just_before asked.to past then Some causes.EventsLost
+    else or_else (unseen_fault (unseen_from asked past 0 asked.tasks))
+    (if asked.begin_at_run || has_wake_up asked past then None else Some causes.NoWakeUp))
+
+-- The first line that is refused and why, or why the whole trace is, at its last line.
+abbrev pub trace_fault : Asked → List Said → Option (ℕ × Cause)
+trace_fault asked past = or_else (first_fault asked past) (numbered (length past) (whole_fault asked past))

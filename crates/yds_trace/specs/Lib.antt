@@ -6,3 +6,4 @@ pub mod WrittenTime
 pub mod Document
 pub mod Faults
 pub mod Views
+pub mod Ended

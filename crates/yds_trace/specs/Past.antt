@@ -1,5 +1,6 @@
 -- What the lines of a trace said before: the last one stands first. A line's past is what the lines before it said.
-use Rattle.std.specs.Prelude.{ℕ, List, [], ◌∷◌, Bool, true, false, ◌==◌, if◌then◌else◌, Option, Some, None, unwrap_or, nat_lt, nat_le}
+use Rattle.std.specs.Prelude.{ℕ, List, [], ◌∷◌, Bool, true, false, not, ◌==◌, ◌&&◌, if◌then◌else◌, Option, Some, None, unwrap_or, nat_lt, nat_le}
+use Rattle.yds_kernel.specs.declared.state.State.TheVariants as states
 use Rattle.yds_kernel.specs.declared.loss.Since.{Since}
 use Rattle.yds_kernel.specs.declared.loss.Since.TheVariants as since
 use Rattle.yds_kernel.specs.Event.{Happening, Switch, Speed, Loss, Said, Stamped, Lost, Nothing, Event}
@@ -60,13 +61,28 @@ has_switched processor (Nothing ∷ past) = has_switched processor past
 
 -- # What is asked for
 
--- Of the lines after `to` only those count that tell of a loss which reaches back before it.
+-- Of the lines after `to` those count that tell of a loss which reaches back before it, and each processor's first switch.
 abbrev pub counts : ℕ → Event → List Said → Bool
 counts to event past = if is_loss event.happening then nat_lt (lost_since event.processor since.ItsLastLine past) to else nat_le event.time to
 
+-- The first switch of a processor, where it comes after `to`: who leaves it there had it until `to`, and has it then.
+abbrev pub stayed : ℕ → ℕ → Happening → Said
+stayed to processor (Switch previous state next) =
+    Stamped (record { processor = processor; time = to; happening = Switch previous states.GoesOn previous })
+stayed to processor _ = Nothing
+
+abbrev pub is_first_switch : Event → List Said → Bool
+is_first_switch event past = is_switch event.happening && not (has_switched event.processor past)
+
+-- A line behind those that count.
+abbrev pub counted : ℕ → Event → List Said → List Said → List Said
+counted to event past counting =
+    if counts to event past then Stamped event ∷ counting
+    else (if is_first_switch event counting then stayed to event.processor event.happening ∷ counting else counting)
+
 abbrev pub up_to_time : ℕ → List Said → List Said
 up_to_time to [] = []
-up_to_time to (Stamped event ∷ past) = if counts to event past then Stamped event ∷ up_to_time to past else up_to_time to past
+up_to_time to (Stamped event ∷ past) = counted to event past (up_to_time to past)
 up_to_time to (Lost processor reach ∷ past) =
     if nat_lt (lost_since processor reach past) to then Lost processor reach ∷ up_to_time to past else up_to_time to past
 up_to_time to (Nothing ∷ past) = up_to_time to past

@@ -1,7 +1,12 @@
--- What contracts see of the jobs that the code keeps: they stand in order of their begins, and so do the stretches of each.
+-- What contracts see of what the code keeps: of each task's jobs, which stand in order of their begins, as the stretches of each do, and of what is asked.
 use Rattle.std.specs.Prelude.{List, map, reverse}
+use Rattle.yds_trace.specs.declared.asked.Which.{Which as WhichKept}
+use Rattle.yds_trace.specs.declared.asked.Which.TheVariants as whiches
+use Rattle.yds_trace.specs.declared.asked.Task.{Task as TaskKept}
+use Rattle.yds_trace.specs.declared.asked.Asked.{Asked as AskedKept}
 use Rattle.yds_trace.specs.declared.job.Job.{Job as JobKept}
 use Rattle.yds_trace.specs.declared.known.Known.{Known as KnownKept}
+use Rattle.yds_trace.specs.Asked.{Which, Named, Numbered, Task, Asked}
 use Rattle.yds_trace.specs.Jobs.{Job, Known}
 
 abbrev pub job_read : JobKept → Job
@@ -19,3 +24,25 @@ jobs_listed jobs = reverse (map job_read jobs)
 
 abbrev pub known_read : KnownKept → Known
 known_read known = record { jobs = jobs_listed known.jobs.items; on = known.on; woken = known.woken }
+
+-- # What is asked
+
+abbrev pub which_read : WhichKept → Which
+which_read (whiches.Named name) = Named name.items
+which_read (whiches.Numbered pid) = Numbered pid
+
+abbrev pub task_read : TaskKept → Task
+task_read task = record { label = task.label.items; thread = which_read task.thread; deadline = task.deadline; apart = task.apart }
+
+abbrev pub asked_read : AskedKept → Asked
+asked_read asked = record {
+  tasks = map task_read asked.tasks.items;
+  processor = asked.processor;
+  unit = asked.unit;
+  khz = asked.khz;
+  start = asked.start;
+  from = asked.from;
+  to = asked.to;
+  begin_at_run = asked.begin_at_run;
+  cut_losses = asked.cut_losses;
+}

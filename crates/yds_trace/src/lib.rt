@@ -5,13 +5,19 @@
 //! only what is open, is proved against them.
 #![tactic(auto)]
 
+mod asked;
+mod ended;
 mod fault;
 mod job;
 mod jobs;
 mod known;
+mod limits;
 mod reason;
 
+pub use asked::{Asked, Task, Which};
+pub use ended::Ended;
 pub use fault::Cause;
 pub use job::{End, Job, Leaving, Standing, Stretch};
 pub use known::Known;
+pub use limits::{MAX_DEADLINE, MAX_PROCESSOR, MAX_TIME, MAX_TOUCHES};
 pub use reason::Reason;

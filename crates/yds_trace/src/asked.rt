@@ -1,0 +1,46 @@
+//! What is asked of a trace. All times are nanoseconds.
+
+/// A thread, as a task names it.
+#[derive(Debug, Drop)]
+pub enum Which {
+    /// By its name, as the trace has it.
+    Named(Vec<u8>),
+    /// By its number.
+    Numbered(u64),
+}
+
+/// A task: a thread, and the time within which each of its jobs is to end.
+#[derive(Debug, Drop)]
+pub struct Task {
+    /// How its jobs are called.
+    pub label: Vec<u8>,
+    /// Which thread it is.
+    pub thread: Which,
+    /// The time from a job's begin to its deadline.
+    pub deadline: u64,
+    /// A wake-up that comes less than so long after a job's begin goes on with that job; with 0 none does.
+    pub apart: u64,
+}
+
+/// What is asked of a trace.
+#[derive(Debug, Drop)]
+pub struct Asked {
+    /// Whose jobs. A task's number is its place here, counted from 0.
+    pub tasks: Vec<Task>,
+    /// On which processor.
+    pub processor: u64,
+    /// So many nanoseconds are a unit of time.
+    pub unit: u64,
+    /// So many kilohertz are a unit of speed.
+    pub khz: u64,
+    /// The speed of each processor before its first change, in kilohertz.
+    pub start: Option<u64>,
+    /// From when on jobs are asked for.
+    pub from: Option<u64>,
+    /// Up to when jobs are asked for.
+    pub to: Option<u64>,
+    /// Whether jobs begin at their first run, and wake-ups aren't read.
+    pub begin_at_run: bool,
+    /// Whether to go on where events were lost, and to leave out the jobs that may have been open there.
+    pub cut_losses: bool,
+}
