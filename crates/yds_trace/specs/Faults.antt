@@ -40,17 +40,17 @@ abbrev pub is_another : ℕ → Option ℕ → Bool
 is_another pid None = false
 is_another pid (Some other) = not (other == pid)
 
--- the task that it is was another thread before
+-- the task that it is was another thread before, in the lines that count
 abbrev pub is_another_thread : Asked → List Said → Thread → Bool
-is_another_thread asked past thread = elim (task_of asked.tasks thread) [
+is_another_thread asked counting thread = elim (task_of asked.tasks thread) [
   | None ↦ false
-  | Some number ↦ is_another thread.pid (pid_before asked number past)
+  | Some number ↦ is_another thread.pid (pid_before asked number counting)
 ]
 
 abbrev pub thread_fault : Asked → List Said → Thread → Option Cause
-thread_fault asked past thread =
+thread_fault asked counting thread =
     if is_two_tasks asked.tasks thread then Some causes.TwoTasks
-    else (if is_another_thread asked past thread then Some causes.TwoThreads else None)
+    else (if is_another_thread asked counting thread then Some causes.TwoThreads else None)
 
 abbrev pub is_unknown : State → Bool
 is_unknown states.GoesOn = false
@@ -59,8 +59,8 @@ is_unknown states.Unknown = true
 
 -- what the thread that leaves is refused for
 abbrev pub first_thread_fault : Asked → List Said → Happening → Option Cause
-first_thread_fault asked past (Switch previous state next) = thread_fault asked past previous
-first_thread_fault asked past _ = None
+first_thread_fault asked counting (Switch previous state next) = thread_fault asked counting previous
+first_thread_fault asked counting _ = None
 
 abbrev pub state_fault : Asked → Thread → State → Option Cause
 state_fault asked thread state = if is_some (task_of asked.tasks thread) && is_unknown state then Some causes.UnknownState else None
@@ -104,46 +104,63 @@ touched asked (Nothing ∷ past) = touched asked past
 
 -- # Lines
 
+abbrev pub processor_fault : ℕ → Option Cause
+processor_fault processor = if nat_lt MAX_PROCESSOR processor then Some causes.ProcessorTooGreat else None
+
 abbrev pub speed_fault : Happening → Option Cause
-speed_fault (Speed processor khz) = if nat_lt MAX_PROCESSOR processor then Some causes.ProcessorTooGreat else None
+speed_fault (Speed processor khz) = processor_fault processor
 speed_fault _ = None
 
 -- what an event is refused for, whatever stands before it
 abbrev pub place_fault : Event → Option Cause
 place_fault event =
-    if nat_lt MAX_PROCESSOR event.processor then Some causes.ProcessorTooGreat
-    else (if nat_lt MAX_TIME event.time then Some causes.TimeTooGreat else speed_fault event.happening)
+    or_else (processor_fault event.processor) (if nat_lt MAX_TIME event.time then Some causes.TimeTooGreat else speed_fault event.happening)
 
+-- Of two threads that the lines so far don't tell of, one that comes where another leaves which is the same task is refused.
+abbrev pub both_fault : Asked → Thread → Thread → Option Cause
+both_fault asked previous next = elim (task_of asked.tasks previous) [
+  | None ↦ None
+  | Some number ↦ if is_another previous.pid (pid_if asked number next) then Some causes.TwoThreads else None
+]
+
+-- what an event is refused for, behind the lines that count
 abbrev pub happening_fault : Asked → List Said → Happening → Option Cause
-happening_fault asked past (Switch previous state next) =
-    or_else (thread_fault asked past previous) (or_else (state_fault asked previous state) (thread_fault asked past next))
-happening_fault asked past (WakeUp thread) = thread_fault asked past thread
-happening_fault asked past _ = None
+happening_fault asked counting (Switch previous state next) =
+    or_else (thread_fault asked counting previous)
+    (or_else (state_fault asked previous state) (or_else (thread_fault asked counting next) (both_fault asked previous next)))
+happening_fault asked counting (WakeUp thread) = thread_fault asked counting thread
+happening_fault asked counting _ = None
 
 -- what an event not after `to` is refused for
 abbrev pub event_fault : Asked → List Said → Event → Option Cause
 event_fault asked past event =
-    if nat_lt event.time (last_time past) then Some causes.TimeGoesBack else happening_fault asked past event.happening
+    if nat_lt event.time (last_time past) then Some causes.TimeGoesBack
+    else happening_fault asked (up_to asked.to past) event.happening
 
 -- Of an event after `to` only the thread is looked at that had its processor until then.
 abbrev pub stayed_fault : Asked → List Said → Event → Option Cause
 stayed_fault asked past event =
-    if is_first_switch event (up_to asked.to past) then first_thread_fault asked past event.happening else None
+    if is_first_switch event (up_to asked.to past) then first_thread_fault asked (up_to asked.to past) event.happening else None
+
+abbrev pub threads_fault : Asked → List Said → Event → Option Cause
+threads_fault asked past event =
+    if is_before_to asked.to event.time then event_fault asked past event else stayed_fault asked past event
 
 abbrev pub stamped_fault : Asked → List Said → Event → Option Cause
 stamped_fault asked past event =
-    or_else (place_fault event)
-    (or_else (if is_before_to asked.to event.time then event_fault asked past event else stayed_fault asked past event)
-    (if is_torn asked past event then Some causes.EventsLost else None))
+    or_else (place_fault event) (or_else (threads_fault asked past event) (if is_torn asked past event then Some causes.EventsLost else None))
 
--- The lines up to this one tell too much of the tasks.
+-- The lines that count tell too much of the tasks.
+abbrev pub touched_fault : Asked → List Said → Option Cause
+touched_fault asked counting = if nat_lt MAX_TOUCHES (touched asked counting) then Some causes.TooLong else None
+
 abbrev pub length_fault : Asked → List Said → Option Cause
-length_fault asked lines = if nat_lt MAX_TOUCHES (touched asked (up_to asked.to lines)) then Some causes.TooLong else None
+length_fault asked lines = touched_fault asked (up_to asked.to lines)
 
 -- what a line with this past is refused for
 abbrev pub said_fault : Asked → List Said → Said → Option Cause
 said_fault asked past (Stamped event) = or_else (stamped_fault asked past event) (length_fault asked (Stamped event ∷ past))
-said_fault asked past (Lost processor reach) = if nat_lt MAX_PROCESSOR processor then Some causes.ProcessorTooGreat else None
+said_fault asked past (Lost processor reach) = processor_fault processor
 said_fault asked past Nothing = None
 
 -- the first line that is refused: its number, counted from 1, and why

@@ -7,3 +7,8 @@ pub mod Document
 pub mod Faults
 pub mod Views
 pub mod Ended
+pub mod Steps
+pub mod Kept
+pub mod Finding
+pub mod Following
+pub mod Passing

@@ -1,7 +1,20 @@
 //! What is known when a trace has ended.
 
+ghost use Rattle.std.specs.Prelude.{◌≡◌, ℕ, List, Option, map, IfOk};
+ghost use Rattle.yds_kernel.specs.Event.{Said};
+ghost use Rattle.yds_trace.specs.declared.followed.Followed.{Followed};
+ghost use Rattle.yds_trace.specs.Kept.{IsPast};
+ghost use Rattle.yds_trace.specs.Passing.{closed_at};
+ghost use Rattle.yds_trace.specs.Views.{jobs_listed, known_read};
+
 use crate::asked::Asked;
-use crate::job::Job;
+use crate::followed::Followed;
+use crate::job::{Job, Stretch};
+use crate::jobs::run_last;
+use crate::known::Known;
+use crate::past::Past;
+use std::alloc::Global;
+use yds_model::Memory;
 
 /// What is known of the tasks at the end of what is asked for.
 #[derive(Debug, Drop)]
@@ -15,4 +28,40 @@ pub struct Ended {
     pub first: u64,
     /// The time of its last line with a stamp, in nanoseconds; 0 where there is none.
     pub last: u64,
+}
+
+/// The jobs of a task: what still has its processor has had it until this time.
+fn close(known: Known, past: &Past, until: u64) -> Result<Vec<Job>, Memory>
+    ensures { (start : Option ℕ) (counting : List Said) → IsPast start counting past.now
+        → IfOk result (λ jobs. jobs_listed jobs.items ≡ closed_at until start counting (known_read known)) }
+{
+    let mut jobs = known.jobs;
+    if let Some(standing) = known.on {
+        let stretch = Stretch {
+            processor: standing.processor,
+            from: standing.since,
+            to: until,
+            khz: past.speed(standing.processor),
+        };
+        run_last(stretch, &mut jobs)?;
+    }
+    Ok(jobs)
+}
+
+/// The jobs of each task.
+pub(crate) fn close_each(
+    alloc: Global,
+    tasks: Vec<Followed>,
+    past: &Past,
+    until: u64,
+) -> Result<Vec<Vec<Job>>, Memory>
+    ensures { (start : Option ℕ) (counting : List Said) → IsPast start counting past.now
+        → IfOk result (λ all. map (λ jobs. jobs_listed jobs.items) all.items
+            ≡ map (λ followed. closed_at until start counting (known_read followed.known)) tasks.items) }
+{
+    let mut all = Vec::with_capacity(alloc, tasks.len())?;
+    for followed in tasks {
+        all.push(close(followed.known, past, until)?)?;
+    }
+    Ok(all)
 }

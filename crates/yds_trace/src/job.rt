@@ -4,6 +4,7 @@ ghost use Rattle.yds_trace.specs.Jobs as spec;
 ghost use Rattle.yds_trace.specs.Views.{job_read};
 
 use std::alloc::Global;
+use yds_kernel::State;
 use yds_model::Memory;
 
 /// When a job ended, as far as the trace shows.
@@ -51,6 +52,18 @@ pub struct Leaving {
     pub has_switched: bool,
     /// Since when no event was lost.
     pub whole_since: u64,
+}
+
+/// A switch of a processor, as a thread sees it.
+#[derive(Clone, Copy, Debug, PartialEq, Eq)]
+pub struct Turn {
+    /// Whether the thread leaves.
+    pub left: bool,
+    /// Whether it comes.
+    pub came: bool,
+    /// In which state who leaves does so.
+    pub state: State,
+    pub leaving: Leaving,
 }
 
 impl Leaving {

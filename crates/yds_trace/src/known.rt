@@ -1,13 +1,15 @@
 //! What is known of a task's thread: the state that is kept from event to event.
 ghost use Rattle.std.specs.Prelude.{◌≡◌, OnOk};
 ghost use Rattle.yds_trace.specs.Jobs as spec;
+ghost use Rattle.yds_trace.specs.Steps.{stepped};
 ghost use Rattle.yds_trace.specs.Views.{jobs_listed, known_read};
 
-use crate::job::{Job, Leaving, Standing, Stretch};
+use crate::job::{Job, Leaving, Standing, Stretch, Turn};
 use crate::jobs::{
     begin, begin_by, end_last, find_awake, has_no_switch, lose_all, mark_last, run_last,
     start_running, unsee_last, wake,
 };
+use crate::step::Step;
 use std::alloc::Global;
 use yds_kernel::State;
 use yds_model::Memory;
@@ -41,22 +43,55 @@ impl Known {
         alloc: Global,
         apart: u64,
         wakes: bool,
-        left: bool,
-        came: bool,
-        state: State,
-        leaving: Leaving,
+        turn: Turn,
     ) -> Result<(), Memory>
-        ensures { OnOk result (known_read self.new ≡ spec.after_switch apart wakes left came state leaving (known_read self.old)) }
+        ensures { OnOk result (known_read self.new ≡ spec.after_switch apart wakes turn.left turn.came turn.state turn.leaving (known_read self.old)) }
     {
-        if left {
-            self.leave(alloc, wakes, state, leaving)?;
+        if turn.left {
+            self.leave(alloc, wakes, turn.state, turn.leaving)?;
         } else {
-            self.pass_by(wakes, leaving.processor)?;
+            self.pass_by(wakes, turn.leaving.processor)?;
         }
-        if came {
-            self.come(alloc, apart, wakes, leaving.processor, leaving.time)?;
+        if turn.came {
+            self.come(alloc, apart, wakes, turn.leaving.processor, turn.leaving.time)?;
         }
         Ok(())
+    }
+
+    /// Takes an event: who leaves or is woken is this thread, or who comes.
+    pub(crate) fn step(
+        &mut self,
+        alloc: Global,
+        apart: u64,
+        wakes: bool,
+        first: bool,
+        second: bool,
+        step: Step,
+    ) -> Result<(), Memory>
+        ensures { OnOk result (known_read self.new ≡ stepped apart wakes first second step (known_read self.old)) }
+    {
+        match step {
+            Step::Switch { state, leaving } => {
+                let turn = Turn {
+                    left: first,
+                    came: second,
+                    state,
+                    leaving,
+                };
+                self.switch(alloc, apart, wakes, turn)
+            }
+            Step::WakeUp { time } if first && wakes => self.wake(alloc, apart, time),
+            Step::Speed {
+                processor,
+                time,
+                khz,
+            } => self.change_speed(processor, time, khz),
+            Step::Loss { since } => {
+                self.lose(since);
+                Ok(())
+            }
+            Step::WakeUp { .. } | Step::Nothing => Ok(()),
+        }
     }
 
     /// It isn't where it was last seen to come.
@@ -194,7 +229,7 @@ impl Known {
 }
 
 /// Whether it stands there.
-fn stands_on(processor: u64, on: Option<Standing>) -> bool
+pub(crate) fn stands_on(processor: u64, on: Option<Standing>) -> bool
     ensures { result ≡ spec.stands_on processor on }
 {
     match on {

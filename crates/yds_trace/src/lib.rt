@@ -6,18 +6,30 @@
 #![tactic(auto)]
 
 mod asked;
+mod check;
+mod counted;
 mod ended;
 mod fault;
+mod find;
+mod followed;
 mod job;
 mod jobs;
 mod known;
 mod limits;
+mod lines;
+mod pass;
+mod past;
+mod places;
 mod reason;
+mod refused;
+mod step;
 
 pub use asked::{Asked, Task, Which};
 pub use ended::Ended;
 pub use fault::Cause;
-pub use job::{End, Job, Leaving, Standing, Stretch};
+pub use job::{End, Job, Leaving, Standing, Stretch, Turn};
 pub use known::Known;
 pub use limits::{MAX_DEADLINE, MAX_PROCESSOR, MAX_TIME, MAX_TOUCHES};
+pub use pass::Pass;
 pub use reason::Reason;
+pub use refused::Refused;

@@ -1,0 +1,63 @@
+-- What a pass keeps of the lines so far, and when that stands for them.
+use Rattle.std.specs.Prelude.{◌≡◌, ℕ, ◌<◌, ◌≤◌, List, length, Bool, false, Option, None, unwrap_or, is_some}
+use Rattle.std.specs.List.{slice_index_or}
+use Rattle.yds_kernel.specs.Event.{Said}
+use Rattle.yds_trace.specs.declared.limits.TheConstants.{MAX_TOUCHES}
+use Rattle.yds_trace.specs.declared.past.Told.{Told}
+use Rattle.yds_trace.specs.declared.past.Past.{Past as PastKept}
+use Rattle.yds_trace.specs.declared.followed.Followed.{Followed}
+use Rattle.yds_trace.specs.declared.counted.Counted.{Counted}
+use Rattle.yds_trace.specs.declared.lines.Lines.{Lines}
+use Rattle.yds_trace.specs.declared.pass.Pass.{Pass}
+use Rattle.yds_trace.specs.Asked.{Asked}
+use Rattle.yds_trace.specs.Past.{first_time, last_time, last_time_on, whole_since, has_switched, up_to, speed_after}
+use Rattle.yds_trace.specs.Jobs.{known_after}
+use Rattle.yds_trace.specs.Faults.{pid_before, lost_just_before, touched, has_stamp, has_wake_up}
+use Rattle.yds_trace.specs.Views.{known_read, asked_read}
+
+-- # Lines
+
+abbrev pub told_on : PastKept → ℕ → Told
+told_on kept processor = slice_index_or kept.told.items processor (record { switched = false; khz = kept.untold })
+
+-- What is kept stands for these lines, where the speed before each processor's first change is `start`.
+pub record IsPast (start : Option ℕ) (past : List Said) (kept : PastKept) : Type 0 where
+  pub stamp : is_some kept.first ≡ has_stamp past
+  pub first : (here : ℕ) → first_time here past ≡ unwrap_or kept.first here
+  pub last : last_time past ≡ kept.last
+  pub whole : (here : ℕ) → whole_since here past ≡ unwrap_or kept.whole_since here
+  pub line : (processor : ℕ) → last_time_on processor past ≡ slice_index_or kept.lines.items processor None
+  pub switched : (processor : ℕ) → has_switched processor past ≡ (told_on kept processor).switched
+  pub speed : (processor : ℕ) → speed_after start processor past ≡ (told_on kept processor).khz
+
+-- # The lines that count
+
+-- what is known of the task of this number, behind the lines that count
+pub record IsFollowed (asked : Asked) (counting : List Said) (number : ℕ) (followed : Followed) : Type 0 where
+  pub known : known_read followed.known ≡ known_after asked number counting
+  pub pid : followed.pid ≡ pid_before asked number counting
+
+pub record IsCounted (asked : Asked) (counting : List Said) (counted : Counted) : Type 0 where
+  pub times : IsPast asked.start counting counted.past
+  pub as_many : length counted.tasks.items ≡ length asked.tasks
+  pub tasks : (number : ℕ) (default : Followed) → number < length asked.tasks →
+    IsFollowed asked counting number (slice_index_or counted.tasks.items number default)
+  pub touched : counted.touched ≡ touched asked counting
+  pub few : counted.touched ≤ MAX_TOUCHES
+
+-- # All lines
+
+pub record IsLines (asked : Asked) (past : List Said) (lines : Lines) : Type 0 where
+  pub times : IsPast asked.start past lines.past
+  pub lost : lines.lost ≡ lost_just_before asked.to past
+  pub woken : lines.woken ≡ has_wake_up asked past
+  pub as_many : length lines.seen.items ≡ length asked.tasks
+  pub seen : (number : ℕ) → number < length asked.tasks → slice_index_or lines.seen.items number false ≡ is_some (pid_before asked number past)
+
+-- # A pass
+
+-- What a pass keeps stands for these lines, with what is asked.
+pub record IsAt (asked : Asked) (past : List Said) (pass : Pass) : Type 0 where
+  pub same_asked : asked_read pass.asked ≡ asked
+  pub lines : IsLines asked past pass.lines
+  pub counted : IsCounted asked (up_to asked.to past) pass.counted

@@ -1,0 +1,141 @@
+//! What a line, or a whole trace, is refused for.
+ghost use Rattle.std.specs.Prelude.{◌≡◌, List};
+ghost use Rattle.yds_kernel.specs.Event as trace;
+ghost use Rattle.yds_kernel.specs.Views.{event_read};
+ghost use Rattle.yds_trace.specs.Faults as spec;
+ghost use Rattle.yds_trace.specs.Finding.{first_found, second_found};
+ghost use Rattle.yds_trace.specs.Kept.{IsCounted, IsLines};
+ghost use Rattle.yds_trace.specs.Passing.{fault_in};
+ghost use Rattle.yds_trace.specs.Past.{up_to};
+ghost use Rattle.yds_trace.specs.Views.{asked_read};
+
+use crate::asked::Asked;
+use crate::counted::Counted;
+use crate::fault::Cause;
+use crate::find::Found;
+use crate::limits::{MAX_PROCESSOR, MAX_TIME};
+use crate::lines::{Lines, is_before_to, is_behind_from, is_within_to};
+use yds_kernel::{Event, Happening, Since};
+
+/// What an event is refused for, whatever stands before it.
+pub(crate) fn check_place(event: &Event<'_>) -> Result<(), Cause>
+    ensures { fault_in result ≡ spec.place_fault (event_read event.now) }
+{
+    check_processor(event.processor)?;
+    if event.time > MAX_TIME {
+        return Err(Cause::TimeTooGreat);
+    }
+    match event.happening {
+        Happening::Speed { processor, .. } => check_processor(processor),
+        Happening::Switch { .. }
+        | Happening::WakeUp(_)
+        | Happening::Loss
+        | Happening::Marker
+        | Happening::Other => Ok(()),
+    }
+}
+
+/// What a line is refused for by the number of its processor.
+pub(crate) fn check_processor(processor: u64) -> Result<(), Cause>
+    ensures { fault_in result ≡ spec.processor_fault processor }
+{
+    if processor > MAX_PROCESSOR {
+        return Err(Cause::ProcessorTooGreat);
+    }
+    Ok(())
+}
+
+/// Whether events were lost before an event, within what is asked for.
+fn is_torn(asked: &Asked, lines: &Lines, event: &Event<'_>) -> bool
+    ensures { (past : List trace.Said) → IsLines (asked_read asked.now) past lines.now
+        → result ≡ spec.is_torn (asked_read asked.now) past (event_read event.now) }
+{
+    !asked.cut_losses
+        && is_behind_from(asked.from, event.time)
+        && (lines.lost || tells_loss(asked, lines, event))
+}
+
+/// Whether an event tells of a loss since a time before `to`.
+fn tells_loss(asked: &Asked, lines: &Lines, event: &Event<'_>) -> bool
+    ensures { (past : List trace.Said) → IsLines (asked_read asked.now) past lines.now
+        → result ≡ spec.tells_loss asked.now.to (event_read event.now) past }
+{
+    match event.happening {
+        Happening::Loss => is_within_to(
+            asked.to,
+            lines.past.lost_since(event.processor, Since::ItsLastLine),
+        ),
+        Happening::Switch { .. }
+        | Happening::WakeUp(_)
+        | Happening::Speed { .. }
+        | Happening::Marker
+        | Happening::Other => false,
+    }
+}
+
+/// What an event is refused for that stands where it may.
+fn check_threads(
+    asked: &Asked,
+    lines: &Lines,
+    counted: &Counted,
+    event: &Event<'_>,
+    first: Found,
+    second: Found,
+) -> Result<(), Cause>
+    ensures { (past : List trace.Said) → IsLines (asked_read asked.now) past lines.now
+        → IsCounted (asked_read asked.now) (up_to asked.now.to past) counted.now
+        → first ≡ first_found (asked_read asked.now).tasks (event_read event.now).happening
+        → second ≡ second_found (asked_read asked.now).tasks (event_read event.now).happening
+        → fault_in result ≡ spec.threads_fault (asked_read asked.now) past (event_read event.now) }
+{
+    if !is_before_to(asked.to, event.time) {
+        return counted.check_stayed(event, first);
+    }
+    if event.time < lines.past.last {
+        return Err(Cause::TimeGoesBack);
+    }
+    counted.check(&event.happening, first, second)
+}
+
+/// What an event is refused for, but for how many lines tell of the tasks.
+pub(crate) fn check_event(
+    asked: &Asked,
+    lines: &Lines,
+    counted: &Counted,
+    event: &Event<'_>,
+    first: Found,
+    second: Found,
+) -> Result<(), Cause>
+    ensures { (past : List trace.Said) → IsLines (asked_read asked.now) past lines.now
+        → IsCounted (asked_read asked.now) (up_to asked.now.to past) counted.now
+        → first ≡ first_found (asked_read asked.now).tasks (event_read event.now).happening
+        → second ≡ second_found (asked_read asked.now).tasks (event_read event.now).happening
+        → fault_in result ≡ spec.stamped_fault (asked_read asked.now) past (event_read event.now) }
+{
+    check_place(event)?;
+    check_threads(asked, lines, counted, event, first, second)?;
+    if is_torn(asked, lines, event) {
+        return Err(Cause::EventsLost);
+    }
+    Ok(())
+}
+
+/// What a trace is refused for whose lines are all taken.
+pub(crate) fn check_whole(asked: &Asked, lines: &Lines) -> Result<(), Cause>
+    ensures { (past : List trace.Said) → IsLines (asked_read asked.now) past lines.now
+        → fault_in result ≡ spec.whole_fault (asked_read asked.now) past }
+{
+    if lines.past.first.is_none() {
+        return Err(Cause::NoLine);
+    }
+    if !asked.cut_losses && lines.lost {
+        return Err(Cause::EventsLost);
+    }
+    if let Some(number) = lines.unseen() {
+        return Err(Cause::Unseen(number));
+    }
+    if asked.begin_at_run || lines.woken {
+        return Ok(());
+    }
+    Err(Cause::NoWakeUp)
+}

@@ -1,0 +1,253 @@
+//! What is kept of the lines that count: those up to the end of what is asked for.
+ghost use Rattle.std.specs.Prelude.{◌≡◌, ℕ, ◌<◌, List, [], ◌∷◌, length, Option, None, IfOk, OnOk, IfErr, map};
+ghost use Rattle.yds_kernel.specs.Event as trace;
+ghost use Rattle.yds_kernel.specs.Views.{event_read, happening_read};
+ghost use Rattle.yds_trace.specs.Asked as asking;
+ghost use Rattle.yds_trace.specs.Faults as spec;
+ghost use Rattle.yds_trace.specs.Finding.{found, first_found, second_found};
+ghost use Rattle.yds_trace.specs.Following.{touches_by};
+ghost use Rattle.yds_trace.specs.Kept.{IsCounted, IsLines};
+ghost use Rattle.yds_trace.specs.Past.{up_to, counts as spec_counts};
+ghost use Rattle.yds_trace.specs.Steps.{first_in, second_in};
+ghost use Rattle.yds_trace.specs.Passing.{IsRefusedFor, fault_in};
+ghost use Rattle.yds_trace.specs.Views.{asked_read, task_read};
+
+use crate::asked::Asked;
+use crate::fault::Cause;
+use crate::find::Found;
+use crate::followed::{Followed, follow, lose_each, runs_on, take_each};
+use crate::limits::MAX_TOUCHES;
+use crate::lines::{Lines, is_before_to};
+use crate::past::Past;
+use crate::refused::Refused;
+use crate::step::{Step, Whose};
+use std::alloc::Global;
+use yds_kernel::{Event, Happening, Since, State};
+use yds_model::Memory;
+
+/// What is kept of the lines that count.
+#[derive(Debug, Drop)]
+pub(crate) struct Counted {
+    pub past: Past,
+    /// What is known of each task.
+    pub tasks: Vec<Followed>,
+    /// How many lines told of the tasks.
+    pub touched: u64,
+}
+
+impl Counted {
+    /// Before the first line.
+    pub(crate) fn new(alloc: Global, asked: &Asked) -> Result<Counted, Memory>
+        ensures { IfOk result (λ counted. IsCounted (asked_read asked.now) [] counted) }
+    {
+        Ok(Counted {
+            past: Past::new(alloc, asked.start),
+            tasks: follow(alloc, asked.tasks.len())?,
+            touched: 0,
+        })
+    }
+
+    /// Takes an event that counts.
+    pub(crate) fn take(
+        &mut self,
+        alloc: Global,
+        asked: &Asked,
+        event: &Event<'_>,
+        first: Whose,
+        second: Whose,
+    ) -> Result<(), Refused>
+        requires in_place { spec.place_fault (event_read event.now) ≡ None }
+        requires first { first ≡ first_in (map task_read asked.now.tasks.items) (event_read event.now).happening }
+        requires second { second ≡ second_in (map task_read asked.now.tasks.items) (event_read event.now).happening }
+        ensures few { (counting : List trace.Said) → IsCounted (asked_read asked.now) counting self.old
+            → OnOk result (spec.touched_fault (asked_read asked.now) (trace.Stamped (event_read event.now) ∷ counting) ≡ None) }
+        ensures stands { (counting : List trace.Said) → IsCounted (asked_read asked.now) counting self.old
+            → OnOk result (IsCounted (asked_read asked.now) (trace.Stamped (event_read event.now) ∷ counting) self.new) }
+        ensures refused { (counting : List trace.Said) → IsCounted (asked_read asked.now) counting self.old
+            → IfErr result (IsRefusedFor (spec.touched_fault (asked_read asked.now) (trace.Stamped (event_read event.now) ∷ counting))) }
+    {
+        let step = self.past.step(event);
+        if self.touches(first, second, step) {
+            if self.touched >= MAX_TOUCHES {
+                return Err(Refused::Fault(Cause::TooLong));
+            }
+            self.touched += 1;
+        }
+        take_each(
+            &mut self.tasks,
+            alloc,
+            &asked.tasks,
+            !asked.begin_at_run,
+            first,
+            second,
+            step,
+        )?;
+        self.past.take(event)?;
+        Ok(())
+    }
+
+    /// Whether an event tells of a task.
+    fn touches(&self, first: Whose, second: Whose, step: Step) -> bool
+        ensures { result ≡ touches_by first second step self.now.tasks.items }
+    {
+        match step {
+            Step::Switch { .. } => first.number.is_some() || second.number.is_some(),
+            Step::WakeUp { .. } => first.number.is_some(),
+            Step::Speed { processor, .. } => runs_on(&self.tasks, processor),
+            Step::Loss { .. } | Step::Nothing => false,
+        }
+    }
+
+    /// Takes a line without a stamp that counts: events of the processor were lost.
+    pub(crate) fn lose(&mut self, processor: u64, since: Since)
+        ensures { (asked : asking.Asked) (counting : List trace.Said) → IsCounted asked counting self.old
+            → IsCounted asked (trace.Lost processor since ∷ counting) self.new }
+    {
+        let time = self.past.lost_since(processor, since);
+        lose_each(&mut self.tasks, time);
+        self.past.lose();
+    }
+    /// The thread that was this task last.
+    fn pid(&self, number: usize) -> Option<u64>
+        ensures { (asked : asking.Asked) (counting : List trace.Said) → IsCounted asked counting self.now → number < length asked.tasks
+            → result ≡ spec.pid_before asked number counting }
+    {
+        match self.tasks.get(number) {
+            Some(followed) => followed.pid,
+            None => None,
+        }
+    }
+
+    /// What a thread is refused for.
+    fn check_thread(&self, thread: Found) -> Result<(), Cause>
+        ensures { (asked : asking.Asked) (counting : List trace.Said) (named : trace.Thread) → IsCounted asked counting self.now
+            → thread ≡ found asked.tasks named → fault_in result ≡ spec.thread_fault asked counting named }
+    {
+        if thread.numbered.is_some() && thread.named.is_some() {
+            return Err(Cause::TwoTasks);
+        }
+        match thread.whose().number {
+            Some(number) => match self.pid(number) {
+                Some(pid) if pid != thread.pid => Err(Cause::TwoThreads),
+                Some(_) | None => Ok(()),
+            },
+            None => Ok(()),
+        }
+    }
+
+    /// What an event not after `to` is refused for: its threads, and the state of who leaves.
+    pub(crate) fn check(&self, happening: &Happening<'_>, first: Found, second: Found) -> Result<(), Cause>
+        ensures { (asked : asking.Asked) (counting : List trace.Said) → IsCounted asked counting self.now
+            → first ≡ first_found asked.tasks (happening_read happening.now)
+            → second ≡ second_found asked.tasks (happening_read happening.now)
+            → fault_in result ≡ spec.happening_fault asked counting (happening_read happening.now) }
+    {
+        match happening {
+            Happening::Switch { state, .. } => {
+                self.check_thread(first)?;
+                if first.whose().number.is_some() && *state == State::Unknown {
+                    return Err(Cause::UnknownState);
+                }
+                self.check_thread(second)?;
+                check_both(first, second)
+            }
+            Happening::WakeUp(_) => self.check_thread(first),
+            Happening::Speed { .. } | Happening::Loss | Happening::Marker | Happening::Other => {
+                Ok(())
+            }
+        }
+    }
+
+    /// What an event after `to` is refused for: the thread that had its processor until then.
+    pub(crate) fn check_stayed(&self, event: &Event<'_>, first: Found) -> Result<(), Cause>
+        ensures { (asked : asking.Asked) (past : List trace.Said) → IsCounted asked (up_to asked.to past) self.now
+            → first ≡ first_found asked.tasks (event_read event.now).happening
+            → fault_in result ≡ spec.stayed_fault asked past (event_read event.now) }
+    {
+        match event.happening {
+            Happening::Switch { .. } if !self.past.has_switched(event.processor) => {
+                self.check_thread(first)
+            }
+            Happening::Switch { .. }
+            | Happening::WakeUp(_)
+            | Happening::Speed { .. }
+            | Happening::Loss
+            | Happening::Marker
+            | Happening::Other => Ok(()),
+        }
+    }
+
+    /// Takes what counts of an event.
+    pub(crate) fn count(
+        &mut self,
+        alloc: Global,
+        asked: &Asked,
+        lines: &Lines,
+        event: &Event<'_>,
+        first: Whose,
+        second: Whose,
+    ) -> Result<(), Refused>
+        requires in_place { spec.place_fault (event_read event.now) ≡ None }
+        requires first { first ≡ first_in (map task_read asked.now.tasks.items) (event_read event.now).happening }
+        requires second { second ≡ second_in (map task_read asked.now.tasks.items) (event_read event.now).happening }
+        ensures few { (past : List trace.Said) → IsLines (asked_read asked.now) past lines.now → IsCounted (asked_read asked.now) (up_to asked.now.to past) self.old
+            → OnOk result (spec.length_fault (asked_read asked.now) (trace.Stamped (event_read event.now) ∷ past) ≡ None) }
+        ensures stands { (past : List trace.Said) → IsLines (asked_read asked.now) past lines.now → IsCounted (asked_read asked.now) (up_to asked.now.to past) self.old
+            → OnOk result (IsCounted (asked_read asked.now) (up_to asked.now.to (trace.Stamped (event_read event.now) ∷ past)) self.new) }
+        ensures refused { (past : List trace.Said) → IsLines (asked_read asked.now) past lines.now → IsCounted (asked_read asked.now) (up_to asked.now.to past) self.old
+            → IfErr result (IsRefusedFor (spec.length_fault (asked_read asked.now) (trace.Stamped (event_read event.now) ∷ past))) }
+    {
+        let Some(to) = asked.to else {
+            return self.take(alloc, asked, event, first, second);
+        };
+        if counts(to, lines, event) {
+            return self.take(alloc, asked, event, first, second);
+        }
+        match event.happening {
+            Happening::Switch { previous, .. } if !self.past.has_switched(event.processor) => {
+                let stayed = Event {
+                    processor: event.processor,
+                    time: to,
+                    happening: Happening::Switch {
+                        previous,
+                        state: State::GoesOn,
+                        next: previous,
+                    },
+                };
+                self.take(alloc, asked, &stayed, first, first)
+            }
+            Happening::Switch { .. }
+            | Happening::WakeUp(_)
+            | Happening::Speed { .. }
+            | Happening::Loss
+            | Happening::Marker
+            | Happening::Other => Ok(()),
+        }
+    }
+}
+
+/// Whether an event counts.
+fn counts(to: u64, lines: &Lines, event: &Event<'_>) -> bool
+    ensures { (asked : asking.Asked) (past : List trace.Said) → IsLines asked past lines.now → result ≡ spec_counts to (event_read event.now) past }
+{
+    match event.happening {
+        Happening::Loss => lines.past.lost_since(event.processor, Since::ItsLastLine) < to,
+        Happening::Switch { .. }
+        | Happening::WakeUp(_)
+        | Happening::Speed { .. }
+        | Happening::Marker
+        | Happening::Other => event.time <= to,
+    }
+}
+
+/// What a thread that comes is refused for where another one leaves.
+fn check_both(first: Found, second: Found) -> Result<(), Cause>
+    ensures { (asked : asking.Asked) (previous next : trace.Thread) → first ≡ found asked.tasks previous → second ≡ found asked.tasks next
+        → fault_in result ≡ spec.both_fault asked previous next }
+{
+    let number = first.whose().number;
+    if number.is_some() && number == second.whose().number && first.pid != second.pid {
+        return Err(Cause::TwoThreads);
+    }
+    Ok(())
+}

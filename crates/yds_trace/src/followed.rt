@@ -1,0 +1,117 @@
+//! What is known of each task.
+ghost use Rattle.std.specs.Prelude.{◌≡◌, ℕ, ◌<◌, length, slice_index_or, vec_len, is_some, IfOk, OnOk};
+ghost use Rattle.std.specs.List.{list_any};
+ghost use Rattle.yds_kernel.specs.Parts.{or_else};
+ghost use Rattle.yds_trace.specs.declared.followed.Followed.{Followed};
+ghost use Rattle.yds_trace.specs.Following.{IsUnknown, IsTaken, IsLost, apart_of};
+ghost use Rattle.yds_trace.specs.Jobs.{stands_on};
+ghost use Rattle.yds_trace.specs.Steps.{stepped, pid_of};
+ghost use Rattle.yds_trace.specs.Views.{known_read};
+
+use crate::asked::Task;
+use crate::known::{Known, stands_on};
+use crate::step::{Step, Whose};
+use std::alloc::Global;
+use yds_model::Memory;
+
+/// What is known of a task.
+#[derive(Debug, Drop)]
+pub(crate) struct Followed {
+    /// Its jobs, and where its thread runs.
+    pub known: Known,
+    /// The number of its thread, where a line told it.
+    pub pid: Option<u64>,
+}
+
+impl Followed {
+    /// Takes an event: who leaves or is woken, and who comes, where that is its thread.
+    fn take(
+        &mut self,
+        alloc: Global,
+        apart: u64,
+        wakes: bool,
+        first: Option<u64>,
+        second: Option<u64>,
+        step: Step,
+    ) -> Result<(), Memory>
+        ensures known { OnOk result (known_read self.new.known
+            ≡ stepped apart wakes (is_some first) (is_some second) step (known_read self.old.known)) }
+        ensures pid { OnOk result (self.new.pid ≡ or_else second (or_else first self.old.pid)) }
+    {
+        self.known
+            .step(alloc, apart, wakes, first.is_some(), second.is_some(), step)?;
+        self.pid = second.or(first).or(self.pid);
+        Ok(())
+    }
+}
+
+impl Whose {
+    /// The number of the thread, where it is the task of this number.
+    fn pid_of(self, number: usize) -> Option<u64>
+        ensures { result ≡ pid_of number self }
+    {
+        match self.number {
+            Some(other) if other == number => Some(self.pid),
+            Some(_) | None => None,
+        }
+    }
+}
+
+/// What is known of so many tasks before the first line.
+pub(crate) fn follow(alloc: Global, count: usize) -> Result<Vec<Followed>, Memory>
+    ensures many { IfOk result (λ tasks. vec_len tasks ≡ count) }
+    ensures each { IfOk result (λ tasks. (number : ℕ) (default : Followed) → number < count
+        → IsUnknown (slice_index_or tasks.items number default)) }
+{
+    let mut tasks = Vec::with_capacity(alloc, count)?;
+    for _ in 0..count {
+        tasks.push(Followed {
+            known: Known::new(alloc),
+            pid: None,
+        })?;
+    }
+    Ok(tasks)
+}
+
+/// Each task takes an event.
+pub(crate) fn take_each(
+    tasks: &mut Vec<Followed>,
+    alloc: Global,
+    asked: &[Task],
+    wakes: bool,
+    first: Whose,
+    second: Whose,
+    step: Step,
+) -> Result<(), Memory>
+    requires { vec_len tasks.old ≡ length asked.now }
+    ensures many { OnOk result (vec_len tasks.new ≡ vec_len tasks.old) }
+    ensures each { OnOk result ((number : ℕ) (default : Followed) → number < vec_len tasks.old
+        → IsTaken (apart_of asked.now number) wakes (pid_of number first) (pid_of number second) step
+        (slice_index_or tasks.old.items number default) (slice_index_or tasks.new.items number default)) }
+{
+    for number in 0..asked.len() {
+        let apart = asked[number].apart;
+        let followed = &mut tasks[number];
+        followed.take(alloc, apart, wakes, first.pid_of(number), second.pid_of(number), step)?;
+    }
+    Ok(())
+}
+
+/// Events were lost after this time.
+pub(crate) fn lose_each(tasks: &mut Vec<Followed>, time: u64)
+    ensures many { vec_len tasks.new ≡ vec_len tasks.old }
+    ensures each { (number : ℕ) (default : Followed) → number < vec_len tasks.old
+        → IsLost time (slice_index_or tasks.old.items number default) (slice_index_or tasks.new.items number default) }
+{
+    for number in 0..tasks.len() {
+        let followed = &mut tasks[number];
+        followed.known.lose(time);
+    }
+}
+
+/// Whether a task runs on this processor.
+pub(crate) fn runs_on(tasks: &[Followed], processor: u64) -> bool
+    ensures { result ≡ list_any (λ followed. stands_on processor followed.known.on) tasks.now }
+{
+    tasks.iter().any(|followed| stands_on(processor, followed.known.on))
+}

@@ -1,0 +1,117 @@
+//! What is kept of all lines.
+ghost use Rattle.std.specs.Prelude.{◌≡◌, ℕ, ◌<◌, List, [], ◌∷◌, None, IfOk, OnOk, Bool, false, ◌==◌, ◌||◌, length, slice_index_or, vec_len};
+ghost use Rattle.yds_kernel.specs.Event.{Said, Stamped, Lost};
+ghost use Rattle.yds_kernel.specs.Views.{event_read};
+ghost use Rattle.yds_trace.specs.Asked as asking;
+ghost use Rattle.yds_trace.specs.Faults.{place_fault, unseen_from};
+ghost use Rattle.yds_trace.specs.Kept.{IsLines};
+ghost use Rattle.yds_trace.specs.Steps.{first_in, second_in};
+ghost use Rattle.yds_trace.specs.Views.{asked_read};
+
+use crate::asked::Asked;
+use crate::past::Past;
+use crate::step::Whose;
+use std::alloc::Global;
+use yds_kernel::{Event, Happening, Since};
+use yds_model::Memory;
+
+/// What is kept of all lines.
+#[derive(Debug, Drop)]
+pub(crate) struct Lines {
+    pub past: Past,
+    /// Whether events were lost just before, within what is asked for.
+    pub lost: bool,
+    /// Whether a wake-up of a task is among them.
+    pub woken: bool,
+    /// Whether a line names the task.
+    pub seen: Vec<bool>,
+}
+
+impl Lines {
+    /// Before the first line.
+    pub(crate) fn new(alloc: Global, asked: &Asked) -> Result<Lines, Memory>
+        ensures { IfOk result (λ lines. IsLines (asked_read asked.now) [] lines) }
+    {
+        Ok(Lines {
+            past: Past::new(alloc, asked.start),
+            lost: false,
+            woken: false,
+            seen: vec![in alloc; false; asked.tasks.len()]?,
+        })
+    }
+
+    /// Takes an event.
+    pub(crate) fn take(&mut self, event: &Event<'_>, first: Whose, second: Whose) -> Result<(), Memory>
+        requires { place_fault (event_read event.now) ≡ None }
+        ensures { (asked : asking.Asked) (past : List Said) → IsLines asked past self.old
+            → first ≡ first_in asked.tasks (event_read event.now).happening
+            → second ≡ second_in asked.tasks (event_read event.now).happening
+            → OnOk result (IsLines asked (Stamped (event_read event.now) ∷ past) self.new) }
+    {
+        self.past.take(event)?;
+        self.lost = false;
+        if let Happening::WakeUp(_) = event.happening {
+            self.woken = first.number.is_some() || self.woken;
+        }
+        mark(&mut self.seen, first.number);
+        mark(&mut self.seen, second.number);
+        Ok(())
+    }
+
+    /// Takes a line without a stamp which says that events of the processor were lost.
+    pub(crate) fn lose(&mut self, to: Option<u64>, processor: u64, since: Since)
+        ensures { (asked : asking.Asked) (past : List Said) → IsLines asked past self.old → asked.to ≡ to
+            → IsLines asked (Lost processor since ∷ past) self.new }
+    {
+        self.lost = is_within_to(to, self.past.lost_since(processor, since)) || self.lost;
+        self.past.lose();
+    }
+
+    /// The first task that no line names.
+    pub(crate) fn unseen(&self) -> Option<usize>
+        ensures { (asked : asking.Asked) (past : List Said) → IsLines asked past self.now → result ≡ unseen_from asked past 0 asked.tasks }
+    {
+        self.seen.iter().position(|seen| !*seen)
+    }
+}
+
+/// Sets what stands at this place, where it is one.
+fn mark(seen: &mut Vec<bool>, number: Option<usize>)
+    ensures many { vec_len seen.new ≡ vec_len seen.old }
+    ensures each { (other : ℕ) → other < vec_len seen.old
+        → slice_index_or seen.new.items other false ≡ (asking.is_number other number || slice_index_or seen.old.items other false) }
+{
+    if let Some(number) = number && number < seen.len() {
+        seen[number] = true;
+    }
+}
+
+/// Whether a time is before `to`.
+pub(crate) fn is_within_to(to: Option<u64>, time: u64) -> bool
+    ensures { result ≡ asking.is_within_to to time }
+{
+    match to {
+        Some(to) => time < to,
+        None => true,
+    }
+}
+
+/// Whether a time is not after `to`.
+pub(crate) fn is_before_to(to: Option<u64>, time: u64) -> bool
+    ensures { result ≡ asking.is_before_to to time }
+{
+    match to {
+        Some(to) => time <= to,
+        None => true,
+    }
+}
+
+/// Whether a time is after `from`.
+pub(crate) fn is_behind_from(from: Option<u64>, time: u64) -> bool
+    ensures { result ≡ asking.is_behind_from from time }
+{
+    match from {
+        Some(from) => from < time,
+        None => true,
+    }
+}

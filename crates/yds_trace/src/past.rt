@@ -1,0 +1,180 @@
+//! What is kept of the lines so far. Times are nanoseconds.
+ghost use Rattle.std.specs.Prelude.{◌≡◌, ℕ, List, [], ◌∷◌, false, Option, None, OnOk};
+ghost use Rattle.yds_kernel.specs.Event.{Said, Stamped, Lost};
+ghost use Rattle.yds_kernel.specs.Views.{event_read};
+ghost use Rattle.yds_trace.specs.Faults.{place_fault};
+ghost use Rattle.yds_trace.specs.Past as spec;
+ghost use Rattle.yds_trace.specs.Kept.{IsPast, told_on};
+ghost use Rattle.yds_trace.specs.Steps.{leaving_after, step_of};
+
+use crate::job::Leaving;
+use crate::places::{at, put_at};
+use crate::step::Step;
+use std::alloc::Global;
+use yds_kernel::{Event, Happening, Since};
+use yds_model::Memory;
+
+/// What a processor's lines told since events were last lost, or since the trace's begin.
+#[derive(Clone, Copy, Debug, PartialEq, Eq)]
+pub(crate) struct Told {
+    /// Whether it has switched.
+    pub switched: bool,
+    /// Its speed in kilohertz, where it is known.
+    pub khz: Option<u64>,
+}
+
+impl Told {
+    /// Nothing yet, but for this speed.
+    fn nothing(khz: Option<u64>) -> Told
+        ensures { result ≡ record { switched = false; khz = khz } }
+    {
+        Told {
+            switched: false,
+            khz,
+        }
+    }
+}
+
+/// What is kept of the lines so far.
+#[derive(Debug, Drop)]
+pub(crate) struct Past {
+    /// The time of the first line with a stamp.
+    pub first: Option<u64>,
+    /// The time of the last one, or 0.
+    pub last: u64,
+    /// The time of the first line after the last loss.
+    pub whole_since: Option<u64>,
+    /// The speed of a processor whose lines haven't told it since the last loss.
+    pub untold: Option<u64>,
+    /// The time of each processor's last line.
+    pub lines: Vec<Option<u64>>,
+    /// What each processor's lines told since the last loss.
+    pub told: Vec<Told>,
+}
+
+impl Past {
+    /// Before the first line, with the speed of each processor before its first change.
+    pub(crate) fn new(alloc: Global, start: Option<u64>) -> Past
+        ensures { IsPast start [] result }
+    {
+        Past {
+            first: None,
+            last: 0,
+            whole_since: None,
+            untold: start,
+            lines: Vec::new(alloc),
+            told: Vec::new(alloc),
+        }
+    }
+
+    /// What a processor's lines told since the last loss.
+    fn told_on(&self, processor: u64) -> Told
+        ensures { result ≡ told_on self.now processor }
+    {
+        at(&self.told, processor, Told::nothing(self.untold))
+    }
+
+    /// Takes an event.
+    pub(crate) fn take(&mut self, event: &Event<'_>) -> Result<(), Memory>
+        requires { place_fault (event_read event.now) ≡ None }
+        ensures { (start : Option ℕ) (past : List Said) → IsPast start past self.old
+            → OnOk result (IsPast start (Stamped (event_read event.now) ∷ past) self.new) }
+    {
+        put_at(&mut self.lines, event.processor, Some(event.time), None)?;
+        self.first = Some(self.first.unwrap_or(event.time));
+        self.last = event.time;
+        self.whole_since = Some(self.whole_since.unwrap_or(event.time));
+        match event.happening {
+            Happening::Switch { .. } => {
+                let khz = self.told_on(event.processor).khz;
+                let told = Told {
+                    switched: true,
+                    khz,
+                };
+                put_at(&mut self.told, event.processor, told, Told::nothing(self.untold))?;
+            }
+            Happening::Speed { processor, khz } => {
+                let switched = self.told_on(processor).switched;
+                let told = Told {
+                    switched,
+                    khz: Some(khz),
+                };
+                put_at(&mut self.told, processor, told, Told::nothing(self.untold))?;
+            }
+            Happening::Loss => self.lose(),
+            Happening::WakeUp(_) | Happening::Marker | Happening::Other => {}
+        }
+        Ok(())
+    }
+
+    /// Takes a line without a stamp which says that events were lost.
+    pub(crate) fn lose(&mut self)
+        ensures { (start : Option ℕ) (past : List Said) (processor : ℕ) (since : Since) → IsPast start past self.old
+            → IsPast start (Lost processor since ∷ past) self.new }
+    {
+        self.whole_since = None;
+        self.untold = None;
+        self.told.clear();
+    }
+
+    /// Since when events of a processor were lost, where the next line says so.
+    pub(crate) fn lost_since(&self, processor: u64, since: Since) -> u64
+        ensures { (start : Option ℕ) (past : List Said) → IsPast start past self.now → result ≡ spec.lost_since processor since past }
+    {
+        let begin = self.first.unwrap_or(0);
+        match since {
+            Since::ItsLastLine => at(&self.lines, processor, None).unwrap_or(begin),
+            Since::TheBegin => begin,
+        }
+    }
+
+    /// Whether a processor has switched since the last loss.
+    pub(crate) fn has_switched(&self, processor: u64) -> bool
+        ensures { (start : Option ℕ) (past : List Said) → IsPast start past self.now → result ≡ spec.has_switched processor past }
+    {
+        self.told_on(processor).switched
+    }
+
+    /// The speed of a processor in kilohertz, where it is known.
+    pub(crate) fn speed(&self, processor: u64) -> Option<u64>
+        ensures { (start : Option ℕ) (past : List Said) → IsPast start past self.now → result ≡ spec.speed_after start processor past }
+    {
+        self.told_on(processor).khz
+    }
+
+    /// What an event behind these lines is to a task.
+    pub(crate) fn step(&self, event: &Event<'_>) -> Step
+        ensures { (start : Option ℕ) (past : List Said) → IsPast start past self.now → result ≡ step_of start past (event_read event.now) }
+    {
+        match event.happening {
+            Happening::Switch { state, .. } => Step::Switch {
+                state,
+                leaving: self.leaving(event),
+            },
+            Happening::WakeUp(_) => Step::WakeUp { time: event.time },
+            Happening::Speed { processor, .. } => Step::Speed {
+                processor,
+                time: event.time,
+                khz: self.speed(processor),
+            },
+            Happening::Loss => Step::Loss {
+                since: self.lost_since(event.processor, Since::ItsLastLine),
+            },
+            Happening::Marker | Happening::Other => Step::Nothing,
+        }
+    }
+
+    /// Where and how a thread leaves a processor by a switch.
+    fn leaving(&self, event: &Event<'_>) -> Leaving
+        ensures { (start : Option ℕ) (past : List Said) → IsPast start past self.now → result ≡ leaving_after start past (event_read event.now) }
+    {
+        let told = self.told_on(event.processor);
+        Leaving {
+            processor: event.processor,
+            time: event.time,
+            khz: told.khz,
+            has_switched: told.switched,
+            whole_since: self.whole_since.unwrap_or(event.time),
+        }
+    }
+}
