@@ -111,10 +111,12 @@ abbrev pub speed_fault : Happening → Option Cause
 speed_fault (Speed processor khz) = processor_fault processor
 speed_fault _ = None
 
+abbrev pub processors_fault : Event → Option Cause
+processors_fault event = or_else (processor_fault event.processor) (speed_fault event.happening)
+
 -- what an event is refused for, whatever stands before it
 abbrev pub place_fault : Event → Option Cause
-place_fault event =
-    or_else (processor_fault event.processor) (if nat_lt MAX_TIME event.time then Some causes.TimeTooGreat else speed_fault event.happening)
+place_fault event = or_else (processors_fault event) (if nat_lt MAX_TIME event.time then Some causes.TimeTooGreat else None)
 
 -- Of two threads that the lines so far don't tell of, one that comes where another leaves which is the same task is refused.
 abbrev pub both_fault : Asked → Thread → Thread → Option Cause
@@ -146,9 +148,13 @@ abbrev pub threads_fault : Asked → List Said → Event → Option Cause
 threads_fault asked past event =
     if is_before_to asked.to event.time then event_fault asked past event else stayed_fault asked past event
 
+-- what an event is refused for by the lines before it
+abbrev pub behind_fault : Asked → List Said → Event → Option Cause
+behind_fault asked past event =
+    or_else (threads_fault asked past event) (if is_torn asked past event then Some causes.EventsLost else None)
+
 abbrev pub stamped_fault : Asked → List Said → Event → Option Cause
-stamped_fault asked past event =
-    or_else (place_fault event) (or_else (threads_fault asked past event) (if is_torn asked past event then Some causes.EventsLost else None))
+stamped_fault asked past event = or_else (place_fault event) (behind_fault asked past event)
 
 -- The lines that count tell too much of the tasks.
 abbrev pub touched_fault : Asked → List Said → Option Cause

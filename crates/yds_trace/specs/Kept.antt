@@ -1,5 +1,5 @@
 -- What a pass keeps of the lines so far, and when that stands for them.
-use Rattle.std.specs.Prelude.{◌≡◌, ℕ, ◌<◌, ◌≤◌, List, length, Bool, false, Option, None, unwrap_or, is_some}
+use Rattle.std.specs.Prelude.{◌≡◌, ℕ, ◌<◌, ◌≤◌, List, length, Bool, false, Option, None, unwrap_or, is_some, vec_len}
 use Rattle.std.specs.List.{slice_index_or}
 use Rattle.yds_kernel.specs.Event.{Said}
 use Rattle.yds_trace.specs.declared.limits.TheConstants.{MAX_TOUCHES}
@@ -39,7 +39,7 @@ pub record IsFollowed (asked : Asked) (counting : List Said) (number : ℕ) (fol
 
 pub record IsCounted (asked : Asked) (counting : List Said) (counted : Counted) : Type 0 where
   pub times : IsPast asked.start counting counted.past
-  pub as_many : length counted.tasks.items ≡ length asked.tasks
+  pub as_many : vec_len counted.tasks ≡ length asked.tasks
   pub tasks : (number : ℕ) (default : Followed) → number < length asked.tasks →
     IsFollowed asked counting number (slice_index_or counted.tasks.items number default)
   pub touched : counted.touched ≡ touched asked counting
@@ -51,7 +51,7 @@ pub record IsLines (asked : Asked) (past : List Said) (lines : Lines) : Type 0 w
   pub times : IsPast asked.start past lines.past
   pub lost : lines.lost ≡ lost_just_before asked.to past
   pub woken : lines.woken ≡ has_wake_up asked past
-  pub as_many : length lines.seen.items ≡ length asked.tasks
+  pub as_many : vec_len lines.seen ≡ length asked.tasks
   pub seen : (number : ℕ) → number < length asked.tasks → slice_index_or lines.seen.items number false ≡ is_some (pid_before asked number past)
 
 -- # A pass

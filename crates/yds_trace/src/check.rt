@@ -22,17 +22,13 @@ pub(crate) fn check_place(event: &Event<'_>) -> Result<(), Cause>
     ensures { fault_in result ≡ spec.place_fault (event_read event.now) }
 {
     check_processor(event.processor)?;
+    if let Happening::Speed { processor, .. } = event.happening {
+        check_processor(processor)?;
+    }
     if event.time > MAX_TIME {
         return Err(Cause::TimeTooGreat);
     }
-    match event.happening {
-        Happening::Speed { processor, .. } => check_processor(processor),
-        Happening::Switch { .. }
-        | Happening::WakeUp(_)
-        | Happening::Loss
-        | Happening::Marker
-        | Happening::Other => Ok(()),
-    }
+    Ok(())
 }
 
 /// What a line is refused for by the number of its processor.
@@ -97,7 +93,7 @@ fn check_threads(
     counted.check(&event.happening, first, second)
 }
 
-/// What an event is refused for, but for how many lines tell of the tasks.
+/// What an event is refused for by the lines before it, but for how many of them tell of the tasks.
 pub(crate) fn check_event(
     asked: &Asked,
     lines: &Lines,
@@ -110,9 +106,8 @@ pub(crate) fn check_event(
         → IsCounted (asked_read asked.now) (up_to asked.now.to past) counted.now
         → first ≡ first_found (asked_read asked.now).tasks (event_read event.now).happening
         → second ≡ second_found (asked_read asked.now).tasks (event_read event.now).happening
-        → fault_in result ≡ spec.stamped_fault (asked_read asked.now) past (event_read event.now) }
+        → fault_in result ≡ spec.behind_fault (asked_read asked.now) past (event_read event.now) }
 {
-    check_place(event)?;
     check_threads(asked, lines, counted, event, first, second)?;
     if is_torn(asked, lines, event) {
         return Err(Cause::EventsLost);

@@ -8,7 +8,7 @@ ghost use Rattle.yds_trace.specs.Finding.{found, first_found, second_found};
 ghost use Rattle.yds_trace.specs.Following.{touches_by};
 ghost use Rattle.yds_trace.specs.Kept.{IsCounted, IsLines};
 ghost use Rattle.yds_trace.specs.Past.{up_to, counts as spec_counts};
-ghost use Rattle.yds_trace.specs.Steps.{first_in, second_in};
+ghost use Rattle.yds_trace.specs.Steps.{first_in, second_in, step_of};
 ghost use Rattle.yds_trace.specs.Passing.{IsRefusedFor, fault_in};
 ghost use Rattle.yds_trace.specs.Views.{asked_read, task_read};
 
@@ -17,7 +17,7 @@ use crate::fault::Cause;
 use crate::find::Found;
 use crate::followed::{Followed, follow, lose_each, runs_on, take_each};
 use crate::limits::MAX_TOUCHES;
-use crate::lines::{Lines, is_before_to};
+use crate::lines::{Lines, is_within_to};
 use crate::past::Past;
 use crate::refused::Refused;
 use crate::step::{Step, Whose};
@@ -56,7 +56,7 @@ impl Counted {
         first: Whose,
         second: Whose,
     ) -> Result<(), Refused>
-        requires in_place { spec.place_fault (event_read event.now) ≡ None }
+        requires in_place { spec.processors_fault (event_read event.now) ≡ None }
         requires first { first ≡ first_in (map task_read asked.now.tasks.items) (event_read event.now).happening }
         requires second { second ≡ second_in (map task_read asked.now.tasks.items) (event_read event.now).happening }
         ensures few { (counting : List trace.Said) → IsCounted (asked_read asked.now) counting self.old
@@ -67,12 +67,11 @@ impl Counted {
             → IfErr result (IsRefusedFor (spec.touched_fault (asked_read asked.now) (trace.Stamped (event_read event.now) ∷ counting))) }
     {
         let step = self.past.step(event);
-        if self.touches(first, second, step) {
-            if self.touched >= MAX_TOUCHES {
-                return Err(Refused::Fault(Cause::TooLong));
-            }
-            self.touched += 1;
+        let touched = self.touched_by(first, second, step);
+        if touched > MAX_TOUCHES {
+            return Err(Refused::Fault(Cause::TooLong));
         }
+        self.touched = touched;
         take_each(
             &mut self.tasks,
             alloc,
@@ -84,6 +83,20 @@ impl Counted {
         )?;
         self.past.take(event)?;
         Ok(())
+    }
+
+    /// How many lines tell of the tasks, with an event that is this step.
+    fn touched_by(&self, first: Whose, second: Whose, step: Step) -> u64
+        ensures { (asked : asking.Asked) (counting : List trace.Said) (event : trace.Event) → IsCounted asked counting self.now
+            → first ≡ first_in asked.tasks event.happening → second ≡ second_in asked.tasks event.happening
+            → step ≡ step_of asked.start counting event
+            → result ≡ spec.touched asked (trace.Stamped event ∷ counting) }
+    {
+        if self.touches(first, second, step) {
+            self.touched.saturating_add(1)
+        } else {
+            self.touched
+        }
     }
 
     /// Whether an event tells of a task.
@@ -107,6 +120,24 @@ impl Counted {
         lose_each(&mut self.tasks, time);
         self.past.lose();
     }
+    /// Takes what counts of a line without a stamp which says that events of the processor were lost.
+    pub(crate) fn count_loss(
+        &mut self,
+        to: Option<u64>,
+        lines: &Lines,
+        processor: u64,
+        since: Since,
+    )
+        ensures { (asked : asking.Asked) (past : List trace.Said) → IsLines asked past lines.now → asked.to ≡ to
+            → IsCounted asked (up_to asked.to past) self.old
+            → IsCounted asked (up_to asked.to (trace.Lost processor since ∷ past)) self.new }
+    {
+        if !is_within_to(to, lines.past.lost_since(processor, since)) {
+            return;
+        }
+        self.lose(processor, since);
+    }
+
     /// The thread that was this task last.
     fn pid(&self, number: usize) -> Option<u64>
         ensures { (asked : asking.Asked) (counting : List trace.Said) → IsCounted asked counting self.now → number < length asked.tasks
@@ -187,7 +218,7 @@ impl Counted {
         first: Whose,
         second: Whose,
     ) -> Result<(), Refused>
-        requires in_place { spec.place_fault (event_read event.now) ≡ None }
+        requires in_place { spec.processors_fault (event_read event.now) ≡ None }
         requires first { first ≡ first_in (map task_read asked.now.tasks.items) (event_read event.now).happening }
         requires second { second ≡ second_in (map task_read asked.now.tasks.items) (event_read event.now).happening }
         ensures few { (past : List trace.Said) → IsLines (asked_read asked.now) past lines.now → IsCounted (asked_read asked.now) (up_to asked.now.to past) self.old

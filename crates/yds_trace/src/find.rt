@@ -1,5 +1,5 @@
 //! Which task a thread is.
-ghost use Rattle.std.specs.Prelude.{◌≡◌, map};
+ghost use Rattle.std.specs.Prelude.{◌≡◌, map, position};
 ghost use Rattle.yds_kernel.specs.Views.{happening_read, thread_read};
 ghost use Rattle.yds_trace.specs.Asked as spec;
 ghost use Rattle.yds_trace.specs.Finding.{found, first_found, second_found, whose_found};
@@ -61,13 +61,27 @@ impl Which {
     }
 }
 
+/// The first task with this number.
+fn find_numbered(tasks: &[Task], pid: u64) -> Option<usize>
+    ensures { result ≡ position (λ task. spec.is_numbered pid (which_read task.thread)) tasks.now }
+{
+    tasks.iter().position(|task| task.thread.is_numbered(pid))
+}
+
+/// The first task with this name.
+fn find_named(tasks: &[Task], name: &[u8]) -> Option<usize>
+    ensures { result ≡ position (λ task. spec.is_named name.now (which_read task.thread)) tasks.now }
+{
+    tasks.iter().position(|task| task.thread.is_named(name))
+}
+
 /// Which tasks a thread is.
 pub(crate) fn find(tasks: &[Task], thread: Thread<'_>) -> Found
     ensures { result ≡ found (map task_read tasks.now) (thread_read thread.entry) }
 {
     Found {
-        numbered: tasks.iter().position(|task| task.thread.is_numbered(thread.pid)),
-        named: tasks.iter().position(|task| task.thread.is_named(thread.name)),
+        numbered: find_numbered(tasks, thread.pid),
+        named: find_named(tasks, thread.name),
         pid: thread.pid,
     }
 }

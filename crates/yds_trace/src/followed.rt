@@ -1,5 +1,5 @@
 //! What is known of each task.
-ghost use Rattle.std.specs.Prelude.{◌≡◌, ℕ, ◌<◌, length, slice_index_or, vec_len, is_some, IfOk, OnOk};
+ghost use Rattle.std.specs.Prelude.{◌≡◌, ℕ, ◌<◌, slice_index_or, vec_len, is_some, IfOk, OnOk};
 ghost use Rattle.std.specs.List.{list_any};
 ghost use Rattle.yds_kernel.specs.Parts.{or_else};
 ghost use Rattle.yds_trace.specs.declared.followed.Followed.{Followed};
@@ -73,6 +73,16 @@ pub(crate) fn follow(alloc: Global, count: usize) -> Result<Vec<Followed>, Memor
     Ok(tasks)
 }
 
+/// A wake-up that comes less than so long after the begin of a job of this task goes on with that job.
+fn apart_of(asked: &[Task], number: usize) -> u64
+    ensures { result ≡ apart_of asked.now number }
+{
+    match asked.get(number) {
+        Some(task) => task.apart,
+        None => 0,
+    }
+}
+
 /// Each task takes an event.
 pub(crate) fn take_each(
     tasks: &mut Vec<Followed>,
@@ -83,14 +93,13 @@ pub(crate) fn take_each(
     second: Whose,
     step: Step,
 ) -> Result<(), Memory>
-    requires { vec_len tasks.old ≡ length asked.now }
     ensures many { OnOk result (vec_len tasks.new ≡ vec_len tasks.old) }
     ensures each { OnOk result ((number : ℕ) (default : Followed) → number < vec_len tasks.old
         → IsTaken (apart_of asked.now number) wakes (pid_of number first) (pid_of number second) step
         (slice_index_or tasks.old.items number default) (slice_index_or tasks.new.items number default)) }
 {
-    for number in 0..asked.len() {
-        let apart = asked[number].apart;
+    for number in 0..tasks.len() {
+        let apart = apart_of(asked, number);
         let followed = &mut tasks[number];
         followed.take(alloc, apart, wakes, first.pid_of(number), second.pid_of(number), step)?;
     }

@@ -1,9 +1,9 @@
 //! What is kept of all lines.
-ghost use Rattle.std.specs.Prelude.{◌≡◌, ℕ, ◌<◌, List, [], ◌∷◌, None, IfOk, OnOk, Bool, false, ◌==◌, ◌||◌, length, slice_index_or, vec_len};
+ghost use Rattle.std.specs.Prelude.{◌≡◌, ℕ, ◌<◌, List, [], ◌∷◌, position, not, false, ◌||◌, slice_index_or, vec_len, IfOk, OnOk};
 ghost use Rattle.yds_kernel.specs.Event.{Said, Stamped, Lost};
 ghost use Rattle.yds_kernel.specs.Views.{event_read};
 ghost use Rattle.yds_trace.specs.Asked as asking;
-ghost use Rattle.yds_trace.specs.Faults.{place_fault, unseen_from};
+ghost use Rattle.yds_trace.specs.Faults.{processors_fault, lost_just_before, has_wake_up, unseen_from};
 ghost use Rattle.yds_trace.specs.Kept.{IsLines};
 ghost use Rattle.yds_trace.specs.Steps.{first_in, second_in};
 ghost use Rattle.yds_trace.specs.Views.{asked_read};
@@ -42,7 +42,7 @@ impl Lines {
 
     /// Takes an event.
     pub(crate) fn take(&mut self, event: &Event<'_>, first: Whose, second: Whose) -> Result<(), Memory>
-        requires { place_fault (event_read event.now) ≡ None }
+        requires { processors_fault (event_read event.now) ≡ None }
         ensures { (asked : asking.Asked) (past : List Said) → IsLines asked past self.old
             → first ≡ first_in asked.tasks (event_read event.now).happening
             → second ≡ second_in asked.tasks (event_read event.now).happening
@@ -50,9 +50,7 @@ impl Lines {
     {
         self.past.take(event)?;
         self.lost = false;
-        if let Happening::WakeUp(_) = event.happening {
-            self.woken = first.number.is_some() || self.woken;
-        }
+        self.woken = self.is_woken(event, first);
         mark(&mut self.seen, first.number);
         mark(&mut self.seen, second.number);
         Ok(())
@@ -63,16 +61,47 @@ impl Lines {
         ensures { (asked : asking.Asked) (past : List Said) → IsLines asked past self.old → asked.to ≡ to
             → IsLines asked (Lost processor since ∷ past) self.new }
     {
-        self.lost = is_within_to(to, self.past.lost_since(processor, since)) || self.lost;
+        self.lost = self.are_lost(to, processor, since);
         self.past.lose();
+    }
+
+    /// Whether a wake-up of a task is among the lines up to this event.
+    fn is_woken(&self, event: &Event<'_>, first: Whose) -> bool
+        ensures { (asked : asking.Asked) (past : List Said) → self.now.woken ≡ has_wake_up asked past
+            → first ≡ first_in asked.tasks (event_read event.now).happening
+            → result ≡ has_wake_up asked (Stamped (event_read event.now) ∷ past) }
+    {
+        match event.happening {
+            Happening::WakeUp(_) => first.number.is_some() || self.woken,
+            Happening::Switch { .. }
+            | Happening::Speed { .. }
+            | Happening::Loss
+            | Happening::Marker
+            | Happening::Other => self.woken,
+        }
+    }
+
+    /// Whether events were lost just before, with a line that says so of this processor.
+    fn are_lost(&self, to: Option<u64>, processor: u64, since: Since) -> bool
+        ensures { (asked : asking.Asked) (past : List Said) → IsLines asked past self.now → asked.to ≡ to
+            → result ≡ lost_just_before asked.to (Lost processor since ∷ past) }
+    {
+        is_within_to(to, self.past.lost_since(processor, since)) || self.lost
     }
 
     /// The first task that no line names.
     pub(crate) fn unseen(&self) -> Option<usize>
         ensures { (asked : asking.Asked) (past : List Said) → IsLines asked past self.now → result ≡ unseen_from asked past 0 asked.tasks }
     {
-        self.seen.iter().position(|seen| !*seen)
+        first_unset(&self.seen)
     }
+}
+
+/// The first place of what isn't set.
+fn first_unset(seen: &[bool]) -> Option<usize>
+    ensures { result ≡ position not seen.now }
+{
+    seen.iter().position(|seen| !*seen)
 }
 
 /// Sets what stands at this place, where it is one.

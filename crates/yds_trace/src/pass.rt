@@ -12,11 +12,11 @@ ghost use Rattle.yds_trace.specs.Passing.{IsRefusedFor};
 ghost use Rattle.yds_trace.specs.Views.{asked_read};
 
 use crate::asked::Asked;
-use crate::check::{check_event, check_processor, check_whole};
+use crate::check::{check_event, check_place, check_processor, check_whole};
 use crate::counted::Counted;
 use crate::ended::{Ended, close_each};
 use crate::find::{find_first, find_second};
-use crate::lines::{Lines, is_within_to};
+use crate::lines::Lines;
 use crate::refused::Refused;
 use std::alloc::Global;
 use yds_kernel::{Event, Said, Since};
@@ -70,14 +70,24 @@ impl Pass {
         ensures refused { (asked : asking.Asked) (past : List trace.Said) → IsAt asked past self
             → IfErr result (IsRefusedFor (whole_fault asked past)) }
     {
-        check_whole(&self.asked, &self.lines)?;
-        let until = last_asked(self.asked.to, self.lines.past.last);
-        let jobs = close_each(alloc, self.counted.tasks, &self.counted.past, until)?;
+        let Pass {
+            asked,
+            lines,
+            counted,
+        } = self;
+        check_whole(&asked, &lines)?;
+        let Counted {
+            past,
+            tasks,
+            touched: _,
+        } = counted;
+        let until = last_asked(asked.to, lines.past.last);
+        let jobs = close_each(alloc, tasks, &past, until)?;
         Ok(Ended {
-            asked: self.asked,
+            asked,
             jobs,
-            first: self.lines.past.first.unwrap_or(0),
-            last: self.lines.past.last,
+            first: lines.past.first.unwrap_or(0),
+            last: lines.past.last,
         })
     }
 
@@ -90,6 +100,7 @@ impl Pass {
         ensures refused { (past : List trace.Said) → IsAt (asked_read self.old.asked) past self.old
             → IfErr result (IsRefusedFor (said_fault (asked_read self.old.asked) past (trace.Stamped (event_read event.now)))) }
     {
+        check_place(event)?;
         let first = find_first(&self.asked.tasks, &event.happening);
         let second = find_second(&self.asked.tasks, &event.happening);
         check_event(&self.asked, &self.lines, &self.counted, event, first, second)?;
@@ -111,9 +122,7 @@ impl Pass {
     {
         check_processor(processor)?;
         let to = self.asked.to;
-        if is_within_to(to, self.lines.past.lost_since(processor, since)) {
-            self.counted.lose(processor, since);
-        }
+        self.counted.count_loss(to, &self.lines, processor, since);
         self.lines.lose(to, processor, since);
         Ok(())
     }

@@ -2,7 +2,7 @@
 ghost use Rattle.std.specs.Prelude.{◌≡◌, ℕ, List, [], ◌∷◌, false, Option, None, OnOk};
 ghost use Rattle.yds_kernel.specs.Event.{Said, Stamped, Lost};
 ghost use Rattle.yds_kernel.specs.Views.{event_read};
-ghost use Rattle.yds_trace.specs.Faults.{place_fault};
+ghost use Rattle.yds_trace.specs.Faults.{processors_fault};
 ghost use Rattle.yds_trace.specs.Past as spec;
 ghost use Rattle.yds_trace.specs.Kept.{IsPast, told_on};
 ghost use Rattle.yds_trace.specs.Steps.{leaving_after, step_of};
@@ -76,7 +76,7 @@ impl Past {
 
     /// Takes an event.
     pub(crate) fn take(&mut self, event: &Event<'_>) -> Result<(), Memory>
-        requires { place_fault (event_read event.now) ≡ None }
+        requires { processors_fault (event_read event.now) ≡ None }
         ensures { (start : Option ℕ) (past : List Said) → IsPast start past self.old
             → OnOk result (IsPast start (Stamped (event_read event.now) ∷ past) self.new) }
     {
@@ -101,7 +101,7 @@ impl Past {
                 };
                 put_at(&mut self.told, processor, told, Told::nothing(self.untold))?;
             }
-            Happening::Loss => self.lose(),
+            Happening::Loss => self.forget(),
             Happening::WakeUp(_) | Happening::Marker | Happening::Other => {}
         }
         Ok(())
@@ -111,6 +111,18 @@ impl Past {
     pub(crate) fn lose(&mut self)
         ensures { (start : Option ℕ) (past : List Said) (processor : ℕ) (since : Since) → IsPast start past self.old
             → IsPast start (Lost processor since ∷ past) self.new }
+    {
+        self.forget();
+    }
+
+    /// Forgets what losses leave unknown.
+    fn forget(&mut self)
+        ensures first { self.new.first ≡ self.old.first }
+        ensures last { self.new.last ≡ self.old.last }
+        ensures whole { self.new.whole_since ≡ None }
+        ensures untold { self.new.untold ≡ None }
+        ensures lines { self.new.lines ≡ self.old.lines }
+        ensures told { self.new.told.items ≡ [] }
     {
         self.whole_since = None;
         self.untold = None;

@@ -1,0 +1,20 @@
+use Rattle.yds_model.proofs.Common.{◌≡◌, ◌∙◌, true, false, sym, arith}
+use Rattle.yds_trace.specs.Faults.{touches}
+use Rattle.yds_trace.proofs.Counting.{touches_is, touched_more, touched_same}
+use Rattle.yds_trace.proofs.counted.Counted.touched_by.Goals as goal
+
+pub returns-then-touches : goal.returns-then-touches
+returns-then-touches c = λ asked counting event is first second step.
+    let so : touches asked counting event.happening ≡ true =
+    sym (touches_is asked counting event c.args.first c.args.second c.args.step c.args.self.now.tasks.items first second step
+    (omega (arith, is.as_many, c.args.self.now.tasks.ok.0)) is.tasks)
+    ∙ sym c.touches.ensures ∙ c.if-touches.true in
+    omega (arith, c.saturating_add.ensures, touched_more asked counting event so, is.touched, is.few)
+
+pub returns-else-touches : goal.returns-else-touches
+returns-else-touches c = λ asked counting event is first second step.
+    let not_so : touches asked counting event.happening ≡ false =
+    sym (touches_is asked counting event c.args.first c.args.second c.args.step c.args.self.now.tasks.items first second step
+    (omega (arith, is.as_many, c.args.self.now.tasks.ok.0)) is.tasks)
+    ∙ sym c.touches.ensures ∙ c.if-touches.false in
+    omega (arith, touched_same asked counting event not_so, is.touched)

@@ -1,0 +1,21 @@
+use Rattle.yds_model.proofs.Common.{◌≡◌, ◌∙◌, ℕ, sym, ap, subst, get_or, arith}
+use Rattle.yds_trace.specs.Asked.{Asked}
+use Rattle.yds_trace.specs.Past.{up_to}
+use Rattle.yds_trace.specs.Kept.{IsFollowed}
+use Rattle.yds_trace.proofs.Ending.{jobs_are}
+use Rattle.yds_trace.proofs.pass.Pass.end.Goals as goal
+
+pub returns-clause-ended : goal.returns-clause-ended
+returns-clause-ended c = λ asked past at. record {
+  same_asked = at.same_asked;
+  jobs = jobs_are asked past 0 c.last_asked-until.result asked.tasks c.args.self.counted.tasks.items c.in_ok-jobs.jobs.items
+      (c.last_asked-until.ensures asked past (ap (λ (read : Asked). read.to) (sym at.same_asked)) at.lines.times.last)
+      (omega (arith, at.counted.as_many, c.args.self.counted.tasks.ok.0))
+      (λ k n d within is.
+      let same : k ≡ n = omega arith in
+      let P : ℕ → Type 0 = λ m. IsFollowed asked (up_to asked.to past) m (get_or c.args.self.counted.tasks.items k d) in
+      subst P same (at.counted.tasks k d within))
+      (c.in_ok-jobs.ensures asked.start (up_to asked.to past) at.counted.times);
+  first = c.unwrap_or.ensures ∙ sym (at.lines.times.first 0);
+  last = sym at.lines.times.last;
+}
