@@ -1,9 +1,9 @@
 -- What stands last in the code's lists stands first in the definitions'.
-use Rattle.yds_model.proofs.Common.{◌≡◌, ℕ, suc, ◌+◌, ◌<◌, ◌≤◌, List, [], ◌∷◌, ◌++◌, ◌∙◌, map, reverse, length, get_or, set, refl, ap, ap₂, sym, arith, map-append, reverse-append, get_or-set_same, get_or-set_other, get_or_default, drop_all, take_all, take, drop, append-nil, length-set, cases_lt, inl, inr, ◌≢◌}
+use Rattle.yds_model.proofs.Common.{◌≡◌, ℕ, zero, suc, ◌+◌, ◌<◌, ◌≤◌, List, [], ◌∷◌, ◌++◌, ◌∙◌, map, reverse, length, get_or, set, refl, ap, ap₂, sym, arith, map-append, reverse-append, get_or-set_same, get_or-set_other, get_or_default, drop_all, take_all, take, drop, append-nil, length-map, length-reverse, length-set, cases_lt, inl, inr, ◌≢◌}
 use Rattle.yds_trace.specs.declared.job.End.{End}
 use Rattle.yds_trace.specs.declared.job.Job.{Job as JobKept}
 use Rattle.yds_trace.specs.declared.job.Stretch.{Stretch}
-use Rattle.yds_trace.specs.Jobs.{Job, lost_end, lost_job}
+use Rattle.yds_trace.specs.Jobs.{Job, changed_last, lost_end, lost_job}
 use Rattle.yds_trace.specs.Views.{job_read, jobs_listed}
 
 pub reverse_push : (stretches : List Stretch) (stretch : Stretch) → reverse (stretches ++ stretch ∷ []) ≡ stretch ∷ reverse stretches
@@ -76,3 +76,28 @@ pub lost_all : (time index : ℕ) (was now : List JobKept) → length was ≤ in
     jobs_listed now ≡ map (lost_job time) (jobs_listed was)
 lost_all time index was now whole lost =
     ap reverse (each_lost time was now lost.same_length (λ k d within. lost.below k d (omega arith))) ∙ sym (map_reverse (lost_job time) (map job_read was))
+
+-- # The last job
+
+changed_append : (change : Job → Job) (jobs more : List Job) → 1 ≤ length jobs → changed_last change (jobs ++ more) ≡ changed_last change jobs ++ more
+changed_append change [] more some = absurd (omega arith)
+changed_append change (job ∷ jobs) more some = refl
+
+listed_first : (first : JobKept) (jobs : List JobKept) → jobs_listed (first ∷ jobs) ≡ jobs_listed jobs ++ job_read first ∷ []
+listed_first first jobs = reverse-append (job_read first ∷ []) (map job_read jobs)
+
+some_listed : (jobs : List JobKept) → length (jobs_listed jobs) ≡ length jobs
+some_listed jobs = length-reverse (map job_read jobs) ∙ length-map jobs job_read
+
+-- What stands last in the code's list is changed.
+pub changed_at_end : (change : Job → Job) (jobs : List JobKept) (place : ℕ) (now d : JobKept) → place + 1 ≡ length jobs →
+    job_read now ≡ change (job_read (get_or jobs place d)) → jobs_listed (set jobs place now) ≡ changed_last change (jobs_listed jobs)
+changed_at_end change [] place now d last same = absurd (omega arith)
+changed_at_end change (first ∷ []) zero now d last same = ap (λ (job : Job). job ∷ []) same
+changed_at_end change (first ∷ []) (suc place) now d last same = absurd (omega arith)
+changed_at_end change (first ∷ next ∷ jobs) zero now d last same = absurd (omega arith)
+changed_at_end change (first ∷ next ∷ jobs) (suc place) now d last same =
+    listed_first first (set (next ∷ jobs) place now)
+    ∙ ap (λ (js : List Job). js ++ job_read first ∷ []) (changed_at_end change (next ∷ jobs) place now d (omega arith) same)
+    ∙ sym (changed_append change (jobs_listed (next ∷ jobs)) (job_read first ∷ []) (omega (arith, some_listed (next ∷ jobs))))
+    ∙ ap (changed_last change) (sym (listed_first first (next ∷ jobs)))

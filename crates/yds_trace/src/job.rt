@@ -144,31 +144,6 @@ impl Job {
         self
     }
 
-    /// Ended at this time.
-    pub(crate) fn ended(mut self, time: u64) -> Job
-        ensures { job_read result ≡ spec.ended time (job_read self) }
-    {
-        self.end = End::Ended(time);
-        self
-    }
-
-    /// With a missing switch.
-    pub(crate) fn missing(mut self) -> Job
-        ensures { job_read result ≡ spec.missing (job_read self) }
-    {
-        self.switch_missing = true;
-        self
-    }
-
-    /// Its thread left unseen.
-    pub(crate) fn left_unseen(mut self, since: u64, goes_on: bool) -> Job
-        ensures { job_read result ≡ spec.left_unseen since goes_on (job_read self) }
-    {
-        self.end = End::Unseen { since, goes_on };
-        self.switch_missing = true;
-        self
-    }
-
     /// Begun by this time.
     pub(crate) fn begun_by(mut self, time: u64) -> Job
         ensures { job_read result ≡ spec.begun_at_most time (job_read self) }

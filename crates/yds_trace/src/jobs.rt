@@ -158,35 +158,30 @@ fn running_after(
 }
 
 /// The last job ends.
-#[tactic(auto, using(crate::proofs::Listed::jobs_listed_push))]
-pub(crate) fn end_last(time: u64, jobs: &mut Vec<Job>) -> Result<(), Memory>
-    ensures { OnOk result (jobs_listed jobs.new.items ≡ spec.changed_last (spec.ended time) (jobs_listed jobs.old.items)) }
+pub(crate) fn end_last(time: u64, jobs: &mut Vec<Job>)
+    ensures { jobs_listed jobs.new.items ≡ spec.changed_last (spec.ended time) (jobs_listed jobs.old.items) }
 {
-    match jobs.pop() {
-        Some(job) => put(job.ended(time), jobs),
-        None => Ok(()),
+    if let Some(job) = jobs.last_mut() {
+        job.end = End::Ended(time);
     }
 }
 
 /// A switch of the last job's thread is missing.
-#[tactic(auto, using(crate::proofs::Listed::jobs_listed_push))]
-pub(crate) fn mark_last(jobs: &mut Vec<Job>) -> Result<(), Memory>
-    ensures { OnOk result (jobs_listed jobs.new.items ≡ spec.changed_last spec.missing (jobs_listed jobs.old.items)) }
+pub(crate) fn mark_last(jobs: &mut Vec<Job>)
+    ensures { jobs_listed jobs.new.items ≡ spec.changed_last spec.missing (jobs_listed jobs.old.items) }
 {
-    match jobs.pop() {
-        Some(job) => put(job.missing(), jobs),
-        None => Ok(()),
+    if let Some(job) = jobs.last_mut() {
+        job.switch_missing = true;
     }
 }
 
 /// The last job's thread left unseen.
-#[tactic(auto, using(crate::proofs::Listed::jobs_listed_push))]
-pub(crate) fn unsee_last(since: u64, goes_on: bool, jobs: &mut Vec<Job>) -> Result<(), Memory>
-    ensures { OnOk result (jobs_listed jobs.new.items ≡ spec.changed_last (spec.left_unseen since goes_on) (jobs_listed jobs.old.items)) }
+pub(crate) fn unsee_last(since: u64, goes_on: bool, jobs: &mut Vec<Job>)
+    ensures { jobs_listed jobs.new.items ≡ spec.changed_last (spec.left_unseen since goes_on) (jobs_listed jobs.old.items) }
 {
-    match jobs.pop() {
-        Some(job) => put(job.left_unseen(since, goes_on), jobs),
-        None => Ok(()),
+    if let Some(job) = jobs.last_mut() {
+        job.end = End::Unseen { since, goes_on };
+        job.switch_missing = true;
     }
 }
 

@@ -50,7 +50,7 @@ impl Known {
         if turn.left {
             self.leave(alloc, wakes, turn.state, turn.leaving)?;
         } else {
-            self.pass_by(wakes, turn.leaving.processor)?;
+            self.pass_by(wakes, turn.leaving.processor);
         }
         if turn.came {
             self.come(alloc, apart, wakes, turn.leaving.processor, turn.leaving.time)?;
@@ -95,24 +95,22 @@ impl Known {
     }
 
     /// It isn't where it was last seen to come.
-    fn vanish(&mut self, wakes: bool) -> Result<(), Memory>
-        ensures { OnOk result (known_read self.new ≡ spec.vanished wakes (known_read self.old)) }
+    fn vanish(&mut self, wakes: bool)
+        ensures { known_read self.new ≡ spec.vanished wakes (known_read self.old) }
     {
         if let Some(standing) = self.on {
-            unsee_last(standing.came, wakes && !self.woken, &mut self.jobs)?;
+            unsee_last(standing.came, wakes && !self.woken, &mut self.jobs);
             self.on = None;
         }
-        Ok(())
     }
 
     /// Another thread leaves this processor.
-    fn pass_by(&mut self, wakes: bool, processor: u64) -> Result<(), Memory>
-        ensures { OnOk result (known_read self.new ≡ spec.passed_by wakes processor (known_read self.old)) }
+    fn pass_by(&mut self, wakes: bool, processor: u64)
+        ensures { known_read self.new ≡ spec.passed_by wakes processor (known_read self.old) }
     {
         if stands_on(processor, self.on) {
-            self.vanish(wakes)?;
+            self.vanish(wakes);
         }
-        Ok(())
     }
 
     /// It comes to a processor.
@@ -126,7 +124,7 @@ impl Known {
     ) -> Result<(), Memory>
         ensures { OnOk result (known_read self.new ≡ spec.comes apart wakes processor time (known_read self.old)) }
     {
-        self.vanish(wakes)?;
+        self.vanish(wakes);
         if wakes {
             find_awake(alloc, time, &mut self.jobs)?;
         } else {
@@ -202,8 +200,8 @@ impl Known {
         self.leave_from(alloc, wakes, leaving)?;
         match state {
             State::GoesOn => {}
-            State::Sleeps => end_last(leaving.time, &mut self.jobs)?,
-            State::Unknown => unsee_last(leaving.time, wakes, &mut self.jobs)?,
+            State::Sleeps => end_last(leaving.time, &mut self.jobs),
+            State::Unknown => unsee_last(leaving.time, wakes, &mut self.jobs),
         }
         self.on = None;
         self.woken = false;
@@ -222,9 +220,10 @@ impl Known {
             begin_by(alloc, leaving.whole_since, &mut self.jobs)?;
             return run_last(leaving.stretch(leaving.whole_since), &mut self.jobs);
         }
-        self.vanish(wakes)?;
+        self.vanish(wakes);
         find_awake(alloc, leaving.time, &mut self.jobs)?;
-        mark_last(&mut self.jobs)
+        mark_last(&mut self.jobs);
+        Ok(())
     }
 }
 

@@ -4,7 +4,8 @@ use Rattle.std.specs.Fmt.{digits}
 use Rattle.yds_kernel.specs.Event.{Said}
 use Rattle.yds_trace.specs.declared.reason.Reason.{Reason}
 use Rattle.yds_trace.specs.declared.reason.Reason.TheVariants as reasons
-use Rattle.yds_trace.specs.Asked.{Task, Asked, IsAsked, no_task}
+use Rattle.yds_trace.specs.declared.limits.TheConstants.{MAX_DEADLINE}
+use Rattle.yds_trace.specs.Asked.{Task, Asked, IsAsked, IsWithin, no_task}
 use Rattle.yds_trace.specs.WrittenTime.{Run}
 use Rattle.yds_trace.specs.Document.{Written, Document, document_of, all_judged, Judged}
 use Rattle.yds_trace_examples.proofs.Lines.{woken, comes, sleeps, preempted, back, other_leaves, marker, lost, task, of_task, asked, up_to, from}
@@ -126,6 +127,34 @@ unknown_speed = refl
 cut_off : judgements (up_to 1030) (woken 1000 ∷ comes 0 1020 ∷ sleeps 0 1040 ∷ []) ≡ (None, Some reasons.AfterTo) ∷ []
 cut_off = refl
 
+-- # From the begin until after what is asked for
+
+-- A task that hangs: it had its processor when the trace began, at 1000, and leaves it after 1300. It is late.
+hangs : document (up_to 1300) (marker 1 1000 ∷ sleeps 0 1400 ∷ []) ≡ record { jobs = written (codes "t.before") 0 10 1 [] ∷ []; runs = [] }
+unfolding digits
+hangs = refl
+
+so_late : judgements (up_to 1300) (marker 1 1000 ∷ sleeps 0 1400 ∷ []) ≡ (Some 200, Some reasons.BeginUnseen) ∷ []
+so_late = refl
+
+-- near misses: its deadline isn't over; its processor has switched before, so it came there unseen, perhaps after that; another one leaves there
+hangs_not_due : judgements (up_to 1099) (marker 1 1000 ∷ sleeps 0 1400 ∷ []) ≡ (None, Some reasons.AfterTo) ∷ []
+hangs_not_due = refl
+
+came_unseen : judgements (up_to 1300) (marker 1 1000 ∷ other_leaves 0 1010 ∷ sleeps 0 1400 ∷ []) ≡ []
+came_unseen = refl
+
+another_hangs : judgements (up_to 1300) (marker 1 1000 ∷ other_leaves 1 1400 ∷ sleeps 1 1500 ∷ []) ≡ []
+another_hangs = refl
+
+-- It had it when a loss ended, at 1100.
+hangs_after_a_loss : judgements (up_to 1300) (marker 1 1000 ∷ lost 1 ∷ marker 1 1100 ∷ sleeps 0 1400 ∷ []) ≡ (Some 100, Some reasons.BeginUnseen) ∷ []
+hangs_after_a_loss = refl
+
+-- A wake-up while it hangs doesn't hide it.
+woken_while_it_hangs : judgements (up_to 1300) (marker 1 1000 ∷ woken 1250 ∷ sleeps 0 1400 ∷ []) ≡ (Some 200, Some reasons.BeginUnseen) ∷ []
+woken_while_it_hangs = refl
+
 -- # What is asked for
 
 -- A deadline of a unit of time is one.
@@ -138,3 +167,16 @@ a_deadline_of_a_unit = record { has_unit = omega arith; has_speed_unit = omega a
 -- Near miss: a shorter one isn't.
 a_shorter_deadline : IsAsked (of_task (record task { deadline = 9 })) → ⊥
 a_shorter_deadline is_asked = absurd (omega (arith, is_asked.deadlines 0 no_task (omega arith)))
+
+-- The longest deadline is within the limit.
+the_longest : All (λ (each : Task). each.deadline ≤ MAX_DEADLINE) (record task { deadline = 9223372036854775807 } ∷ [])
+the_longest =
+    All-cons (λ (each : Task). each.deadline ≤ MAX_DEADLINE) (record task { deadline = 9223372036854775807 }) [] (omega arith)
+    (All-nil (λ (each : Task). each.deadline ≤ MAX_DEADLINE))
+
+the_longest_deadline : IsWithin (of_task (record task { deadline = 9223372036854775807 }))
+the_longest_deadline = record { deadlines = λ i default within. the_longest i default within }
+
+-- Near miss: a longer one isn't.
+a_longer_deadline : IsWithin (of_task (record task { deadline = 9223372036854775808 })) → ⊥
+a_longer_deadline is_within = absurd (omega (arith, is_within.deadlines 0 no_task (omega arith)))

@@ -1,12 +1,13 @@
 -- Faults of a trace: the number of the line, and why.
-use Rattle.yds_model.proofs.Common.{◌≡◌, ℕ, List, [], ◌∷◌, codes, reverse, Option, Some, None, refl}
+use Rattle.yds_model.proofs.Common.{◌≡◌, ℕ, List, [], ◌∷◌, codes, reverse, true, Option, Some, None, refl}
 use Rattle.yds_kernel.specs.declared.state.State.TheVariants as states
-use Rattle.yds_kernel.specs.Event.{Thread, Switch, WakeUp, Said, Nothing}
+use Rattle.yds_kernel.specs.declared.loss.Since.TheVariants as since
+use Rattle.yds_kernel.specs.Event.{Thread, Loss, Switch, WakeUp, Said, Lost, Nothing}
 use Rattle.yds_trace.specs.declared.fault.Cause.{Cause}
 use Rattle.yds_trace.specs.declared.fault.Cause.TheVariants as causes
 use Rattle.yds_trace.specs.Asked.{Numbered, Asked}
-use Rattle.yds_trace.specs.Faults.{first_fault}
-use Rattle.yds_trace_examples.proofs.Lines.{t, other, idle, line, woken, comes, sleeps, marker, task, asked, up_to}
+use Rattle.yds_trace.specs.Faults.{first_fault, trace_fault, touched, touched_fault}
+use Rattle.yds_trace_examples.proofs.Lines.{t, other, idle, line, woken, comes, sleeps, preempted, back, other_leaves, speed, marker, lost, task, asked, at_run, up_to, from}
 
 abbrev fault : Asked → List Said → Option (ℕ × Cause)
 fault asked lines = first_fault asked (reverse lines)
@@ -47,3 +48,133 @@ one_by_its_number = refl
 -- A thread is one task by its number, and another by its name.
 two_tasks : fault (record asked { tasks = record task { thread = Numbered 7 } ∷ task ∷ [] }) (woken 10 ∷ []) ≡ Some (1, causes.TwoTasks)
 two_tasks = refl
+
+-- The same within one line: one of the two leaves, and the other comes.
+two_at_once : fault asked (line 0 12 (Switch t states.Sleeps twin) ∷ []) ≡ Some (1, causes.TwoThreads)
+two_at_once = refl
+
+-- near miss: it gives the processor to itself
+one_at_once : fault asked (line 0 12 (Switch t states.GoesOn t) ∷ []) ≡ None
+one_at_once = refl
+
+-- Another thread of that name had its processor until after `to`.
+twin_stayed : fault (up_to 30) (woken 10 ∷ line 0 40 (Switch twin states.Sleeps idle) ∷ []) ≡ Some (2, causes.TwoThreads)
+twin_stayed = refl
+
+-- Near misses: it came after `to`, or is woken after it, and then its task has had its processor until then.
+twin_came_later : fault (up_to 30) (woken 10 ∷ comes 0 12 ∷ sleeps 0 20 ∷ line 0 40 (Switch twin states.Sleeps idle) ∷ []) ≡ None
+twin_came_later = refl
+
+twin_woken_later : fault (up_to 30) (line 1 5 (WakeUp other) ∷ line 1 40 (WakeUp twin) ∷ sleeps 0 50 ∷ []) ≡ None
+twin_woken_later = refl
+
+-- # Losses
+
+-- Events of processor 3 were lost from 10 to 60, within what is asked for.
+a_loss : fault (from 50) (woken 10 ∷ lost 3 ∷ woken 60 ∷ []) ≡ Some (3, causes.EventsLost)
+a_loss = refl
+
+a_loss_with_a_stamp : fault (from 50) (woken 10 ∷ line 3 60 Loss ∷ []) ≡ Some (2, causes.EventsLost)
+a_loss_with_a_stamp = refl
+
+-- near misses: it ends before `from`; it begins at `to`; it may be cut out
+a_loss_before_from : fault (from 60) (woken 10 ∷ lost 3 ∷ woken 60 ∷ woken 70 ∷ []) ≡ None
+a_loss_before_from = refl
+
+a_loss_at_to : fault (up_to 30) (woken 10 ∷ marker 1 30 ∷ lost 1 ∷ marker 1 40 ∷ []) ≡ None
+a_loss_at_to = refl
+
+a_loss_cut_out : fault (record asked { cut_losses = true }) (woken 10 ∷ lost 3 ∷ woken 60 ∷ []) ≡ None
+a_loss_cut_out = refl
+
+-- A buffer that starts after `to` has lost what was before, too.
+a_buffer_that_starts : fault (up_to 30) (woken 10 ∷ marker 1 35 ∷ Lost 1 since.TheBegin ∷ marker 1 40 ∷ []) ≡ Some (4, causes.EventsLost)
+a_buffer_that_starts = refl
+
+-- # Places
+
+a_great_processor : fault asked (marker 8192 5 ∷ []) ≡ Some (1, causes.ProcessorTooGreat)
+a_great_processor = refl
+
+a_speed_of_a_great_processor : fault asked (marker 0 5 ∷ speed 8192 6 1000 ∷ []) ≡ Some (1, causes.ProcessorTooGreat)
+a_speed_of_a_great_processor = refl
+
+a_loss_of_a_great_processor : fault asked (lost 8192 ∷ []) ≡ Some (1, causes.ProcessorTooGreat)
+a_loss_of_a_great_processor = refl
+
+-- near miss: the greatest one
+the_greatest_processor : fault asked (marker 8191 5 ∷ []) ≡ None
+the_greatest_processor = refl
+
+a_great_time : fault asked (marker 0 9223372036854775808 ∷ []) ≡ Some (1, causes.TimeTooGreat)
+a_great_time = refl
+
+-- near miss: the greatest one
+the_greatest_time : fault asked (marker 0 9223372036854775807 ∷ []) ≡ None
+the_greatest_time = refl
+
+-- # How much is told of the tasks
+
+abbrev touches : Asked → List Said → ℕ
+touches asked lines = touched asked (reverse lines)
+
+-- Its wake-up, its switches, and a change of its processor's speed tell of it.
+four_touches : touches asked (woken 10 ∷ comes 0 12 ∷ speed 0 15 8 ∷ sleeps 0 40 ∷ []) ≡ 4
+four_touches = refl
+
+-- near misses: other threads, another processor, and its own where it doesn't run
+two_touches : touches asked (line 1 5 (WakeUp other) ∷ speed 0 6 8 ∷ comes 0 12 ∷ speed 1 15 8 ∷ other_leaves 1 20 ∷ marker 0 25 ∷ sleeps 0 40 ∷ []) ≡ 2
+two_touches = refl
+
+-- Many lines tell too much.
+too_many : (lines : List Said) → touched asked lines ≡ 250001 → touched_fault asked lines ≡ Some causes.TooLong
+too_many lines many = rw many
+
+-- near miss: one less doesn't
+not_too_many : (lines : List Said) → touched asked lines ≡ 250000 → touched_fault asked lines ≡ None
+not_too_many lines many = rw many
+
+-- # The whole trace
+
+abbrev whole : Asked → List Said → Option (ℕ × Cause)
+whole asked lines = trace_fault asked (reverse lines)
+
+sound : whole asked (woken 10 ∷ comes 0 12 ∷ sleeps 0 40 ∷ []) ≡ None
+sound = refl
+
+-- The first line that is refused comes before all that the whole trace is refused for.
+a_line_first : whole asked (marker 8192 5 ∷ []) ≡ Some (1, causes.ProcessorTooGreat)
+a_line_first = refl
+
+no_line : whole asked (Nothing ∷ []) ≡ Some (1, causes.NoLine)
+no_line = refl
+
+-- Its last line says that events were lost.
+a_loss_at_the_end : whole asked (woken 10 ∷ comes 0 12 ∷ lost 0 ∷ Nothing ∷ []) ≡ Some (4, causes.EventsLost)
+a_loss_at_the_end = refl
+
+-- near misses: they may be cut out, or were lost after `to`
+a_loss_cut_at_the_end : whole (record asked { cut_losses = true }) (woken 10 ∷ comes 0 12 ∷ lost 0 ∷ []) ≡ None
+a_loss_cut_at_the_end = refl
+
+a_loss_after_to_at_the_end : whole (up_to 30) (woken 10 ∷ comes 0 12 ∷ marker 0 30 ∷ lost 0 ∷ []) ≡ None
+a_loss_after_to_at_the_end = refl
+
+-- No line names a task.
+unseen : whole asked (marker 0 5 ∷ line 0 10 (WakeUp other) ∷ []) ≡ Some (2, causes.Unseen 0)
+unseen = refl
+
+the_second_unseen : whole (record asked { tasks = task ∷ record task { thread = Numbered 8 } ∷ [] }) (woken 10 ∷ []) ≡ Some (1, causes.Unseen 1)
+the_second_unseen = refl
+
+-- near miss: one after `to` does
+seen_after_to : whole (up_to 30) (marker 0 5 ∷ woken 40 ∷ []) ≡ None
+seen_after_to = refl
+
+-- No wake-up of a task is there, and jobs are to begin at wake-ups.
+no_wake_up : whole asked (comes 0 12 ∷ line 0 20 (WakeUp other) ∷ sleeps 0 40 ∷ []) ≡ Some (3, causes.NoWakeUp)
+no_wake_up = refl
+
+-- near miss: they are to begin at their first run
+no_wake_up_needed : whole at_run (comes 0 12 ∷ sleeps 0 40 ∷ []) ≡ None
+no_wake_up_needed = refl
