@@ -1,5 +1,5 @@
 -- What is known of each task behind one more line that counts.
-use Rattle.yds_model.proofs.Common.{◌≡◌, ◌∙◌, ℕ, suc, ◌+◌, ◌<◌, ◌≤◌, List, [], ◌∷◌, length, get_or, Bool, true, false, not, ◌||◌, ◌&&◌, nat_lt, if◌then◌else◌, Option, Some, None, is_some, list_any, refl, sym, ap, ap₂, arith, lt-ltb, le-ltb, subst}
+use Rattle.yds_model.proofs.Common.{◌≡◌, ◌∙◌, ℕ, suc, ◌+◌, ◌<◌, ◌≤◌, List, [], ◌∷◌, length, get_or, Bool, true, false, not, ◌||◌, ◌&&◌, if◌then◌else◌, Option, Some, None, is_some, list_any, refl, sym, ap, ap₂, arith, lt-ltb, le-ltb, subst}
 use Rattle.yds_kernel.specs.Parts.{or_else}
 use Rattle.yds_kernel.specs.Event.{Happening, Switch, WakeUp, Speed, Loss, Marker, Other, Event, Said, Stamped}
 use Rattle.yds_trace.specs.declared.limits.TheConstants.{MAX_TOUCHES}
@@ -66,14 +66,14 @@ followed_more asked counting event number was now first second step first_is sec
     let other : Whose = second_in asked.tasks event.happening in
     record {
       known = taken.known
-      ∙ ap (λ (f : Whose). stepped a w (is_some (pid_of number f)) (is_some (pid_of number second)) step (known_read was.known)) first_is
-      ∙ ap (λ (s : Whose). stepped a w (is_some (pid_of number one)) (is_some (pid_of number s)) step (known_read was.known)) second_is
-      ∙ ap₂ (λ (by : Step) (known : Known). stepped a w (is_some (pid_of number one)) (is_some (pid_of number other)) by known) step_is before.known
-      ∙ stepped_is asked number counting event event.happening (known_after asked number counting);
+          ∙ ap (λ (f : Whose). stepped a w (is_some (pid_of number f)) (is_some (pid_of number second)) step (known_read was.known)) first_is
+          ∙ ap (λ (s : Whose). stepped a w (is_some (pid_of number one)) (is_some (pid_of number s)) step (known_read was.known)) second_is
+          ∙ ap₂ (λ (by : Step) (known : Known). stepped a w (is_some (pid_of number one)) (is_some (pid_of number other)) by known) step_is before.known
+          ∙ stepped_is asked number counting event event.happening (known_after asked number counting);
       pid = taken.pid
-      ∙ ap₂ (λ (f s : Whose). or_else (pid_of number s) (or_else (pid_of number f) was.pid)) first_is second_is
-      ∙ ap (λ (pid : Option ℕ). or_else (pid_of number other) (or_else (pid_of number one) pid)) before.pid
-      ∙ pid_is asked number event.happening (pid_before asked number counting);
+          ∙ ap₂ (λ (f s : Whose). or_else (pid_of number s) (or_else (pid_of number f) was.pid)) first_is second_is
+          ∙ ap (λ (pid : Option ℕ). or_else (pid_of number other) (or_else (pid_of number one) pid)) before.pid
+          ∙ pid_is asked number event.happening (pid_before asked number counting);
     }
 
 -- # How many lines tell of the tasks

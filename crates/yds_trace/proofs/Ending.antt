@@ -7,7 +7,7 @@ use Rattle.yds_trace.specs.declared.followed.Followed.{Followed}
 use Rattle.yds_trace.specs.declared.job.Job.{Job as JobKept}
 use Rattle.yds_trace.specs.Asked.{Task, Asked}
 use Rattle.yds_trace.specs.Past.{up_to}
-use Rattle.yds_trace.specs.Jobs.{Job, Known, known_after}
+use Rattle.yds_trace.specs.Jobs.{Job, Known}
 use Rattle.yds_trace.specs.Late.{last_asked}
 use Rattle.yds_trace.specs.Ended.{jobs_from, in_order_of_begin}
 use Rattle.yds_trace.specs.Kept.{IsFollowed}

@@ -1,5 +1,5 @@
 -- What a pass keeps of the lines so far, and when that stands for them.
-use Rattle.std.specs.Prelude.{◌≡◌, ℕ, ◌<◌, ◌≤◌, List, length, Bool, false, Option, None, unwrap_or, is_some, vec_len}
+use Rattle.std.specs.Prelude.{◌≡◌, ℕ, ◌<◌, ◌≤◌, List, length, false, Option, None, unwrap_or, is_some, vec_len}
 use Rattle.std.specs.List.{slice_index_or}
 use Rattle.yds_kernel.specs.Event.{Said}
 use Rattle.yds_trace.specs.declared.limits.TheConstants.{MAX_TOUCHES}
@@ -41,7 +41,7 @@ pub record IsCounted (asked : Asked) (counting : List Said) (counted : Counted) 
   pub times : IsPast asked.start counting counted.past
   pub as_many : vec_len counted.tasks ≡ length asked.tasks
   pub tasks : (number : ℕ) (default : Followed) → number < length asked.tasks →
-    IsFollowed asked counting number (slice_index_or counted.tasks.items number default)
+      IsFollowed asked counting number (slice_index_or counted.tasks.items number default)
   pub touched : counted.touched ≡ touched asked counting
   pub few : counted.touched ≤ MAX_TOUCHES
 

@@ -1,12 +1,12 @@
 -- What an event is to each task: what is common to all of them, and who leaves, comes or is woken.
-use Rattle.std.specs.Prelude.{ℕ, List, Bool, ◌&&◌, if◌then◌else◌, Option, Some, None, is_some}
+use Rattle.std.specs.Prelude.{ℕ, List, Bool, ◌&&◌, if◌then◌else◌, Option, Some, None}
 use Rattle.yds_kernel.specs.declared.loss.Since.TheVariants as since
 use Rattle.yds_kernel.specs.Event.{Thread, Happening, Switch, WakeUp, Speed, Loss, Marker, Other, Event, Said}
 use Rattle.yds_trace.specs.declared.job.Leaving.{Leaving}
 use Rattle.yds_trace.specs.declared.step.Step.{Step}
 use Rattle.yds_trace.specs.declared.step.Step.TheVariants as steps
 use Rattle.yds_trace.specs.declared.step.Whose.{Whose}
-use Rattle.yds_trace.specs.Asked.{Task, Asked, task_of, is_number}
+use Rattle.yds_trace.specs.Asked.{Task, task_of, is_number}
 use Rattle.yds_trace.specs.Past.{lost_since, whole_since, has_switched, speed_after}
 use Rattle.yds_trace.specs.Jobs.{Known, after_switch, wakes_up, speeds, loses}
 

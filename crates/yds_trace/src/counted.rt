@@ -167,7 +167,12 @@ impl Counted {
     }
 
     /// What an event not after `to` is refused for: its threads, and the state of who leaves.
-    pub(crate) fn check(&self, happening: &Happening<'_>, first: Found, second: Found) -> Result<(), Cause>
+    pub(crate) fn check(
+        &self,
+        happening: &Happening<'_>,
+        first: Found,
+        second: Found,
+    ) -> Result<(), Cause>
         ensures { (asked : asking.Asked) (counting : List trace.Said) → IsCounted asked counting self.now
             → first ≡ first_found asked.tasks (happening_read happening.now)
             → second ≡ second_found asked.tasks (happening_read happening.now)

@@ -57,7 +57,7 @@ pub(crate) fn close_each(
 ) -> Result<Vec<Vec<Job>>, Memory>
     ensures { (start : Option ℕ) (counting : List Said) → IsPast start counting past.now
         → IfOk result (λ all. map (λ jobs. jobs_listed jobs.items) all.items
-            ≡ map (λ followed. closed_at until start counting (known_read followed.known)) tasks.items) }
+        ≡ map (λ followed. closed_at until start counting (known_read followed.known)) tasks.items) }
 {
     let mut all = Vec::with_capacity(alloc, tasks.len())?;
     for followed in tasks {

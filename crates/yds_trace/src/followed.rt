@@ -38,8 +38,7 @@ impl Followed {
             ≡ stepped apart wakes (is_some first) (is_some second) step (known_read self.old.known)) }
         ensures pid { OnOk result (self.new.pid ≡ or_else second (or_else first self.old.pid)) }
     {
-        self.known
-            .step(alloc, apart, wakes, first.is_some(), second.is_some(), step)?;
+        self.known.step(alloc, apart, wakes, first.is_some(), second.is_some(), step)?;
         self.pid = second.or(first).or(self.pid);
         Ok(())
     }
@@ -101,7 +100,14 @@ pub(crate) fn take_each(
     for number in 0..tasks.len() {
         let apart = apart_of(asked, number);
         let followed = &mut tasks[number];
-        followed.take(alloc, apart, wakes, first.pid_of(number), second.pid_of(number), step)?;
+        followed.take(
+            alloc,
+            apart,
+            wakes,
+            first.pid_of(number),
+            second.pid_of(number),
+            step,
+        )?;
     }
     Ok(())
 }
@@ -122,5 +128,7 @@ pub(crate) fn lose_each(tasks: &mut Vec<Followed>, time: u64)
 pub(crate) fn runs_on(tasks: &[Followed], processor: u64) -> bool
     ensures { result ≡ list_any (λ followed. stands_on processor followed.known.on) tasks.now }
 {
-    tasks.iter().any(|followed| stands_on(processor, followed.known.on))
+    tasks
+        .iter()
+        .any(|followed| stands_on(processor, followed.known.on))
 }

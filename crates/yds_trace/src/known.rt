@@ -53,7 +53,13 @@ impl Known {
             self.pass_by(wakes, turn.leaving.processor);
         }
         if turn.came {
-            self.come(alloc, apart, wakes, turn.leaving.processor, turn.leaving.time)?;
+            self.come(
+                alloc,
+                apart,
+                wakes,
+                turn.leaving.processor,
+                turn.leaving.time,
+            )?;
         }
         Ok(())
     }

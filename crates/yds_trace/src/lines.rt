@@ -41,7 +41,12 @@ impl Lines {
     }
 
     /// Takes an event.
-    pub(crate) fn take(&mut self, event: &Event<'_>, first: Whose, second: Whose) -> Result<(), Memory>
+    pub(crate) fn take(
+        &mut self,
+        event: &Event<'_>,
+        first: Whose,
+        second: Whose,
+    ) -> Result<(), Memory>
         requires { processors_fault (event_read event.now) ≡ None }
         ensures { (asked : asking.Asked) (past : List Said) → IsLines asked past self.old
             → first ≡ first_in asked.tasks (event_read event.now).happening
@@ -110,7 +115,9 @@ fn mark(seen: &mut Vec<bool>, number: Option<usize>)
     ensures each { (other : ℕ) → other < vec_len seen.old
         → slice_index_or seen.new.items other false ≡ (asking.is_number other number || slice_index_or seen.old.items other false) }
 {
-    if let Some(number) = number && number < seen.len() {
+    if let Some(number) = number
+        && number < seen.len()
+    {
         seen[number] = true;
     }
 }

@@ -103,7 +103,14 @@ impl Pass {
         check_place(event)?;
         let first = find_first(&self.asked.tasks, &event.happening);
         let second = find_second(&self.asked.tasks, &event.happening);
-        check_event(&self.asked, &self.lines, &self.counted, event, first, second)?;
+        check_event(
+            &self.asked,
+            &self.lines,
+            &self.counted,
+            event,
+            first,
+            second,
+        )?;
         let (first, second) = (first.whose(), second.whose());
         self.counted
             .count(alloc, &self.asked, &self.lines, event, first, second)?;

@@ -91,7 +91,12 @@ impl Past {
                     switched: true,
                     khz,
                 };
-                put_at(&mut self.told, event.processor, told, Told::nothing(self.untold))?;
+                put_at(
+                    &mut self.told,
+                    event.processor,
+                    told,
+                    Told::nothing(self.untold),
+                )?;
             }
             Happening::Speed { processor, khz } => {
                 let switched = self.told_on(processor).switched;

@@ -7,9 +7,14 @@ use yds_kernel::State;
 #[derive(Clone, Copy, Debug, PartialEq, Eq)]
 pub(crate) enum Step {
     /// A processor switches.
-    Switch { state: State, leaving: Leaving },
+    Switch {
+        state: State,
+        leaving: Leaving,
+    },
     /// A thread is woken.
-    WakeUp { time: u64 },
+    WakeUp {
+        time: u64,
+    },
     /// The speed of a processor changes, from this one in kilohertz, where it is known.
     Speed {
         processor: u64,
@@ -17,7 +22,9 @@ pub(crate) enum Step {
         khz: Option<u64>,
     },
     /// Events were lost after this time.
-    Loss { since: u64 },
+    Loss {
+        since: u64,
+    },
     /// It is nothing to a task.
     Nothing,
 }

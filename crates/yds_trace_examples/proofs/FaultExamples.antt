@@ -2,12 +2,12 @@
 use Rattle.yds_model.proofs.Common.{◌≡◌, ℕ, List, [], ◌∷◌, codes, reverse, true, Option, Some, None, refl}
 use Rattle.yds_kernel.specs.declared.state.State.TheVariants as states
 use Rattle.yds_kernel.specs.declared.loss.Since.TheVariants as since
-use Rattle.yds_kernel.specs.Event.{Thread, Loss, Switch, WakeUp, Said, Lost, Nothing}
+use Rattle.yds_kernel.specs.Event.{Thread, Loss, Speed, Switch, WakeUp, Said, Lost, Nothing}
 use Rattle.yds_trace.specs.declared.fault.Cause.{Cause}
 use Rattle.yds_trace.specs.declared.fault.Cause.TheVariants as causes
 use Rattle.yds_trace.specs.Asked.{Numbered, Asked}
 use Rattle.yds_trace.specs.Faults.{first_fault, trace_fault, touched, touched_fault}
-use Rattle.yds_trace_examples.proofs.Lines.{t, other, idle, line, woken, comes, sleeps, preempted, back, other_leaves, speed, marker, lost, task, asked, at_run, up_to, from}
+use Rattle.yds_trace_examples.proofs.Lines.{t, other, idle, line, woken, comes, sleeps, other_leaves, speed, marker, lost, task, asked, at_run, up_to, from}
 
 abbrev fault : Asked → List Said → Option (ℕ × Cause)
 fault asked lines = first_fault asked (reverse lines)
@@ -96,7 +96,7 @@ a_buffer_that_starts = refl
 a_great_processor : fault asked (marker 8192 5 ∷ []) ≡ Some (1, causes.ProcessorTooGreat)
 a_great_processor = refl
 
-a_speed_of_a_great_processor : fault asked (marker 0 5 ∷ speed 8192 6 1000 ∷ []) ≡ Some (1, causes.ProcessorTooGreat)
+a_speed_of_a_great_processor : fault asked (marker 0 5 ∷ line 0 6 (Speed 8192 1000) ∷ []) ≡ Some (2, causes.ProcessorTooGreat)
 a_speed_of_a_great_processor = refl
 
 a_loss_of_a_great_processor : fault asked (lost 8192 ∷ []) ≡ Some (1, causes.ProcessorTooGreat)

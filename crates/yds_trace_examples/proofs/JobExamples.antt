@@ -189,17 +189,17 @@ a_loss_of_later : jobs (up_to 30) (woken 10 ∷ comes 0 12 ∷ marker 1 35 ∷ s
 a_loss_of_later = refl
 
 -- A thread that had its processor when the trace began, at 5, and leaves it after 30: it was there until then, and is there then.
-there_until_after : jobs (up_to 30) (marker 1 5 ∷ sleeps 0 40 ∷ []) ≡ begun_by 5 ends.Open (stretch 0 5 30 ∷ []) ∷ []
+there_until_after : jobs (up_to 30) (marker 1 5 ∷ sleeps 0 40 ∷ []) ≡ begun_by 5 ends.Open (stretch 0 30 30 ∷ stretch 0 5 30 ∷ []) ∷ []
 there_until_after = refl
 
--- The same where jobs begin at their first run, and where its speed changed.
-there_at_run : jobs (record at_run { to = Some 30 }) (marker 1 5 ∷ speed 0 10 8 ∷ sleeps 0 40 ∷ []) ≡
-    begun_by 5 ends.Open (record (stretch 0 5 30) { khz = Some 8 } ∷ []) ∷ []
+-- The same where jobs begin at their first run.
+there_at_run : jobs (record at_run { to = Some 30 }) (marker 1 5 ∷ sleeps 0 40 ∷ []) ≡ begun_by 5 ends.Open (stretch 0 30 30 ∷ stretch 0 5 30 ∷ []) ∷ []
 there_at_run = refl
 
 -- Near misses: the second switch of a processor after it is none of it, and neither is what is told after a first one.
 second_after_to : jobs (up_to 30) (marker 1 5 ∷ other_leaves 0 40 ∷ comes 0 50 ∷ sleeps 0 60 ∷ []) ≡ []
 second_after_to = refl
 
-first_and_more_after_to : jobs (up_to 30) (marker 1 5 ∷ sleeps 0 40 ∷ woken 45 ∷ comes 0 50 ∷ sleeps 0 60 ∷ []) ≡ begun_by 5 ends.Open (stretch 0 5 30 ∷ []) ∷ []
+first_and_more_after_to : jobs (up_to 30) (marker 1 5 ∷ sleeps 0 40 ∷ woken 45 ∷ comes 0 50 ∷ sleeps 0 60 ∷ []) ≡
+    begun_by 5 ends.Open (stretch 0 30 30 ∷ stretch 0 5 30 ∷ []) ∷ []
 first_and_more_after_to = refl

@@ -1,6 +1,4 @@
 use Rattle.yds_model.proofs.Common.{◌∙◌, arith, nil_from_length}
-use Rattle.yds_trace.specs.Passing.{closed_at}
-use Rattle.yds_trace.specs.Views.{jobs_listed, known_read}
 use Rattle.yds_trace.proofs.Closing.{made_more, made_all}
 use Rattle.yds_trace.proofs.ended.close_each.Goals as goal
 

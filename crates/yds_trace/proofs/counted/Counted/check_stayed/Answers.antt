@@ -1,6 +1,6 @@
 use Rattle.yds_model.proofs.Common.{◌∙◌, sym, refl}
 use Rattle.yds_kernel.specs.Views.{thread_read}
-use Rattle.yds_trace.specs.Past.{up_to, has_switched}
+use Rattle.yds_trace.specs.Past.{up_to}
 use Rattle.yds_trace.proofs.counted.Counted.check_stayed.Goals as goal
 
 pub returns-in-Switch : goal.returns-in-Switch

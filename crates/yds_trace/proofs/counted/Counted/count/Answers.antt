@@ -1,5 +1,5 @@
-use Rattle.yds_model.proofs.Common.{◌≡◌, ◌∙◌, ◌∷◌, ℕ, List, false, sym, refl, arith}
-use Rattle.yds_kernel.specs.Event.{Said, Stamped}
+use Rattle.yds_model.proofs.Common.{◌≡◌, ◌∙◌, ◌∷◌, false, sym, refl, arith}
+use Rattle.yds_kernel.specs.Event.{Stamped}
 use Rattle.yds_kernel.specs.Views.{event_read, thread_read}
 use Rattle.yds_trace.specs.Past.{up_to, is_first_switch}
 use Rattle.yds_trace.specs.Views.{asked_read}

@@ -1,5 +1,5 @@
-use Rattle.yds_model.proofs.Common.{◌≡◌, ◌∙◌, ℕ, arith, ap, ap₂, slice_index_or}
-use Rattle.yds_trace.specs.Jobs.{Known, loses}
+use Rattle.yds_model.proofs.Common.{◌∙◌, arith, ap₂}
+use Rattle.yds_trace.specs.Jobs.{loses}
 use Rattle.yds_trace.proofs.counted.Counted.lose.Goals as goal
 
 pub returns : goal.returns

@@ -1,7 +1,6 @@
-use Rattle.yds_model.proofs.Common.{◌≡◌, ◌∙◌, ◌∷◌, ℕ, List, arith, subst, not}
-use Rattle.yds_kernel.specs.Event.{Said, Stamped}
+use Rattle.yds_model.proofs.Common.{◌∙◌, ◌∷◌, arith}
+use Rattle.yds_kernel.specs.Event.{Stamped}
 use Rattle.yds_kernel.specs.Views.{event_read}
-use Rattle.yds_trace.specs.Following.{IsTaken, apart_of}
 use Rattle.yds_trace.specs.Views.{asked_read}
 use Rattle.yds_trace.proofs.Counting.{too_long, not_too_long, followed_more}
 use Rattle.yds_trace.proofs.counted.Counted.take.Goals as goal
@@ -12,7 +11,7 @@ returns-then-touched-gt-MAX_TOUCHES-clause-refused c = λ counting is.
     (omega (
       arith,
       c.touched_by-touched.ensures (asked_read c.args.asked.now) counting (event_read c.args.event.now) is c.requires.first c.requires.second
-      (c.step-step.ensures c.args.asked.now.start counting is.times),
+          (c.step-step.ensures c.args.asked.now.start counting is.times),
       c.if-touched-gt-MAX_TOUCHES.true,
     ))
 
@@ -22,7 +21,7 @@ returns-clause-few c = λ counting is.
     (omega (
       arith,
       c.touched_by-touched.ensures (asked_read c.args.asked.now) counting (event_read c.args.event.now) is c.requires.first c.requires.second
-      (c.step-step.ensures c.args.asked.now.start counting is.times),
+          (c.step-step.ensures c.args.asked.now.start counting is.times),
       c.if-touched-gt-MAX_TOUCHES.false,
     ))
 
