@@ -33,3 +33,6 @@ pub use limits::{MAX_DEADLINE, MAX_PROCESSOR, MAX_TIME, MAX_TOUCHES};
 pub use pass::Pass;
 pub use reason::Reason;
 pub use refused::Refused;
+
+#[cfg(test)]
+mod tests;
