@@ -1,9 +1,12 @@
 -- What a task's kept state becomes by an event.
-use Rattle.std.specs.Prelude.{◌≡◌, ℕ, ◌||◌, Bool, false, List, map, Option, None, is_some}
+use Rattle.std.specs.Prelude.{◌≡◌, ℕ, ◌||◌, Bool, true, false, List, map, Option, None, is_some}
 use Rattle.std.specs.List.{slice_index_or, list_any}
 use Rattle.yds_kernel.specs.Parts.{or_else}
 use Rattle.yds_trace.specs.declared.asked.Task.{Task as TaskKept}
 use Rattle.yds_trace.specs.declared.followed.Followed.{Followed}
+use Rattle.yds_trace.specs.declared.job.Standing.{Standing}
+use Rattle.yds_trace.specs.declared.step.Place.{Place}
+use Rattle.yds_trace.specs.declared.step.Place.TheVariants as places
 use Rattle.yds_trace.specs.declared.step.Step.{Step}
 use Rattle.yds_trace.specs.declared.step.Step.TheVariants as steps
 use Rattle.yds_trace.specs.declared.step.Whose.{Whose}
@@ -25,6 +28,19 @@ pub record IsUnknown (followed : Followed) : Type 0 where
 pub record IsTaken (apart : ℕ) (wakes : Bool) (first second : Option ℕ) (step : Step) (was now : Followed) : Type 0 where
   pub known : known_read now.known ≡ stepped apart wakes (is_some first) (is_some second) step (known_read was.known)
   pub pid : now.pid ≡ or_else second (or_else first was.pid)
+
+-- Of a thread on which processor it tells something, though that neither leaves, nor comes, nor is woken.
+abbrev pub place_of : Step → Place
+place_of (steps.Switch state leaving) = places.On leaving.processor
+place_of (steps.WakeUp time) = places.Nowhere
+place_of (steps.Speed processor time khz) = places.On processor
+place_of (steps.Loss since) = places.Everywhere
+place_of steps.Nothing = places.Nowhere
+
+abbrev pub is_at : Place → Option Standing → Bool
+is_at (places.On processor) on = stands_on processor on
+is_at places.Everywhere on = true
+is_at places.Nowhere on = false
 
 -- Events were lost after a time.
 pub record IsLost (time : ℕ) (was now : Followed) : Type 0 where

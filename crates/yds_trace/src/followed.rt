@@ -3,14 +3,14 @@ ghost use Rattle.std.specs.Prelude.{◌≡◌, ℕ, ◌<◌, slice_index_or, vec
 ghost use Rattle.std.specs.List.{list_any};
 ghost use Rattle.yds_kernel.specs.Parts.{or_else};
 ghost use Rattle.yds_trace.specs.declared.followed.Followed.{Followed};
-ghost use Rattle.yds_trace.specs.Following.{IsUnknown, IsTaken, IsLost, apart_of};
+ghost use Rattle.yds_trace.specs.Following.{IsUnknown, IsTaken, IsLost, apart_of, place_of};
 ghost use Rattle.yds_trace.specs.Jobs.{stands_on};
 ghost use Rattle.yds_trace.specs.Steps.{stepped, pid_of};
 ghost use Rattle.yds_trace.specs.Views.{known_read};
 
 use crate::asked::Task;
 use crate::known::{Known, stands_on};
-use crate::step::{Step, Whose};
+use crate::step::{Place, Step, Whose};
 use std::alloc::Global;
 use yds_model::Memory;
 
@@ -24,24 +24,48 @@ pub(crate) struct Followed {
 }
 
 impl Followed {
-    /// Takes an event: who leaves or is woken, and who comes, where that is its thread.
+    /// Takes an event: who leaves or is woken, and who comes, where that is the task of this number.
     fn take(
         &mut self,
         alloc: Global,
-        apart: u64,
+        asked: &[Task],
+        number: usize,
         wakes: bool,
-        first: Option<u64>,
-        second: Option<u64>,
-        step: Step,
+        event: &Telling,
     ) -> Result<(), Memory>
-        ensures known { OnOk result (known_read self.new.known
-            ≡ stepped apart wakes (is_some first) (is_some second) step (known_read self.old.known)) }
-        ensures pid { OnOk result (self.new.pid ≡ or_else second (or_else first self.old.pid)) }
+        requires { event.now.place ≡ place_of event.now.step }
+        ensures { OnOk result (IsTaken (apart_of asked.now number) wakes (pid_of number event.now.first) (pid_of number event.now.second)
+            event.now.step self.old self.new) }
     {
-        self.known.step(alloc, apart, wakes, first.is_some(), second.is_some(), step)?;
+        let first = event.first.pid_of(number);
+        let second = event.second.pid_of(number);
+        if first.is_none() && second.is_none() && !event.place.is_at(self.known.on) {
+            return Ok(());
+        }
+        let apart = apart_of(asked, number);
+        self.known.step(
+            alloc,
+            apart,
+            wakes,
+            first.is_some(),
+            second.is_some(),
+            event.step,
+        )?;
         self.pid = second.or(first).or(self.pid);
         Ok(())
     }
+}
+
+/// What an event tells of the tasks.
+#[derive(Clone, Copy, Debug, PartialEq, Eq)]
+struct Telling {
+    /// Who leaves or is woken.
+    first: Whose,
+    /// Who comes.
+    second: Whose,
+    step: Step,
+    /// Of which other threads it tells something.
+    place: Place,
 }
 
 impl Whose {
@@ -97,17 +121,15 @@ pub(crate) fn take_each(
         → IsTaken (apart_of asked.now number) wakes (pid_of number first) (pid_of number second) step
         (slice_index_or tasks.old.items number default) (slice_index_or tasks.new.items number default)) }
 {
+    let event = Telling {
+        first,
+        second,
+        step,
+        place: step.place(),
+    };
     for number in 0..tasks.len() {
-        let apart = apart_of(asked, number);
         let followed = &mut tasks[number];
-        followed.take(
-            alloc,
-            apart,
-            wakes,
-            first.pid_of(number),
-            second.pid_of(number),
-            step,
-        )?;
+        followed.take(alloc, asked, number, wakes, &event)?;
     }
     Ok(())
 }

@@ -1,6 +1,10 @@
 //! What an event is to each task.
 
-use crate::job::Leaving;
+ghost use Rattle.std.specs.Prelude.{◌≡◌};
+ghost use Rattle.yds_trace.specs.Following.{is_at, place_of};
+
+use crate::job::{Leaving, Standing};
+use crate::known::stands_on;
 use yds_kernel::State;
 
 /// What an event is to a task, beside who leaves and who comes or is woken. Times are nanoseconds.
@@ -27,6 +31,44 @@ pub(crate) enum Step {
     },
     /// It is nothing to a task.
     Nothing,
+}
+
+/// Of which threads an event tells something, beside those that leave, come or are woken.
+#[derive(Clone, Copy, Debug, PartialEq, Eq)]
+pub(crate) enum Place {
+    /// Of one that runs on this processor.
+    On(u64),
+    /// Of each.
+    Everywhere,
+    /// Of none.
+    Nowhere,
+}
+
+impl Step {
+    /// Of which threads it tells something.
+    pub(crate) fn place(self) -> Place
+        ensures { result ≡ place_of self }
+    {
+        match self {
+            Step::Switch { leaving, .. } => Place::On(leaving.processor),
+            Step::Speed { processor, .. } => Place::On(processor),
+            Step::Loss { .. } => Place::Everywhere,
+            Step::WakeUp { .. } | Step::Nothing => Place::Nowhere,
+        }
+    }
+}
+
+impl Place {
+    /// Whether a thread that runs there is one of them.
+    pub(crate) fn is_at(self, on: Option<Standing>) -> bool
+        ensures { result ≡ is_at self on }
+    {
+        match self {
+            Place::On(processor) => stands_on(processor, on),
+            Place::Everywhere => true,
+            Place::Nowhere => false,
+        }
+    }
 }
 
 /// Whose thread it is that an event tells of.
