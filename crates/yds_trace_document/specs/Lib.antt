@@ -1,0 +1,4 @@
+pub mod Settled
+pub mod Limits
+pub mod Kept
+pub mod Views

@@ -1,0 +1,90 @@
+-- For which a document isn't written: the limits of the format, speeds that are too coarse, and jobs that had to be left out.
+use Rattle.std.specs.Prelude.{ℕ, List, [], length, map, not, Bool, true, false, ◌==◌, ◌&&◌, ◌||◌, nat_lt, if◌then◌else◌, Option, Some, None, is_some, option_map, position, count_by, unwrap_or}
+use Rattle.std.specs.List.{list_any}
+use Rattle.yds_model.specs.declared.limits.TheConstants.{MAX_JOBS, MAX_SLOTS, MAX_TIME, MAX_WORK, MAX_RUN_SPEED, MAX_NAME}
+use Rattle.yds_kernel.specs.Parts.{or_else}
+use Rattle.yds_trace.specs.declared.job.Stretch.{Stretch}
+use Rattle.yds_trace.specs.declared.reason.Reason.{Reason}
+use Rattle.yds_trace.specs.declared.reason.Reason.TheVariants as reasons
+use Rattle.yds_trace.specs.WrittenTime.{Units, Run, written_time, written_speed, is_coarse}
+use Rattle.yds_trace.specs.Document.{Judged, stands, Written}
+use Rattle.yds_trace_document.specs.declared.fault.DocumentFault.{DocumentFault}
+use Rattle.yds_trace_document.specs.declared.fault.DocumentFault.TheVariants as faults
+use Rattle.yds_trace_document.specs.Settled.{Settled}
+
+-- the fault where the test holds
+abbrev pub fault_if : Bool → DocumentFault → Option DocumentFault
+fault_if test fault = if test then Some fault else None
+
+-- # The limits of the format
+
+abbrev pub is_long_name : Written → Bool
+is_long_name job = nat_lt MAX_NAME (length job.name)
+
+abbrev pub ends_late : Run → Bool
+ends_late run = nat_lt MAX_TIME run.to
+
+-- its deadline, or the end of one of its runs, is above the greatest time of a document
+abbrev pub is_beyond : Written → Bool
+is_beyond job = nat_lt MAX_TIME job.deadline || list_any ends_late job.runs
+
+abbrev pub is_heavy : Written → Bool
+is_heavy job = nat_lt MAX_WORK job.work
+
+-- # Speeds
+
+abbrev pub is_in_a_run : Units → Stretch → Bool
+is_in_a_run units stretch = nat_lt (written_time units stretch.from) (written_time units stretch.to)
+
+-- 0, or by more than a twentieth off in its unit
+abbrev pub has_coarse_speed : Units → Stretch → Bool
+has_coarse_speed units stretch = is_in_a_run units stretch && is_coarse units (unwrap_or stretch.khz 0)
+
+abbrev pub has_great_speed : Units → Stretch → Bool
+has_great_speed units stretch = is_in_a_run units stretch && nat_lt MAX_RUN_SPEED (written_speed units (unwrap_or stretch.khz 0))
+
+abbrev pub runs_coarsely : Units → Judged → Bool
+runs_coarsely units judged = stands judged && list_any (has_coarse_speed units) judged.job.stretches
+
+abbrev pub runs_too_fast : Units → Judged → Bool
+runs_too_fast units judged = stands judged && list_any (has_great_speed units) judged.job.stretches
+
+-- # Jobs that are left out
+
+-- for `from` or `to`
+abbrev pub is_asked_for : Option Reason → Bool
+is_asked_for (Some reasons.BeforeFrom) = true
+is_asked_for (Some reasons.AfterTo) = true
+is_asked_for _ = false
+
+-- A job that doesn't stand as it is, where that isn't for `from` or `to`, or where it is late.
+abbrev pub is_missed : Judged → Bool
+is_missed judged = not (stands judged) && (is_some judged.late || not (is_asked_for judged.reason))
+
+-- # The first fault
+
+-- Places count from 0: of a job among those written, or among all that are judged, in order of begin. Names are told before times,
+-- and times before works.
+abbrev pub job_fault : List Written → Option DocumentFault
+job_fault jobs =
+    or_else (option_map (λ place. faults.NameTooLong place) (position is_long_name jobs))
+    (or_else (option_map (λ place. faults.TimeTooGreat place) (position is_beyond jobs))
+    (option_map (λ place. faults.WorkTooGreat place) (position is_heavy jobs)))
+
+abbrev pub speed_fault : Units → List Judged → Option DocumentFault
+speed_fault units judged =
+    or_else (option_map (λ place. faults.SpeedTooCoarse place) (position (runs_coarsely units) judged))
+    (option_map (λ place. faults.SpeedTooGreat place) (position (runs_too_fast units) judged))
+
+abbrev pub missed_fault : List Judged → Option DocumentFault
+missed_fault judged = option_map (λ place. faults.Missed place) (position is_missed judged)
+
+-- With `strict` no job may be missed. A document without a job is feasible, so none is written where there are jobs.
+abbrev pub limit_fault : Bool → Settled → Option DocumentFault
+limit_fault strict settled =
+    or_else (fault_if (nat_lt MAX_JOBS (length settled.document.jobs)) faults.TooManyJobs)
+    (or_else (fault_if (nat_lt MAX_SLOTS (length settled.document.runs)) faults.TooManyRuns)
+    (or_else (job_fault settled.document.jobs)
+    (or_else (speed_fault settled.units settled.judged)
+    (or_else (fault_if ((length settled.document.jobs == 0) && not (length settled.judged == 0)) faults.NoJob)
+    (if strict then missed_fault settled.judged else None)))))

@@ -1,0 +1,78 @@
+-- What contracts see of what the code keeps: lists and names for what is lent.
+use Rattle.std.specs.Prelude.{ℕ, List, map, reverse, Vec, Option, option_map}
+use Rattle.std.specs.declared.alloc.Global.{Global}
+use Rattle.yds_trace.specs.WrittenTime.{Units, Run}
+use Rattle.yds_trace.specs.Views.{job_read}
+use Rattle.yds_trace.specs.Document.{named, Judged, Written, Placed}
+use Rattle.yds_trace_document.specs.declared.units.Units.{Units as UnitsKept}
+use Rattle.yds_trace_document.specs.declared.run.Run.{Run as RunKept}
+use Rattle.yds_trace_document.specs.declared.name.Name.{Name as NameKept}
+use Rattle.yds_trace_document.specs.declared.judged.Judged.{Judged as JudgedKept}
+use Rattle.yds_trace_document.specs.declared.written.Written.{Written as WrittenKept}
+use Rattle.yds_trace_document.specs.declared.placed.Placed.{Placed as PlacedKept}
+use Rattle.yds_trace_document.specs.declared.settlement.Settled.{Settled as SettledKept}
+use Rattle.yds_trace_document.specs.Settled.{Settled}
+
+abbrev pub units_read : UnitsKept → Units
+units_read units = record { zero = units.zero; time = units.time; speed = units.speed }
+
+abbrev pub run_read : RunKept → Run
+run_read run = record { from = run.from; to = run.to; speed = run.speed }
+
+-- runs that are kept in order of time, and those that are kept with the last one first
+abbrev pub runs_read : List RunKept → List Run
+runs_read runs = map run_read runs
+
+abbrev pub runs_listed : List RunKept → List Run
+runs_listed runs = reverse (map run_read runs)
+
+abbrev pub name_read : NameKept → List ℕ
+name_read name = named name.label.now name.before name.number
+
+abbrev pub judged_read : JudgedKept → Judged
+judged_read judged = record {
+  task = judged.task;
+  name = name_read judged.name;
+  job = job_read judged.job.now;
+  due = judged.due;
+  late = judged.late;
+  reason = judged.reason;
+}
+
+abbrev pub judged_list : List JudgedKept → List Judged
+judged_list judged = map judged_read judged
+
+abbrev pub judged_items : Vec JudgedKept Global → List Judged
+judged_items judged = judged_list judged.items
+
+abbrev pub judged_lists : List (Vec JudgedKept Global) → List (List Judged)
+judged_lists by_task = map judged_items by_task
+
+abbrev pub written_read : WrittenKept → Written
+written_read job = record {
+  name = name_read job.name;
+  release = job.release;
+  deadline = job.deadline;
+  work = job.work;
+  runs = runs_read job.runs.items;
+}
+
+abbrev pub written_option : Option WrittenKept → Option Written
+written_option job = option_map written_read job
+
+abbrev pub written_list : List WrittenKept → List Written
+written_list jobs = map written_read jobs
+
+abbrev pub placed_read : PlacedKept → Placed
+placed_read placed = record { job = placed.job; run = run_read placed.run }
+
+abbrev pub placed_list : List PlacedKept → List Placed
+placed_list placed = map placed_read placed
+
+abbrev pub settled_read : SettledKept → Settled
+settled_read settled = record {
+  units = units_read settled.units;
+  by_task = judged_lists settled.by_task.items;
+  judged = judged_list settled.judged.items;
+  document = record { jobs = written_list settled.jobs.items; runs = placed_list settled.runs.items };
+}

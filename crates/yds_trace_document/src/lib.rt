@@ -1,0 +1,28 @@
+//! From what is known at a trace's end to one document: which jobs it has, with their windows, works and runs, which are late,
+//! and which are left out.
+//!
+//! It stands on `yds_trace`, whose definitions say what a document has, and on `yds_model` for the limits of its format. It
+//! carries the promise that what is settled of the jobs is what the definitions in `specs/` say, and that each fault for which
+//! a document isn't written is the first that there is.
+#![tactic(auto)]
+
+mod fault;
+mod judged;
+mod limits;
+mod name;
+mod numbers;
+mod placed;
+mod run;
+mod settlement;
+mod units;
+mod written;
+
+pub use fault::DocumentFault;
+pub use judged::Judged;
+pub use limits::limit_fault;
+pub use name::Name;
+pub use placed::Placed;
+pub use run::Run;
+pub use settlement::{Settled, settle};
+pub use units::Units;
+pub use written::Written;

@@ -1,0 +1,149 @@
+//! The limits of a document.
+ghost use Rattle.std.specs.Prelude.{◌≡◌, map};
+ghost use Rattle.std.specs.List.{list_any};
+ghost use Rattle.yds_trace.specs.Document as document;
+ghost use Rattle.yds_trace_document.specs.Limits as spec;
+ghost use Rattle.yds_trace_document.specs.Views.{units_read, run_read, judged_read, judged_list, written_read, written_list, settled_read};
+
+use crate::fault::DocumentFault;
+use crate::judged::Judged;
+use crate::run::Run;
+use crate::settlement::Settled;
+use crate::units::Units;
+use crate::written::Written;
+use yds_model::limits::{MAX_JOBS, MAX_RUN_SPEED, MAX_SLOTS, MAX_TIME, MAX_WORK};
+use yds_trace::{Reason, Stretch};
+
+/// The first cause for which what is settled isn't written as a document, if there is one. With `strict` no job may be missed.
+/// It takes no memory.
+pub fn limit_fault(strict: bool, settled: &Settled<'_>) -> Option<DocumentFault>
+    ensures { result ≡ spec.limit_fault strict (settled_read settled.now) }
+{
+    if settled.jobs.len() > MAX_JOBS {
+        return Some(DocumentFault::TooManyJobs);
+    }
+    if settled.runs.len() > MAX_SLOTS {
+        return Some(DocumentFault::TooManyRuns);
+    }
+    if let Some(fault) = job_fault(&settled.jobs) {
+        return Some(fault);
+    }
+    if let Some(fault) = speed_fault(settled.units, &settled.judged) {
+        return Some(fault);
+    }
+    if settled.jobs.is_empty() && !settled.judged.is_empty() {
+        return Some(DocumentFault::NoJob);
+    }
+    if strict {
+        first_missed(&settled.judged)
+    } else {
+        None
+    }
+}
+
+/// The first name, time or work of a job that is above its limit.
+fn job_fault(jobs: &[Written<'_>]) -> Option<DocumentFault>
+    ensures { result ≡ spec.job_fault (written_list jobs.now) }
+{
+    if let Some(place) = jobs.iter().position(|job| job.name.is_long()) {
+        return Some(DocumentFault::NameTooLong(place));
+    }
+    if let Some(place) = jobs.iter().position(|job| is_beyond(job)) {
+        return Some(DocumentFault::TimeTooGreat(place));
+    }
+    match jobs.iter().position(|job| job.work > u64::from(MAX_WORK)) {
+        Some(place) => Some(DocumentFault::WorkTooGreat(place)),
+        None => None,
+    }
+}
+
+/// Whether a job's deadline or the end of one of its runs is above the greatest time of a document.
+fn is_beyond(job: &Written<'_>) -> bool
+    ensures { result ≡ spec.is_beyond (written_read job.now) }
+{
+    job.deadline > u64::from(MAX_TIME) || has_late_end(&job.runs)
+}
+
+fn has_late_end(runs: &[Run]) -> bool
+    ensures { result ≡ list_any spec.ends_late (map run_read runs.now) }
+{
+    runs.iter().any(|run| run.to > u64::from(MAX_TIME))
+}
+
+/// The first job with a speed that can't be written.
+fn speed_fault(units: Units, judged: &[Judged<'_>]) -> Option<DocumentFault>
+    ensures { result ≡ spec.speed_fault (units_read units) (judged_list judged.now) }
+{
+    if let Some(place) = judged.iter().position(|one| runs_coarsely(units, one)) {
+        return Some(DocumentFault::SpeedTooCoarse(place));
+    }
+    match judged.iter().position(|one| runs_too_fast(units, one)) {
+        Some(place) => Some(DocumentFault::SpeedTooGreat(place)),
+        None => None,
+    }
+}
+
+fn runs_coarsely(units: Units, judged: &Judged<'_>) -> bool
+    ensures { result ≡ spec.runs_coarsely (units_read units) (judged_read judged.now) }
+{
+    judged.reason.is_none() && any_coarse(units, &judged.job.stretches)
+}
+
+fn any_coarse(units: Units, stretches: &[Stretch]) -> bool
+    ensures { result ≡ list_any (spec.has_coarse_speed (units_read units)) stretches.now }
+{
+    stretches.iter().any(|stretch| has_coarse_speed(units, stretch))
+}
+
+fn has_coarse_speed(units: Units, stretch: &Stretch) -> bool
+    ensures { result ≡ spec.has_coarse_speed (units_read units) stretch.now }
+{
+    is_in_a_run(units, stretch) && units.is_coarse(stretch.khz.unwrap_or(0))
+}
+
+/// Whether a stretch is a unit of time or longer, as it is written.
+fn is_in_a_run(units: Units, stretch: &Stretch) -> bool
+    ensures { result ≡ spec.is_in_a_run (units_read units) stretch.now }
+{
+    units.written_time(stretch.from) < units.written_time(stretch.to)
+}
+
+fn runs_too_fast(units: Units, judged: &Judged<'_>) -> bool
+    ensures { result ≡ spec.runs_too_fast (units_read units) (judged_read judged.now) }
+{
+    judged.reason.is_none() && any_too_fast(units, &judged.job.stretches)
+}
+
+fn any_too_fast(units: Units, stretches: &[Stretch]) -> bool
+    ensures { result ≡ list_any (spec.has_great_speed (units_read units)) stretches.now }
+{
+    stretches.iter().any(|stretch| has_great_speed(units, stretch))
+}
+
+fn has_great_speed(units: Units, stretch: &Stretch) -> bool
+    ensures { result ≡ spec.has_great_speed (units_read units) stretch.now }
+{
+    is_in_a_run(units, stretch)
+        && units.written_speed(stretch.khz.unwrap_or(0)) > u64::from(MAX_RUN_SPEED)
+}
+
+/// The first job that is missed.
+fn first_missed(judged: &[Judged<'_>]) -> Option<DocumentFault>
+    ensures { result ≡ spec.missed_fault (judged_list judged.now) }
+{
+    match judged.iter().position(|one| is_missed(one)) {
+        Some(place) => Some(DocumentFault::Missed(place)),
+        None => None,
+    }
+}
+
+/// Whether a job doesn't stand as it is, where that isn't for `from` or `to`, or where it is late.
+fn is_missed(judged: &Judged<'_>) -> bool
+    ensures { result ≡ spec.is_missed (judged_read judged.now) }
+{
+    match judged.reason {
+        None => false,
+        Some(Reason::BeforeFrom | Reason::AfterTo) => judged.late.is_some(),
+        Some(_) => true,
+    }
+}

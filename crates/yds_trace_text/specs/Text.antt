@@ -1,0 +1,359 @@
+-- The text of a trace's document: jobs, runs, and comments that tell what the document hasn't. Lines, fields and numbers are those of documents.
+use Rattle.std.specs.Prelude.{ℕ, suc, ◌+◌, ◌-◌, ◌*◌, ◌/◌, ◌%◌, List, [], ◌∷◌, ◌++◌, length, drop, map, filter, reverse, codes, decimal, sum_by, sum, max, Bool, true, false, not, ◌==◌, ◌&&◌, ◌||◌, nat_lt, nat_le, if◌then◌else◌, Option, Some, None, is_some, is_none}
+use Rattle.std.specs.List.{flat_map, slice_index_or, list_any}
+use Rattle.yds_model.specs.Text.{line}
+use Rattle.yds_kernel.specs.Event.{Said}
+use Rattle.yds_kernel.specs.Parts.{capped}
+use Rattle.yds_trace.specs.declared.job.End.{End}
+use Rattle.yds_trace.specs.declared.job.End.TheVariants as ends
+use Rattle.yds_trace.specs.declared.job.Stretch.{Stretch}
+use Rattle.yds_trace.specs.declared.reason.Reason.{Reason}
+use Rattle.yds_trace.specs.declared.reason.Reason.TheVariants as reasons
+use Rattle.yds_trace.specs.Asked.{Task, Asked, task_at}
+use Rattle.yds_trace.specs.Jobs.{Job}
+use Rattle.yds_trace.specs.Late.{is_open}
+use Rattle.yds_trace.specs.WrittenTime.{Units, Run, written_time, is_short, runs_end}
+use Rattle.yds_trace.specs.Document.{Judged, stands, Written, Placed, in_order, written_end, written_runs, is_left_out}
+use Rattle.yds_trace_document.specs.Settled.{Settled, settled_of}
+
+-- # Numbers
+
+-- these texts, one behind the other
+abbrev pub told : List (List ℕ) → List ℕ
+told texts = flat_map (λ text. text) texts
+
+-- a line of a comment
+abbrev pub comment : List (List ℕ) → List ℕ
+comment texts = told (codes "# " ∷ texts) ++ 10 ∷ []
+
+-- a number below 1,000,000,000 with nine digits, and one below 1,000,000 with six
+abbrev pub nine_digits : ℕ → List ℕ
+nine_digits number = drop 1 (decimal (1000000000 + number))
+
+abbrev pub six_digits : ℕ → List ℕ
+six_digits number = drop 1 (decimal (1000000 + number))
+
+-- nanoseconds, told in seconds and in milliseconds; both are exact
+abbrev pub in_seconds : ℕ → List ℕ
+in_seconds time = told (decimal (time / 1000000000) ∷ codes "." ∷ nine_digits (time % 1000000000) ∷ [])
+
+abbrev pub in_milliseconds : ℕ → List ℕ
+in_milliseconds time = told (decimal (time / 1000000) ∷ codes "." ∷ six_digits (time % 1000000) ∷ [])
+
+-- thousandths, without zeros at the end
+abbrev pub behind_point : ℕ → List ℕ
+behind_point thousandths =
+    if thousandths == 0 then []
+    else (if thousandths % 100 == 0 then codes "." ++ drop 1 (decimal (10 + thousandths / 100))
+    else (if thousandths % 10 == 0 then codes "." ++ drop 1 (decimal (100 + thousandths / 10))
+    else codes "." ++ drop 1 (decimal (1000 + thousandths))))
+
+-- a number that counts something: `1 job`, `2 jobs`
+abbrev pub counted : ℕ → List ℕ → List ℕ → List ℕ
+counted number one several = told (decimal number ∷ codes " " ∷ (if number == 1 then one else several) ∷ [])
+
+-- # The first lines
+
+abbrev pub head_line : Asked → Units → List ℕ
+head_line asked units =
+    comment (codes "CPU " ∷ decimal asked.processor ∷ codes " of a kernel trace; time 0 is " ∷ in_seconds units.zero ∷ codes " s" ∷ [])
+
+-- The unit of time is whole microseconds. That of work is what is done in one at one unit of speed.
+abbrev pub cycles : ℕ → List ℕ
+cycles thousandths = told (decimal (thousandths / 1000) ∷ behind_point (thousandths % 1000) ∷ [])
+
+abbrev pub units_line : Units → List ℕ
+units_line units =
+    comment (codes "time unit " ∷ decimal (units.time / 1000) ∷ codes " us, speed unit " ∷ decimal units.speed ∷ codes " kHz, work unit "
+    ∷ cycles (units.time / 1000 * units.speed) ∷ codes " cycles" ∷ [])
+
+-- # Jobs and runs
+
+abbrev pub job_text : Written → List ℕ
+job_text job = line (codes "job" ∷ job.name ∷ decimal job.release ∷ decimal job.deadline ∷ decimal job.work ∷ [])
+
+abbrev pub ticks_text : List ℕ
+ticks_text = line (codes "ticks" ∷ codes "1" ∷ [])
+
+abbrev pub name_of : Written → List ℕ
+name_of job = job.name
+
+abbrev pub run_text : List (List ℕ) → Placed → List ℕ
+run_text names placed =
+    line (codes "run" ∷ slice_index_or names placed.job [] ∷ decimal placed.run.from ∷ decimal placed.run.to ∷ decimal placed.run.speed ∷ [])
+
+-- # Late jobs
+
+-- why a job doesn't stand as it is
+abbrev pub reason_text : Option Reason → List ℕ
+reason_text None = []
+reason_text (Some reasons.BeforeFrom) = codes "before from"
+reason_text (Some reasons.AfterTo) = codes "after to"
+reason_text (Some reasons.NotEnded) = codes "not ended"
+reason_text (Some reasons.EventsLost) = codes "events lost"
+reason_text (Some reasons.SwitchMissing) = codes "a switch is missing"
+reason_text (Some reasons.BeginUnseen) = codes "its begin isn't in the trace"
+reason_text (Some reasons.Moved) = codes "ran on another processor"
+reason_text (Some reasons.SpeedUnknown) = codes "frequency not known"
+
+abbrev pub behind_deadline : ℕ → List ℕ
+behind_deadline late = told (in_milliseconds late ∷ codes " ms after its deadline" ∷ [])
+
+-- a time in units from time 0, rounded down; before time 0 it has a minus
+abbrev pub signed_time : Units → ℕ → List ℕ
+signed_time units time =
+    if nat_lt time units.zero then codes "-" ++ decimal ((units.zero - time + units.time - 1) / units.time) else decimal (written_time units time)
+
+-- its window, where its begin is known
+abbrev pub window_text : Units → Judged → List ℕ
+window_text units judged =
+    if judged.job.begin_known then told (codes "; window " ∷ signed_time units judged.job.begin ∷ codes " " ∷ signed_time units judged.due ∷ []) else []
+
+-- It hadn't ended then; or it was so late or later, since its deadline isn't known but that it is no later.
+abbrev pub how_late : Job → List ℕ
+how_late job = if is_open job.end then codes "not ended " else (if job.begin_known then [] else codes "at least ")
+
+abbrev pub without_runs_comment : Units → Judged → ℕ → List ℕ
+without_runs_comment units judged late =
+    comment (codes "late, without its runs: " ∷ judged.name ∷ codes " (" ∷ reason_text judged.reason ∷ codes "), " ∷ how_late judged.job
+    ∷ behind_deadline late ∷ window_text units judged ∷ [])
+
+-- Of a late job that stands as it is: whether its work or its runs show it. One that ended in its deadline's unit of time is written in time.
+abbrev pub late_kind : Units → Judged → List ℕ
+late_kind units judged =
+    if is_open judged.job.end then codes "not ended: "
+    else (if nat_le (written_end units judged.job.end) (written_time units judged.due) then codes "late by less than a unit of time: "
+    else (if nat_le (runs_end (written_runs units judged.job)) (written_time units judged.due) then codes "late in a run within one tick: "
+    else codes "late: "))
+
+abbrev pub standing_comment : Units → Judged → ℕ → List ℕ
+standing_comment units judged late = comment (late_kind units judged ∷ judged.name ∷ codes ", " ∷ behind_deadline late ∷ [])
+
+-- just one for each late job
+abbrev pub late_comment : Units → Judged → List ℕ
+late_comment units judged = elim judged.late [
+  | None ↦ []
+  | Some late ↦ if stands judged then standing_comment units judged late else without_runs_comment units judged late
+]
+
+-- # Begins and ends that no run shows
+
+-- the begin of the first stretch that takes time
+abbrev pub first_begin : List Stretch → Option ℕ
+first_begin [] = None
+first_begin (stretch ∷ stretches) = if nat_lt stretch.from stretch.to then Some stretch.from else first_begin stretches
+
+-- the runs begin later than this, or there is none
+abbrev pub begin_later : ℕ → List Run → Bool
+begin_later time [] = true
+begin_later time (run ∷ runs) = nat_lt time run.from
+
+abbrev pub begins_comment : Units → Judged → List ℕ
+begins_comment units judged = elim (first_begin (reverse judged.job.stretches)) [
+  | None ↦ []
+  | Some begin ↦ if begin_later (written_time units begin) (written_runs units judged.job)
+    then comment (codes "begins: " ∷ judged.name ∷ codes " " ∷ decimal (written_time units begin) ∷ []) else []
+]
+
+-- the runs end before this, or there is none
+abbrev pub end_earlier : ℕ → List Run → Bool
+end_earlier time runs = (length runs == 0) || nat_lt (runs_end runs) time
+
+-- its lateness is told, and its runs don't show it
+abbrev pub end_is_told : Units → Judged → Bool
+end_is_told units judged =
+    is_some judged.late && (is_open judged.job.end
+    || nat_le (written_end units judged.job.end) (written_time units judged.due)
+    || nat_le (runs_end (written_runs units judged.job)) (written_time units judged.due))
+
+abbrev pub ends_comment : Units → Judged → List ℕ
+ends_comment units judged =
+    if not (is_open judged.job.end) && not (end_is_told units judged)
+        && end_earlier (written_end units judged.job.end) (written_runs units judged.job)
+    then comment (codes "ends: " ∷ judged.name ∷ codes " " ∷ decimal (written_end units judged.job.end) ∷ []) else []
+
+-- of a job that stands as it is
+abbrev pub shown_comments : Units → Judged → List ℕ
+shown_comments units judged = if stands judged then begins_comment units judged ++ ends_comment units judged else []
+
+-- # Jobs that are left out
+
+-- in the order in which equal counts are told
+abbrev pub every_reason : List Reason
+every_reason = reasons.NotEnded ∷ reasons.EventsLost ∷ reasons.SwitchMissing ∷ reasons.BeginUnseen ∷ reasons.Moved ∷ reasons.SpeedUnknown ∷ []
+
+-- Each reason has a number.
+abbrev pub reason_number : Reason → ℕ
+reason_number reasons.BeforeFrom = 0
+reason_number reasons.AfterTo = 1
+reason_number reasons.NotEnded = 2
+reason_number reasons.EventsLost = 3
+reason_number reasons.SwitchMissing = 4
+reason_number reasons.BeginUnseen = 5
+reason_number reasons.Moved = 6
+reason_number reasons.SpeedUnknown = 7
+
+abbrev pub is_for : Reason → Option Reason → Bool
+is_for reason None = false
+is_for reason (Some other) = reason_number other == reason_number reason
+
+abbrev pub is_left_out_for : Reason → Judged → Bool
+is_left_out_for reason judged = is_left_out judged && is_for reason judged.reason
+
+-- jobs of one task that are left out for one reason, in order of begin
+pub record Group : Type 0 where
+  pub label : List ℕ
+  pub reason : Reason
+  pub jobs : List Judged
+
+abbrev pub groups_of_task : List ℕ → List Judged → List Group
+groups_of_task label judged = map (λ reason. record { label = label; reason = reason; jobs = filter (is_left_out_for reason) judged }) every_reason
+
+abbrev pub groups_from : List Task → List (List Judged) → List Group
+groups_from [] by_task = []
+groups_from (task ∷ tasks) [] = []
+groups_from (task ∷ tasks) (judged ∷ by_task) = groups_of_task task.label judged ++ groups_from tasks by_task
+
+abbrev pub has_jobs : Group → Bool
+has_jobs group = nat_lt 0 (length group.jobs)
+
+-- the most jobs first, and as many as another in order of tasks and of reasons
+abbrev pub most_first : ℕ → List Group → List Group
+most_first most groups = in_order (λ group. most - length group.jobs) groups
+
+abbrev pub first_name : List Judged → List ℕ
+first_name [] = []
+first_name (judged ∷ more) = judged.name
+
+abbrev pub last_name : List Judged → List ℕ
+last_name [] = []
+last_name (judged ∷ []) = judged.name
+last_name (judged ∷ next ∷ more) = last_name (next ∷ more)
+
+abbrev pub group_comment : Group → List ℕ
+group_comment group =
+    if length group.jobs == 1
+    then comment (codes "left out: " ∷ first_name group.jobs ∷ codes " (" ∷ reason_text (Some group.reason) ∷ codes ")" ∷ [])
+    else comment (codes "left out: " ∷ decimal (length group.jobs) ∷ codes " jobs of " ∷ group.label ∷ codes " (" ∷ reason_text (Some group.reason)
+    ∷ codes "), the first " ∷ first_name group.jobs ∷ codes ", the last " ∷ last_name group.jobs ∷ [])
+
+-- What `from` and `to` cut off is one line for all tasks.
+abbrev pub is_cut_off : Judged → Bool
+is_cut_off judged = is_left_out_for reasons.BeforeFrom judged || is_left_out_for reasons.AfterTo judged
+
+abbrev pub cut_off_comment : ℕ → List ℕ
+cut_off_comment number =
+    if number == 0 then [] else comment (codes "left out: " ∷ counted number (codes "job") (codes "jobs") ∷ codes " before from or after to" ∷ [])
+
+abbrev pub left_out_comments : Asked → Settled → List ℕ
+left_out_comments asked settled =
+    flat_map group_comment (most_first (length settled.judged) (filter has_jobs (groups_from asked.tasks settled.by_task)))
+    ++ cut_off_comment (length (filter is_cut_off settled.judged))
+
+-- # Stretches and wake-ups
+
+abbrev pub short_stretches : Units → List Judged → List Stretch
+short_stretches units judged = flat_map (λ one. if stands one then filter (is_short units) (reverse one.job.stretches) else []) judged
+
+abbrev pub length_of : Stretch → ℕ
+length_of stretch = stretch.to - stretch.from
+
+abbrev pub short_comment : List Stretch → List ℕ
+short_comment stretches =
+    if length stretches == 0 then []
+    else comment (counted (length stretches) (codes "stretch within one unit of time, ") (codes "stretches within one unit of time, ")
+    ∷ in_milliseconds (capped (sum_by length_of stretches)) ∷ codes " ms together, "
+    ∷ (if length stretches == 1 then codes "is" else codes "are") ∷ codes " in no run" ∷ [])
+
+-- the wake-ups that came while a job was open which stands as it is
+abbrev pub wake_ups_of : Judged → ℕ
+wake_ups_of judged = if stands judged then judged.job.wake_ups else 0
+
+-- the first job that has the most of them
+abbrev pub most_woken : List Judged → ℕ → List ℕ → List ℕ
+most_woken [] most name = told (name ∷ codes ": " ∷ decimal most ∷ [])
+most_woken (judged ∷ more) most name =
+    if nat_lt most (wake_ups_of judged) then most_woken more (wake_ups_of judged) judged.name else most_woken more most name
+
+abbrev pub wake_up_comment : List Judged → List ℕ
+wake_up_comment judged =
+    if sum_by wake_ups_of judged == 0 then []
+    else comment (counted (capped (sum_by wake_ups_of judged)) (codes "wake-up came while its job was open, the most of ") (codes "wake-ups came while their job was open, the most of ")
+    ∷ most_woken judged 0 [] ∷ [])
+
+-- # Units that are likely wrong
+
+-- the begins that are known
+abbrev pub known_begins : List Judged → List ℕ
+known_begins judged = map (λ one. one.job.begin) (filter (λ one. one.job.begin_known) judged)
+
+abbrev pub last_of : ℕ → List ℕ → ℕ
+last_of number [] = number
+last_of number (next ∷ numbers) = last_of next numbers
+
+-- the mean distance of begins, rounded down, where there are two at different times
+abbrev pub mean_distance : List ℕ → Option ℕ
+mean_distance [] = None
+mean_distance (begin ∷ begins) =
+    if nat_lt begin (last_of begin begins) then Some ((last_of begin begins - begin) / length begins) else None
+
+abbrev pub distance_comment : List ℕ → List ℕ → ℕ → List ℕ → ℕ → List ℕ
+distance_comment what label value how mean =
+    comment (what ∷ label ∷ codes ", " ∷ in_milliseconds value ∷ codes " ms, is " ∷ how ∷ codes " the mean distance of its jobs' begins, "
+    ∷ in_milliseconds mean ∷ codes " ms: is it in another unit?" ∷ [])
+
+abbrev pub unit_comment : List ℕ → List ℕ → ℕ → Option ℕ → List ℕ
+unit_comment what label value None = []
+unit_comment what label value (Some mean) =
+    if nat_lt (100 * mean) value then distance_comment what label value (codes "more than 100 times") mean
+    else (if nat_lt (100 * value) mean then distance_comment what label value (codes "less than a hundredth of") mean else [])
+
+abbrev pub unit_comments : Task → List Judged → List ℕ
+unit_comments task judged =
+    unit_comment (codes "the deadline of ") task.label task.deadline (mean_distance (known_begins judged))
+    ++ (if task.apart == 0 then [] else unit_comment (codes "APART of ") task.label task.apart (mean_distance (known_begins judged)))
+
+abbrev pub all_unit_comments : List Task → List (List Judged) → List ℕ
+all_unit_comments [] by_task = []
+all_unit_comments (task ∷ tasks) [] = []
+all_unit_comments (task ∷ tasks) (judged ∷ by_task) = unit_comments task judged ++ all_unit_comments tasks by_task
+
+-- # The last line
+
+abbrev pub is_without_runs : Judged → Bool
+is_without_runs judged = not (stands judged) && is_some judged.late
+
+abbrev pub left_out_text : ℕ → List ℕ
+left_out_text number = if number == 0 then codes "none left out" else told (decimal number ∷ codes " left out" ∷ [])
+
+abbrev pub without_runs_text : ℕ → List ℕ
+without_runs_text number =
+    if number == 0 then []
+    else told (codes ", " ∷ decimal number ∷ codes " late without " ∷ (if number == 1 then codes "its" else codes "their") ∷ codes " runs" ∷ [])
+
+abbrev pub last_line : Settled → List ℕ
+last_line settled =
+    comment (counted (length settled.document.jobs) (codes "job") (codes "jobs") ∷ codes " written, "
+    ∷ left_out_text (length (filter is_left_out settled.judged)) ∷ without_runs_text (length (filter is_without_runs settled.judged)) ∷ [])
+
+-- # The text
+
+abbrev pub document_text : Settled → List ℕ
+document_text settled =
+    flat_map job_text settled.document.jobs ++ ticks_text ++ flat_map (run_text (map name_of settled.document.jobs)) settled.document.runs
+
+abbrev pub comments_text : Asked → Settled → List ℕ
+comments_text asked settled =
+    flat_map (late_comment settled.units) settled.judged
+    ++ flat_map (shown_comments settled.units) settled.judged
+    ++ left_out_comments asked settled
+    ++ short_comment (short_stretches settled.units settled.judged)
+    ++ wake_up_comment settled.judged
+    ++ all_unit_comments asked.tasks settled.by_task
+    ++ last_line settled
+
+abbrev pub settled_text : Asked → Settled → List ℕ
+settled_text asked settled = head_line asked settled.units ++ units_line settled.units ++ document_text settled ++ comments_text asked settled
+
+abbrev pub text_of : Asked → List Said → List ℕ
+text_of asked past = settled_text asked (settled_of asked past)
