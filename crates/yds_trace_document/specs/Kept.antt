@@ -1,5 +1,5 @@
 -- The definitions of a document by what is kept at a trace's end: its first and its last time stand in the place of its lines.
-use Rattle.std.specs.Prelude.{◌≡◌, ◌≤◌, ℕ, ◌+◌, List, [], ◌∷◌, ◌++◌, map, min, max, length, not, Bool, true, false, ◌&&◌, nat_lt, nat_le, if◌then◌else◌, Option, Some, None, is_none, is_some, Vec}
+use Rattle.std.specs.Prelude.{◌≡◌, ◌≤◌, ℕ, ◌+◌, List, [], ◌∷◌, map, min, length, not, Bool, false, ◌&&◌, nat_lt, nat_le, if◌then◌else◌, Option, Some, None, is_none, unwrap_or, Vec}
 use Rattle.std.specs.List.{list_any, filter_map, flat_map, enumerate_from, All}
 use Rattle.std.specs.declared.alloc.Global.{Global}
 use Rattle.yds_trace.specs.declared.limits.TheConstants.{MAX_TIME, MAX_DEADLINE}
@@ -9,9 +9,7 @@ use Rattle.yds_trace.specs.declared.reason.Reason.{Reason}
 use Rattle.yds_trace.specs.declared.reason.Reason.TheVariants as reasons
 use Rattle.yds_trace.specs.Asked.{Task, Asked, is_after_from}
 use Rattle.yds_trace.specs.Jobs.{Job}
-use Rattle.yds_trace.specs.Late.{due, is_open, lateness}
-use Rattle.yds_trace.specs.Ended.{in_order_of_begin}
-use Rattle.yds_trace.specs.Views.{asked_read}
+use Rattle.yds_trace.specs.Late.{due, is_open, late_by}
 use Rattle.yds_trace.specs.WrittenTime.{Units, Run, before}
 use Rattle.yds_trace.specs.Document.{is_lost, is_elsewhere, is_of_unknown_speed, named, began_before, Judged, in_order, stands, least_of, least_begin, Written, written_of, Placed, all_runs}
 use Rattle.yds_trace_document.specs.Settled.{Settled, with_capped_work}
@@ -29,47 +27,60 @@ pub record IsPlain (ended : EndedKept) : Type 0 where
 
 -- # Jobs
 
-abbrev pub last_of : Asked → ℕ → ℕ
-last_of asked last = elim asked.to [ None ↦ last | Some to ↦ min to last ]
+abbrev pub last_of : Option ℕ → ℕ → ℕ
+last_of None last = last
+last_of (Some to) last = min to last
 
-abbrev pub is_to_reached : Asked → ℕ → Bool
-is_to_reached asked last = elim asked.to [ None ↦ false | Some to ↦ nat_le to last ]
+abbrev pub is_to_reached : Option ℕ → ℕ → Bool
+is_to_reached None last = false
+is_to_reached (Some to) last = nat_le to last
 
 -- an open job that isn't known to be late
-abbrev pub open_reason : Asked → ℕ → Reason
-open_reason asked last = if is_to_reached asked last then reasons.AfterTo else reasons.NotEnded
+abbrev pub open_reason : Option ℕ → ℕ → Reason
+open_reason to last = if is_to_reached to last then reasons.AfterTo else reasons.NotEnded
 
-abbrev pub run_reason : Asked → Job → Option Reason
-run_reason asked job =
+abbrev pub run_reason : ℕ → Job → Option Reason
+run_reason processor job =
     if not job.begin_known then Some reasons.BeginUnseen
-    else (if list_any (is_elsewhere asked.processor) job.stretches then Some reasons.Moved
+    else (if list_any (is_elsewhere processor) job.stretches then Some reasons.Moved
     else (if list_any is_of_unknown_speed job.stretches then Some reasons.SpeedUnknown else None))
 
-abbrev pub reason_at : Asked → ℕ → Option ℕ → Job → Option Reason
-reason_at asked last late job =
-    if not (is_after_from asked.from job.begin) then Some reasons.BeforeFrom
-    else (if is_lost (last_of asked last) job.end then Some reasons.EventsLost
-    else (if job.switch_missing then Some reasons.SwitchMissing
-    else (if is_open job.end && is_none late then Some (open_reason asked last) else run_reason asked job)))
+-- what is asked for, beside the tasks
+pub record Within : Type 0 where
+  pub processor : ℕ
+  pub from : Option ℕ
+  pub to : Option ℕ
+  -- the trace's last time
+  pub last : ℕ
 
-abbrev pub judged_at : Asked → ℕ → ℕ → Task → Bool → ℕ × Job → Judged
-judged_at asked last number task before numbered = record {
+abbrev pub reason_at : Within → Option ℕ → Job → Option Reason
+reason_at within late job =
+    if not (is_after_from within.from job.begin) then Some reasons.BeforeFrom
+    else (if is_lost (last_of within.to within.last) job.end then Some reasons.EventsLost
+    else (if job.switch_missing then Some reasons.SwitchMissing
+    else (if is_open job.end && is_none late then Some (open_reason within.to within.last) else run_reason within.processor job)))
+
+abbrev pub late_at : Within → Task → Job → Option ℕ
+late_at within task job = late_by within.from (last_of within.to within.last) (due task job) job.end
+
+abbrev pub judged_at : Within → ℕ → Task → Bool → ℕ × Job → Judged
+judged_at within number task before numbered = record {
   task = number;
   name = named task.label before numbered.0;
   job = numbered.1;
   due = due task numbered.1;
-  late = lateness asked task (last_of asked last) numbered.1;
-  reason = reason_at asked last (lateness asked task (last_of asked last) numbered.1) numbered.1;
+  late = late_at within task numbered.1;
+  reason = reason_at within (late_at within task numbered.1) numbered.1;
 }
 
-abbrev pub judged_task : Asked → ℕ → ℕ → Task → List Job → List Judged
-judged_task asked last number task jobs = map (judged_at asked last number task (began_before jobs)) (enumerate_from 0 jobs)
+abbrev pub judged_task : Within → ℕ → Task → List Job → List Judged
+judged_task within number task jobs = map (judged_at within number task (began_before jobs)) (enumerate_from 0 jobs)
 
 -- these tasks' jobs, from this number on
-abbrev pub judged_tasks : Asked → ℕ → ℕ → List Task → List (List Job) → List (List Judged)
-judged_tasks asked last number [] jobs = []
-judged_tasks asked last number (task ∷ tasks) [] = []
-judged_tasks asked last number (task ∷ tasks) (jobs ∷ more) = judged_task asked last number task jobs ∷ judged_tasks asked last (number + 1) tasks more
+abbrev pub judged_tasks : Within → ℕ → List Task → List (List Job) → List (List Judged)
+judged_tasks within number [] jobs = []
+judged_tasks within number (task ∷ tasks) [] = []
+judged_tasks within number (task ∷ tasks) (jobs ∷ more) = judged_task within number task jobs ∷ judged_tasks within (number + 1) tasks more
 
 abbrev pub begin_of : Judged → ℕ
 begin_of judged = judged.job.begin
@@ -82,14 +93,12 @@ together by_task = flat_map (λ judged. judged) by_task
 abbrev pub least_with : Judged → Option ℕ → Option ℕ
 least_with judged least = if stands judged then Some (least_of least judged.job.begin) else least
 
-abbrev pub zero_of : Asked → ℕ → List Judged → ℕ
-zero_of asked first judged = elim asked.from [
-  | Some from ↦ from
-  | None ↦ elim (least_begin judged) [ Some begin ↦ begin | None ↦ first ]
-]
+abbrev pub zero_of : Option ℕ → ℕ → List Judged → ℕ
+zero_of None first judged = unwrap_or (least_begin judged) first
+zero_of (Some from) first judged = from
 
 abbrev pub units_at : Asked → ℕ → List Judged → Units
-units_at asked first judged = record { zero = zero_of asked first judged; time = asked.unit; speed = asked.khz }
+units_at asked first judged = record { zero = zero_of asked.from first judged; time = asked.unit; speed = asked.khz }
 
 -- a run before others, where it is in a line
 abbrev pub taken : Run → List Run → List Run
@@ -117,10 +126,11 @@ settled_at asked first by_task = record {
   };
 }
 
-abbrev pub kept_settled : EndedKept → Settled
-kept_settled ended =
-    settled_at (asked_read ended.asked) ended.first
-    (judged_tasks (asked_read ended.asked) ended.last 0 (asked_read ended.asked).tasks (map in_order_of_begin ended.jobs.items))
+abbrev pub within_of : Asked → ℕ → Within
+within_of asked last = record { processor = asked.processor; from = asked.from; to = asked.to; last = last }
+
+abbrev pub kept_settled : Asked → ℕ → ℕ → List (List Job) → Settled
+kept_settled asked first last jobs = settled_at asked first (judged_tasks (within_of asked last) 0 asked.tasks jobs)
 
 -- the runs of the job at this place
 abbrev pub placed_of : ℕ → List Run → List Placed

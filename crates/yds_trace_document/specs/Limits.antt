@@ -1,5 +1,5 @@
 -- For which a document isn't written: the limits of the format, speeds that are too coarse, and jobs that had to be left out.
-use Rattle.std.specs.Prelude.{ℕ, List, [], length, map, not, Bool, true, false, ◌==◌, ◌&&◌, ◌||◌, nat_lt, if◌then◌else◌, Option, Some, None, is_some, option_map, position, count_by, unwrap_or}
+use Rattle.std.specs.Prelude.{List, length, not, Bool, true, false, ◌==◌, ◌&&◌, ◌||◌, nat_lt, if◌then◌else◌, Option, Some, None, is_some, option_map, position, unwrap_or}
 use Rattle.std.specs.List.{list_any}
 use Rattle.yds_model.specs.declared.limits.TheConstants.{MAX_JOBS, MAX_SLOTS, MAX_TIME, MAX_WORK, MAX_RUN_SPEED, MAX_NAME}
 use Rattle.yds_kernel.specs.Parts.{or_else}

@@ -8,6 +8,8 @@ use Rattle.yds_trace_document.specs.declared.units.Units.{Units as UnitsKept}
 use Rattle.yds_trace_document.specs.declared.run.Run.{Run as RunKept}
 use Rattle.yds_trace_document.specs.declared.name.Name.{Name as NameKept}
 use Rattle.yds_trace_document.specs.declared.judged.Judged.{Judged as JudgedKept}
+use Rattle.yds_trace_document.specs.declared.judge.Within.{Within as WithinKept}
+use Rattle.yds_trace_document.specs.Kept.{Within}
 use Rattle.yds_trace_document.specs.declared.written.Written.{Written as WrittenKept}
 use Rattle.yds_trace_document.specs.declared.placed.Placed.{Placed as PlacedKept}
 use Rattle.yds_trace_document.specs.declared.settlement.Settled.{Settled as SettledKept}
@@ -38,6 +40,9 @@ judged_read judged = record {
   late = judged.late;
   reason = judged.reason;
 }
+
+abbrev pub within_read : WithinKept → Within
+within_read within = record { processor = within.processor; from = within.from; to = within.to; last = within.last }
 
 abbrev pub judged_list : List JudgedKept → List Judged
 judged_list judged = map judged_read judged

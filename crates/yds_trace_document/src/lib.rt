@@ -7,6 +7,7 @@
 #![tactic(auto)]
 
 mod fault;
+mod judge;
 mod judged;
 mod limits;
 mod name;
@@ -25,4 +26,4 @@ pub use placed::Placed;
 pub use run::Run;
 pub use settlement::{Settled, settle};
 pub use units::Units;
-pub use written::Written;
+pub use written::{Written, is_open, runs_end, written_end, written_runs};

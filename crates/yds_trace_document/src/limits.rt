@@ -1,5 +1,5 @@
 //! The limits of a document.
-ghost use Rattle.std.specs.Prelude.{◌≡◌, map};
+ghost use Rattle.std.specs.Prelude.{◌≡◌, position};
 ghost use Rattle.std.specs.List.{list_any};
 ghost use Rattle.yds_trace.specs.Document as document;
 ghost use Rattle.yds_trace_document.specs.Limits as spec;
@@ -35,29 +35,52 @@ pub fn limit_fault(strict: bool, settled: &Settled<'_>) -> Option<DocumentFault>
         return Some(DocumentFault::NoJob);
     }
     if strict {
-        first_missed(&settled.judged)
+        missed_fault(&settled.judged)
     } else {
         None
     }
 }
 
 /// The first name, time or work of a job that is above its limit.
+#[tactic(auto, using(crate::proofs::Lists::position_map))]
 fn job_fault(jobs: &[Written<'_>]) -> Option<DocumentFault>
     ensures { result ≡ spec.job_fault (written_list jobs.now) }
 {
-    if let Some(place) = jobs.iter().position(|job| job.name.is_long()) {
+    if let Some(place) = first_long(jobs) {
         return Some(DocumentFault::NameTooLong(place));
     }
-    if let Some(place) = jobs.iter().position(|job| is_beyond(job)) {
+    if let Some(place) = first_beyond(jobs) {
         return Some(DocumentFault::TimeTooGreat(place));
     }
-    match jobs.iter().position(|job| job.work > u64::from(MAX_WORK)) {
+    match first_heavy(jobs) {
         Some(place) => Some(DocumentFault::WorkTooGreat(place)),
         None => None,
     }
 }
 
+/// The first job whose name is too long.
+fn first_long(jobs: &[Written<'_>]) -> Option<usize>
+    ensures { result ≡ position (λ job. spec.is_long_name (written_read job)) jobs.now }
+{
+    jobs.iter().position(|job| job.name.is_long())
+}
+
+/// The first job with a time that is too great.
+fn first_beyond(jobs: &[Written<'_>]) -> Option<usize>
+    ensures { result ≡ position (λ job. spec.is_beyond (written_read job)) jobs.now }
+{
+    jobs.iter().position(|job| is_beyond(job))
+}
+
+/// The first job with too much work.
+fn first_heavy(jobs: &[Written<'_>]) -> Option<usize>
+    ensures { result ≡ position (λ job. spec.is_heavy (written_read job)) jobs.now }
+{
+    jobs.iter().position(|job| job.work > u64::from(MAX_WORK))
+}
+
 /// Whether a job's deadline or the end of one of its runs is above the greatest time of a document.
+#[tactic(auto, using(crate::proofs::Lists::list_any_map))]
 fn is_beyond(job: &Written<'_>) -> bool
     ensures { result ≡ spec.is_beyond (written_read job.now) }
 {
@@ -65,24 +88,40 @@ fn is_beyond(job: &Written<'_>) -> bool
 }
 
 fn has_late_end(runs: &[Run]) -> bool
-    ensures { result ≡ list_any spec.ends_late (map run_read runs.now) }
+    ensures { result ≡ list_any (λ run. spec.ends_late (run_read run)) runs.now }
 {
     runs.iter().any(|run| run.to > u64::from(MAX_TIME))
 }
 
 /// The first job with a speed that can't be written.
+#[tactic(auto, using(crate::proofs::Lists::position_map))]
 fn speed_fault(units: Units, judged: &[Judged<'_>]) -> Option<DocumentFault>
     ensures { result ≡ spec.speed_fault (units_read units) (judged_list judged.now) }
 {
-    if let Some(place) = judged.iter().position(|one| runs_coarsely(units, one)) {
+    if let Some(place) = first_coarse(units, judged) {
         return Some(DocumentFault::SpeedTooCoarse(place));
     }
-    match judged.iter().position(|one| runs_too_fast(units, one)) {
+    match first_too_fast(units, judged) {
         Some(place) => Some(DocumentFault::SpeedTooGreat(place)),
         None => None,
     }
 }
 
+/// The first job that stands and runs at a speed that is too coarse.
+fn first_coarse(units: Units, judged: &[Judged<'_>]) -> Option<usize>
+    ensures { result ≡ position (λ one. spec.runs_coarsely (units_read units) (judged_read one)) judged.now }
+{
+    judged.iter().position(|one| runs_coarsely(units, one))
+}
+
+/// The first job that stands and runs at a speed that is too great.
+fn first_too_fast(units: Units, judged: &[Judged<'_>]) -> Option<usize>
+    ensures { result ≡ position (λ one. spec.runs_too_fast (units_read units) (judged_read one)) judged.now }
+{
+    judged.iter().position(|one| runs_too_fast(units, one))
+}
+
+#[tactic(auto, using(crate::proofs::Lists::list_any_reverse))]
 fn runs_coarsely(units: Units, judged: &Judged<'_>) -> bool
     ensures { result ≡ spec.runs_coarsely (units_read units) (judged_read judged.now) }
 {
@@ -92,7 +131,9 @@ fn runs_coarsely(units: Units, judged: &Judged<'_>) -> bool
 fn any_coarse(units: Units, stretches: &[Stretch]) -> bool
     ensures { result ≡ list_any (spec.has_coarse_speed (units_read units)) stretches.now }
 {
-    stretches.iter().any(|stretch| has_coarse_speed(units, stretch))
+    stretches
+        .iter()
+        .any(|stretch| has_coarse_speed(units, stretch))
 }
 
 fn has_coarse_speed(units: Units, stretch: &Stretch) -> bool
@@ -108,6 +149,7 @@ fn is_in_a_run(units: Units, stretch: &Stretch) -> bool
     units.written_time(stretch.from) < units.written_time(stretch.to)
 }
 
+#[tactic(auto, using(crate::proofs::Lists::list_any_reverse))]
 fn runs_too_fast(units: Units, judged: &Judged<'_>) -> bool
     ensures { result ≡ spec.runs_too_fast (units_read units) (judged_read judged.now) }
 {
@@ -117,7 +159,9 @@ fn runs_too_fast(units: Units, judged: &Judged<'_>) -> bool
 fn any_too_fast(units: Units, stretches: &[Stretch]) -> bool
     ensures { result ≡ list_any (spec.has_great_speed (units_read units)) stretches.now }
 {
-    stretches.iter().any(|stretch| has_great_speed(units, stretch))
+    stretches
+        .iter()
+        .any(|stretch| has_great_speed(units, stretch))
 }
 
 fn has_great_speed(units: Units, stretch: &Stretch) -> bool
@@ -128,13 +172,20 @@ fn has_great_speed(units: Units, stretch: &Stretch) -> bool
 }
 
 /// The first job that is missed.
-fn first_missed(judged: &[Judged<'_>]) -> Option<DocumentFault>
+#[tactic(auto, using(crate::proofs::Lists::position_map))]
+fn missed_fault(judged: &[Judged<'_>]) -> Option<DocumentFault>
     ensures { result ≡ spec.missed_fault (judged_list judged.now) }
 {
-    match judged.iter().position(|one| is_missed(one)) {
+    match first_missed(judged) {
         Some(place) => Some(DocumentFault::Missed(place)),
         None => None,
     }
+}
+
+fn first_missed(judged: &[Judged<'_>]) -> Option<usize>
+    ensures { result ≡ position (λ one. spec.is_missed (judged_read one)) judged.now }
+{
+    judged.iter().position(|one| is_missed(one))
 }
 
 /// Whether a job doesn't stand as it is, where that isn't for `from` or `to`, or where it is late.

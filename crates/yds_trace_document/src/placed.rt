@@ -28,6 +28,7 @@ fn put_runs(job: usize, runs: &[Run], placed: &mut Vec<Placed>) -> Result<(), Me
 }
 
 /// The runs of these jobs, job by job.
+#[tactic(auto, using(crate::proofs::Steps::placed_more))]
 fn placed_by_job(alloc: Global, jobs: &[Written<'_>]) -> Result<Vec<Placed>, Memory>
     ensures { IfOk result (λ placed. placed_list placed.items ≡ flat_map placed_runs (enumerate_from 0 (written_list jobs.now))) }
 {

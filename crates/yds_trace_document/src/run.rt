@@ -29,6 +29,7 @@ fn run_of(units: Units, stretch: &Stretch) -> Run
 }
 
 /// The runs of stretches in order of time. Stretches within one unit of time are in none.
+#[tactic(auto, using(crate::proofs::Lists::map_reverse))]
 pub(crate) fn runs_of(
     alloc: Global,
     units: Units,

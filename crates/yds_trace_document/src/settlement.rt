@@ -9,15 +9,16 @@ ghost use Rattle.yds_trace.specs.Views.{task_read, asked_read};
 ghost use Rattle.yds_trace.specs.Document.{in_order, least_begin};
 ghost use Rattle.yds_trace_document.specs.Kept as kept;
 ghost use Rattle.yds_trace_document.specs.Settled.{settled_of, with_capped_works};
-ghost use Rattle.yds_trace_document.specs.Views.{units_read, judged_read, judged_list, judged_lists, settled_read};
+ghost use Rattle.yds_trace_document.specs.Views.{units_read, judged_read, judged_list, judged_lists, settled_read, within_read};
 
-use crate::judged::{Judged, judge_task};
+use crate::judge::{Within, judge_task};
+use crate::judged::Judged;
 use crate::placed::{Placed, placed_in_order};
 use crate::units::Units;
 use crate::written::{Written, written_jobs};
 use std::alloc::Global;
 use yds_model::Memory;
-use yds_trace::{Asked, Ended, Job};
+use yds_trace::{Asked, Ended, Job, Task};
 
 /// What is settled of the jobs at a trace's end: what becomes of each, and the document of those that are written.
 #[derive(Debug, Drop)]
@@ -39,9 +40,29 @@ pub fn settle<'a>(alloc: Global, ended: &'a Ended) -> Result<Settled<'a>, Memory
     ensures { (asked : words.Asked) (past : List Said) → IsEnded asked past ended.entry.now
         → IfOk result (λ settled. settled_read settled ≡ with_capped_works (settled_of asked past)) }
 {
-    let by_task = judge_tasks(alloc, &ended.asked, ended.last, &ended.jobs)?;
+    let within = Within {
+        processor: ended.asked.processor,
+        from: ended.asked.from,
+        to: ended.asked.to,
+        last: ended.last,
+    };
+    let by_task = judge_tasks(alloc, within, &ended.asked.tasks, &ended.jobs)?;
+    settled_from(alloc, &ended.asked, ended.first, by_task)
+}
+
+/// The document of these jobs.
+fn settled_from<'a>(
+    alloc: Global,
+    asked: &Asked,
+    first: u64,
+    by_task: Vec<Vec<Judged<'a>>>,
+) -> Result<Settled<'a>, Memory>
+    requires has_unit { 1 ≤ asked.now.unit }
+    requires has_speed_unit { 1 ≤ asked.now.khz }
+    ensures { IfOk result (λ settled. settled_read settled ≡ kept.settled_at (asked_read asked.now) first (judged_lists by_task.entry.items)) }
+{
     let judged = in_order_of_begins(alloc, &by_task)?;
-    let units = units_of(&ended.asked, ended.first, &judged);
+    let units = units_of(asked, first, &judged);
     let jobs = written_jobs(alloc, units, &judged)?;
     let runs = placed_in_order(alloc, &jobs)?;
     Ok(Settled {
@@ -56,18 +77,18 @@ pub fn settle<'a>(alloc: Global, ended: &'a Ended) -> Result<Settled<'a>, Memory
 /// What becomes of the jobs of each task.
 fn judge_tasks<'a>(
     alloc: Global,
-    asked: &'a Asked,
-    last: u64,
+    within: Within,
+    tasks: &'a [Task],
     jobs: &'a [Vec<Job>],
 ) -> Result<Vec<Vec<Judged<'a>>>, Memory>
-    requires of_each_task { length jobs.now ≡ length asked.now.tasks.items }
+    requires of_each_task { length jobs.now ≡ length tasks.now }
     requires begins { kept.HaveBegins jobs.now }
-    requires deadlines { All (λ task. task.deadline ≤ MAX_DEADLINE) asked.now.tasks.items }
-    ensures { IfOk result (λ judged. judged_lists judged.items ≡ kept.judged_tasks (asked_read asked.entry.now) last 0 (map task_read asked.entry.now.tasks.items) (map in_order_of_begin jobs.entry.now)) }
+    requires deadlines { All (λ task. task.deadline ≤ MAX_DEADLINE) tasks.now }
+    ensures { IfOk result (λ judged. judged_lists judged.items ≡ kept.judged_tasks (within_read within) 0 (map task_read tasks.entry.now) (map in_order_of_begin jobs.entry.now)) }
 {
     let mut judged = Vec::with_capacity(alloc, jobs.len())?;
-    for (number, task) in asked.tasks.iter().enumerate() {
-        judged.push(judge_task(alloc, asked, last, number, task, &jobs[number])?)?;
+    for (number, task) in tasks.iter().enumerate() {
+        judged.push(judge_task(alloc, within, number, task, &jobs[number])?)?;
     }
     Ok(judged)
 }

@@ -1,8 +1,6 @@
 //! What is written of a job.
-ghost use Rattle.std.specs.Prelude.{◌≡◌, ◌≤◌, IfOk};
-ghost use Rattle.std.specs.List.{All};
+ghost use Rattle.std.specs.Prelude.{◌≡◌, ◌≤◌, ◌++◌, IfOk, OnOk, option_to_list};
 ghost use Rattle.yds_kernel.specs.Parts.{capped};
-ghost use Rattle.yds_trace.specs.declared.limits.TheConstants.{MAX_TIME};
 ghost use Rattle.yds_trace.specs.Late as late;
 ghost use Rattle.yds_trace.specs.Views.{job_read};
 ghost use Rattle.yds_trace.specs.WrittenTime as spec;
@@ -32,7 +30,7 @@ pub struct Written<'a> {
 }
 
 /// The unit of time in which a job ended; 0 where it hasn't.
-fn written_end(units: Units, end: End) -> u64
+pub fn written_end(units: Units, end: End) -> u64
     ensures { result ≡ document.written_end (units_read units) end }
 {
     match end {
@@ -42,7 +40,7 @@ fn written_end(units: Units, end: End) -> u64
 }
 
 /// Whether a job was still open when it was seen last.
-fn is_open(end: End) -> bool
+pub fn is_open(end: End) -> bool
     ensures { result ≡ late.is_open end }
 {
     match end {
@@ -52,12 +50,14 @@ fn is_open(end: End) -> bool
 }
 
 /// The end of the last run; 0 where there is none.
-fn runs_end(runs: &[Run]) -> u64
+#[tactic(auto, using(crate::proofs::Steps::last_end))]
+pub fn runs_end(runs: &[Run]) -> u64
     ensures { result ≡ spec.runs_end (runs_read runs.now) }
 {
-    match runs.last() {
-        Some(run) => run.to,
-        None => 0,
+    if runs.is_empty() {
+        0
+    } else {
+        runs[runs.len() - 1].to
     }
 }
 
@@ -100,15 +100,19 @@ fn owed(units: Units, judged: &Judged<'_>, runs: &[Run]) -> u64
     }
 }
 
+/// The runs of a job as they are written.
+#[tactic(auto, using(crate::proofs::Steps::read_back))]
+pub fn written_runs(alloc: Global, units: Units, job: &Job) -> Result<Vec<Run>, Memory>
+    ensures { IfOk result (λ runs. runs_read runs.items ≡ document.written_runs (units_read units) (job_read job.now)) }
+{
+    runs_of(alloc, units, &job.stretches)
+}
+
 /// A job as it stands.
-fn with_runs<'a>(
-    alloc: Global,
-    units: Units,
-    judged: &Judged<'a>,
-) -> Result<Written<'a>, Memory>
+fn with_runs<'a>(alloc: Global, units: Units, judged: &Judged<'a>) -> Result<Written<'a>, Memory>
     ensures { IfOk result (λ job. written_read job ≡ with_capped_work (document.with_runs (units_read units) (judged_read judged.now))) }
 {
-    let runs = runs_of(alloc, units, &judged.job.stretches)?;
+    let runs = written_runs(alloc, units, judged.job)?;
     let work = work_of(&runs).saturating_add(owed(units, judged, &runs));
     Ok(Written {
         name: judged.name,
@@ -133,7 +137,6 @@ fn release_without_runs(units: Units, job: &Job) -> u64
 
 /// A late job that can't stand as it is.
 fn without_runs<'a>(alloc: Global, units: Units, judged: &Judged<'a>) -> Written<'a>
-    requires { (judged_read judged.now).job.begin ≤ MAX_TIME }
     ensures { written_read result ≡ with_capped_work (document.without_runs (units_read units) (judged_read judged.now)) }
 {
     let release = release_without_runs(units, judged.job);
@@ -152,7 +155,6 @@ fn written_of<'a>(
     units: Units,
     judged: &Judged<'a>,
 ) -> Result<Option<Written<'a>>, Memory>
-    requires { (judged_read judged.now).job.begin ≤ MAX_TIME }
     ensures { IfOk result (λ job. written_option job ≡ kept.capped_of (units_read units) (judged_read judged.now)) }
 {
     if judged.reason.is_none() {
@@ -170,14 +172,21 @@ pub(crate) fn written_jobs<'a>(
     units: Units,
     judged: &[Judged<'a>],
 ) -> Result<Vec<Written<'a>>, Memory>
-    requires { All (λ one. one.job.begin ≤ MAX_TIME) (judged_list judged.now) }
     ensures { IfOk result (λ jobs. written_list jobs.items ≡ kept.capped_jobs (units_read units) (judged_list judged.now)) }
 {
     let mut jobs = Vec::new(alloc);
     for one in judged {
-        if let Some(job) = written_of(alloc, units, one)? {
-            jobs.push(job)?;
-        }
+        put_job(written_of(alloc, units, one)?, &mut jobs)?;
     }
     Ok(jobs)
+}
+
+/// Puts what is written of a job behind the others, if anything is.
+fn put_job<'a>(job: Option<Written<'a>>, jobs: &mut Vec<Written<'a>>) -> Result<(), Memory>
+    ensures { OnOk result (jobs.new.items ≡ jobs.old.items ++ option_to_list job.entry) }
+{
+    if let Some(job) = job {
+        jobs.push(job)?;
+    }
+    Ok(())
 }

@@ -1,6 +1,6 @@
 -- The text of a trace's document: jobs, runs, and comments that tell what the document hasn't. Lines, fields and numbers are those of documents.
-use Rattle.std.specs.Prelude.{ℕ, suc, ◌+◌, ◌-◌, ◌*◌, ◌/◌, ◌%◌, List, [], ◌∷◌, ◌++◌, length, drop, map, filter, reverse, codes, decimal, sum_by, sum, max, Bool, true, false, not, ◌==◌, ◌&&◌, ◌||◌, nat_lt, nat_le, if◌then◌else◌, Option, Some, None, is_some, is_none}
-use Rattle.std.specs.List.{flat_map, slice_index_or, list_any}
+use Rattle.std.specs.Prelude.{ℕ, ◌+◌, ◌-◌, ◌*◌, ◌/◌, ◌%◌, List, [], ◌∷◌, ◌++◌, length, drop, map, filter, reverse, codes, decimal, sum_by, count_by, Bool, true, false, not, ◌==◌, ◌&&◌, ◌||◌, nat_lt, nat_le, if◌then◌else◌, Option, Some, None, is_some, is_none}
+use Rattle.std.specs.List.{flat_map, slice_index_or}
 use Rattle.yds_model.specs.Text.{line}
 use Rattle.yds_kernel.specs.Event.{Said}
 use Rattle.yds_kernel.specs.Parts.{capped}
@@ -54,18 +54,18 @@ counted number one several = told (decimal number ∷ codes " " ∷ (if number =
 
 -- # The first lines
 
-abbrev pub head_line : Asked → Units → List ℕ
-head_line asked units =
-    comment (codes "CPU " ∷ decimal asked.processor ∷ codes " of a kernel trace; time 0 is " ∷ in_seconds units.zero ∷ codes " s" ∷ [])
+abbrev pub head_line : ℕ → Units → List ℕ
+head_line processor units =
+    comment (codes "CPU " ∷ decimal processor ∷ codes " of a kernel trace; time 0 is " ∷ in_seconds units.zero ∷ codes " s" ∷ [])
 
--- The unit of time is whole microseconds. That of work is what is done in one at one unit of speed.
+-- The unit of time is whole microseconds. That of work is what is done in one at one unit of speed; beyond 64 bits it isn't told exactly.
 abbrev pub cycles : ℕ → List ℕ
 cycles thousandths = told (decimal (thousandths / 1000) ∷ behind_point (thousandths % 1000) ∷ [])
 
 abbrev pub units_line : Units → List ℕ
 units_line units =
     comment (codes "time unit " ∷ decimal (units.time / 1000) ∷ codes " us, speed unit " ∷ decimal units.speed ∷ codes " kHz, work unit "
-    ∷ cycles (units.time / 1000 * units.speed) ∷ codes " cycles" ∷ [])
+    ∷ cycles (capped (units.time / 1000 * units.speed)) ∷ codes " cycles" ∷ [])
 
 -- # Jobs and runs
 
@@ -78,9 +78,11 @@ ticks_text = line (codes "ticks" ∷ codes "1" ∷ [])
 abbrev pub name_of : Written → List ℕ
 name_of job = job.name
 
+abbrev pub run_line : List ℕ → Run → List ℕ
+run_line name run = line (codes "run" ∷ name ∷ decimal run.from ∷ decimal run.to ∷ decimal run.speed ∷ [])
+
 abbrev pub run_text : List (List ℕ) → Placed → List ℕ
-run_text names placed =
-    line (codes "run" ∷ slice_index_or names placed.job [] ∷ decimal placed.run.from ∷ decimal placed.run.to ∷ decimal placed.run.speed ∷ [])
+run_text names placed = run_line (slice_index_or names placed.job []) placed.run
 
 -- # Late jobs
 
@@ -102,7 +104,7 @@ behind_deadline late = told (in_milliseconds late ∷ codes " ms after its deadl
 -- a time in units from time 0, rounded down; before time 0 it has a minus
 abbrev pub signed_time : Units → ℕ → List ℕ
 signed_time units time =
-    if nat_lt time units.zero then codes "-" ++ decimal ((units.zero - time + units.time - 1) / units.time) else decimal (written_time units time)
+    if nat_lt time units.zero then codes "-" ++ decimal ((units.zero - time - 1) / units.time + 1) else decimal (written_time units time)
 
 -- its window, where its begin is known
 abbrev pub window_text : Units → Judged → List ℕ
@@ -148,11 +150,15 @@ abbrev pub begin_later : ℕ → List Run → Bool
 begin_later time [] = true
 begin_later time (run ∷ runs) = nat_lt time run.from
 
+-- what is told of a job's begin or end, in units of time
+abbrev pub end_comment : List ℕ → List ℕ → ℕ → List ℕ
+end_comment what name time = comment (what ∷ name ∷ codes " " ∷ decimal time ∷ [])
+
 abbrev pub begins_comment : Units → Judged → List ℕ
 begins_comment units judged = elim (first_begin (reverse judged.job.stretches)) [
   | None ↦ []
   | Some begin ↦ if begin_later (written_time units begin) (written_runs units judged.job)
-    then comment (codes "begins: " ∷ judged.name ∷ codes " " ∷ decimal (written_time units begin) ∷ []) else []
+    then end_comment (codes "begins: ") judged.name (written_time units begin) else []
 ]
 
 -- the runs end before this, or there is none
@@ -170,7 +176,7 @@ abbrev pub ends_comment : Units → Judged → List ℕ
 ends_comment units judged =
     if not (is_open judged.job.end) && not (end_is_told units judged)
         && end_earlier (written_end units judged.job.end) (written_runs units judged.job)
-    then comment (codes "ends: " ∷ judged.name ∷ codes " " ∷ decimal (written_end units judged.job.end) ∷ []) else []
+    then end_comment (codes "ends: ") judged.name (written_end units judged.job.end) else []
 
 -- of a job that stands as it is
 abbrev pub shown_comments : Units → Judged → List ℕ
@@ -200,27 +206,6 @@ is_for reason (Some other) = reason_number other == reason_number reason
 abbrev pub is_left_out_for : Reason → Judged → Bool
 is_left_out_for reason judged = is_left_out judged && is_for reason judged.reason
 
--- jobs of one task that are left out for one reason, in order of begin
-pub record Group : Type 0 where
-  pub label : List ℕ
-  pub reason : Reason
-  pub jobs : List Judged
-
-abbrev pub groups_of_task : List ℕ → List Judged → List Group
-groups_of_task label judged = map (λ reason. record { label = label; reason = reason; jobs = filter (is_left_out_for reason) judged }) every_reason
-
-abbrev pub groups_from : List Task → List (List Judged) → List Group
-groups_from [] by_task = []
-groups_from (task ∷ tasks) [] = []
-groups_from (task ∷ tasks) (judged ∷ by_task) = groups_of_task task.label judged ++ groups_from tasks by_task
-
-abbrev pub has_jobs : Group → Bool
-has_jobs group = nat_lt 0 (length group.jobs)
-
--- the most jobs first, and as many as another in order of tasks and of reasons
-abbrev pub most_first : ℕ → List Group → List Group
-most_first most groups = in_order (λ group. most - length group.jobs) groups
-
 abbrev pub first_name : List Judged → List ℕ
 first_name [] = []
 first_name (judged ∷ more) = judged.name
@@ -230,12 +215,38 @@ last_name [] = []
 last_name (judged ∷ []) = judged.name
 last_name (judged ∷ next ∷ more) = last_name (next ∷ more)
 
+-- the jobs of one task that are left out for one reason: how many, and the names of the first and the last
+pub record Group : Type 0 where
+  pub label : List ℕ
+  pub reason : Reason
+  pub count : ℕ
+  pub first : List ℕ
+  pub last : List ℕ
+
+abbrev pub group_of : List ℕ → Reason → List Judged → Group
+group_of label reason jobs = record { label = label; reason = reason; count = length jobs; first = first_name jobs; last = last_name jobs }
+
+abbrev pub groups_of_task : List ℕ → List Judged → List Group
+groups_of_task label judged = map (λ reason. group_of label reason (filter (is_left_out_for reason) judged)) every_reason
+
+abbrev pub groups_from : List Task → List (List Judged) → List Group
+groups_from [] by_task = []
+groups_from (task ∷ tasks) [] = []
+groups_from (task ∷ tasks) (judged ∷ by_task) = groups_of_task task.label judged ++ groups_from tasks by_task
+
+abbrev pub has_jobs : Group → Bool
+has_jobs group = nat_lt 0 group.count
+
+-- the most jobs first, and as many as another in order of tasks and of reasons
+abbrev pub most_first : ℕ → List Group → List Group
+most_first most groups = in_order (λ group. most - group.count) groups
+
 abbrev pub group_comment : Group → List ℕ
 group_comment group =
-    if length group.jobs == 1
-    then comment (codes "left out: " ∷ first_name group.jobs ∷ codes " (" ∷ reason_text (Some group.reason) ∷ codes ")" ∷ [])
-    else comment (codes "left out: " ∷ decimal (length group.jobs) ∷ codes " jobs of " ∷ group.label ∷ codes " (" ∷ reason_text (Some group.reason)
-    ∷ codes "), the first " ∷ first_name group.jobs ∷ codes ", the last " ∷ last_name group.jobs ∷ [])
+    if group.count == 1
+    then comment (codes "left out: " ∷ group.first ∷ codes " (" ∷ reason_text (Some group.reason) ∷ codes ")" ∷ [])
+    else comment (codes "left out: " ∷ decimal group.count ∷ codes " jobs of " ∷ group.label ∷ codes " (" ∷ reason_text (Some group.reason)
+    ∷ codes "), the first " ∷ group.first ∷ codes ", the last " ∷ group.last ∷ [])
 
 -- What `from` and `to` cut off is one line for all tasks.
 abbrev pub is_cut_off : Judged → Bool
@@ -245,41 +256,46 @@ abbrev pub cut_off_comment : ℕ → List ℕ
 cut_off_comment number =
     if number == 0 then [] else comment (codes "left out: " ∷ counted number (codes "job") (codes "jobs") ∷ codes " before from or after to" ∷ [])
 
-abbrev pub left_out_comments : Asked → Settled → List ℕ
-left_out_comments asked settled =
-    flat_map group_comment (most_first (length settled.judged) (filter has_jobs (groups_from asked.tasks settled.by_task)))
-    ++ cut_off_comment (length (filter is_cut_off settled.judged))
+abbrev pub left_out_comments : List Task → List (List Judged) → List Judged → List ℕ
+left_out_comments tasks by_task judged =
+    flat_map group_comment (most_first (length judged) (filter has_jobs (groups_from tasks by_task))) ++ cut_off_comment (count_by is_cut_off judged)
 
 -- # Stretches and wake-ups
 
+abbrev pub short_of : Units → Judged → List Stretch
+short_of units judged = if stands judged then filter (is_short units) (reverse judged.job.stretches) else []
+
 abbrev pub short_stretches : Units → List Judged → List Stretch
-short_stretches units judged = flat_map (λ one. if stands one then filter (is_short units) (reverse one.job.stretches) else []) judged
+short_stretches units judged = flat_map (short_of units) judged
 
 abbrev pub length_of : Stretch → ℕ
 length_of stretch = stretch.to - stretch.from
+
+abbrev pub is_or_are : ℕ → List ℕ
+is_or_are number = if number == 1 then codes "is" else codes "are"
 
 abbrev pub short_comment : List Stretch → List ℕ
 short_comment stretches =
     if length stretches == 0 then []
     else comment (counted (length stretches) (codes "stretch within one unit of time, ") (codes "stretches within one unit of time, ")
     ∷ in_milliseconds (capped (sum_by length_of stretches)) ∷ codes " ms together, "
-    ∷ (if length stretches == 1 then codes "is" else codes "are") ∷ codes " in no run" ∷ [])
+    ∷ is_or_are (length stretches) ∷ codes " in no run" ∷ [])
 
 -- the wake-ups that came while a job was open which stands as it is
 abbrev pub wake_ups_of : Judged → ℕ
 wake_ups_of judged = if stands judged then judged.job.wake_ups else 0
 
 -- the first job that has the most of them
-abbrev pub most_woken : List Judged → ℕ → List ℕ → List ℕ
-most_woken [] most name = told (name ∷ codes ": " ∷ decimal most ∷ [])
+abbrev pub most_woken : List Judged → ℕ → List ℕ → ℕ × List ℕ
+most_woken [] most name = (most, name)
 most_woken (judged ∷ more) most name =
     if nat_lt most (wake_ups_of judged) then most_woken more (wake_ups_of judged) judged.name else most_woken more most name
 
 abbrev pub wake_up_comment : List Judged → List ℕ
 wake_up_comment judged =
-    if sum_by wake_ups_of judged == 0 then []
+    if capped (sum_by wake_ups_of judged) == 0 then []
     else comment (counted (capped (sum_by wake_ups_of judged)) (codes "wake-up came while its job was open, the most of ") (codes "wake-ups came while their job was open, the most of ")
-    ∷ most_woken judged 0 [] ∷ [])
+    ∷ (most_woken judged 0 []).1 ∷ codes ": " ∷ decimal (most_woken judged 0 []).0 ∷ [])
 
 -- # Units that are likely wrong
 
@@ -334,7 +350,7 @@ without_runs_text number =
 abbrev pub last_line : Settled → List ℕ
 last_line settled =
     comment (counted (length settled.document.jobs) (codes "job") (codes "jobs") ∷ codes " written, "
-    ∷ left_out_text (length (filter is_left_out settled.judged)) ∷ without_runs_text (length (filter is_without_runs settled.judged)) ∷ [])
+    ∷ left_out_text (count_by is_left_out settled.judged) ∷ without_runs_text (count_by is_without_runs settled.judged) ∷ [])
 
 -- # The text
 
@@ -342,18 +358,18 @@ abbrev pub document_text : Settled → List ℕ
 document_text settled =
     flat_map job_text settled.document.jobs ++ ticks_text ++ flat_map (run_text (map name_of settled.document.jobs)) settled.document.runs
 
-abbrev pub comments_text : Asked → Settled → List ℕ
-comments_text asked settled =
+abbrev pub comments_text : List Task → Settled → List ℕ
+comments_text tasks settled =
     flat_map (late_comment settled.units) settled.judged
     ++ flat_map (shown_comments settled.units) settled.judged
-    ++ left_out_comments asked settled
+    ++ left_out_comments tasks settled.by_task settled.judged
     ++ short_comment (short_stretches settled.units settled.judged)
     ++ wake_up_comment settled.judged
-    ++ all_unit_comments asked.tasks settled.by_task
+    ++ all_unit_comments tasks settled.by_task
     ++ last_line settled
 
 abbrev pub settled_text : Asked → Settled → List ℕ
-settled_text asked settled = head_line asked settled.units ++ units_line settled.units ++ document_text settled ++ comments_text asked settled
+settled_text asked settled = head_line asked.processor settled.units ++ units_line settled.units ++ document_text settled ++ comments_text asked.tasks settled
 
 abbrev pub text_of : Asked → List Said → List ℕ
 text_of asked past = settled_text asked (settled_of asked past)

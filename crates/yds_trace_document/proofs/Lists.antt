@@ -1,0 +1,44 @@
+-- Lists as they are kept and as they are read.
+use Rattle.yds_model.proofs.Common.{◌≡◌, ℕ, suc, ◌+◌, ◌||◌, Bool, true, false, not, cond, List, [], ◌∷◌, ◌++◌, map, reverse, length, ◌∙◌, refl, sym, ap, ap₂, arith, nat_lt, Some, None, list_any, position, prefix_len, enumerate_from, length-map, map-append, reverse-append}
+use Rattle.std.proofs.lemmas.List.Folds.{list_any-append}
+
+pub map_reverse : {A B : Type 0} (f : A → B) (xs : List A) → map f (reverse xs) ≡ reverse (map f xs)
+map_reverse f [] = refl
+map_reverse {A} {B} f (x ∷ xs) =
+    ap (map f) (reverse-append (x ∷ []) xs)
+    ∙ map-append f (reverse xs) (x ∷ [])
+    ∙ ap (λ (rest : List B). rest ++ f x ∷ []) (map_reverse f xs)
+    ∙ sym (reverse-append (f x ∷ []) (map f xs))
+
+or_comm : (b c : Bool) → (b || (c || false)) ≡ (c || b)
+or_comm true true = refl
+or_comm true false = refl
+or_comm false true = refl
+or_comm false false = refl
+
+pub list_any_reverse : {A : Type 0} (p : A → Bool) (xs : List A) → list_any p (reverse xs) ≡ list_any p xs
+list_any_reverse p [] = refl
+list_any_reverse p (x ∷ xs) =
+    ap (list_any p) (reverse-append (x ∷ []) xs)
+    ∙ list_any-append p (reverse xs) (x ∷ [])
+    ∙ ap (λ (b : Bool). b || (p x || false)) (list_any_reverse p xs)
+    ∙ or_comm (list_any p xs) (p x)
+
+pub list_any_map : {A B : Type 0} (p : B → Bool) (f : A → B) (xs : List A) → list_any p (map f xs) ≡ list_any (λ x. p (f x)) xs
+list_any_map p f [] = refl
+list_any_map p f (x ∷ xs) = ap (λ (b : Bool). p (f x) || b) (list_any_map p f xs)
+
+prefix_len_map : {A B : Type 0} (p : B → Bool) (f : A → B) (xs : List A) → prefix_len p (map f xs) ≡ prefix_len (λ x. p (f x)) xs
+prefix_len_map p f [] = refl
+prefix_len_map p f (x ∷ xs) = ap (λ (n : ℕ). cond (p (f x)) (1 + n) 0) (prefix_len_map p f xs)
+
+pub position_map : {A B : Type 0} (p : B → Bool) (f : A → B) (xs : List A) → position p (map f xs) ≡ position (λ x. p (f x)) xs
+position_map p f xs =
+    ap₂ (λ (m n : ℕ). cond (nat_lt m n) (Some m) None) (prefix_len_map (λ y. not (p y)) f xs) (length-map xs f)
+
+-- one more element, numbered
+pub enumerate_push : {A : Type 0} (n : ℕ) (xs : List A) (x : A) → enumerate_from n (xs ++ x ∷ []) ≡ enumerate_from n xs ++ (n + length xs, x) ∷ []
+enumerate_push {A} n [] x = ap (λ (m : ℕ). let pair : ℕ × A = (m, x) in pair ∷ []) (let e : n ≡ n + 0 = omega arith in e)
+enumerate_push {A} n (y ∷ ys) x =
+    ap (λ (rest : List (ℕ × A)). let pair : ℕ × A = (n, y) in pair ∷ rest)
+    (enumerate_push (n + 1) ys x ∙ ap (λ (m : ℕ). let pair : ℕ × A = (m, x) in enumerate_from (n + 1) ys ++ pair ∷ []) (let e : n + 1 + length ys ≡ n + suc (length ys) = omega arith in e))

@@ -1,0 +1,153 @@
+-- What is kept at a trace's end gives what the definitions say of its lines.
+use Rattle.yds_model.proofs.Common.{◌≡◌, ℕ, ◌+◌, List, [], ◌∷◌, ◌++◌, map, length, get_or, ◌∙◌, refl, sym, ap, ap₂, subst, arith, min, Bool, false, not, ◌&&◌, nat_le, if◌then◌else◌, Option, Some, None, unwrap_or, flat_map, enumerate_from, filter_map, get_or_at, append_assoc, length_push}
+use Rattle.std.specs.Prelude.{is_none}
+use Rattle.std.specs.List.{cons_option}
+use Rattle.yds_kernel.specs.Event.{Said}
+use Rattle.yds_trace.specs.declared.ended.Ended.{Ended as EndedKept}
+use Rattle.yds_trace.specs.declared.reason.Reason.{Reason}
+use Rattle.yds_trace.specs.declared.reason.Reason.TheVariants as reasons
+use Rattle.yds_trace.specs.Asked.{Task, Asked, no_task, task_at, is_after_from}
+use Rattle.yds_trace.specs.Past.{first_time, last_time}
+use Rattle.yds_trace.specs.Jobs.{Job}
+use Rattle.yds_trace.specs.Late.{due, is_open, late_by}
+use Rattle.yds_trace.specs.Ended.{IsEnded, in_order_of_begin, jobs_from}
+use Rattle.yds_trace.specs.Views.{asked_read}
+use Rattle.yds_trace.specs.WrittenTime.{Units}
+use Rattle.yds_trace.specs.Document.{is_lost, named, jobs_of, began_before, Judged, judged, judged_of, judged_from, in_order, least_begin, all_judged, units_of, Written, written_of, written_jobs, Placed, placed_runs, all_runs}
+use Rattle.yds_trace_document.specs.Settled.{judged_by_task, Settled, settled_of, with_capped_work, with_capped_works}
+use Rattle.yds_trace_document.specs.Kept.{last_of, is_to_reached, run_reason, judged_at, judged_task, judged_tasks, begin_of, together, zero_of, units_at, capped_option, capped_jobs, within_of, settled_at}
+
+-- # One job
+
+last_same : (to : Option ℕ) (last : ℕ) → last_of to last ≡ (elim to [ None ↦ last | Some time ↦ min time last ])
+last_same None last = refl
+last_same (Some time) last = refl
+
+reached_same : (to : Option ℕ) (last : ℕ) → is_to_reached to last ≡ (elim to [ None ↦ false | Some time ↦ nat_le time last ])
+reached_same None last = refl
+reached_same (Some time) last = refl
+
+abbrev reason_by : Asked → Task → Job → ℕ → Bool → Option Reason
+reason_by asked task job last reached =
+    if not (is_after_from asked.from job.begin) then Some reasons.BeforeFrom
+    else (if is_lost last job.end then Some reasons.EventsLost
+    else (if job.switch_missing then Some reasons.SwitchMissing
+    else (if is_open job.end && is_none (late_by asked.from last (due task job) job.end)
+    then Some (if reached then reasons.AfterTo else reasons.NotEnded) else run_reason asked.processor job)))
+
+abbrev judged_by : Asked → ℕ → Task → Bool → ℕ × Job → ℕ → Bool → Judged
+judged_by asked number task before numbered last reached = record {
+  task = number;
+  name = named task.label before numbered.0;
+  job = numbered.1;
+  due = due task numbered.1;
+  late = late_by asked.from last (due task numbered.1) numbered.1.end;
+  reason = reason_by asked task numbered.1 last reached;
+}
+
+one_same : (asked : Asked) (past : List Said) (number : ℕ) (before : Bool) (numbered : ℕ × Job) →
+    judged_at (within_of asked (last_time past)) number (task_at asked number) before numbered ≡ judged asked past number before numbered
+one_same asked past number before numbered =
+    ap₂ (judged_by asked number (task_at asked number) before numbered) (last_same asked.to (last_time past)) (reached_same asked.to (last_time past))
+
+-- # The jobs of the tasks
+
+map_same : {A B : Type 0} (f g : A → B) → ((x : A) → f x ≡ g x) → (xs : List A) → map f xs ≡ map g xs
+map_same f g each [] = refl
+map_same {A} {B} f g each (x ∷ xs) = ap₂ (λ (y : B) (ys : List B). y ∷ ys) (each x) (map_same f g each xs)
+
+task_same : (asked : Asked) (past : List Said) (number : ℕ) (task : Task) → task_at asked number ≡ task →
+    judged_task (within_of asked (last_time past)) number task (jobs_of asked past number) ≡ judged_of asked past number
+task_same asked past number task is =
+    ap (λ (t : Task). judged_task (within_of asked (last_time past)) number t (jobs_of asked past number)) (sym is)
+    ∙ map_same (judged_at (within_of asked (last_time past)) number (task_at asked number) (began_before (jobs_of asked past number)))
+    (judged asked past number (began_before (jobs_of asked past number)))
+    (one_same asked past number (began_before (jobs_of asked past number))) (enumerate_from 0 (jobs_of asked past number))
+
+tasks_same : (asked : Asked) (past : List Said) (front tasks : List Task) → asked.tasks ≡ front ++ tasks →
+    judged_tasks (within_of asked (last_time past)) (length front) tasks (jobs_from asked past (length front) tasks)
+    ≡ judged_by_task asked past (length front) tasks
+tasks_same asked past front [] is = refl
+tasks_same asked past front (task ∷ tasks) is =
+    let here : task_at asked (length front) ≡ task =
+    ap (λ (ts : List Task). get_or ts (length front) no_task) is ∙ get_or_at front task tasks no_task (length front) refl in
+    let counted : length (front ++ task ∷ []) ≡ length front + 1 = omega (arith, length_push front task) in
+    let rest = subst (λ (n : ℕ). judged_tasks (within_of asked (last_time past)) n tasks (jobs_from asked past n tasks) ≡ judged_by_task asked past n tasks)
+    counted (tasks_same asked past (front ++ task ∷ []) tasks (is ∙ sym (append_assoc front (task ∷ []) tasks))) in
+    ap₂ (λ (one : List Judged) (more : List (List Judged)). one ∷ more) (task_same asked past (length front) task here) rest
+
+together_same : (asked : Asked) (past : List Said) (number : ℕ) (tasks : List Task) →
+    together (judged_by_task asked past number tasks) ≡ judged_from asked past number tasks
+together_same asked past number [] = refl
+together_same asked past number (task ∷ tasks) =
+    ap (λ (more : List Judged). judged_of asked past number ++ more) (together_same asked past (number + 1) tasks)
+
+-- # The document
+
+least_same : (least : Option ℕ) (first : ℕ) → unwrap_or least first ≡ (elim least [ Some begin ↦ begin | None ↦ first ])
+least_same None first = refl
+least_same (Some begin) first = refl
+
+zero_same : (from : Option ℕ) (first : ℕ) (judged : List Judged) →
+    zero_of from first judged ≡ (elim from [ Some time ↦ time | None ↦ elim (least_begin judged) [ Some begin ↦ begin | None ↦ first ] ])
+zero_same None first judged = least_same (least_begin judged) first
+zero_same (Some time) first judged = refl
+
+cons_same : (job : Option Written) (capped jobs : List Written) → capped ≡ map with_capped_work jobs →
+    cons_option (capped_option job) capped ≡ map with_capped_work (cons_option job jobs)
+cons_same None capped jobs is = is
+cons_same (Some job) capped jobs is = ap (λ (more : List Written). with_capped_work job ∷ more) is
+
+jobs_same : (units : Units) (judged : List Judged) → capped_jobs units judged ≡ map with_capped_work (filter_map (written_of units) judged)
+jobs_same units [] = refl
+jobs_same units (one ∷ judged) =
+    cons_same (written_of units one) (capped_jobs units judged) (filter_map (written_of units) judged) (jobs_same units judged)
+
+runs_same : (place : ℕ) (jobs : List Written) →
+    flat_map placed_runs (enumerate_from place (map with_capped_work jobs)) ≡ flat_map placed_runs (enumerate_from place jobs)
+runs_same place [] = refl
+runs_same place (job ∷ jobs) = ap (λ (more : List Placed). placed_runs (place, job) ++ more) (runs_same (place + 1) jobs)
+
+abbrev built : Units → List (List Judged) → List Judged → List Written → List Placed → Settled
+built units by_task judged jobs runs =
+    record { units = units; by_task = by_task; judged = judged; document = record { jobs = jobs; runs = runs } }
+
+built_same : (units units' : Units) (by_task by_task' : List (List Judged)) (judged judged' : List Judged) (jobs jobs' : List Written)
+    (runs runs' : List Placed) → units ≡ units' → by_task ≡ by_task' → judged ≡ judged' → jobs ≡ jobs' → runs ≡ runs' →
+    built units by_task judged jobs runs ≡ built units' by_task' judged' jobs' runs'
+built_same units units' by_task by_task' judged judged' jobs jobs' runs runs' a b c d e = cc
+
+settled_same : (asked : Asked) (past : List Said) (first : ℕ) (by_task : List (List Judged)) → first ≡ first_time 0 past →
+    by_task ≡ judged_by_task asked past 0 asked.tasks → settled_at asked first by_task ≡ with_capped_works (settled_of asked past)
+settled_same asked past first by_task begins are =
+    let in_line : in_order begin_of (together by_task) ≡ all_judged asked past =
+    ap (in_order begin_of) (ap together are ∙ together_same asked past 0 asked.tasks) in
+    let units : units_at asked first (in_order begin_of (together by_task)) ≡ units_of asked past =
+    ap₂ (units_at asked) begins in_line
+    ∙ ap (λ (zero : ℕ). let made : Units = record { zero = zero; time = asked.unit; speed = asked.khz } in made)
+    (zero_same asked.from (first_time 0 past) (all_judged asked past)) in
+    let jobs : capped_jobs (units_at asked first (in_order begin_of (together by_task))) (in_order begin_of (together by_task))
+    ≡ map with_capped_work (written_jobs asked past) =
+    ap₂ capped_jobs units in_line ∙ jobs_same (units_of asked past) (all_judged asked past) in
+    let runs : all_runs (capped_jobs (units_at asked first (in_order begin_of (together by_task))) (in_order begin_of (together by_task)))
+    ≡ all_runs (written_jobs asked past) =
+    ap all_runs jobs ∙ ap (in_order (λ (placed : Placed). placed.run.from)) (runs_same 0 (written_jobs asked past)) in
+    built_same (units_at asked first (in_order begin_of (together by_task))) (units_of asked past)
+    by_task (judged_by_task asked past 0 asked.tasks)
+    (in_order begin_of (together by_task)) (all_judged asked past)
+    (capped_jobs (units_at asked first (in_order begin_of (together by_task))) (in_order begin_of (together by_task)))
+    (map with_capped_work (written_jobs asked past))
+    (all_runs (capped_jobs (units_at asked first (in_order begin_of (together by_task))) (in_order begin_of (together by_task))))
+    (all_runs (written_jobs asked past)) units are in_line jobs runs
+
+pub kept_same : (ended : EndedKept) (asked : Asked) (past : List Said) (by_task : List (List Judged)) → IsEnded asked past ended →
+    by_task ≡ judged_tasks (within_of (asked_read ended.asked) ended.last) 0 (asked_read ended.asked).tasks (map in_order_of_begin ended.jobs.items) →
+    settled_at (asked_read ended.asked) ended.first by_task ≡ with_capped_works (settled_of asked past)
+kept_same ended asked past by_task is are =
+    ap (λ (a : Asked). settled_at a ended.first by_task) is.same_asked
+    ∙ settled_same asked past ended.first by_task is.first
+    (are
+    ∙ ap (λ (a : Asked). judged_tasks (within_of a ended.last) 0 a.tasks (map in_order_of_begin ended.jobs.items)) is.same_asked
+    ∙ ap (λ (last : ℕ). judged_tasks (within_of asked last) 0 asked.tasks (map in_order_of_begin ended.jobs.items)) is.last
+    ∙ ap (judged_tasks (within_of asked (last_time past)) 0 asked.tasks) is.jobs
+    ∙ tasks_same asked past [] asked.tasks refl)

@@ -1,0 +1,116 @@
+-- What one step of a loop adds.
+use Rattle.yds_model.proofs.Common.{◌≡◌, ℕ, suc, ◌+◌, ◌-◌, ◌<◌, List, [], ◌∷◌, ◌++◌, map, reverse, length, get_or, take, ◌∙◌, refl, sym, ap, ap₂, arith, Option, Some, None, option_to_list, enumerate_from, flat_map, flat_map-append, append-nil, map-append, map_more, length-map, filter_map-append}
+use Rattle.std.proofs.lemmas.List.{reverse-reverse, length-take-le}
+use Rattle.std.specs.Prelude.{Vec, Bool}
+use Rattle.std.specs.List.{cons_option}
+use Rattle.std.specs.declared.alloc.Global.{Global}
+use Rattle.yds_trace.specs.declared.job.Job.{Job as JobKept}
+use Rattle.yds_trace.specs.declared.job.Stretch.{Stretch}
+use Rattle.yds_trace.specs.declared.asked.Task.{Task as TaskKept}
+use Rattle.yds_trace.specs.Asked.{Task}
+use Rattle.yds_trace.specs.Jobs.{Job}
+use Rattle.yds_trace.specs.Ended.{in_order_of_begin}
+use Rattle.yds_trace.specs.Views.{job_read, task_read}
+use Rattle.yds_trace.specs.WrittenTime.{Units, runs_end}
+use Rattle.yds_trace.specs.Document.{Judged, Written, Placed, placed_runs}
+use Rattle.yds_trace_document.specs.declared.run.Run.{Run as RunKept}
+use Rattle.yds_trace_document.specs.declared.judged.Judged.{Judged as JudgedKept}
+use Rattle.yds_trace_document.specs.declared.written.Written.{Written as WrittenKept}
+use Rattle.yds_trace_document.specs.Kept.{Within, placed_of, judged_at, judged_task, judged_tasks, capped_of, capped_jobs}
+use Rattle.yds_trace_document.specs.Views.{runs_read, written_option, written_read, written_list, judged_read, judged_list}
+use Rattle.yds_trace_document.proofs.Lists.{enumerate_push}
+
+-- # Numbered lists
+
+length_taken : {A B : Type 0} (g : A → B) (xs : List A) (i : ℕ) → i < length xs → length (map g (take i xs)) ≡ i
+length_taken g xs i within = length-map (take i xs) g ∙ length-take-le i xs (omega arith)
+
+numbered_more : {A B : Type 0} (g : A → B) (xs : List A) (i : ℕ) (d : A) → i < length xs →
+    enumerate_from 0 (map g (take (i + 1) xs)) ≡ enumerate_from 0 (map g (take i xs)) ++ (i, g (get_or xs i d)) ∷ []
+numbered_more {A} {B} g xs i d within =
+    ap (enumerate_from 0) (map_more g xs i d within)
+    ∙ enumerate_push 0 (map g (take i xs)) (g (get_or xs i d))
+    ∙ ap (λ (n : ℕ). let pair : ℕ × B = (n, g (get_or xs i d)) in enumerate_from 0 (map g (take i xs)) ++ pair ∷ [])
+    (let e : 0 + length (map g (take i xs)) ≡ i = omega (arith, length_taken g xs i within) in e)
+
+pub judged_more : (within : Within) (number : ℕ) (task : Task) (before : Bool) (jobs : List JobKept) (i : ℕ) (d : JobKept) → i < length jobs →
+    map (judged_at within number task before) (enumerate_from 0 (map job_read (take (i + 1) jobs)))
+    ≡ map (judged_at within number task before) (enumerate_from 0 (map job_read (take i jobs))) ++ judged_at within number task before (i, job_read (get_or jobs i d)) ∷ []
+judged_more within number task before jobs i d inside =
+    ap (map (judged_at within number task before)) (numbered_more job_read jobs i d inside)
+    ∙ map-append (judged_at within number task before) (enumerate_from 0 (map job_read (take i jobs))) ((i, job_read (get_or jobs i d)) ∷ [])
+
+pub placed_more : (jobs : List WrittenKept) (i : ℕ) (d : WrittenKept) → i < length jobs →
+    flat_map placed_runs (enumerate_from 0 (written_list (take (i + 1) jobs)))
+    ≡ flat_map placed_runs (enumerate_from 0 (written_list (take i jobs))) ++ placed_of i (written_read (get_or jobs i d)).runs
+placed_more jobs i d within =
+    ap (flat_map placed_runs) (numbered_more written_read jobs i d within)
+    ∙ flat_map-append placed_runs (enumerate_from 0 (written_list (take i jobs))) ((i, written_read (get_or jobs i d)) ∷ [])
+    ∙ ap (λ (l : List Placed). flat_map placed_runs (enumerate_from 0 (written_list (take i jobs))) ++ l) (append-nil (placed_runs (i, written_read (get_or jobs i d))))
+
+-- # Tasks
+
+task_more : (within : Within) (n : ℕ) (tasks : List Task) (jobs : List (List Job)) (task : Task) (more : List Job) → length tasks ≡ length jobs →
+    judged_tasks within n (tasks ++ task ∷ []) (jobs ++ more ∷ []) ≡ judged_tasks within n tasks jobs ++ judged_task within (n + length tasks) task more ∷ []
+task_more within n [] [] task more same =
+    ap (λ (m : ℕ). let one : List Judged = judged_task within m task more in one ∷ []) (let e : n ≡ n + 0 = omega arith in e)
+task_more within n [] (j ∷ jobs) task more same = absurd (omega arith)
+task_more within n (t ∷ tasks) [] task more same = absurd (omega arith)
+task_more within n (t ∷ tasks) (j ∷ jobs) task more same =
+    ap (λ (rest : List (List Judged)). judged_task within n t j ∷ rest)
+    (task_more within (n + 1) tasks jobs task more (omega arith)
+    ∙ ap (λ (m : ℕ). let one : List Judged = judged_task within m task more in judged_tasks within (n + 1) tasks jobs ++ one ∷ [])
+    (let e : n + 1 + length tasks ≡ n + suc (length tasks) = omega arith in e))
+
+pub tasks_more : (within : Within) (tasks : List TaskKept) (jobs : List (Vec JobKept Global)) (i : ℕ) (t : TaskKept) (j : Vec JobKept Global) →
+    i < length tasks → i < length jobs →
+    judged_tasks within 0 (map task_read (take (i + 1) tasks)) (map in_order_of_begin (take (i + 1) jobs))
+    ≡ judged_tasks within 0 (map task_read (take i tasks)) (map in_order_of_begin (take i jobs))
+    ++ judged_task within i (task_read (get_or tasks i t)) (in_order_of_begin (get_or jobs i j)) ∷ []
+tasks_more within tasks jobs i t j inside also =
+    ap₂ (judged_tasks within 0) (map_more task_read tasks i t inside) (map_more in_order_of_begin jobs i j also)
+    ∙ task_more within 0 (map task_read (take i tasks)) (map in_order_of_begin (take i jobs)) (task_read (get_or tasks i t)) (in_order_of_begin (get_or jobs i j))
+    (length_taken task_read tasks i inside ∙ sym (length_taken in_order_of_begin jobs i also))
+    ∙ ap (λ (m : ℕ). let one : List Judged = judged_task within m (task_read (get_or tasks i t)) (in_order_of_begin (get_or jobs i j)) in
+    judged_tasks within 0 (map task_read (take i tasks)) (map in_order_of_begin (take i jobs)) ++ one ∷ [])
+    (let e : 0 + length (map task_read (take i tasks)) ≡ i = omega (arith, length_taken task_read tasks i inside) in e)
+
+-- # Written jobs
+
+listed : {B : Type 0} (o : Option B) → cons_option o [] ≡ option_to_list o
+listed None = refl
+listed (Some x) = refl
+
+written_more : (units : Units) (judged : List JudgedKept) (i : ℕ) (d : JudgedKept) → i < length judged →
+    capped_jobs units (judged_list (take (i + 1) judged))
+    ≡ capped_jobs units (judged_list (take i judged)) ++ option_to_list (capped_of units (judged_read (get_or judged i d)))
+written_more units judged i d within =
+    ap (capped_jobs units) (map_more judged_read judged i d within)
+    ∙ filter_map-append (capped_of units) (judged_list (take i judged)) (judged_read (get_or judged i d) ∷ [])
+    ∙ ap (λ (l : List Written). capped_jobs units (judged_list (take i judged)) ++ l) (listed (capped_of units (judged_read (get_or judged i d))))
+
+option_read : (job : Option WrittenKept) → written_list (option_to_list job) ≡ option_to_list (written_option job)
+option_read None = refl
+option_read (Some job) = refl
+
+pub written_step : (units : Units) (judged : List JudgedKept) (i : ℕ) (d : JudgedKept) (jobs after : List WrittenKept) (job : Option WrittenKept) →
+    i < length judged → written_list jobs ≡ capped_jobs units (judged_list (take i judged)) →
+    written_option job ≡ capped_of units (judged_read (get_or judged i d)) → after ≡ jobs ++ option_to_list job →
+    written_list after ≡ capped_jobs units (judged_list (take (i + 1) judged))
+written_step units judged i d jobs after job within before one put =
+    ap written_list put
+    ∙ map-append written_read jobs (option_to_list job)
+    ∙ ap₂ (λ (front rest : List Written). front ++ rest) before (option_read job ∙ ap option_to_list one)
+    ∙ sym (written_more units judged i d within)
+
+pub read_back : (stretches : List Stretch) → reverse (reverse stretches) ≡ stretches
+read_back stretches = reverse-reverse stretches
+
+-- # The last run
+
+pub last_end : (runs : List RunKept) (d : RunKept) → 0 < length runs → runs_end (runs_read runs) ≡ (get_or runs (length runs - 1) d).to
+last_end [] d some = absurd (omega arith)
+last_end (run ∷ []) d some = refl
+last_end (run ∷ next ∷ runs) d some =
+    last_end (next ∷ runs) d (omega arith)
+    ∙ ap (λ (n : ℕ). (get_or (run ∷ next ∷ runs) n d).to) (let e : suc (length (next ∷ runs) - 1) ≡ length (run ∷ next ∷ runs) - 1 = omega arith in e)

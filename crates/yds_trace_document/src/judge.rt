@@ -1,0 +1,237 @@
+//! What becomes of a job.
+ghost use Rattle.std.specs.Prelude.{◌≡◌, ◌≤◌, ◌+◌, IfOk, map, length, nat_le, nat_lt};
+ghost use Rattle.std.specs.List.{All, list_any};
+ghost use Rattle.yds_trace.specs.declared.limits.TheConstants.{MAX_TIME, MAX_DEADLINE};
+ghost use Rattle.yds_trace.specs.Asked as words;
+ghost use Rattle.yds_trace.specs.Late as spec;
+ghost use Rattle.yds_trace.specs.Document as document;
+ghost use Rattle.yds_trace.specs.Views.{job_read, task_read};
+ghost use Rattle.yds_trace_document.specs.Kept as kept;
+ghost use Rattle.yds_trace_document.specs.Views.{judged_read, judged_list, within_read};
+
+use crate::judged::Judged;
+use crate::name::Name;
+use std::alloc::Global;
+use yds_model::Memory;
+use yds_trace::{End, Job, Reason, Stretch, Task};
+
+/// What is asked for beside the tasks, and the trace's last time. Times are nanoseconds.
+#[derive(Clone, Copy, Debug, PartialEq, Eq)]
+pub(crate) struct Within {
+    pub(crate) processor: u64,
+    pub(crate) from: Option<u64>,
+    pub(crate) to: Option<u64>,
+    pub(crate) last: u64,
+}
+
+/// The end of what is asked for and shown.
+fn last_of(to: Option<u64>, last: u64) -> u64
+    ensures { result ≡ kept.last_of to last }
+{
+    match to {
+        Some(to) => to.min(last),
+        None => last,
+    }
+}
+
+/// Up to when it is known of a job whether it has ended.
+fn shown_until(last: u64, end: End) -> u64
+    ensures { result ≡ spec.shown_until last end }
+{
+    match end {
+        End::Open => last,
+        End::Ended(time) => time,
+        End::Unseen { since, .. } | End::Lost(since) => last.min(since),
+    }
+}
+
+/// Whether it was still open then.
+fn is_open(end: End) -> bool
+    ensures { result ≡ spec.is_open end }
+{
+    match end {
+        End::Ended(_) => false,
+        End::Open | End::Unseen { .. } | End::Lost(_) => true,
+    }
+}
+
+/// Whether a deadline lies within what is asked for.
+fn is_judged(from: Option<u64>, last: u64, deadline: u64) -> bool
+    ensures { result ≡ spec.is_judged from last deadline }
+{
+    match from {
+        Some(from) => from < deadline && deadline <= last,
+        None => deadline <= last,
+    }
+}
+
+/// By how much a job is known to be late.
+fn late_by(from: Option<u64>, last: u64, deadline: u64, end: End) -> Option<u64>
+    ensures { result ≡ spec.late_by from last deadline end }
+{
+    let until = shown_until(last, end);
+    if is_judged(from, last, deadline)
+        && (deadline < until || (deadline == until && is_open(end)))
+    {
+        Some(until.saturating_sub(deadline))
+    } else {
+        None
+    }
+}
+
+/// Whether a time isn't before `from`.
+fn is_after_from(from: Option<u64>, time: u64) -> bool
+    ensures { result ≡ words.is_after_from from time }
+{
+    match from {
+        Some(from) => from <= time,
+        None => true,
+    }
+}
+
+/// Whether events were lost before it is known to have ended.
+fn is_lost(last: u64, end: End) -> bool
+    ensures { result ≡ document.is_lost last end }
+{
+    match end {
+        End::Lost(since) => since < last,
+        End::Open | End::Ended(_) | End::Unseen { .. } => false,
+    }
+}
+
+/// Why an open job that isn't known to be late can't stand.
+fn open_reason(to: Option<u64>, last: u64) -> Reason
+    ensures { result ≡ kept.open_reason to last }
+{
+    if is_to_reached(to, last) {
+        Reason::AfterTo
+    } else {
+        Reason::NotEnded
+    }
+}
+
+/// Whether `to` is given, and the trace goes on to it.
+fn is_to_reached(to: Option<u64>, last: u64) -> bool
+    ensures { result ≡ kept.is_to_reached to last }
+{
+    match to {
+        Some(to) => to <= last,
+        None => false,
+    }
+}
+
+/// Whether a stretch took time, at a speed that isn't known.
+fn is_of_unknown_speed(stretch: &Stretch) -> bool
+    ensures { result ≡ document.is_of_unknown_speed stretch.now }
+{
+    stretch.from < stretch.to && stretch.khz.is_none()
+}
+
+/// Why a job's runs can't stand.
+#[tactic(auto, using(crate::proofs::Lists::list_any_reverse))]
+fn run_reason(processor: u64, job: &Job) -> Option<Reason>
+    ensures { result ≡ kept.run_reason processor (job_read job.now) }
+{
+    let stretches = job.stretches.as_slice();
+    if !job.begin_known {
+        Some(Reason::BeginUnseen)
+    } else if has_moved(processor, stretches) {
+        Some(Reason::Moved)
+    } else if has_unknown_speed(stretches) {
+        Some(Reason::SpeedUnknown)
+    } else {
+        None
+    }
+}
+
+/// Whether one of the stretches is on another processor.
+fn has_moved(processor: u64, stretches: &[Stretch]) -> bool
+    ensures { result ≡ list_any (document.is_elsewhere processor) stretches.now }
+{
+    stretches
+        .iter()
+        .any(|stretch| stretch.processor != processor)
+}
+
+/// Whether one of the stretches is at a speed that isn't known.
+fn has_unknown_speed(stretches: &[Stretch]) -> bool
+    ensures { result ≡ list_any document.is_of_unknown_speed stretches.now }
+{
+    stretches.iter().any(|stretch| is_of_unknown_speed(stretch))
+}
+
+/// Why a job can't stand as it is, if it can't.
+fn reason_of(within: Within, late: Option<u64>, job: &Job) -> Option<Reason>
+    ensures { result ≡ kept.reason_at (within_read within) late (job_read job.now) }
+{
+    if !is_after_from(within.from, job.begin) {
+        Some(Reason::BeforeFrom)
+    } else if is_lost(last_of(within.to, within.last), job.end) {
+        Some(Reason::EventsLost)
+    } else if job.switch_missing {
+        Some(Reason::SwitchMissing)
+    } else if is_open(job.end) && late.is_none() {
+        Some(open_reason(within.to, within.last))
+    } else {
+        run_reason(within.processor, job)
+    }
+}
+
+/// What becomes of a job of a task.
+fn judge<'a>(
+    within: Within,
+    number: usize,
+    task: &'a Task,
+    before: bool,
+    place: usize,
+    job: &'a Job,
+) -> Judged<'a>
+    requires begin { job.now.begin ≤ MAX_TIME }
+    requires deadline { task.now.deadline ≤ MAX_DEADLINE }
+    ensures { judged_read result ≡ kept.judged_at (within_read within) number (task_read task.entry.now) before (place, job_read job.entry.now) }
+{
+    let due = job.begin + task.deadline;
+    let late = late_by(within.from, last_of(within.to, within.last), due, job.end);
+    Judged {
+        task: number,
+        name: Name {
+            label: task.label.as_slice(),
+            before,
+            number: place as u64,
+        },
+        job,
+        due,
+        late,
+        reason: reason_of(within, late, job),
+    }
+}
+
+/// Whether the first of these jobs began before the trace.
+fn began_before(jobs: &[Job]) -> bool
+    ensures { result ≡ document.began_before (map job_read jobs.now) }
+{
+    match jobs.first() {
+        Some(job) => !job.begin_known,
+        None => false,
+    }
+}
+
+/// What becomes of the jobs of a task.
+pub(crate) fn judge_task<'a>(
+    alloc: Global,
+    within: Within,
+    number: usize,
+    task: &'a Task,
+    jobs: &'a [Job],
+) -> Result<Vec<Judged<'a>>, Memory>
+    requires begins { All (λ job. job.begin ≤ MAX_TIME) jobs.now }
+    requires deadline { task.now.deadline ≤ MAX_DEADLINE }
+    ensures { IfOk result (λ judged. judged_list judged.items ≡ kept.judged_task (within_read within) number (task_read task.entry.now) (map job_read jobs.entry.now)) }
+{
+    let before = began_before(jobs);
+    let mut judged = Vec::with_capacity(alloc, jobs.len())?;
+    for (place, job) in jobs.iter().enumerate() {
+        judged.push(judge(within, number, task, before, place, job))?;
+    }
+    Ok(judged)
+}

@@ -1,0 +1,26 @@
+//! Pieces of text, one behind the other.
+ghost use Rattle.std.specs.Prelude.{◌≡◌, ◌++◌, OnOk, Bor, List, ℕ, map};
+ghost use Rattle.yds_trace_text.specs.Text.{told, comment};
+ghost use Rattle.yds_trace_text.specs.Views.{pieces};
+
+use yds_model::Memory;
+
+/// Puts these texts behind the others.
+pub(crate) fn put(texts: &[&[u8]], text: &mut Vec<u8>) -> Result<(), Memory>
+    ensures { OnOk result (text.new.items ≡ text.old.items ++ told (pieces texts.now)) }
+{
+    for piece in texts {
+        text.extend_from_slice(piece)?;
+    }
+    Ok(())
+}
+
+/// Puts a comment of these texts behind the others, on a line of its own.
+pub(crate) fn put_comment(texts: &[&[u8]], text: &mut Vec<u8>) -> Result<(), Memory>
+    ensures { OnOk result (text.new.items ≡ text.old.items ++ comment (pieces texts.now)) }
+{
+    text.extend_from_slice(b"# ")?;
+    put(texts, text)?;
+    text.extend_from_slice(b"\n")?;
+    Ok(())
+}

@@ -1,0 +1,25 @@
+//! Why a text isn't written.
+use thiserror::Error;
+use yds_model::Memory;
+
+/// Why the text of a document isn't written.
+#[derive(Clone, Copy, Debug, PartialEq, Eq, Error)]
+pub enum TextFault {
+    /// It is longer than a document may be, `MAX_INPUT` bytes.
+    #[error("the text is too long")]
+    TooLong,
+    /// Want of memory.
+    #[error("out of memory")]
+    Memory,
+}
+
+impl From<Memory> for TextFault {
+    ghost use Rattle.std.specs.Prelude.{◌≡◌};
+    ghost use Rattle.yds_trace_text.specs.declared.fault.TextFault.TheVariants as faults;
+
+    ghost from_gives = { λ _ fault. fault ≡ faults.Memory };
+
+    fn from(_memory: Memory) -> TextFault {
+        TextFault::Memory
+    }
+}

@@ -1,0 +1,23 @@
+//! The text of a trace's document: jobs, runs, and comments that tell what the document hasn't.
+//!
+//! It stands on `yds_trace_document`, which settles what becomes of the jobs, and on `yds_model` for the lines of documents. It
+//! carries the promise that what is written is the text that the definitions in `specs/` say, byte for byte, or that it is said
+//! to be too long for a document.
+#![tactic(auto)]
+
+mod bytes;
+mod ends;
+mod fault;
+mod head;
+mod late;
+mod last;
+mod left_out;
+mod numbers;
+mod rows;
+mod short;
+mod woken;
+mod writing;
+mod wrong_unit;
+
+pub use fault::TextFault;
+pub use writing::text;

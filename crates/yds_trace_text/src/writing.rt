@@ -1,0 +1,77 @@
+//! The whole text.
+ghost use Rattle.std.specs.Prelude.{◌≡◌, ◌≤◌, ◌<◌, ◌++◌, OnOk, IfOk, IfErr, length, map};
+ghost use Rattle.yds_model.specs.declared.limits.TheConstants.{MAX_INPUT};
+ghost use Rattle.yds_trace.specs.Views.{asked_read, task_read};
+ghost use Rattle.yds_trace_document.specs.Views.{settled_read};
+ghost use Rattle.yds_trace_text.specs.declared.fault.TextFault.TheVariants as faults;
+ghost use Rattle.yds_trace_text.specs.Text as spec;
+
+use crate::bytes::put;
+use crate::ends::put_all_shown;
+use crate::fault::TextFault;
+use crate::head::{put_head, put_units};
+use crate::last::put_last;
+use crate::late::put_all_late;
+use crate::left_out::put_left_out;
+use crate::rows::{names_of, put_jobs, put_runs};
+use crate::short::put_short_stretches;
+use crate::woken::put_wake_ups;
+use crate::wrong_unit::put_all_wrong_units;
+use std::alloc::Global;
+use yds_model::Memory;
+use yds_model::limits::MAX_INPUT;
+use yds_trace::{Asked, Task};
+use yds_trace_document::Settled;
+
+/// The text of what is settled: the document's lines, and comments that tell what it hasn't. It has at most `MAX_INPUT` bytes.
+pub fn text(alloc: Global, asked: &Asked, settled: &Settled<'_>) -> Result<Vec<u8>, TextFault>
+    ensures text { IfOk result (λ text. text.items ≡ spec.settled_text (asked_read asked.now) (settled_read settled.now)) }
+    ensures within { IfOk result (λ text. length text.items ≤ MAX_INPUT) }
+    ensures too_long { IfErr result (λ fault. fault ≡ faults.TooLong → MAX_INPUT < length (spec.settled_text (asked_read asked.now) (settled_read settled.now))) }
+{
+    let text = whole_text(alloc, asked, settled)?;
+    if text.len() > MAX_INPUT {
+        return Err(TextFault::TooLong);
+    }
+    Ok(text)
+}
+
+/// The text, however long it is.
+fn whole_text(alloc: Global, asked: &Asked, settled: &Settled<'_>) -> Result<Vec<u8>, Memory>
+    ensures { IfOk result (λ text. text.items ≡ spec.settled_text (asked_read asked.now) (settled_read settled.now)) }
+{
+    let mut text = Vec::new(alloc);
+    put_head(alloc, asked.processor, settled.units, &mut text)?;
+    put_units(alloc, settled.units, &mut text)?;
+    put_document(alloc, settled, &mut text)?;
+    put_comments(alloc, &asked.tasks, settled, &mut text)?;
+    Ok(text)
+}
+
+/// The lines of the jobs and of the runs.
+fn put_document(alloc: Global, settled: &Settled<'_>, text: &mut Vec<u8>) -> Result<(), Memory>
+    ensures { OnOk result (text.new.items ≡ text.old.items ++ spec.document_text (settled_read settled.now)) }
+{
+    let names = names_of(alloc, &settled.jobs)?;
+    put_jobs(alloc, &settled.jobs, text)?;
+    put(&[b"ticks 1\n".as_slice()], text)?;
+    put_runs(&names, &settled.runs, text)
+}
+
+/// The comments.
+fn put_comments(
+    alloc: Global,
+    tasks: &[Task],
+    settled: &Settled<'_>,
+    text: &mut Vec<u8>,
+) -> Result<(), Memory>
+    ensures { OnOk result (text.new.items ≡ text.old.items ++ spec.comments_text (map task_read tasks.now) (settled_read settled.now)) }
+{
+    put_all_late(alloc, settled.units, &settled.judged, text)?;
+    put_all_shown(alloc, settled.units, &settled.judged, text)?;
+    put_left_out(alloc, tasks, &settled.by_task, &settled.judged, text)?;
+    put_short_stretches(alloc, settled.units, &settled.judged, text)?;
+    put_wake_ups(alloc, &settled.judged, text)?;
+    put_all_wrong_units(alloc, tasks, &settled.by_task, text)?;
+    put_last(alloc, settled, text)
+}
