@@ -1,15 +1,14 @@
 -- The text of a trace's document: jobs, runs, and comments that tell what the document hasn't. Lines, fields and numbers are those of documents.
-use Rattle.std.specs.Prelude.{ℕ, ◌+◌, ◌-◌, ◌*◌, ◌/◌, ◌%◌, List, [], ◌∷◌, ◌++◌, length, drop, map, filter, reverse, codes, decimal, sum_by, count_by, Bool, true, false, not, ◌==◌, ◌&&◌, ◌||◌, nat_lt, nat_le, if◌then◌else◌, Option, Some, None, is_some, is_none}
-use Rattle.std.specs.List.{flat_map, slice_index_or}
+use Rattle.std.specs.Prelude.{ℕ, ◌+◌, ◌-◌, ◌*◌, ◌/◌, ◌%◌, List, [], ◌∷◌, ◌++◌, length, drop, map, filter, reverse, codes, decimal, sum_by, count_by, Bool, true, false, not, ◌==◌, ◌&&◌, ◌||◌, nat_lt, nat_le, if◌then◌else◌, Option, Some, None, is_some}
+use Rattle.std.specs.List.{flat_map, slice_index_or, zip}
 use Rattle.yds_model.specs.Text.{line}
+use Rattle.yds_kernel.specs.declared.limits.TheConstants.{MAX_U64}
 use Rattle.yds_kernel.specs.Event.{Said}
 use Rattle.yds_kernel.specs.Parts.{capped}
-use Rattle.yds_trace.specs.declared.job.End.{End}
-use Rattle.yds_trace.specs.declared.job.End.TheVariants as ends
 use Rattle.yds_trace.specs.declared.job.Stretch.{Stretch}
 use Rattle.yds_trace.specs.declared.reason.Reason.{Reason}
 use Rattle.yds_trace.specs.declared.reason.Reason.TheVariants as reasons
-use Rattle.yds_trace.specs.Asked.{Task, Asked, task_at}
+use Rattle.yds_trace.specs.Asked.{Task, Asked}
 use Rattle.yds_trace.specs.Jobs.{Job}
 use Rattle.yds_trace.specs.Late.{is_open}
 use Rattle.yds_trace.specs.WrittenTime.{Units, Run, written_time, is_short, runs_end}
@@ -23,7 +22,7 @@ abbrev pub told : List (List ℕ) → List ℕ
 told texts = flat_map (λ text. text) texts
 
 -- a line of a comment
-abbrev pub comment : List (List ℕ) → List ℕ
+unfoldable pub comment : List (List ℕ) → List ℕ
 comment texts = told (codes "# " ∷ texts) ++ 10 ∷ []
 
 -- a number below 1,000,000,000 with nine digits, and one below 1,000,000 with six
@@ -158,7 +157,7 @@ abbrev pub begins_comment : Units → Judged → List ℕ
 begins_comment units judged = elim (first_begin (reverse judged.job.stretches)) [
   | None ↦ []
   | Some begin ↦ if begin_later (written_time units begin) (written_runs units judged.job)
-    then end_comment (codes "begins: ") judged.name (written_time units begin) else []
+      then end_comment (codes "begins: ") judged.name (written_time units begin) else []
 ]
 
 -- the runs end before this, or there is none
@@ -175,7 +174,7 @@ end_is_told units judged =
 abbrev pub ends_comment : Units → Judged → List ℕ
 ends_comment units judged =
     if not (is_open judged.job.end) && not (end_is_told units judged)
-        && end_earlier (written_end units judged.job.end) (written_runs units judged.job)
+    && end_earlier (written_end units judged.job.end) (written_runs units judged.job)
     then end_comment (codes "ends: ") judged.name (written_end units judged.job.end) else []
 
 -- of a job that stands as it is
@@ -226,27 +225,36 @@ pub record Group : Type 0 where
 abbrev pub group_of : List ℕ → Reason → List Judged → Group
 group_of label reason jobs = record { label = label; reason = reason; count = length jobs; first = first_name jobs; last = last_name jobs }
 
-abbrev pub groups_of_task : List ℕ → List Judged → List Group
-groups_of_task label judged = map (λ reason. group_of label reason (filter (is_left_out_for reason) judged)) every_reason
+abbrev pub group_for : List ℕ → List Judged → Reason → Group
+group_for label judged reason = group_of label reason (filter (is_left_out_for reason) judged)
 
-abbrev pub groups_from : List Task → List (List Judged) → List Group
-groups_from [] by_task = []
-groups_from (task ∷ tasks) [] = []
-groups_from (task ∷ tasks) (judged ∷ by_task) = groups_of_task task.label judged ++ groups_from tasks by_task
+abbrev pub groups_of_task : List ℕ → List Judged → List Group
+groups_of_task label judged = map (group_for label judged) every_reason
 
 abbrev pub has_jobs : Group → Bool
 has_jobs group = nat_lt 0 group.count
 
+-- of each task with its jobs
+abbrev pub groups_of : Task × List Judged → List Group
+groups_of (task, judged) = filter has_jobs (groups_of_task task.label judged)
+
+abbrev pub all_groups : List Task → List (List Judged) → List Group
+all_groups tasks by_task = flat_map groups_of (zip tasks by_task)
+
 -- the most jobs first, and as many as another in order of tasks and of reasons
-abbrev pub most_first : ℕ → List Group → List Group
-most_first most groups = in_order (λ group. most - group.count) groups
+abbrev pub most_first : List Group → List Group
+most_first groups = in_order (λ group. MAX_U64 - group.count) groups
+
+abbrev pub one_left_out : Group → List ℕ
+one_left_out group = comment (codes "left out: " ∷ group.first ∷ codes " (" ∷ reason_text (Some group.reason) ∷ codes ")" ∷ [])
+
+abbrev pub some_left_out : Group → List ℕ
+some_left_out group =
+    comment (codes "left out: " ∷ decimal group.count ∷ codes " jobs of " ∷ group.label ∷ codes " (" ∷ reason_text (Some group.reason)
+    ∷ codes "), the first " ∷ group.first ∷ codes ", the last " ∷ group.last ∷ [])
 
 abbrev pub group_comment : Group → List ℕ
-group_comment group =
-    if group.count == 1
-    then comment (codes "left out: " ∷ group.first ∷ codes " (" ∷ reason_text (Some group.reason) ∷ codes ")" ∷ [])
-    else comment (codes "left out: " ∷ decimal group.count ∷ codes " jobs of " ∷ group.label ∷ codes " (" ∷ reason_text (Some group.reason)
-    ∷ codes "), the first " ∷ group.first ∷ codes ", the last " ∷ group.last ∷ [])
+group_comment group = if group.count == 1 then one_left_out group else some_left_out group
 
 -- What `from` and `to` cut off is one line for all tasks.
 abbrev pub is_cut_off : Judged → Bool
@@ -258,7 +266,7 @@ cut_off_comment number =
 
 abbrev pub left_out_comments : List Task → List (List Judged) → List Judged → List ℕ
 left_out_comments tasks by_task judged =
-    flat_map group_comment (most_first (length judged) (filter has_jobs (groups_from tasks by_task))) ++ cut_off_comment (count_by is_cut_off judged)
+    flat_map group_comment (most_first (all_groups tasks by_task)) ++ cut_off_comment (count_by is_cut_off judged)
 
 -- # Stretches and wake-ups
 
@@ -274,12 +282,14 @@ length_of stretch = stretch.to - stretch.from
 abbrev pub is_or_are : ℕ → List ℕ
 is_or_are number = if number == 1 then codes "is" else codes "are"
 
-abbrev pub short_comment : List Stretch → List ℕ
-short_comment stretches =
-    if length stretches == 0 then []
-    else comment (counted (length stretches) (codes "stretch within one unit of time, ") (codes "stretches within one unit of time, ")
+abbrev pub some_short : List Stretch → List ℕ
+some_short stretches =
+    comment (counted (length stretches) (codes "stretch within one unit of time, ") (codes "stretches within one unit of time, ")
     ∷ in_milliseconds (capped (sum_by length_of stretches)) ∷ codes " ms together, "
     ∷ is_or_are (length stretches) ∷ codes " in no run" ∷ [])
+
+abbrev pub short_comment : List Stretch → List ℕ
+short_comment stretches = if length stretches == 0 then [] else some_short stretches
 
 -- the wake-ups that came while a job was open which stands as it is
 abbrev pub wake_ups_of : Judged → ℕ
@@ -291,11 +301,14 @@ most_woken [] most name = (most, name)
 most_woken (judged ∷ more) most name =
     if nat_lt most (wake_ups_of judged) then most_woken more (wake_ups_of judged) judged.name else most_woken more most name
 
+abbrev pub woken_comment : ℕ → ℕ × List ℕ → List ℕ
+woken_comment all most =
+    comment (counted all (codes "wake-up came while its job was open, the most of ") (codes "wake-ups came while their job was open, the most of ")
+    ∷ most.1 ∷ codes ": " ∷ decimal most.0 ∷ [])
+
 abbrev pub wake_up_comment : List Judged → List ℕ
 wake_up_comment judged =
-    if capped (sum_by wake_ups_of judged) == 0 then []
-    else comment (counted (capped (sum_by wake_ups_of judged)) (codes "wake-up came while its job was open, the most of ") (codes "wake-ups came while their job was open, the most of ")
-    ∷ (most_woken judged 0 []).1 ∷ codes ": " ∷ decimal (most_woken judged 0 []).0 ∷ [])
+    if capped (sum_by wake_ups_of judged) == 0 then [] else woken_comment (capped (sum_by wake_ups_of judged)) (most_woken judged 0 [])
 
 -- # Units that are likely wrong
 
@@ -308,31 +321,42 @@ last_of number [] = number
 last_of number (next ∷ numbers) = last_of next numbers
 
 -- the mean distance of begins, rounded down, where there are two at different times
+abbrev pub mean_behind : ℕ → List ℕ → Option ℕ
+mean_behind begin begins =
+    if nat_lt begin (last_of begin begins) then Some ((last_of begin begins - begin) / length begins) else None
+
 abbrev pub mean_distance : List ℕ → Option ℕ
 mean_distance [] = None
-mean_distance (begin ∷ begins) =
-    if nat_lt begin (last_of begin begins) then Some ((last_of begin begins - begin) / length begins) else None
+mean_distance (begin ∷ begins) = mean_behind begin begins
 
 abbrev pub distance_comment : List ℕ → List ℕ → ℕ → List ℕ → ℕ → List ℕ
 distance_comment what label value how mean =
     comment (what ∷ label ∷ codes ", " ∷ in_milliseconds value ∷ codes " ms, is " ∷ how ∷ codes " the mean distance of its jobs' begins, "
     ∷ in_milliseconds mean ∷ codes " ms: is it in another unit?" ∷ [])
 
-abbrev pub unit_comment : List ℕ → List ℕ → ℕ → Option ℕ → List ℕ
+unfoldable pub unit_comment : List ℕ → List ℕ → ℕ → Option ℕ → List ℕ
 unit_comment what label value None = []
 unit_comment what label value (Some mean) =
     if nat_lt (100 * mean) value then distance_comment what label value (codes "more than 100 times") mean
     else (if nat_lt (100 * value) mean then distance_comment what label value (codes "less than a hundredth of") mean else [])
 
+abbrev pub deadline_comment : Task → Option ℕ → List ℕ
+deadline_comment task mean = unit_comment (codes "the deadline of ") task.label task.deadline mean
+
+abbrev pub apart_comment : Task → Option ℕ → List ℕ
+apart_comment task mean = if task.apart == 0 then [] else unit_comment (codes "APART of ") task.label task.apart mean
+
+abbrev pub both_comments : Task → Option ℕ → List ℕ
+both_comments task mean = deadline_comment task mean ++ apart_comment task mean
+
 abbrev pub unit_comments : Task → List Judged → List ℕ
-unit_comments task judged =
-    unit_comment (codes "the deadline of ") task.label task.deadline (mean_distance (known_begins judged))
-    ++ (if task.apart == 0 then [] else unit_comment (codes "APART of ") task.label task.apart (mean_distance (known_begins judged)))
+unit_comments task judged = both_comments task (mean_distance (known_begins judged))
+
+abbrev pub task_unit_comments : Task × List Judged → List ℕ
+task_unit_comments (task, judged) = unit_comments task judged
 
 abbrev pub all_unit_comments : List Task → List (List Judged) → List ℕ
-all_unit_comments [] by_task = []
-all_unit_comments (task ∷ tasks) [] = []
-all_unit_comments (task ∷ tasks) (judged ∷ by_task) = unit_comments task judged ++ all_unit_comments tasks by_task
+all_unit_comments tasks by_task = flat_map task_unit_comments (zip tasks by_task)
 
 -- # The last line
 
@@ -342,10 +366,15 @@ is_without_runs judged = not (stands judged) && is_some judged.late
 abbrev pub left_out_text : ℕ → List ℕ
 left_out_text number = if number == 0 then codes "none left out" else told (decimal number ∷ codes " left out" ∷ [])
 
+abbrev pub its_or_their : ℕ → List ℕ
+its_or_their number = if number == 1 then codes "its" else codes "their"
+
+abbrev pub late_without : ℕ → List ℕ
+late_without number =
+    told (codes ", " ∷ decimal number ∷ codes " late without " ∷ its_or_their number ∷ codes " runs" ∷ [])
+
 abbrev pub without_runs_text : ℕ → List ℕ
-without_runs_text number =
-    if number == 0 then []
-    else told (codes ", " ∷ decimal number ∷ codes " late without " ∷ (if number == 1 then codes "its" else codes "their") ∷ codes " runs" ∷ [])
+without_runs_text number = if number == 0 then [] else late_without number
 
 abbrev pub last_line : Settled → List ℕ
 last_line settled =

@@ -1,5 +1,6 @@
 -- What contracts see of what the code keeps.
-use Rattle.std.specs.Prelude.{ℕ, List, [], map, Bor, Vec, Option, Some, None}
+use Rattle.std.specs.Prelude.{ℕ, List, [], map, Vec, Option, Some, None}
+use Rattle.std.specs.Borrow.{Bor}
 use Rattle.std.specs.declared.alloc.Global.{Global}
 use Rattle.yds_trace_document.specs.declared.name.Name.{Name as NameKept}
 use Rattle.yds_trace_document.specs.Views.{name_read}

@@ -1,5 +1,5 @@
 //! Pieces of text, one behind the other.
-ghost use Rattle.std.specs.Prelude.{◌≡◌, ◌++◌, OnOk, Bor, List, ℕ, map};
+ghost use Rattle.std.specs.Prelude.{◌≡◌, ◌++◌, OnOk};
 ghost use Rattle.yds_trace_text.specs.Text.{told, comment};
 ghost use Rattle.yds_trace_text.specs.Views.{pieces};
 
@@ -16,6 +16,7 @@ pub(crate) fn put(texts: &[&[u8]], text: &mut Vec<u8>) -> Result<(), Memory>
 }
 
 /// Puts a comment of these texts behind the others, on a line of its own.
+#[tactic(auto, unfolding(crate::specs::Text::comment))]
 pub(crate) fn put_comment(texts: &[&[u8]], text: &mut Vec<u8>) -> Result<(), Memory>
     ensures { OnOk result (text.new.items ≡ text.old.items ++ comment (pieces texts.now)) }
 {

@@ -55,27 +55,35 @@ fn left_out_text(alloc: Global, number: u64) -> Result<Vec<u8>, Memory>
 fn without_runs_text(alloc: Global, number: u64) -> Result<Vec<u8>, Memory>
     ensures { IfOk result (λ text. text.items ≡ spec.without_runs_text number) }
 {
-    let mut text = Vec::new(alloc);
     if number == 0 {
-        return Ok(text);
-    }
-    let digits = decimal(alloc, number)?;
-    let whose = if number == 1 {
-        b"its".as_slice()
+        Ok(Vec::new(alloc))
     } else {
-        b"their".as_slice()
-    };
+        late_without(alloc, number)
+    }
+}
+
+fn late_without(alloc: Global, number: u64) -> Result<Vec<u8>, Memory>
+    ensures { IfOk result (λ text. text.items ≡ spec.late_without number) }
+{
+    let digits = decimal(alloc, number)?;
+    let mut text = Vec::new(alloc);
     put(
         &[
             b", ".as_slice(),
             digits.as_slice(),
             b" late without ".as_slice(),
-            whose,
+            its_or_their(number),
             b" runs".as_slice(),
         ],
         &mut text,
     )?;
     Ok(text)
+}
+
+fn its_or_their(number: u64) -> &'static [u8]
+    ensures { result.now ≡ spec.its_or_their number }
+{
+    if number == 1 { b"its" } else { b"their" }
 }
 
 /// How many jobs are written, how many are left out, and how many are without their runs.

@@ -1,5 +1,5 @@
 //! Comments on jobs that are left out: a line for each task and reason, the most frequent first.
-ghost use Rattle.std.specs.Prelude.{◌≡◌, ◌++◌, OnOk, IfOk, filter, map, count_by};
+ghost use Rattle.std.specs.Prelude.{◌≡◌, ◌++◌, ◌∷◌, [], OnOk, IfOk, filter, map, count_by};
 ghost use Rattle.std.specs.List.{flat_map};
 ghost use Rattle.yds_trace.specs.Views.{task_read};
 ghost use Rattle.yds_trace_document.specs.Views.{judged_read, judged_list, judged_lists};
@@ -10,6 +10,7 @@ use crate::bytes::put_comment;
 use crate::late::reason_text;
 use crate::numbers::{counted, decimal};
 use std::alloc::Global;
+use yds_kernel::MAX_U64;
 use yds_model::Memory;
 use yds_trace::{Reason, Task};
 use yds_trace_document::{Judged, Name};
@@ -101,21 +102,38 @@ fn last_name<'a>(jobs: &[Judged<'a>]) -> Option<Name<'a>>
     }
 }
 
-/// Puts the groups of a task behind the others, those that have jobs.
-#[tactic(auto, using(crate::proofs::Read::groups_more))]
+/// Puts the group of a task for one reason behind the others, if it has jobs.
+fn put_group_for<'a>(
+    alloc: Global,
+    label: &'a [u8],
+    judged: &[Judged<'a>],
+    reason: Reason,
+    groups: &mut Vec<Group<'a>>,
+) -> Result<(), Memory>
+    ensures { OnOk result (groups_read groups.new.items ≡ groups_read groups.old.items
+        ++ filter spec.has_jobs (spec.group_for label.entry.now (judged_list judged.entry.now) reason ∷ [])) }
+{
+    let jobs = left_out_for(alloc, reason, judged)?;
+    let group = group_of(label, reason, &jobs);
+    if group.count > 0 {
+        groups.push(group)?;
+    }
+    Ok(())
+}
+
+/// Puts the groups of a task for these reasons behind the others, those that have jobs.
 fn put_groups<'a>(
     alloc: Global,
     label: &'a [u8],
     judged: &[Judged<'a>],
+    reasons: &[Reason],
     groups: &mut Vec<Group<'a>>,
 ) -> Result<(), Memory>
-    ensures { OnOk result (groups_read groups.new.items ≡ groups_read groups.old.items ++ filter spec.has_jobs (spec.groups_of_task label.entry.now (judged_list judged.entry.now))) }
+    ensures { OnOk result (groups_read groups.new.items ≡ groups_read groups.old.items
+        ++ filter spec.has_jobs (map (spec.group_for label.entry.now (judged_list judged.entry.now)) reasons.now)) }
 {
-    for reason in REASONS {
-        let jobs = left_out_for(alloc, reason, judged)?;
-        if !jobs.is_empty() {
-            groups.push(group_of(label, reason, &jobs))?;
-        }
+    for reason in reasons {
+        put_group_for(alloc, label, judged, *reason, groups)?;
     }
     Ok(())
 }
@@ -126,24 +144,27 @@ fn all_groups<'a>(
     tasks: &'a [Task],
     by_task: &[Vec<Judged<'a>>],
 ) -> Result<Vec<Group<'a>>, Memory>
-    ensures { IfOk result (λ groups. groups_read groups.items ≡ filter spec.has_jobs (spec.groups_from (map task_read tasks.entry.now) (judged_lists by_task.entry.now))) }
+    ensures { IfOk result (λ groups. groups_read groups.items ≡ spec.all_groups (map task_read tasks.entry.now) (judged_lists by_task.entry.now)) }
 {
     let mut groups = Vec::new(alloc);
-    for (task, judged) in tasks.iter().zip(by_task.iter()) {
-        put_groups(alloc, &task.label, judged, &mut groups)?;
+    for number in 0..tasks.len().min(by_task.len()) {
+        put_groups(
+            alloc,
+            &tasks[number].label,
+            &by_task[number],
+            &REASONS,
+            &mut groups,
+        )?;
     }
     Ok(groups)
 }
 
 /// These with the most frequent first.
-fn in_order_of_counts<'a>(
-    most: u64,
-    groups: Vec<Group<'a>>,
-) -> Result<Vec<Group<'a>>, Memory>
-    ensures { IfOk result (λ sorted. groups_read sorted.items ≡ spec.most_first most (groups_read groups.items)) }
+fn in_order_of_counts<'a>(groups: Vec<Group<'a>>) -> Result<Vec<Group<'a>>, Memory>
+    ensures { IfOk result (λ sorted. groups_read sorted.items ≡ spec.most_first (groups_read groups.entry.items)) }
 {
     let mut groups = groups;
-    groups.sort_by_key(|group| most.saturating_sub(group.count))?;
+    groups.sort_by_key(|group| MAX_U64.saturating_sub(group.count))?;
     Ok(groups)
 }
 
@@ -151,27 +172,44 @@ fn in_order_of_counts<'a>(
 fn put_group(alloc: Global, group: &Group<'_>, text: &mut Vec<u8>) -> Result<(), Memory>
     ensures { OnOk result (text.new.items ≡ text.old.items ++ spec.group_comment (group_read group.now)) }
 {
-    let first = name_text(alloc, group.first)?;
     if group.count == 1 {
-        return put_comment(
-            &[
-                b"left out: ".as_slice(),
-                first.as_slice(),
-                b" (".as_slice(),
-                reason_text(Some(group.reason)),
-                b")".as_slice(),
-            ],
-            text,
-        );
+        put_one(alloc, group, text)
+    } else {
+        put_some(alloc, group, text)
     }
+}
+
+/// The comment on the one job of a group.
+fn put_one(alloc: Global, group: &Group<'_>, text: &mut Vec<u8>) -> Result<(), Memory>
+    ensures { OnOk result (text.new.items ≡ text.old.items ++ spec.one_left_out (group_read group.now)) }
+{
+    let first = name_text(alloc, group.first)?;
+    put_comment(
+        &[
+            b"left out: ".as_slice(),
+            first.as_slice(),
+            b" (".as_slice(),
+            reason_text(Some(group.reason)),
+            b")".as_slice(),
+        ],
+        text,
+    )
+}
+
+/// The comment on the jobs of a group.
+fn put_some(alloc: Global, group: &Group<'_>, text: &mut Vec<u8>) -> Result<(), Memory>
+    ensures { OnOk result (text.new.items ≡ text.old.items ++ spec.some_left_out (group_read group.now)) }
+{
+    let first = name_text(alloc, group.first)?;
     let last = name_text(alloc, group.last)?;
+    let label = Vec::from_slice(alloc, group.label)?;
     let number = decimal(alloc, group.count)?;
     put_comment(
         &[
             b"left out: ".as_slice(),
             number.as_slice(),
             b" jobs of ".as_slice(),
-            group.label,
+            label.as_slice(),
             b" (".as_slice(),
             reason_text(Some(group.reason)),
             b"), the first ".as_slice(),
@@ -184,11 +222,7 @@ fn put_group(alloc: Global, group: &Group<'_>, text: &mut Vec<u8>) -> Result<(),
 }
 
 /// The comments on these groups.
-fn put_each_group(
-    alloc: Global,
-    groups: &[Group<'_>],
-    text: &mut Vec<u8>,
-) -> Result<(), Memory>
+fn put_each_group(alloc: Global, groups: &[Group<'_>], text: &mut Vec<u8>) -> Result<(), Memory>
     ensures { OnOk result (text.new.items ≡ text.old.items ++ flat_map spec.group_comment (groups_read groups.now)) }
 {
     for group in groups {
@@ -241,7 +275,7 @@ pub(crate) fn put_left_out(
     ensures { OnOk result (text.new.items ≡ text.old.items ++ spec.left_out_comments (map task_read tasks.now) (judged_lists by_task.now) (judged_list judged.now)) }
 {
     let groups = all_groups(alloc, tasks, by_task)?;
-    let groups = in_order_of_counts(judged.len() as u64, groups)?;
+    let groups = in_order_of_counts(groups)?;
     put_each_group(alloc, &groups, text)?;
     put_cut_off(alloc, cut_off(judged) as u64, text)
 }

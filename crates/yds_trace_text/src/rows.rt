@@ -88,11 +88,7 @@ fn name_at(names: &[Vec<u8>], place: usize) -> &[u8]
 }
 
 /// The lines of the runs of jobs with these names.
-pub(crate) fn put_runs(
-    names: &[Vec<u8>],
-    runs: &[Placed],
-    text: &mut Vec<u8>,
-) -> Result<(), Memory>
+pub(crate) fn put_runs(names: &[Vec<u8>], runs: &[Placed], text: &mut Vec<u8>) -> Result<(), Memory>
     ensures { OnOk result (text.new.items ≡ text.old.items ++ flat_map (spec.run_text (names_read names.now)) (placed_list runs.now)) }
 {
     for placed in runs {

@@ -16,16 +16,11 @@ use yds_trace_document::{Judged, Units};
 fn is_short(units: Units, stretch: &Stretch) -> bool
     ensures { result ≡ written.is_short (units_read units) stretch.now }
 {
-    stretch.from < stretch.to
-        && units.written_time(stretch.from) == units.written_time(stretch.to)
+    stretch.from < stretch.to && units.written_time(stretch.from) == units.written_time(stretch.to)
 }
 
 /// Puts the short ones of these stretches behind the others.
-fn put_short(
-    units: Units,
-    stretches: &[Stretch],
-    short: &mut Vec<Stretch>,
-) -> Result<(), Memory>
+fn put_short(units: Units, stretches: &[Stretch], short: &mut Vec<Stretch>) -> Result<(), Memory>
     ensures { OnOk result (short.new.items ≡ short.old.items ++ filter (written.is_short (units_read units)) stretches.now) }
 {
     for stretch in stretches {
@@ -38,11 +33,7 @@ fn put_short(
 
 /// Puts the short stretches of a job behind the others, if it stands as it is.
 #[tactic(auto, using(crate::proofs::Read::read_back))]
-fn put_short_of(
-    units: Units,
-    judged: &Judged<'_>,
-    short: &mut Vec<Stretch>,
-) -> Result<(), Memory>
+fn put_short_of(units: Units, judged: &Judged<'_>, short: &mut Vec<Stretch>) -> Result<(), Memory>
     ensures { OnOk result (short.new.items ≡ short.old.items ++ spec.short_of (units_read units) (judged_read judged.now)) }
 {
     if judged.reason.is_some() {
@@ -88,15 +79,23 @@ pub(crate) fn put_short_stretches(
 {
     let short = short_stretches(alloc, units, judged)?;
     if short.is_empty() {
-        return Ok(());
+        Ok(())
+    } else {
+        put_some(alloc, &short, text)
     }
+}
+
+/// The comment on these stretches.
+fn put_some(alloc: Global, short: &[Stretch], text: &mut Vec<u8>) -> Result<(), Memory>
+    ensures { OnOk result (text.new.items ≡ text.old.items ++ spec.some_short short.now) }
+{
     let number = counted(
         alloc,
         short.len() as u64,
         b"stretch within one unit of time, ",
         b"stretches within one unit of time, ",
     )?;
-    let time = in_milliseconds(alloc, total(&short))?;
+    let time = in_milliseconds(alloc, total(short))?;
     put_comment(
         &[
             number.as_slice(),

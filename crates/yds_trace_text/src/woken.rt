@@ -64,6 +64,19 @@ pub(crate) fn put_wake_ups(
         return Ok(());
     }
     let (most, name) = most_woken(judged);
+    put_some(alloc, all, most, name, text)
+}
+
+/// The comment on so many wake-ups.
+fn put_some(
+    alloc: Global,
+    all: u64,
+    most: u64,
+    name: Option<Name<'_>>,
+    text: &mut Vec<u8>,
+) -> Result<(), Memory>
+    ensures { OnOk result (text.new.items ≡ text.old.items ++ spec.woken_comment all (most, name_or_none name.entry)) }
+{
     let number = counted(
         alloc,
         all,

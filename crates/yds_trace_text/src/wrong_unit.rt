@@ -25,19 +25,25 @@ fn known_begins(alloc: Global, judged: &[Judged<'_>]) -> Result<Vec<u64>, Memory
 }
 
 /// The mean distance of begins, rounded down, where there are two at different times.
-#[tactic(auto, using(crate::proofs::Read::last_of_is))]
 fn mean_distance(begins: &[u64]) -> Option<u64>
     ensures { result ≡ spec.mean_distance begins.now }
 {
-    let [first, rest @ ..] = begins else {
-        return None;
-    };
+    match begins {
+        [first, rest @ ..] => mean_behind(*first, rest),
+        [] => None,
+    }
+}
+
+#[tactic(auto, using(crate::proofs::Read::last_at))]
+fn mean_behind(first: u64, rest: &[u64]) -> Option<u64>
+    ensures { result ≡ spec.mean_behind first rest.now }
+{
     if rest.is_empty() {
         return None;
     }
     let last = rest[rest.len() - 1];
-    if *first < last {
-        Some((last - *first) / rest.len() as u64)
+    if first < last {
+        Some((last - first) / rest.len() as u64)
     } else {
         None
     }
@@ -56,21 +62,22 @@ fn is_far_below(number: u64, other: u64) -> bool
 /// The comment on a time that is likely in another unit.
 fn put_distance(
     alloc: Global,
-    what: &[u8],
+    what: &'static [u8],
     label: &[u8],
     value: u64,
-    how: &[u8],
+    how: &'static [u8],
     mean: u64,
     text: &mut Vec<u8>,
 ) -> Result<(), Memory>
     ensures { OnOk result (text.new.items ≡ text.old.items ++ spec.distance_comment what.now label.now value how.now mean) }
 {
+    let label = Vec::from_slice(alloc, label)?;
     let value = in_milliseconds(alloc, value)?;
     let mean = in_milliseconds(alloc, mean)?;
     put_comment(
         &[
             what,
-            label,
+            label.as_slice(),
             b", ".as_slice(),
             value.as_slice(),
             b" ms, is ".as_slice(),
@@ -84,9 +91,10 @@ fn put_distance(
 }
 
 /// The comment on a time, if it is likely in another unit.
+#[tactic(auto, unfolding(crate::specs::Text::unit_comment))]
 fn put_wrong(
     alloc: Global,
-    what: &[u8],
+    what: &'static [u8],
     label: &[u8],
     value: u64,
     mean: Option<u64>,
@@ -98,9 +106,25 @@ fn put_wrong(
         return Ok(());
     };
     if is_far_below(mean, value) {
-        put_distance(alloc, what, label, value, b"more than 100 times", mean, text)
+        put_distance(
+            alloc,
+            what,
+            label,
+            value,
+            b"more than 100 times",
+            mean,
+            text,
+        )
     } else if is_far_below(value, mean) {
-        put_distance(alloc, what, label, value, b"less than a hundredth of", mean, text)
+        put_distance(
+            alloc,
+            what,
+            label,
+            value,
+            b"less than a hundredth of",
+            mean,
+            text,
+        )
     } else {
         Ok(())
     }
@@ -116,12 +140,47 @@ fn put_wrong_units(
     ensures { OnOk result (text.new.items ≡ text.old.items ++ spec.unit_comments (task_read task.now) (judged_list judged.now)) }
 {
     let begins = known_begins(alloc, judged)?;
-    let mean = mean_distance(&begins);
-    put_wrong(alloc, b"the deadline of ", &task.label, task.deadline, mean, text)?;
+    put_both(alloc, task, mean_distance(&begins), text)
+}
+
+fn put_both(alloc: Global, task: &Task, mean: Option<u64>, text: &mut Vec<u8>) -> Result<(), Memory>
+    ensures { OnOk result (text.new.items ≡ text.old.items ++ spec.both_comments (task_read task.now) mean) }
+{
+    put_deadline(alloc, task, mean, text)?;
+    put_apart(alloc, task, mean, text)
+}
+
+fn put_deadline(
+    alloc: Global,
+    task: &Task,
+    mean: Option<u64>,
+    text: &mut Vec<u8>,
+) -> Result<(), Memory>
+    ensures { OnOk result (text.new.items ≡ text.old.items ++ spec.deadline_comment (task_read task.now) mean) }
+{
+    put_wrong(
+        alloc,
+        b"the deadline of ",
+        &task.label,
+        task.deadline,
+        mean,
+        text,
+    )
+}
+
+fn put_apart(
+    alloc: Global,
+    task: &Task,
+    mean: Option<u64>,
+    text: &mut Vec<u8>,
+) -> Result<(), Memory>
+    ensures { OnOk result (text.new.items ≡ text.old.items ++ spec.apart_comment (task_read task.now) mean) }
+{
     if task.apart == 0 {
-        return Ok(());
+        Ok(())
+    } else {
+        put_wrong(alloc, b"APART of ", &task.label, task.apart, mean, text)
     }
-    put_wrong(alloc, b"APART of ", &task.label, task.apart, mean, text)
 }
 
 /// The comments on all tasks.
@@ -133,8 +192,8 @@ pub(crate) fn put_all_wrong_units(
 ) -> Result<(), Memory>
     ensures { OnOk result (text.new.items ≡ text.old.items ++ spec.all_unit_comments (map task_read tasks.now) (judged_lists by_task.now)) }
 {
-    for (task, judged) in tasks.iter().zip(by_task.iter()) {
-        put_wrong_units(alloc, task, judged, text)?;
+    for number in 0..tasks.len().min(by_task.len()) {
+        put_wrong_units(alloc, &tasks[number], &by_task[number], text)?;
     }
     Ok(())
 }
