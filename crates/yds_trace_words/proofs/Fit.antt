@@ -1,0 +1,345 @@
+-- What holds of what is asked of a trace, from the words that ask for it.
+use Rattle.yds_model.proofs.Common.{◌≡◌, ℕ, ◌+◌, ◌*◌, ◌^◌, ◌<◌, ◌≤◌, ◌⊎◌, inl, inr, List, [], ◌∷◌, length, All, All-cons, All-nil, Bool, true, false, nat_le, nat_lt, Option, Some, None, Result, Ok, Err, refl, sym, ap, subst, ◌∙◌, arith, if◌then◌else◌, leb-true, ltb-false, codes, and_parts, ◌&&◌, digits_value}
+use Rattle.std.specs.List.{slice_split, list_any, before_first, after_first}
+use Rattle.std.specs.Result.{result_ok}
+use Rattle.std.proofs.lemmas.List.Splits.{length-slice_split}
+use Rattle.yds_model.specs.Spelling.{number_at, is_number}
+use Rattle.yds_model.specs.declared.number_fault.NumberFault.{NumberFault}
+use Rattle.yds_model.specs.declared.number_fault.NumberFault.TheVariants.{BadNumber, OutOfRange}
+use Rattle.yds_kernel.specs.Parts.{◌>>=◌ as ◌>>?◌}
+use Rattle.yds_kernel.specs.declared.limits.TheConstants.{MAX_NUMBER}
+use Rattle.yds_trace.specs.declared.limits.TheConstants.{MAX_PROCESSOR, MAX_TIME, MAX_DEADLINE}
+use Rattle.yds_trace.specs.Asked.{Task, Asked, IsAsked, IsWithin, Numbered, Named}
+use Rattle.yds_trace_words.specs.declared.limits.TheConstants.{MAX_UNIT, MAX_TASKS}
+use Rattle.yds_trace_words.specs.declared.fault.Reason.{Reason}
+use Rattle.yds_trace_words.specs.declared.fault.Reason.TheVariants as reasons
+use Rattle.yds_trace_words.specs.declared.letter.Letter.{Letter}
+use Rattle.yds_trace_words.specs.declared.letter.Sign.TheVariants as signs
+use Rattle.yds_trace_words.specs.Words.{WordFault, refuse, ◌>>=◌, Setting, settings_of, value_of, is_given, given_twice}
+use Rattle.yds_trace_words.specs.Decimal.{decimal_at, at_most, fraction_at, behind_point, is_point}
+use Rattle.yds_trace_words.specs.Letters.{letters_of, is_at, text_of}
+use Rattle.yds_trace_words.specs.Tasks.{known, is_label, refuse_task, label_at, Called, pid_at, numbered_at, named_at, called_at, milliseconds_at, deadline_at, Times, apart_at, alone_at, times_at, task_of_parts, task_at, tasks_behind, before_tasks, tasks_from, tasks_of, tasks_asked, different_from, unless}
+use Rattle.yds_trace_words.specs.Request.{Request, ShowHelp, ShowVersion, ReadTrace, whole_or_refused, whole_or, start_of, time_of, ordered, only, asked_by, read_trace, asked_once, request_by, request_of, IsFit, IsFitRequest}
+
+-- # Steps
+
+-- a step that went on, with what it gave
+record Went {A B : Type 0} (first : Result A WordFault) (next : A → Result B WordFault) (b : B) : Type 0 where
+  pub value : A
+  pub was : first ≡ Ok value
+  pub is : next value ≡ Ok b
+
+went : {A B : Type 0} (first : Result A WordFault) (next : A → Result B WordFault) (b : B) → (first >>= next) ≡ Ok b → Went first next b
+went (Ok x) next b is = record { value = x; was = refl; is = is }
+went (Err fault) next b is = absurd cc
+
+either : {A : Type 0} (b : Bool) (one other : Result A WordFault) (x : A) → (if b then one else other) ≡ Ok x → (one ≡ Ok x) ⊎ (other ≡ Ok x)
+either true one other x is = inl is
+either false one other x is = inr is
+
+-- a test that passed, and what it gave
+passed : {A : Type 0} (b : Bool) (x y : A) (fault : WordFault) → (if b then Ok x else Err fault) ≡ Ok y → (b ≡ true) × (x ≡ y)
+passed true x y fault is = (refl, cc)
+passed false x y fault is = absurd cc
+
+-- # Numbers
+
+some_most : (most value given : ℕ) → at_most most value ≡ Some given → given ≤ most
+some_most most value given is = by (nat_le value most) refl is
+  where
+    by : (b : Bool) → nat_le value most ≡ b → (if b then Some value else None) ≡ Some given → given ≤ most
+    by true small same = let even : value ≡ given = cc in omega (arith, even, leb-true value most small)
+    by false great same = absurd cc
+
+joined_most : (whole parts : Option ℕ) (most : ℕ) (join : ℕ → ℕ → ℕ) (given : ℕ)
+    → (whole >>? (λ w. parts >>? (λ p. at_most most (join w p)))) ≡ Some given → given ≤ most
+joined_most None parts most join given is = absurd cc
+joined_most (Some w) None most join given is = absurd cc
+joined_most (Some w) (Some p) most join given is = some_most most (join w p) given is
+
+-- a decimal is at most so many parts
+decimal_most : (places most : ℕ) (text : List ℕ) (given : ℕ) → decimal_at places most text ≡ Some given → given ≤ most
+unfolding decimal_at
+decimal_most places most text given is =
+    joined_most (result_ok (number_at 0 most (before_first is_point text))) (fraction_at places (behind_point text)) most (λ w p. w * 10 ^ places + p) given is
+
+known_most : (place : ℕ) (reason : Reason) (places most : ℕ) (text : List ℕ) (given : ℕ) → known place reason (decimal_at places most text) ≡ Ok given → given ≤ most
+known_most place reason places most text given is = by (decimal_at places most text) refl is
+  where
+    by : (found : Option ℕ) → decimal_at places most text ≡ found → known place reason found ≡ Ok given → given ≤ most
+    by None was same = absurd cc
+    by (Some x) was same = let even : x ≡ given = cc in decimal_most places most text given (was ∙ ap Some even)
+
+-- # Tasks
+
+record IsFine (unit : ℕ) (task : Task) : Type 0 where
+  pub long : unit ≤ task.deadline
+  pub short : task.deadline ≤ MAX_DEADLINE
+  pub label : is_label task.label ≡ true
+
+label_fits : (place : ℕ) (text label : List ℕ) → label_at place text ≡ Ok label → is_label label ≡ true
+label_fits place text label is = let given = passed (is_label text) text label _ is in subst (λ t. is_label t ≡ true) given.1 given.0
+
+numbered_by : (pid : Result ℕ WordFault) (label : Result (List ℕ) WordFault) (called : Called)
+    → (pid >>= (λ p. label >>= (λ l. Ok (record { thread = Numbered p; label = l })))) ≡ Ok called → label ≡ Ok called.label
+numbered_by (Err fault) label called is = absurd cc
+numbered_by (Ok p) (Err fault) called is = absurd cc
+numbered_by (Ok p) (Ok l) called is = cc
+
+named_by : (label : Result (List ℕ) WordFault) (called : Called) → (label >>= (λ l. Ok (record { thread = Named l; label = l }))) ≡ Ok called → label ≡ Ok called.label
+named_by (Err fault) called is = absurd cc
+named_by (Ok l) called is = cc
+
+numbered_fits : (place : ℕ) (number name : List Letter) (called : Called) → numbered_at place number name ≡ Ok called → is_label called.label ≡ true
+numbered_fits place number name called is =
+    label_fits place (text_of name) called.label (numbered_by (pid_at place number) (label_at place (text_of name)) called is)
+
+named_fits : (place : ℕ) (name : List Letter) (called : Called) → named_at place name ≡ Ok called → is_label called.label ≡ true
+named_fits place name called is = label_fits place (text_of name) called.label (named_by (label_at place (text_of name)) called is)
+
+called_fits : (place : ℕ) (letters : List Letter) (called : Called) → called_at place letters ≡ Ok called → is_label called.label ≡ true
+called_fits place letters called is = elim (either (list_any (is_at signs.Equals) letters)
+    (numbered_at place (before_first (is_at signs.Equals) letters) (after_first (is_at signs.Equals) letters)) (named_at place letters) called is) [
+  | inl numbered ↦ numbered_fits place (before_first (is_at signs.Equals) letters) (after_first (is_at signs.Equals) letters) called numbered
+  | inr named ↦ named_fits place letters called named
+]
+
+deadline_fits : (unit place : ℕ) (letters : List Letter) (deadline : ℕ) → deadline_at unit place letters ≡ Ok deadline → (unit ≤ deadline) × (deadline ≤ MAX_DEADLINE)
+deadline_fits unit place letters deadline is =
+    let time = went (milliseconds_at place reasons.Deadline letters) (λ (time : ℕ). if nat_le unit time then Ok time else refuse_task place reasons.ShortDeadline) deadline is in
+    let given = passed (nat_le unit time.value) time.value deadline _ time.is in
+    let most : time.value ≤ MAX_DEADLINE = known_most place reasons.Deadline 6 MAX_DEADLINE (text_of letters) time.value time.was in
+    (omega (arith, given.1, leb-true unit time.value given.0), omega (arith, given.1, most))
+
+apart_by : (deadline apart : Result ℕ WordFault) (times : Times) → (deadline >>= (λ d. apart >>= (λ a. Ok (record { deadline = d; apart = a })))) ≡ Ok times → deadline ≡ Ok times.deadline
+apart_by (Err fault) apart times is = absurd cc
+apart_by (Ok d) (Err fault) times is = absurd cc
+apart_by (Ok d) (Ok a) times is = cc
+
+alone_by : (deadline : Result ℕ WordFault) (times : Times) → (deadline >>= (λ d. Ok (record { deadline = d; apart = 0 }))) ≡ Ok times → deadline ≡ Ok times.deadline
+alone_by (Err fault) times is = absurd cc
+alone_by (Ok d) times is = cc
+
+apart_fits : (unit place : ℕ) (first second : List Letter) (times : Times) → apart_at unit place first second ≡ Ok times → (unit ≤ times.deadline) × (times.deadline ≤ MAX_DEADLINE)
+apart_fits unit place first second times is =
+    deadline_fits unit place first times.deadline (apart_by (deadline_at unit place first) (milliseconds_at place reasons.Apart second) times is)
+
+alone_fits : (unit place : ℕ) (letters : List Letter) (times : Times) → alone_at unit place letters ≡ Ok times → (unit ≤ times.deadline) × (times.deadline ≤ MAX_DEADLINE)
+alone_fits unit place letters times is = deadline_fits unit place letters times.deadline (alone_by (deadline_at unit place letters) times is)
+
+times_fit : (unit place : ℕ) (letters : List Letter) (times : Times) → times_at unit place letters ≡ Ok times → (unit ≤ times.deadline) × (times.deadline ≤ MAX_DEADLINE)
+times_fit unit place letters times is = elim (either (list_any (is_at signs.Colon) letters)
+    (apart_at unit place (before_first (is_at signs.Colon) letters) (after_first (is_at signs.Colon) letters)) (alone_at unit place letters) times is) [
+  | inl both ↦ apart_fits unit place (before_first (is_at signs.Colon) letters) (after_first (is_at signs.Colon) letters) times both
+  | inr one ↦ alone_fits unit place letters times one
+]
+
+record TaskParts (called : Result Called WordFault) (times : Result Times WordFault) (task : Task) : Type 0 where
+  pub name : Called
+  pub window : Times
+  pub name_is : called ≡ Ok name
+  pub window_is : times ≡ Ok window
+  pub label_is : name.label ≡ task.label
+  pub deadline_is : window.deadline ≡ task.deadline
+
+task_by : (called : Result Called WordFault) (times : Result Times WordFault) (task : Task)
+    → (called >>= (λ c. times >>= (λ t. Ok (record { label = c.label; thread = c.thread; deadline = t.deadline; apart = t.apart })))) ≡ Ok task → TaskParts called times task
+task_by (Err fault) times task is = absurd cc
+task_by (Ok c) (Err fault) task is = absurd cc
+task_by (Ok c) (Ok t) task is = record { name = c; window = t; name_is = refl; window_is = refl; label_is = cc; deadline_is = cc }
+
+parts_fit : (unit place : ℕ) (name window : List Letter) (task : Task) → task_of_parts unit place name window ≡ Ok task → IsFine unit task
+parts_fit unit place name window task is =
+    let parts = task_by (called_at place name) (times_at unit place window) task is in
+    let fit = times_fit unit place window parts.window parts.window_is in
+    record {
+      long = subst (λ t. unit ≤ t) parts.deadline_is fit.0;
+      short = subst (λ t. t ≤ MAX_DEADLINE) parts.deadline_is fit.1;
+      label = subst (λ t. is_label t ≡ true) parts.label_is (called_fits place name parts.name parts.name_is);
+    }
+
+task_fits : (unit place : ℕ) (letters : List Letter) (task : Task) → task_at unit place letters ≡ Ok task → IsFine unit task
+task_fits unit place letters task is = elim (either (list_any (is_at signs.Colon) letters)
+    (task_of_parts unit place (before_first (is_at signs.Colon) letters) (after_first (is_at signs.Colon) letters)) (refuse_task place reasons.TaskForm) task is) [
+  | inl both ↦ parts_fit unit place (before_first (is_at signs.Colon) letters) (after_first (is_at signs.Colon) letters) task both
+  | inr refused ↦ absurd cc
+]
+
+record AreFine (unit count : ℕ) (tasks : List Task) : Type 0 where
+  pub all : All (IsFine unit) tasks
+  pub as_many : length tasks ≡ count
+
+tasks_fit : (unit place : ℕ) (pieces : List (List Letter)) (tasks : List Task) → tasks_from unit place pieces ≡ Ok tasks → AreFine unit (length pieces) tasks
+tasks_fit unit place [] tasks is = let even : [] ≡ tasks = cc in subst (AreFine unit 0) even (record { all = All-nil _; as_many = refl })
+tasks_fit unit place (letters ∷ more) tasks is =
+    first (task_at unit place letters) refl (tasks_from unit (place + 1) more) (tasks_fit unit (place + 1) more) is
+  where
+    second : (task : Task) → IsFine unit task → (rest : Result (List Task) WordFault) → ((others : List Task) → rest ≡ Ok others → AreFine unit (length more) others)
+        → before_tasks task rest ≡ Ok tasks → AreFine unit (length (letters ∷ more)) tasks
+    second task fine (Err fault) others same = absurd cc
+    second task fine (Ok found) others same =
+        let even : task ∷ found ≡ tasks = cc in
+        let behind = others found refl in
+        subst (AreFine unit (length (letters ∷ more))) even
+        (record { all = All-cons (IsFine unit) task found fine behind.all; as_many = omega (arith, behind.as_many) })
+
+    first : (one : Result Task WordFault) → task_at unit place letters ≡ one → (rest : Result (List Task) WordFault)
+        → ((others : List Task) → rest ≡ Ok others → AreFine unit (length more) others)
+        → tasks_behind one rest ≡ Ok tasks → AreFine unit (length (letters ∷ more)) tasks
+    first (Err fault) was rest others same = absurd cc
+    first (Ok task) was rest others same = second task (task_fits unit place letters task was) rest others same
+
+-- # Numbers among the settings
+
+record IsBetween (least most number : ℕ) : Type 0 where
+  pub low : least ≤ number
+  pub high : number ≤ most
+
+spelled : (b : Bool) (found : Result ℕ NumberFault) (fault : NumberFault) (number : ℕ) → (if b then found else Err fault) ≡ Ok number → found ≡ Ok number
+spelled true found fault number is = is
+spelled false found fault number is = absurd cc
+
+ranged : (b : Bool) (value number : ℕ) (fault : NumberFault) → (if b then Ok value else Err fault) ≡ Ok number → (b ≡ true) × (value ≡ number)
+ranged true value number fault is = (refl, cc)
+ranged false value number fault is = absurd cc
+
+number_between : (least most : ℕ) (text : List ℕ) (number : ℕ) → number_at least most text ≡ Ok number → IsBetween least most number
+number_between least most text number is =
+    let found = spelled (is_number text) (if nat_le least (digits_value 10 text) && nat_le (digits_value 10 text) most then Ok (digits_value 10 text) else Err OutOfRange) BadNumber number is in
+    let given = ranged (nat_le least (digits_value 10 text) && nat_le (digits_value 10 text) most) (digits_value 10 text) number OutOfRange found in
+    let both = and_parts (nat_le least (digits_value 10 text)) (nat_le (digits_value 10 text) most) given.0 in
+    record {
+      low = subst (λ n. least ≤ n) given.1 (leb-true least (digits_value 10 text) both.0);
+      high = subst (λ n. n ≤ most) given.1 (leb-true (digits_value 10 text) most both.1);
+    }
+
+default_between : (default least most : ℕ) (name : List ℕ) (reason : Reason) (value : Option (List ℕ)) (number : ℕ) → least ≤ default → default ≤ most
+    → whole_or default least most name reason value ≡ Ok number → IsBetween least most number
+default_between default least most name reason None number low high is = let even : default ≡ number = cc in record { low = omega (arith, even); high = omega (arith, even) }
+default_between default least most name reason (Some text) number low high is = by (number_at least most text) refl is
+  where
+    by : (found : Result ℕ NumberFault) → number_at least most text ≡ found → whole_or_refused name reason found ≡ Ok number → IsBetween least most number
+    by (Ok x) was same = let even : x ≡ number = cc in number_between least most text number (was ∙ ap Ok even)
+    by (Err fault) was same = absurd cc
+
+unit_between : (value : Option (List ℕ)) (number : ℕ) → whole_or 10 1 MAX_UNIT (codes "--us") reasons.Unit value ≡ Ok number → IsBetween 1 MAX_UNIT number
+unit_between value number is = default_between 10 1 MAX_UNIT (codes "--us") reasons.Unit value number (omega arith) (omega arith) is
+
+speed_between : (value : Option (List ℕ)) (number : ℕ) → whole_or 10000 1 MAX_NUMBER (codes "--khz") reasons.Speed value ≡ Ok number → IsBetween 1 MAX_NUMBER number
+speed_between value number is = default_between 10000 1 MAX_NUMBER (codes "--khz") reasons.Speed value number (omega arith) (omega arith) is
+
+thousand : (number : ℕ) → 1 ≤ number → 1 ≤ number * 1000
+thousand number some = omega (arith, some)
+
+-- # What is asked
+
+unless_same : (fault : Option WordFault) (tasks given : List Task) → unless fault tasks ≡ Ok given → tasks ≡ given
+unless_same None tasks given is = cc
+unless_same (Some fault) tasks given is = absurd cc
+
+record AreAsked (unit : ℕ) (tasks : List Task) : Type 0 where
+  pub all : All (IsFine unit) tasks
+  pub some : 1 ≤ length tasks
+  pub few : length tasks ≤ MAX_TASKS
+
+pieces_asked : (unit : ℕ) (pieces : List (List Letter)) (tasks : List Task) → 1 ≤ length pieces → tasks_of unit pieces ≡ Ok tasks → AreAsked unit tasks
+pieces_asked unit pieces tasks some is = by (nat_lt MAX_TASKS (length pieces)) refl is
+  where
+    by : (b : Bool) → nat_lt MAX_TASKS (length pieces) ≡ b
+        → (if b then refuse (codes "--tasks") reasons.TooManyTasks else (tasks_from unit 1 pieces >>= (λ found. unless (different_from 1 found) found))) ≡ Ok tasks → AreAsked unit tasks
+    by true many same = absurd cc
+    by false few same =
+        let found = went (tasks_from unit 1 pieces) (λ found. unless (different_from 1 found) found) tasks same in
+        let even = unless_same (different_from 1 found.value) found.value tasks found.is in
+        let fine = tasks_fit unit 1 pieces found.value found.was in
+        subst (AreAsked unit) even
+        (record { all = fine.all; some = omega (arith, fine.as_many, some); few = omega (arith, fine.as_many, ltb-false MAX_TASKS (length pieces) few) })
+
+are_asked : (unit : ℕ) (value : Option (List ℕ)) (tasks : List Task) → tasks_asked unit value ≡ Ok tasks → AreAsked unit tasks
+are_asked unit None tasks is = absurd cc
+are_asked unit (Some text) tasks is =
+    pieces_asked unit (slice_split (is_at signs.Comma) (letters_of text)) tasks (omega (arith, length-slice_split (is_at signs.Comma) (letters_of text))) is
+
+record AskedParts (unit khz : ℕ) (found : Result (List Task) WordFault) (asked : Asked) : Type 0 where
+  pub unit_is : unit ≡ asked.unit
+  pub khz_is : khz ≡ asked.khz
+  pub tasks_is : found ≡ Ok asked.tasks
+
+last_parts : (order begin lost : Result Bool WordFault) (found : Result (List Task) WordFault) (cpu unit khz : ℕ) (start from to : Option ℕ) (asked : Asked)
+    → (order >>= (λ o. begin >>= (λ b. lost >>= (λ l. found >>= (λ t. Ok (record {
+      tasks = t; processor = cpu; unit = unit; khz = khz; start = start; from = from; to = to; begin_at_run = b; cut_losses = l }))))))
+      ≡ Ok asked → AskedParts unit khz found asked
+last_parts (Err fault) begin lost found cpu unit khz start from to asked is = absurd cc
+last_parts (Ok o) (Err fault) lost found cpu unit khz start from to asked is = absurd cc
+last_parts (Ok o) (Ok b) (Err fault) found cpu unit khz start from to asked is = absurd cc
+last_parts (Ok o) (Ok b) (Ok l) (Err fault) cpu unit khz start from to asked is = absurd cc
+last_parts (Ok o) (Ok b) (Ok l) (Ok t) cpu unit khz start from to asked is = record { unit_is = cc; khz_is = cc; tasks_is = cc }
+
+record AllParts (us khz : Result ℕ WordFault) (tasks : ℕ → Result (List Task) WordFault) (asked : Asked) : Type 0 where
+  pub number : ℕ
+  pub speed : ℕ
+  pub us_is : us ≡ Ok number
+  pub khz_is : khz ≡ Ok speed
+  pub rest : AskedParts (number * 1000) speed (tasks (number * 1000)) asked
+
+all_parts : (cpu us khz : Result ℕ WordFault) (start from to : Result (Option ℕ) WordFault) (order : Option ℕ → Option ℕ → Result Bool WordFault) (begin lost : Result Bool WordFault)
+    (tasks : ℕ → Result (List Task) WordFault) (asked : Asked)
+    → (cpu >>= (λ c. us >>= (λ u. khz >>= (λ k. start >>= (λ s. from >>= (λ f. to >>= (λ e. order f e >>= (λ o. begin >>= (λ b. lost >>= (λ l. tasks (u * 1000) >>= (λ t. Ok (record {
+      tasks = t; processor = c; unit = u * 1000; khz = k; start = s; from = f; to = e; begin_at_run = b; cut_losses = l }))))))))))))
+      ≡ Ok asked → AllParts us khz tasks asked
+all_parts (Err fault) us khz start from to order begin lost tasks asked is = absurd cc
+all_parts (Ok c) (Err fault) khz start from to order begin lost tasks asked is = absurd cc
+all_parts (Ok c) (Ok u) (Err fault) start from to order begin lost tasks asked is = absurd cc
+all_parts (Ok c) (Ok u) (Ok k) (Err fault) from to order begin lost tasks asked is = absurd cc
+all_parts (Ok c) (Ok u) (Ok k) (Ok s) (Err fault) to order begin lost tasks asked is = absurd cc
+all_parts (Ok c) (Ok u) (Ok k) (Ok s) (Ok f) (Err fault) order begin lost tasks asked is = absurd cc
+all_parts (Ok c) (Ok u) (Ok k) (Ok s) (Ok f) (Ok e) order begin lost tasks asked is =
+    record { number = u; speed = k; us_is = refl; khz_is = refl; rest = last_parts (order f e) begin lost (tasks (u * 1000)) c (u * 1000) k s f e asked is }
+
+weaker : (P Q : Task → Type 0) (tasks : List Task) → ((task : Task) → P task → Q task) → All P tasks → All Q tasks
+weaker P Q tasks so all = λ i d within. so _ (all i d within)
+
+-- what is asked by these settings
+asked_fits : (given : List Setting) (asked : Asked) → asked_by given ≡ Ok asked → IsFit asked
+asked_fits given asked is =
+    let value = λ (name : List ℕ). value_of name given in
+    let parts = all_parts (whole_or 0 0 MAX_PROCESSOR (codes "--cpu") reasons.Processor (value (codes "--cpu"))) (whole_or 10 1 MAX_UNIT (codes "--us") reasons.Unit (value (codes "--us")))
+        (whole_or 10000 1 MAX_NUMBER (codes "--khz") reasons.Speed (value (codes "--khz"))) (start_of (value (codes "--start"))) (time_of (codes "--from") (value (codes "--from")))
+        (time_of (codes "--to") (value (codes "--to"))) ordered (only (codes "--begin") (codes "run") reasons.Begin (value (codes "--begin")))
+        (only (codes "--lost") (codes "cut") reasons.Lost (value (codes "--lost"))) (λ (unit : ℕ). tasks_asked unit (value (codes "--tasks"))) asked is in
+    let unit = unit_between (value (codes "--us")) parts.number parts.us_is in
+    let speed = speed_between (value (codes "--khz")) parts.speed parts.khz_is in
+    let fine = subst (λ u. AreAsked u asked.tasks) parts.rest.unit_is (are_asked (parts.number * 1000) (value (codes "--tasks")) asked.tasks parts.rest.tasks_is) in
+    record {
+      plain = record {
+        has_unit = subst (λ u. 1 ≤ u) parts.rest.unit_is (thousand parts.number unit.low);
+        has_speed_unit = subst (λ k. 1 ≤ k) parts.rest.khz_is speed.low;
+        deadlines = weaker (IsFine asked.unit) (λ (task : Task). asked.unit ≤ task.deadline) asked.tasks (λ task one. one.long) fine.all;
+      };
+      within = record { deadlines = weaker (IsFine asked.unit) (λ (task : Task). task.deadline ≤ MAX_DEADLINE) asked.tasks (λ task one. one.short) fine.all };
+      some = fine.some;
+      few = fine.few;
+      labels = weaker (IsFine asked.unit) (λ (task : Task). is_label task.label ≡ true) asked.tasks (λ task one. one.label) fine.all;
+    }
+
+-- What holds of each request that words make.
+pub request_fits : (words : List (List ℕ)) (request : Request) → request_of words ≡ Ok request → IsFitRequest request
+request_fits words ShowHelp is = tt
+request_fits words ShowVersion is = tt
+request_fits words (ReadTrace asked strict) is =
+    let given = went (settings_of words) request_by (ReadTrace asked strict) is in
+    by_help (is_given (codes "--help") given.value) given.value given.is
+  where
+    by_asked : (strictly : Bool) (found : Result Asked WordFault) → ((one : Asked) → found ≡ Ok one → IsFit one) → read_trace strictly found ≡ Ok (ReadTrace asked strict) → IsFit asked
+    by_asked strictly (Err fault) fits same = absurd cc
+    by_asked strictly (Ok one) fits same = let even : one ≡ asked = cc in subst IsFit even (fits one refl)
+    by_twice : (name : Option (List ℕ)) (settings : List Setting) → asked_once name settings ≡ Ok (ReadTrace asked strict) → IsFit asked
+    by_twice (Some again) settings same = absurd cc
+    by_twice None settings same = by_asked (is_given (codes "--strict") settings) (asked_by settings) (asked_fits settings) same
+    by_version : (b : Bool) (settings : List Setting) → (if b then Ok ShowVersion else asked_once (given_twice settings) settings) ≡ Ok (ReadTrace asked strict) → IsFit asked
+    by_version true settings same = absurd cc
+    by_version false settings same = by_twice (given_twice settings) settings same
+    by_help : (b : Bool) (settings : List Setting)
+        → (if b then Ok ShowHelp else (if is_given (codes "--version") settings then Ok ShowVersion else asked_once (given_twice settings) settings)) ≡ Ok (ReadTrace asked strict) → IsFit asked
+    by_help true settings same = absurd cc
+    by_help false settings same = by_version (is_given (codes "--version") settings) settings same

@@ -1,0 +1,3 @@
+pub mod Settings
+pub mod Listed
+pub mod Fit

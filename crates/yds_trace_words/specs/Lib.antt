@@ -1,0 +1,7 @@
+pub mod Words
+pub mod Decimal
+pub mod Letters
+pub mod Tasks
+pub mod Request
+pub mod Views
+pub mod Texts

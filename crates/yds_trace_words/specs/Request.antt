@@ -1,0 +1,120 @@
+-- What the words of the command line ask for.
+use Rattle.std.specs.Prelude.{◌≡◌, ℕ, ◌*◌, ◌≤◌, List, length, codes, Bool, true, false, nat_lt, if◌then◌else◌, Option, Some, None, is_some, Result, Ok, Err}
+use Rattle.std.specs.List.{All}
+use Rattle.std.specs.Str.{bytes_eq}
+use Rattle.yds_model.specs.Spelling.{number_at}
+use Rattle.yds_kernel.specs.declared.limits.TheConstants.{MAX_NUMBER}
+use Rattle.yds_trace.specs.declared.limits.TheConstants.{MAX_PROCESSOR, MAX_TIME}
+use Rattle.yds_trace.specs.Asked.{Task, Asked, IsAsked, IsWithin}
+use Rattle.yds_trace_words.specs.declared.limits.TheConstants.{MAX_UNIT, MAX_TASKS}
+use Rattle.yds_trace_words.specs.declared.fault.Reason.{Reason}
+use Rattle.yds_trace_words.specs.declared.fault.Reason.TheVariants as reasons
+use Rattle.yds_trace_words.specs.Words.{WordFault, refuse, ◌>>=◌, Setting, settings_of, value_of, is_given, given_twice}
+use Rattle.yds_trace_words.specs.Decimal.{decimal_at}
+use Rattle.yds_trace_words.specs.Tasks.{is_label, tasks_asked}
+
+-- # Values
+
+abbrev pub whole_or_refused : {E : Type 0} → List ℕ → Reason → Result ℕ E → Result ℕ WordFault
+whole_or_refused name reason (Ok number) = Ok number
+whole_or_refused name reason (Err e) = refuse name reason
+
+-- a whole number from `least` to `most`
+abbrev pub whole_at : ℕ → ℕ → List ℕ → Reason → List ℕ → Result ℕ WordFault
+whole_at least most name reason text = whole_or_refused name reason (number_at least most text)
+
+abbrev pub whole_or : ℕ → ℕ → ℕ → List ℕ → Reason → Option (List ℕ) → Result ℕ WordFault
+whole_or default least most name reason None = Ok default
+whole_or default least most name reason (Some text) = whole_at least most name reason text
+
+abbrev pub some_of : {A : Type 0} → Result A WordFault → Result (Option A) WordFault
+some_of (Ok x) = Ok (Some x)
+some_of (Err fault) = Err fault
+
+abbrev pub start_of : Option (List ℕ) → Result (Option ℕ) WordFault
+start_of None = Ok None
+start_of (Some text) = some_of (whole_at 1 MAX_NUMBER (codes "--start") reasons.Speed text)
+
+abbrev pub time_or_refused : List ℕ → Option ℕ → Result (Option ℕ) WordFault
+time_or_refused name None = refuse name reasons.Time
+time_or_refused name (Some time) = Ok (Some time)
+
+-- seconds of the trace's clock, as nanoseconds
+abbrev pub time_of : List ℕ → Option (List ℕ) → Result (Option ℕ) WordFault
+time_of name None = Ok None
+time_of name (Some text) = time_or_refused name (decimal_at 9 MAX_TIME text)
+
+-- the only value that it may have
+abbrev pub only : List ℕ → List ℕ → Reason → Option (List ℕ) → Result Bool WordFault
+only name wanted reason None = Ok false
+only name wanted reason (Some text) = if bytes_eq text wanted then Ok true else refuse name reason
+
+-- `from` is before `to`
+abbrev pub ordered : Option ℕ → Option ℕ → Result Bool WordFault
+ordered (Some from) (Some to) = if nat_lt from to then Ok true else refuse (codes "--from") reasons.FromNotBefore
+ordered _ _ = Ok true
+
+-- # Requests
+
+pub data Request : Type 0 where
+  ShowHelp : Request
+  ShowVersion : Request
+  -- With `strict` a trace is refused of which a job is left out for another reason than `--from` and `--to`.
+  ReadTrace : (asked : Asked) (strict : Bool) → Request
+
+-- what is asked of a trace, by these settings
+abbrev pub asked_by : List Setting → Result Asked WordFault
+asked_by given = do
+  cpu ← whole_or 0 0 MAX_PROCESSOR (codes "--cpu") reasons.Processor (value_of (codes "--cpu") given)
+  us ← whole_or 10 1 MAX_UNIT (codes "--us") reasons.Unit (value_of (codes "--us") given)
+  khz ← whole_or 10000 1 MAX_NUMBER (codes "--khz") reasons.Speed (value_of (codes "--khz") given)
+  start ← start_of (value_of (codes "--start") given)
+  from ← time_of (codes "--from") (value_of (codes "--from") given)
+  to ← time_of (codes "--to") (value_of (codes "--to") given)
+  in_order ← ordered from to
+  begin ← only (codes "--begin") (codes "run") reasons.Begin (value_of (codes "--begin") given)
+  lost ← only (codes "--lost") (codes "cut") reasons.Lost (value_of (codes "--lost") given)
+  tasks ← tasks_asked (us * 1000) (value_of (codes "--tasks") given)
+  Ok (record {
+    tasks = tasks;
+    processor = cpu;
+    unit = us * 1000;
+    khz = khz;
+    start = start;
+    from = from;
+    to = to;
+    begin_at_run = begin;
+    cut_losses = lost;
+  })
+
+abbrev pub read_trace : Bool → Result Asked WordFault → Result Request WordFault
+read_trace strict (Ok asked) = Ok (ReadTrace asked strict)
+read_trace strict (Err fault) = Err fault
+
+-- Nothing is set twice.
+abbrev pub asked_once : Option (List ℕ) → List Setting → Result Request WordFault
+asked_once (Some name) given = refuse name reasons.Twice
+asked_once None given = read_trace (is_given (codes "--strict") given) (asked_by given)
+
+abbrev pub request_by : List Setting → Result Request WordFault
+request_by given =
+    if is_given (codes "--help") given then Ok ShowHelp
+    else (if is_given (codes "--version") given then Ok ShowVersion else asked_once (given_twice given) given)
+
+-- What the words ask for, or why they can't be taken.
+abbrev pub request_of : List (List ℕ) → Result Request WordFault
+request_of words = settings_of words >>= request_by
+
+-- # What holds of what is asked of a trace
+
+pub record IsFit (asked : Asked) : Type 0 where
+  pub plain : IsAsked asked
+  pub within : IsWithin asked
+  pub some : 1 ≤ length asked.tasks
+  pub few : length asked.tasks ≤ MAX_TASKS
+  pub labels : All (λ task. is_label task.label ≡ true) asked.tasks
+
+abbrev pub IsFitRequest : Request → Type 0
+IsFitRequest ShowHelp = Unit {0}
+IsFitRequest ShowVersion = Unit {0}
+IsFitRequest (ReadTrace asked strict) = IsFit asked

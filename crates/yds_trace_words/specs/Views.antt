@@ -1,0 +1,70 @@
+-- What contracts see of what the code makes of the words.
+use Rattle.std.specs.Prelude.{◌≡◌, ℕ, List, map, String, string_bytes, Vec, Result, Ok, Err}
+use Rattle.std.specs.Borrow.{Bor}
+use Rattle.std.specs.declared.alloc.Global.{Global}
+use Rattle.yds_trace.specs.declared.asked.Task.{Task as TaskKept}
+use Rattle.yds_trace.specs.Asked.{Task, Asked}
+use Rattle.yds_trace.specs.Views.{which_read, task_read, asked_read}
+use Rattle.yds_trace_words.specs.declared.fault.WordFault.{WordFault as FaultTold}
+use Rattle.yds_trace_words.specs.declared.fault.NoRequest.{NoRequest}
+use Rattle.yds_trace_words.specs.declared.fault.NoRequest.TheVariants.{Fault, Memory}
+use Rattle.yds_trace_words.specs.declared.setting.Setting.{Setting as SettingKept}
+use Rattle.yds_trace_words.specs.declared.setting.Word.{Word as WordSaid}
+use Rattle.yds_trace_words.specs.declared.setting.Word.TheVariants as said
+use Rattle.yds_trace_words.specs.declared.request.Request.{Request as RequestMade}
+use Rattle.yds_trace_words.specs.declared.request.Request.TheVariants as requests
+use Rattle.yds_trace_words.specs.declared.letter.Letter.{Letter}
+use Rattle.yds_trace_words.specs.declared.tasks.Called.{Called as CalledKept}
+use Rattle.yds_trace_words.specs.declared.tasks.Times.{Times as TimesKept}
+use Rattle.yds_trace_words.specs.Tasks.{Called, Times}
+use Rattle.yds_trace_words.specs.Words.{WordFault, Setting, Word, Whole, Waits, Wrong}
+use Rattle.yds_trace_words.specs.Request.{Request, ShowHelp, ShowVersion, ReadTrace}
+
+abbrev pub words_of : List (String Global) → List (List ℕ)
+words_of words = map string_bytes words
+
+abbrev pub fault_read : FaultTold → WordFault
+fault_read fault = record { word = fault.word.now; task = fault.task; reason = fault.reason }
+
+abbrev pub setting_read : SettingKept → Setting
+setting_read setting = record { name = setting.name.now; value = setting.value.now }
+
+abbrev pub request_read : RequestMade → Request
+request_read requests.Help = ShowHelp
+request_read requests.Version = ShowVersion
+request_read (requests.Trace asked strict) = ReadTrace (asked_read asked) strict
+
+-- What was read is what the definition reads, or it is refused for the same reason, or memory ran out.
+abbrev pub Reads : {X Y : Type 0} → (X → Y) → Result X NoRequest → Result Y WordFault → Type 0
+Reads view (Ok x) defined = defined ≡ Ok (view x)
+Reads view (Err (Fault fault)) defined = defined ≡ Err (fault_read fault)
+Reads view (Err Memory) defined = Unit {0}
+
+-- the same where no memory is taken
+abbrev pub Takes : {X Y : Type 0} → (X → Y) → Result X FaultTold → Result Y WordFault → Type 0
+Takes view (Ok x) defined = defined ≡ Ok (view x)
+Takes view (Err fault) defined = defined ≡ Err (fault_read fault)
+
+abbrev pub settings_read : Vec SettingKept Global → List Setting
+settings_read settings = map setting_read settings.items
+
+-- the word says what the definition says of it
+abbrev pub IsWord : WordSaid → Word → Type 0
+IsWord (said.Whole setting) defined = defined ≡ Whole (setting_read setting)
+IsWord (said.Waits name) defined = defined ≡ Waits name.now
+IsWord (said.Wrong fault) defined = defined ≡ Wrong (fault_read fault)
+
+abbrev pub bytes_read : Vec ℕ Global → List ℕ
+bytes_read bytes = bytes.items
+
+abbrev pub tasks_read : Vec TaskKept Global → List Task
+tasks_read tasks = map task_read tasks.items
+
+abbrev pub called_read : CalledKept → Called
+called_read called = record { thread = which_read called.thread; label = called.label.items }
+
+abbrev pub times_read : TimesKept → Times
+times_read times = record { deadline = times.deadline; apart = times.apart }
+
+abbrev pub pieces_read : Vec (Bor (List Letter)) Global → List (List Letter)
+pieces_read pieces = map (λ (piece : Bor (List Letter)). piece.now) pieces.items

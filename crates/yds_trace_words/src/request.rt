@@ -1,0 +1,175 @@
+//! What the words of the command line ask for.
+ghost use Rattle.std.specs.Prelude.{◌≡◌, ◌≤◌, map, option_map, true, IfOk};
+ghost use Rattle.yds_trace.specs.Views.{asked_read};
+ghost use Rattle.yds_trace_words.specs.Request as spec;
+ghost use Rattle.yds_trace_words.specs.Tasks.{tasks_asked};
+ghost use Rattle.yds_trace_words.specs.Words.{value_of};
+ghost use Rattle.yds_trace_words.specs.Views.{words_of, request_read, setting_read, tasks_read, Reads, Takes};
+
+use crate::decimal::decimal;
+use crate::fault::{NoRequest, Reason, WordFault};
+use crate::limits::MAX_UNIT;
+use crate::setting::{Setting, settings, twice, value};
+use crate::tasks::tasks;
+use std::alloc::Global;
+use yds_kernel::MAX_NUMBER;
+use yds_text::number_of;
+use yds_trace::{Asked, MAX_PROCESSOR, MAX_TIME, Task};
+
+/// What the words ask for.
+#[derive(Debug, Drop)]
+pub enum Request {
+    /// The text of `--help`.
+    Help,
+    /// The line of `--version`.
+    Version,
+    /// The document of a trace.
+    Trace {
+        /// What is asked of it.
+        asked: Asked,
+        /// Whether a trace is refused of which a job is left out for another reason than `--from` and `--to`.
+        strict: bool,
+    },
+}
+
+/// What the words ask for, without the program's name among them, or why they can't be taken.
+pub fn read_words<'a>(alloc: Global, words: &'a [String]) -> Result<Request, NoRequest<'a>>
+    ensures request { Reads request_read result (spec.request_of (words_of words.now)) }
+    ensures fit { IfOk result (λ request. spec.IsFitRequest (request_read request)) }
+{
+    let given = settings(alloc, words)?;
+    request_by(alloc, &given)
+}
+
+/// What these settings ask for.
+fn request_by<'a>(alloc: Global, given: &[Setting<'a>]) -> Result<Request, NoRequest<'a>>
+    ensures { Reads request_read result (spec.request_by (map setting_read given.now)) }
+{
+    if value(given, b"--help").is_some() {
+        return Ok(Request::Help);
+    }
+    if value(given, b"--version").is_some() {
+        return Ok(Request::Version);
+    }
+    if let Some(name) = twice(given) {
+        return Err(NoRequest::Fault(WordFault::of(name, Reason::Twice)));
+    }
+    let asked = asked_by(alloc, given)?;
+    let strict = value(given, b"--strict").is_some();
+    Ok(Request::Trace { asked, strict })
+}
+
+/// What they ask of a trace.
+fn asked_by<'a>(alloc: Global, given: &[Setting<'a>]) -> Result<Asked, NoRequest<'a>>
+    ensures { Reads asked_read result (spec.asked_by (map setting_read given.now)) }
+{
+    let processor = whole(given, b"--cpu", 0, (0, MAX_PROCESSOR), Reason::Processor)?;
+    let unit = whole(given, b"--us", 10, (1, MAX_UNIT), Reason::Unit)?;
+    let khz = whole(given, b"--khz", 10_000, (1, MAX_NUMBER), Reason::Speed)?;
+    let start = start(value(given, b"--start"))?;
+    let from = time(b"--from", value(given, b"--from"))?;
+    let to = time(b"--to", value(given, b"--to"))?;
+    check_order(from, to)?;
+    let begin_at_run = only(b"--begin", b"run", Reason::Begin, value(given, b"--begin"))?;
+    let cut_losses = only(b"--lost", b"cut", Reason::Lost, value(given, b"--lost"))?;
+    let tasks = tasks_asked(alloc, unit * 1000, value(given, b"--tasks"))?;
+    Ok(Asked {
+        tasks,
+        processor,
+        unit: unit * 1000,
+        khz,
+        start,
+        from,
+        to,
+        begin_at_run,
+        cut_losses,
+    })
+}
+
+/// The tasks, which have to be given.
+fn tasks_asked<'a>(
+    alloc: Global,
+    unit: u64,
+    value: Option<&[u8]>,
+) -> Result<Vec<Task>, NoRequest<'a>>
+    ensures { Reads tasks_read result (tasks_asked unit (option_map (λ value. value.now) value.entry)) }
+{
+    match value {
+        Some(value) => tasks(alloc, unit, value),
+        None => Err(NoRequest::Fault(WordFault::of(b"--tasks", Reason::NoTasks))),
+    }
+}
+
+/// The whole number that this is set to, within its limits, or what stands for one that isn't given.
+fn whole<'a>(
+    given: &[Setting<'a>],
+    name: &'a [u8],
+    default: u64,
+    limits: (u64, u64),
+    reason: Reason,
+) -> Result<u64, WordFault<'a>>
+    ensures value { Takes (λ number. number) result (spec.whole_or default limits.0 limits.1 name.entry.now reason (value_of name.entry.now (map setting_read given.now))) }
+    ensures within { default ≤ limits.1 → IfOk result (λ number. number ≤ limits.1) }
+{
+    let Some(text) = value(given, name) else {
+        return Ok(default);
+    };
+    match number_of(text, limits.0, limits.1) {
+        Ok(number) => Ok(number),
+        Err(_) => Err(WordFault::of(name, reason)),
+    }
+}
+
+/// The speed before the first change, in kilohertz.
+fn start<'a>(value: Option<&[u8]>) -> Result<Option<u64>, WordFault<'a>>
+    ensures { Takes (λ start. start) result (spec.start_of (option_map (λ value. value.now) value.entry)) }
+{
+    let Some(text) = value else {
+        return Ok(None);
+    };
+    match number_of(text, 1, MAX_NUMBER) {
+        Ok(khz) => Ok(Some(khz)),
+        Err(_) => Err(WordFault::of(b"--start", Reason::Speed)),
+    }
+}
+
+/// A time of the trace's clock in seconds, as nanoseconds.
+fn time<'a>(name: &'a [u8], value: Option<&[u8]>) -> Result<Option<u64>, WordFault<'a>>
+    ensures { Takes (λ time. time) result (spec.time_of name.entry.now (option_map (λ value. value.now) value.entry)) }
+{
+    let Some(text) = value else {
+        return Ok(None);
+    };
+    match decimal(text, 9, MAX_TIME) {
+        Some(time) => Ok(Some(time)),
+        None => Err(WordFault::of(name, Reason::Time)),
+    }
+}
+
+/// That `from` is before `to`.
+fn check_order<'a>(from: Option<u64>, to: Option<u64>) -> Result<(), WordFault<'a>>
+    ensures { Takes (λ _. true) result (spec.ordered from to) }
+{
+    match (from, to) {
+        (Some(from), Some(to)) if from >= to => {
+            Err(WordFault::of(b"--from", Reason::FromNotBefore))
+        }
+        _ => Ok(()),
+    }
+}
+
+/// Whether it is set, to the only value that it may have.
+fn only<'a>(
+    name: &'a [u8],
+    wanted: &[u8],
+    reason: Reason,
+    value: Option<&[u8]>,
+) -> Result<bool, WordFault<'a>>
+    ensures { Takes (λ given. given) result (spec.only name.entry.now wanted.now reason (option_map (λ value. value.now) value.entry)) }
+{
+    match value {
+        Some(text) if text == wanted => Ok(true),
+        Some(_) => Err(WordFault::of(name, reason)),
+        None => Ok(false),
+    }
+}

@@ -1,0 +1,102 @@
+//! What no clause says: that words are taken with their values, and what is written of those that can't be.
+use crate::{NoRequest, Request, fault_line, read_words};
+use std::alloc::Global;
+use std::test::Fail;
+use yds_model::Memory;
+
+/// These words, each up to a blank.
+fn words(alloc: Global, line: &str) -> Result<Vec<String>, Memory> {
+    let mut words = Vec::new(alloc);
+    for word in line.split_whitespace() {
+        words.push(String::from_str(alloc, word)?)?;
+    }
+    Ok(words)
+}
+
+/// What is asked by these words: numbers, and then each task.
+fn asked(alloc: Global, line: &str) -> Result<String, Fail> {
+    let words = words(alloc, line)?;
+    match read_words(alloc, &words) {
+        Ok(Request::Help) => Ok(String::from_str(alloc, "help")?),
+        Ok(Request::Version) => Ok(String::from_str(alloc, "version")?),
+        Ok(Request::Trace { asked, strict }) => { Ok(format!(in alloc; "{:?} {strict}", asked)?) }
+        Err(NoRequest::Fault(fault)) => {
+            Ok(String::from_str(alloc, fault_line(&fault).as_str())?)
+        }
+        Err(NoRequest::Memory) => Ok(String::from_str(alloc, "memory")?),
+    }
+}
+
+#[test]
+fn words_ask(rt: HostRuntime) -> Result<(), Fail> {
+    let cases = [
+        ("--help --nonsense", "help"),
+        ("--cpu 1 --version", "version"),
+        (
+            "--tasks a:16.667:2 --cpu=3 --strict --from 1.5 --to 9223372036.854775807 --start 600000 --begin run --lost=cut --us 1 --khz 7",
+            "Asked { tasks: [Task { label: [97], thread: Named([97]), deadline: 16667000, apart: 2000000 }], processor: 3, unit: 1000, khz: 7, start: Some(600000), from: Some(1500000000), to: Some(9223372036854775807), begin_at_run: true, cut_losses: true } true",
+        ),
+        (
+            "--tasks 7=a\\,b:1,c\\:\\d:0.01",
+            "Asked { tasks: [Task { label: [97, 44, 98], thread: Numbered(7), deadline: 1000000, apart: 0 }, Task { label: [99, 58, 92, 100], thread: Named([99, 58, 92, 100]), deadline: 10000, apart: 0 }], processor: 0, unit: 10000, khz: 10000, start: None, from: None, to: None, begin_at_run: false, cut_losses: false } false",
+        ),
+    ];
+    for (line, want) in cases {
+        assert_eq!(rt; asked(rt.alloc(), line)?.as_str(), want, "{line}");
+    }
+    Ok(())
+}
+
+#[test]
+fn words_are_refused_by_name(rt: HostRuntime) -> Result<(), Fail> {
+    let cases = [
+        (
+            "--task a:1",
+            "# --task: no such word; --help lists them\nfailed\n",
+        ),
+        (
+            "--tasks a:1 file",
+            "# file: no such word; --help lists them\nfailed\n",
+        ),
+        (
+            "--cpu 1 --tasks a:1 --cpu 1",
+            "# --cpu: given twice; give it once\nfailed\n",
+        ),
+        (
+            "--tasks a:1 --us",
+            "# --us: its value is missing; write it behind\nfailed\n",
+        ),
+        (
+            "--tasks a:1,b:2,a:3",
+            "# --tasks, task 1: another task has the same name; write PID=NAME:DEADLINE with another name\nfailed\n",
+        ),
+        (
+            "--tasks a:1,b:0.009999",
+            "# --tasks, task 2: its deadline is less than a unit of time; write a later one, or a smaller unit by --us\nfailed\n",
+        ),
+        (
+            "--tasks a:16.6670001",
+            "# --tasks, task 1: no deadline; write milliseconds to 9223372036854.775807, with at most six digits behind the point\nfailed\n",
+        ),
+        (
+            "--tasks 7=a:1,7=b:1",
+            "# --tasks, task 1: another task is the same thread; list it once\nfailed\n",
+        ),
+        (
+            "--tasks a:1 --from 2 --to 2.000000000",
+            "# --from: not before --to; give an earlier time, or a later one there\nfailed\n",
+        ),
+        (
+            "--cpu 8192",
+            "# --cpu: no number of a processor; write a whole number from 0 to 8191\nfailed\n",
+        ),
+        (
+            "--strict=1",
+            "# --strict: it has no value; leave out the equals sign and what is behind it\nfailed\n",
+        ),
+    ];
+    for (line, want) in cases {
+        assert_eq!(rt; asked(rt.alloc(), line)?.as_str(), want, "{line}");
+    }
+    Ok(())
+}
