@@ -4,3 +4,4 @@ pub mod Placing
 pub mod AsRead
 pub mod Judging
 pub mod Seen
+pub mod Begins

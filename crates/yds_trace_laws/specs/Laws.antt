@@ -1,13 +1,15 @@
 -- What follows from the definitions of a trace's document.
-use Rattle.std.specs.Prelude.{◌≡◌, ◌≢◌, ℕ, ◌+◌, ◌<◌, ◌≤◌, List, length, take, Some}
+use Rattle.std.specs.Prelude.{◌≡◌, ◌≢◌, ℕ, ◌+◌, ◌<◌, ◌≤◌, List, length, take, Option, Some, None, ⊤}
 use Rattle.std.specs.List.{All}
 use Rattle.yds_kernel.specs.Event.{Said}
 use Rattle.yds_model.specs.Job.{Job, job_at}
 use Rattle.yds_model.specs.Feasible.{IsFeasible}
+use Rattle.yds_trace.specs.declared.limits.TheConstants.{MAX_TIME}
 use Rattle.yds_trace.specs.declared.job.Stretch.{Stretch}
+use Rattle.yds_trace.specs.Faults.{first_fault}
 use Rattle.yds_trace.specs.Asked.{Asked, IsAsked}
 use Rattle.yds_trace.specs.WrittenTime.{Units, written_time, runs_of, work_of_run, work_of_runs}
-use Rattle.yds_trace.specs.Document.{Written, Placed, all_runs, all_judged, document_of}
+use Rattle.yds_trace.specs.Document.{Written, Placed, all_runs, all_judged, jobs_of, document_of}
 use Rattle.yds_trace_laws.specs.AsSlots.{jobs_read, slots_read}
 
 -- # Written times
@@ -25,6 +27,18 @@ EndsAreKept = (units : Units) (stretches : List Stretch) (time : ℕ) → 1 ≤ 
 abbrev pub LatenessIsKept : Type 0
 LatenessIsKept = (units : Units) (due end : ℕ) →
     1 ≤ units.time → units.zero ≤ due → due + units.time ≤ end → written_time units due < written_time units end
+
+-- # Begins
+
+-- `to`, where it is given, is a time that a trace may have
+abbrev pub IsReached : Option ℕ → Type 0
+IsReached None = ⊤
+IsReached (Some to) = to ≤ MAX_TIME
+
+-- Each job of a trace without a fault begins by the greatest time that a trace may have. So its deadline fits 64 bits.
+abbrev pub BeginsAreInTime : Type 0
+BeginsAreInTime = (asked : Asked) (past : List Said) (number : ℕ) → IsReached asked.to → first_fault asked past ≡ None →
+    All (λ job. job.begin ≤ MAX_TIME) (jobs_of asked past number)
 
 -- # Feasible documents
 

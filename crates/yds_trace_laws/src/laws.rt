@@ -1,4 +1,4 @@
-ghost use Rattle.yds_trace_laws.specs.Laws.{EndsAreKept, FeasibleMeansInTime, FrontsAreInfeasible, LatenessIsKept, OrderIsKept, WorkNeedsASlot};
+ghost use Rattle.yds_trace_laws.specs.Laws.{BeginsAreInTime, EndsAreKept, FeasibleMeansInTime, FrontsAreInfeasible, LatenessIsKept, OrderIsKept, WorkNeedsASlot};
 
 /// A written time keeps order.
 pub fn order_is_kept()
@@ -13,6 +13,11 @@ pub fn ends_are_kept()
 /// An end that is a unit of time or more after a deadline is written after it.
 pub fn lateness_is_kept()
     ensures { LatenessIsKept }
+{}
+
+/// Each job of a trace without a fault begins by the greatest time that a trace may have.
+pub fn begins_are_in_time()
+    ensures { BeginsAreInTime }
 {}
 
 /// Where a trace's document is feasible, each job that is known to be late is late by less than a unit of time.
