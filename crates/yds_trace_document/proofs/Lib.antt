@@ -1,3 +1,4 @@
+pub mod Caps
 pub mod Listed
 pub mod Lists
 pub mod Nearest

@@ -79,12 +79,12 @@ speed_fault units judged =
 abbrev pub missed_fault : List Judged → Option DocumentFault
 missed_fault judged = option_map (λ place. faults.Missed place) (position is_missed judged)
 
--- With `strict` no job may be missed. A document without a job is feasible, so none is written where there are jobs.
+-- With `strict` no job may be missed. A document without a job is feasible, so none is written.
 abbrev pub limit_fault : Bool → Settled → Option DocumentFault
 limit_fault strict settled =
     or_else (fault_if (nat_lt MAX_JOBS (length settled.document.jobs)) faults.TooManyJobs)
     (or_else (fault_if (nat_lt MAX_SLOTS (length settled.document.runs)) faults.TooManyRuns)
     (or_else (job_fault settled.document.jobs)
     (or_else (speed_fault settled.units settled.judged)
-    (or_else (fault_if ((length settled.document.jobs == 0) && not (length settled.judged == 0)) faults.NoJob)
+    (or_else (fault_if (length settled.document.jobs == 0) faults.NoJob)
     (if strict then missed_fault settled.judged else None)))))

@@ -17,7 +17,7 @@ pub enum DocumentFault {
     SpeedTooCoarse(usize),
     /// The judged job at this place ran at a speed above the greatest of a run.
     SpeedTooGreat(usize),
-    /// No job can be written, though there are some.
+    /// No job is written: a document without one is feasible.
     NoJob,
     /// The judged job at this place doesn't stand as it is, for another reason than `from` or `to`, or it is late: no job is to
     /// be missed.

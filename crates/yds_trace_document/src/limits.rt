@@ -31,7 +31,7 @@ pub fn limit_fault(strict: bool, settled: &Settled<'_>) -> Option<DocumentFault>
     if let Some(fault) = speed_fault(settled.units, &settled.judged) {
         return Some(fault);
     }
-    if settled.jobs.is_empty() && !settled.judged.is_empty() {
+    if settled.jobs.is_empty() {
         return Some(DocumentFault::NoJob);
     }
     if strict {

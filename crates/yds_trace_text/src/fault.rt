@@ -1,6 +1,7 @@
 //! Why a text isn't written.
 use thiserror::Error;
 use yds_model::Memory;
+use yds_trace_document::DocumentFault;
 
 /// Why the text of a document isn't written.
 #[derive(Clone, Copy, Debug, PartialEq, Eq, Error)]
@@ -21,5 +22,30 @@ impl From<Memory> for TextFault {
 
     fn from(_memory: Memory) -> TextFault {
         TextFault::Memory
+    }
+}
+
+/// Why a trace's document isn't written.
+#[derive(Clone, Copy, Debug, PartialEq, Eq, Error)]
+pub enum NoText {
+    /// It is beyond a limit.
+    #[error("the document is beyond a limit")]
+    Limit(DocumentFault),
+    /// Its text is longer than a document may be, `MAX_INPUT` bytes.
+    #[error("the text is too long")]
+    TooLong,
+    /// Want of memory.
+    #[error("out of memory")]
+    Memory,
+}
+
+impl From<Memory> for NoText {
+    ghost use Rattle.std.specs.Prelude.{◌≡◌};
+    ghost use Rattle.yds_trace_text.specs.declared.fault.NoText.TheVariants as faults;
+
+    ghost from_gives = { λ _ fault. fault ≡ faults.Memory };
+
+    fn from(_memory: Memory) -> NoText {
+        NoText::Memory
     }
 }

@@ -19,5 +19,5 @@ mod woken;
 mod writing;
 mod wrong_unit;
 
-pub use fault::TextFault;
-pub use writing::text;
+pub use fault::{NoText, TextFault};
+pub use writing::{document_text, text};

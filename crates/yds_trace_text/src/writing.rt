@@ -1,6 +1,11 @@
 //! The whole text.
-ghost use Rattle.std.specs.Prelude.{◌≡◌, ◌≤◌, ◌<◌, ◌++◌, OnOk, IfOk, IfErr, length, map};
+ghost use Rattle.std.specs.Prelude.{◌≡◌, ◌≤◌, ◌<◌, ◌++◌, List, OnOk, IfOk, IfErr, length, map};
 ghost use Rattle.yds_model.specs.declared.limits.TheConstants.{MAX_INPUT};
+ghost use Rattle.yds_kernel.specs.Event.{Said};
+ghost use Rattle.yds_trace.specs.Asked as words;
+ghost use Rattle.yds_trace.specs.Ended.{IsEnded};
+ghost use Rattle.yds_trace_document.specs.Kept.{IsPlain};
+ghost use Rattle.yds_trace_text.specs.Writing.{Gives, Writes};
 ghost use Rattle.yds_trace.specs.Views.{asked_read, task_read};
 ghost use Rattle.yds_trace_document.specs.Views.{settled_read};
 ghost use Rattle.yds_trace_text.specs.declared.fault.TextFault.TheVariants as faults;
@@ -8,7 +13,7 @@ ghost use Rattle.yds_trace_text.specs.Text as spec;
 
 use crate::bytes::put;
 use crate::ends::put_all_shown;
-use crate::fault::TextFault;
+use crate::fault::{NoText, TextFault};
 use crate::head::{put_head, put_units};
 use crate::last::put_last;
 use crate::late::put_all_late;
@@ -20,8 +25,39 @@ use crate::wrong_unit::put_all_wrong_units;
 use std::alloc::Global;
 use yds_model::Memory;
 use yds_model::limits::MAX_INPUT;
-use yds_trace::{Asked, Task};
-use yds_trace_document::Settled;
+use yds_trace::{Asked, Ended, Task};
+use yds_trace_document::{Settled, limit_fault, settle};
+
+/// The text of a trace's document, by what is known at the trace's end. With `strict` no job may be missed.
+///
+/// Fails as `Limit` with the first limit that it is beyond, as `TooLong` where its text is longer than a document may be, or as
+/// `Memory` for want of memory.
+pub fn document_text(alloc: Global, ended: &Ended, strict: bool) -> Result<Vec<u8>, NoText>
+    requires { IsPlain ended.now }
+    ensures { (asked : words.Asked) (past : List Said) → IsEnded asked past ended.now → Writes strict asked past result }
+{
+    let settled = settle(alloc, ended)?;
+    limited_text(alloc, &ended.asked, &settled, strict)
+}
+
+/// The text of what is settled, if it is within the limits.
+fn limited_text(
+    alloc: Global,
+    asked: &Asked,
+    settled: &Settled<'_>,
+    strict: bool,
+) -> Result<Vec<u8>, NoText>
+    ensures { Gives strict (asked_read asked.now) (settled_read settled.now) result }
+{
+    if let Some(fault) = limit_fault(strict, settled) {
+        return Err(NoText::Limit(fault));
+    }
+    match text(alloc, asked, settled) {
+        Ok(text) => Ok(text),
+        Err(TextFault::TooLong) => Err(NoText::TooLong),
+        Err(TextFault::Memory) => Err(NoText::Memory),
+    }
+}
 
 /// The text of what is settled: the document's lines, and comments that tell what it hasn't. It has at most `MAX_INPUT` bytes.
 pub fn text(alloc: Global, asked: &Asked, settled: &Settled<'_>) -> Result<Vec<u8>, TextFault>
