@@ -21,3 +21,6 @@ mod wrong_unit;
 
 pub use fault::{NoText, TextFault};
 pub use writing::{document_text, text};
+
+#[cfg(test)]
+mod tests;

@@ -1,0 +1,143 @@
+//! What no clause says: that the text of some jobs is the one that was written by hand, and that each allocation may fail.
+use crate::{NoText, document_text};
+use std::alloc::{AllocError, Global};
+use std::test::Fail;
+use yds_trace::{Asked, End, Ended, Job, Stretch, Task, Which};
+use yds_trace_document::{DocumentFault, is_plain};
+
+/// The begin of the first job, in nanoseconds.
+const BEGIN: u64 = 5_123_400_623_456;
+
+const TEXT: &[u8] = b"# CPU 0 of a kernel trace; time 0 is 5123.400623456 s
+# time unit 10 us, speed unit 10000 kHz, work unit 100 cycles
+job t.0 0 100 5000
+job t.1 200 300 12000
+job t.2 400 500 1
+job t.4 800 900 0
+ticks 1
+run t.0 0 50 100
+run t.1 200 320 100
+# late: t.1, 0.200000 ms after its deadline
+# late, without its runs: t.2 (ran on another processor), 0.500000 ms after its deadline; window 400 500
+# late by less than a unit of time: t.4, 0.000001 ms after its deadline
+# ends: t.0 60
+# begins: t.4 800
+# left out: t.3 (ran on another processor)
+# 2 stretches within one unit of time, 0.004001 ms together, are in no run
+# 2 wake-ups came while their job was open, the most of t.1: 2
+# 4 jobs written, 1 left out, 1 late without its runs
+";
+
+/// A stretch at 1,000,000 kHz from a time to another one, both counted from `BEGIN`.
+fn stretch(processor: u64, from: u32, to: u32) -> Stretch {
+    Stretch {
+        processor,
+        from: BEGIN + u64::from(from),
+        to: BEGIN + u64::from(to),
+        khz: Some(1_000_000),
+    }
+}
+
+/// A job from a time to another one, both counted from `BEGIN`.
+fn job(from: u32, to: u32, stretches: Vec<Stretch>) -> Job {
+    Job {
+        begin: BEGIN + u64::from(from),
+        begin_known: true,
+        end: End::Ended(BEGIN + u64::from(to)),
+        stretches,
+        wake_ups: 0,
+        switch_missing: false,
+    }
+}
+
+/// What is known at the end of a trace with these jobs of the task `t`, each due 1 ms after its begin.
+fn ended(alloc: Global, jobs: Vec<Job>) -> Result<Ended, AllocError> {
+    let task = Task {
+        label: Vec::from_slice(alloc, b"t")?,
+        thread: Which::Numbered(7),
+        deadline: 1_000_000,
+        apart: 0,
+    };
+    let mut tasks = Vec::new(alloc);
+    tasks.push(task)?;
+    let mut by_task = Vec::new(alloc);
+    by_task.push(jobs)?;
+    Ok(Ended {
+        asked: Asked {
+            tasks,
+            processor: 0,
+            unit: 10_000,
+            khz: 10_000,
+            start: None,
+            from: None,
+            to: None,
+            begin_at_run: false,
+            cut_losses: false,
+        },
+        jobs: by_task,
+        first: BEGIN - 1,
+        last: BEGIN + 20_000_000,
+    })
+}
+
+/// A job that runs over two stretches, one that is late, one that moved and is late, one that moved, and one that is late by a
+/// nanosecond in a stretch within one unit of time.
+fn jobs(alloc: Global) -> Result<Vec<Job>, AllocError> {
+    let mut jobs = Vec::new(alloc);
+    let whole = stretch(0, 0, 500_000);
+    let short = stretch(0, 600_000, 604_000);
+    jobs.push(job(0, 604_000, vec![in alloc; whole, short]?))?;
+    let mut late = job(
+        2_000_000,
+        3_200_000,
+        vec![in alloc; stretch(0, 2_000_000, 3_200_000)]?,
+    );
+    late.wake_ups = 2;
+    jobs.push(late)?;
+    let moved = stretch(1, 4_000_000, 5_500_000);
+    jobs.push(job(4_000_000, 5_500_000, vec![in alloc; moved]?))?;
+    let moved = stretch(1, 6_000_000, 6_100_000);
+    jobs.push(job(6_000_000, 6_100_000, vec![in alloc; moved]?))?;
+    let tiny = stretch(0, 8_000_000, 8_000_001);
+    jobs.push(job(8_000_000, 9_000_001, vec![in alloc; tiny]?))?;
+    Ok(jobs)
+}
+
+#[test]
+fn the_text_is_the_one_written_by_hand(rt: HostRuntime) -> Result<(), Fail> {
+    let alloc = rt.alloc();
+    let ended = ended(alloc, jobs(alloc)?)?;
+    assert!(rt; is_plain(&ended));
+    match document_text(alloc, &ended, false) {
+        Ok(text) => assert_eq!(rt; text.as_slice(), TEXT),
+        Err(fault) => assert_eq!(rt; fault, NoText::Memory),
+    }
+    Ok(())
+}
+
+#[test]
+fn a_job_that_is_missed_is_a_fault_where_none_may_be(rt: HostRuntime) -> Result<(), Fail> {
+    let alloc = rt.alloc();
+    let ended = ended(alloc, jobs(alloc)?)?;
+    assert!(rt; is_plain(&ended));
+    if let Err(fault) = document_text(alloc, &ended, true) {
+        let limit = NoText::Limit(DocumentFault::Missed(2));
+        assert!(rt; fault == limit || fault == NoText::Memory);
+    } else {
+        assert!(rt; false, "a job is missed");
+    }
+    Ok(())
+}
+
+#[test]
+fn a_trace_without_a_job_has_no_text(rt: HostRuntime) -> Result<(), Fail> {
+    let alloc = rt.alloc();
+    let ended = ended(alloc, Vec::new(alloc))?;
+    assert!(rt; is_plain(&ended));
+    if let Err(fault) = document_text(alloc, &ended, false) {
+        assert!(rt; fault == NoText::Limit(DocumentFault::NoJob) || fault == NoText::Memory);
+    } else {
+        assert!(rt; false, "a document without a job is feasible");
+    }
+    Ok(())
+}
