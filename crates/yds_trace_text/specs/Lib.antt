@@ -1,3 +1,4 @@
+pub mod Laws
 pub mod Text
 pub mod Views
 pub mod Writing

@@ -11,6 +11,7 @@ mod fault;
 mod head;
 mod last;
 mod late;
+mod laws;
 mod left_out;
 mod numbers;
 mod rows;
@@ -20,6 +21,7 @@ mod writing;
 mod wrong_unit;
 
 pub use fault::{NoText, TextFault};
+pub use laws::every_job_has_its_place;
 pub use writing::{document_text, text};
 
 #[cfg(test)]
