@@ -5,11 +5,10 @@
 It draws TRACES traces (1,000): threads that sleep, are preempted, wait and move among processors; changes of speed;
 fronts that are cut off, lost events, `from` and `to`. The second reading is below, from docs/definitions.md and the
 definitions in crates/yds_trace/specs, with the whole trace in memory; what a line says it takes from lines.py. It
-shares no code with the recipe. Three meanings are known to differ, and are told apart by reading once more in the
-recipe's meaning: a wake-up within APART of a begin that isn't known; times of lines that tell of nothing listed; and a
-thread that is first seen where it leaves its processor after `to`. Where no listed thread is woken, or no job is whole,
-the recipe has other rules or none, and nothing is compared. The last line but one tells how many traces and jobs of
-each kind there were. The status is 1 where anything else differs.
+shares no code with the recipe. Two meanings are known to differ, and are told apart by reading once more in the
+recipe's meaning: a wake-up within APART of a begin that isn't known; and times of lines that tell of nothing listed.
+Where no listed thread is woken, or no job is whole, the recipe has other rules or none, and nothing is compared. The
+last line but one tells how many traces and jobs of each kind there were. The status is 1 where anything else differs.
 """
 
 import os
@@ -145,10 +144,9 @@ class Machine:
 
 
 class Meaning(NamedTuple):
-    """Where the recipe differs: wake-ups join jobs of an unknown begin, and what is seen after `to` counts."""
+    """Where the recipe differs: wake-ups join jobs of an unknown begin."""
 
     joins: bool = False
-    looks_on: bool = False
 
 
 class Thread:
@@ -237,14 +235,6 @@ class Thread:
                 job.state, job.at = LOST, min(job.at, since)
         self.on, self.woken = None, False
 
-    def look_on(self, event: Event, machine: Machine) -> None:
-        """A switch after `to`, the first of its processor: who leaves has been there all the time."""
-        new = event.names[0] == self.name and self.is_new() and machine.whole is not None
-        if new and not machine.switched.get(event.processor):
-            self.be_awake(machine.whole or 0)
-            self.last().begin, self.last().known = machine.whole or 0, False
-            self.last().missing = True
-
     def read(self, event: Event, machine: Machine) -> None:
         """A line with a stamp."""
         if event.kind == "wake" and event.names[0] == self.name:
@@ -282,10 +272,11 @@ def follow(events: List[Event], words: Words, meaning: Meaning) -> Tuple[List[Th
             for thread in threads:
                 thread.read(event, machine)
             machine.tell(event)
-        elif event.kind == "switch" and meaning.looks_on:
+        elif event.kind == "switch" and not machine.switched.get(event.processor):
+            stayed = event._replace(time=words.end, names=(event.names[0], event.names[0]), sleeps=False)
             for thread in threads:
-                thread.look_on(event, machine)
-            machine.switched[event.processor] = True
+                thread.read(stayed, machine)
+            machine.tell(stayed)
         if event.time >= 0:
             machine.stamp(event)
     for thread in threads:
@@ -513,8 +504,7 @@ def known_class(events: List[Event], words: Words, told: Tuple[List[Row], List[R
     classes = [
         ("APART after an unknown begin", events, Meaning(joins=True)),
         ("times of unrelated lines", ended, Meaning()),
-        ("seen only after `to`", events, Meaning(looks_on=True)),
-        ("several of these", ended, Meaning(joins=True, looks_on=True)),
+        ("both of these", ended, Meaning(joins=True)),
     ]
     return next((name for name, those, meaning in classes if document(those, words, meaning)[:2] == told), "")
 
