@@ -120,6 +120,7 @@ impl Counted {
         lose_each(&mut self.tasks, time);
         self.past.lose();
     }
+
     /// Takes what counts of a line without a stamp which says that events of the processor were lost.
     pub(crate) fn count_loss(
         &mut self,

@@ -127,6 +127,9 @@ pub(crate) fn take_each(
         step,
         place: step.place(),
     };
+    if first.number.is_none() && second.number.is_none() && event.place == Place::Nowhere {
+        return Ok(());
+    }
     for number in 0..tasks.len() {
         let followed = &mut tasks[number];
         followed.take(alloc, asked, number, wakes, &event)?;
