@@ -1,5 +1,6 @@
 -- What holds of what is asked of a trace, from the words that ask for it.
-use Rattle.yds_model.proofs.Common.{◌≡◌, ℕ, ◌+◌, ◌*◌, ◌^◌, ◌<◌, ◌≤◌, ◌⊎◌, inl, inr, List, [], ◌∷◌, length, All, All-cons, All-nil, Bool, true, false, nat_le, nat_lt, Option, Some, None, Result, Ok, Err, refl, sym, ap, subst, ◌∙◌, arith, if◌then◌else◌, leb-true, ltb-false, codes, and_parts, ◌&&◌, digits_value}
+use Rattle.std.specs.Prelude.{IfSome}
+use Rattle.yds_model.proofs.Common.{◌≡◌, ℕ, ◌+◌, ◌*◌, ◌^◌, ◌≤◌, ◌⊎◌, inl, inr, List, [], ◌∷◌, length, All, All-cons, All-nil, Bool, true, false, nat_le, nat_lt, Option, Some, None, Result, Ok, Err, refl, ap, subst, ◌∙◌, arith, if◌then◌else◌, leb-true, ltb-false, codes, and_parts, ◌&&◌, digits_value}
 use Rattle.std.specs.List.{slice_split, list_any, before_first, after_first}
 use Rattle.std.specs.Result.{result_ok}
 use Rattle.std.proofs.lemmas.List.Splits.{length-slice_split}
@@ -8,8 +9,8 @@ use Rattle.yds_model.specs.declared.number_fault.NumberFault.{NumberFault}
 use Rattle.yds_model.specs.declared.number_fault.NumberFault.TheVariants.{BadNumber, OutOfRange}
 use Rattle.yds_kernel.specs.Parts.{◌>>=◌ as ◌>>?◌}
 use Rattle.yds_kernel.specs.declared.limits.TheConstants.{MAX_NUMBER}
-use Rattle.yds_trace.specs.declared.limits.TheConstants.{MAX_PROCESSOR, MAX_TIME, MAX_DEADLINE}
-use Rattle.yds_trace.specs.Asked.{Task, Asked, IsAsked, IsWithin, Numbered, Named}
+use Rattle.yds_trace.specs.declared.limits.TheConstants.{MAX_TIME, MAX_PROCESSOR, MAX_DEADLINE}
+use Rattle.yds_trace.specs.Asked.{Task, Asked, Numbered, Named}
 use Rattle.yds_trace_words.specs.declared.limits.TheConstants.{MAX_UNIT, MAX_TASKS}
 use Rattle.yds_trace_words.specs.declared.fault.Reason.{Reason}
 use Rattle.yds_trace_words.specs.declared.fault.Reason.TheVariants as reasons
@@ -19,7 +20,7 @@ use Rattle.yds_trace_words.specs.Words.{WordFault, refuse, ◌>>=◌, Setting, s
 use Rattle.yds_trace_words.specs.Decimal.{decimal_at, at_most, fraction_at, behind_point, is_point}
 use Rattle.yds_trace_words.specs.Letters.{letters_of, is_at, text_of}
 use Rattle.yds_trace_words.specs.Tasks.{known, is_label, refuse_task, label_at, Called, pid_at, numbered_at, named_at, called_at, milliseconds_at, deadline_at, Times, apart_at, alone_at, times_at, task_of_parts, task_at, tasks_behind, before_tasks, tasks_from, tasks_of, tasks_asked, different_from, unless}
-use Rattle.yds_trace_words.specs.Request.{Request, ShowHelp, ShowVersion, ReadTrace, whole_or_refused, whole_or, start_of, time_of, ordered, only, asked_by, read_trace, asked_once, request_by, request_of, IsFit, IsFitRequest}
+use Rattle.yds_trace_words.specs.Request.{Request, ShowHelp, ShowVersion, ReadTrace, whole_or_refused, whole_or, start_of, time_or_refused, time_of, ordered, only, asked_by, read_trace, asked_once, request_by, request_of, IsFit, IsFitRequest}
 
 -- # Steps
 
@@ -100,9 +101,9 @@ named_fits place name called is = label_fits place (text_of name) called.label (
 called_fits : (place : ℕ) (letters : List Letter) (called : Called) → called_at place letters ≡ Ok called → is_label called.label ≡ true
 called_fits place letters called is = elim (either (list_any (is_at signs.Equals) letters)
     (numbered_at place (before_first (is_at signs.Equals) letters) (after_first (is_at signs.Equals) letters)) (named_at place letters) called is) [
-  | inl numbered ↦ numbered_fits place (before_first (is_at signs.Equals) letters) (after_first (is_at signs.Equals) letters) called numbered
-  | inr named ↦ named_fits place letters called named
-]
+      | inl numbered ↦ numbered_fits place (before_first (is_at signs.Equals) letters) (after_first (is_at signs.Equals) letters) called numbered
+      | inr named ↦ named_fits place letters called named
+    ]
 
 deadline_fits : (unit place : ℕ) (letters : List Letter) (deadline : ℕ) → deadline_at unit place letters ≡ Ok deadline → (unit ≤ deadline) × (deadline ≤ MAX_DEADLINE)
 deadline_fits unit place letters deadline is =
@@ -130,9 +131,9 @@ alone_fits unit place letters times is = deadline_fits unit place letters times.
 times_fit : (unit place : ℕ) (letters : List Letter) (times : Times) → times_at unit place letters ≡ Ok times → (unit ≤ times.deadline) × (times.deadline ≤ MAX_DEADLINE)
 times_fit unit place letters times is = elim (either (list_any (is_at signs.Colon) letters)
     (apart_at unit place (before_first (is_at signs.Colon) letters) (after_first (is_at signs.Colon) letters)) (alone_at unit place letters) times is) [
-  | inl both ↦ apart_fits unit place (before_first (is_at signs.Colon) letters) (after_first (is_at signs.Colon) letters) times both
-  | inr one ↦ alone_fits unit place letters times one
-]
+      | inl both ↦ apart_fits unit place (before_first (is_at signs.Colon) letters) (after_first (is_at signs.Colon) letters) times both
+      | inr one ↦ alone_fits unit place letters times one
+    ]
 
 record TaskParts (called : Result Called WordFault) (times : Result Times WordFault) (task : Task) : Type 0 where
   pub name : Called
@@ -161,9 +162,9 @@ parts_fit unit place name window task is =
 task_fits : (unit place : ℕ) (letters : List Letter) (task : Task) → task_at unit place letters ≡ Ok task → IsFine unit task
 task_fits unit place letters task is = elim (either (list_any (is_at signs.Colon) letters)
     (task_of_parts unit place (before_first (is_at signs.Colon) letters) (after_first (is_at signs.Colon) letters)) (refuse_task place reasons.TaskForm) task is) [
-  | inl both ↦ parts_fit unit place (before_first (is_at signs.Colon) letters) (after_first (is_at signs.Colon) letters) task both
-  | inr refused ↦ absurd cc
-]
+      | inl both ↦ parts_fit unit place (before_first (is_at signs.Colon) letters) (after_first (is_at signs.Colon) letters) task both
+      | inr refused ↦ absurd cc
+    ]
 
 record AreFine (unit count : ℕ) (tasks : List Task) : Type 0 where
   pub all : All (IsFine unit) tasks
@@ -260,33 +261,54 @@ are_asked unit None tasks is = absurd cc
 are_asked unit (Some text) tasks is =
     pieces_asked unit (slice_split (is_at signs.Comma) (letters_of text)) tasks (omega (arith, length-slice_split (is_at signs.Comma) (letters_of text))) is
 
-record AskedParts (unit khz : ℕ) (found : Result (List Task) WordFault) (asked : Asked) : Type 0 where
+record AskedParts (unit khz : ℕ) (to : Option ℕ) (found : Result (List Task) WordFault) (asked : Asked) : Type 0 where
   pub unit_is : unit ≡ asked.unit
   pub khz_is : khz ≡ asked.khz
+  pub to_is : to ≡ asked.to
   pub tasks_is : found ≡ Ok asked.tasks
 
 last_parts : (order begin lost : Result Bool WordFault) (found : Result (List Task) WordFault) (cpu unit khz : ℕ) (start from to : Option ℕ) (asked : Asked)
     → (order >>= (λ o. begin >>= (λ b. lost >>= (λ l. found >>= (λ t. Ok (record {
-      tasks = t; processor = cpu; unit = unit; khz = khz; start = start; from = from; to = to; begin_at_run = b; cut_losses = l }))))))
-      ≡ Ok asked → AskedParts unit khz found asked
+      tasks = t;
+      processor = cpu;
+      unit = unit;
+      khz = khz;
+      start = start;
+      from = from;
+      to = to;
+      begin_at_run = b;
+      cut_losses = l;
+    }))))))
+    ≡ Ok asked → AskedParts unit khz to found asked
 last_parts (Err fault) begin lost found cpu unit khz start from to asked is = absurd cc
 last_parts (Ok o) (Err fault) lost found cpu unit khz start from to asked is = absurd cc
 last_parts (Ok o) (Ok b) (Err fault) found cpu unit khz start from to asked is = absurd cc
 last_parts (Ok o) (Ok b) (Ok l) (Err fault) cpu unit khz start from to asked is = absurd cc
-last_parts (Ok o) (Ok b) (Ok l) (Ok t) cpu unit khz start from to asked is = record { unit_is = cc; khz_is = cc; tasks_is = cc }
+last_parts (Ok o) (Ok b) (Ok l) (Ok t) cpu unit khz start from to asked is = record { unit_is = cc; khz_is = cc; to_is = cc; tasks_is = cc }
 
-record AllParts (us khz : Result ℕ WordFault) (tasks : ℕ → Result (List Task) WordFault) (asked : Asked) : Type 0 where
+record AllParts (us khz : Result ℕ WordFault) (to : Result (Option ℕ) WordFault) (tasks : ℕ → Result (List Task) WordFault) (asked : Asked) : Type 0 where
   pub number : ℕ
   pub speed : ℕ
   pub us_is : us ≡ Ok number
   pub khz_is : khz ≡ Ok speed
-  pub rest : AskedParts (number * 1000) speed (tasks (number * 1000)) asked
+  pub end : Option ℕ
+  pub end_is : to ≡ Ok end
+  pub rest : AskedParts (number * 1000) speed end (tasks (number * 1000)) asked
 
 all_parts : (cpu us khz : Result ℕ WordFault) (start from to : Result (Option ℕ) WordFault) (order : Option ℕ → Option ℕ → Result Bool WordFault) (begin lost : Result Bool WordFault)
     (tasks : ℕ → Result (List Task) WordFault) (asked : Asked)
     → (cpu >>= (λ c. us >>= (λ u. khz >>= (λ k. start >>= (λ s. from >>= (λ f. to >>= (λ e. order f e >>= (λ o. begin >>= (λ b. lost >>= (λ l. tasks (u * 1000) >>= (λ t. Ok (record {
-      tasks = t; processor = c; unit = u * 1000; khz = k; start = s; from = f; to = e; begin_at_run = b; cut_losses = l }))))))))))))
-      ≡ Ok asked → AllParts us khz tasks asked
+      tasks = t;
+      processor = c;
+      unit = u * 1000;
+      khz = k;
+      start = s;
+      from = f;
+      to = e;
+      begin_at_run = b;
+      cut_losses = l;
+    }))))))))))))
+    ≡ Ok asked → AllParts us khz to tasks asked
 all_parts (Err fault) us khz start from to order begin lost tasks asked is = absurd cc
 all_parts (Ok c) (Err fault) khz start from to order begin lost tasks asked is = absurd cc
 all_parts (Ok c) (Ok u) (Err fault) start from to order begin lost tasks asked is = absurd cc
@@ -294,19 +316,28 @@ all_parts (Ok c) (Ok u) (Ok k) (Err fault) from to order begin lost tasks asked 
 all_parts (Ok c) (Ok u) (Ok k) (Ok s) (Err fault) to order begin lost tasks asked is = absurd cc
 all_parts (Ok c) (Ok u) (Ok k) (Ok s) (Ok f) (Err fault) order begin lost tasks asked is = absurd cc
 all_parts (Ok c) (Ok u) (Ok k) (Ok s) (Ok f) (Ok e) order begin lost tasks asked is =
-    record { number = u; speed = k; us_is = refl; khz_is = refl; rest = last_parts (order f e) begin lost (tasks (u * 1000)) c (u * 1000) k s f e asked is }
+    record { number = u; speed = k; us_is = refl; khz_is = refl; end = e; end_is = refl; rest = last_parts (order f e) begin lost (tasks (u * 1000)) c (u * 1000) k s f e asked is }
 
 weaker : (P Q : Task → Type 0) (tasks : List Task) → ((task : Task) → P task → Q task) → All P tasks → All Q tasks
 weaker P Q tasks so all = λ i d within. so _ (all i d within)
+
+to_most : (name : List ℕ) (value : Option (List ℕ)) (to : Option ℕ) → time_of name value ≡ Ok to → IfSome to (λ time. time ≤ MAX_TIME)
+to_most name value None is = tt
+to_most name None (Some time) is = absurd cc
+to_most name (Some text) (Some time) is = by (decimal_at 9 MAX_TIME text) refl is
+  where
+    by : (found : Option ℕ) → decimal_at 9 MAX_TIME text ≡ found → time_or_refused name found ≡ Ok (Some time) → time ≤ MAX_TIME
+    by None was same = absurd cc
+    by (Some x) was same = let even : x ≡ time = cc in decimal_most 9 MAX_TIME text time (was ∙ ap Some even)
 
 -- what is asked by these settings
 asked_fits : (given : List Setting) (asked : Asked) → asked_by given ≡ Ok asked → IsFit asked
 asked_fits given asked is =
     let value = λ (name : List ℕ). value_of name given in
     let parts = all_parts (whole_or 0 0 MAX_PROCESSOR (codes "--cpu") reasons.Processor (value (codes "--cpu"))) (whole_or 10 1 MAX_UNIT (codes "--us") reasons.Unit (value (codes "--us")))
-        (whole_or 10000 1 MAX_NUMBER (codes "--khz") reasons.Speed (value (codes "--khz"))) (start_of (value (codes "--start"))) (time_of (codes "--from") (value (codes "--from")))
-        (time_of (codes "--to") (value (codes "--to"))) ordered (only (codes "--begin") (codes "run") reasons.Begin (value (codes "--begin")))
-        (only (codes "--lost") (codes "cut") reasons.Lost (value (codes "--lost"))) (λ (unit : ℕ). tasks_asked unit (value (codes "--tasks"))) asked is in
+    (whole_or 10000 1 MAX_NUMBER (codes "--khz") reasons.Speed (value (codes "--khz"))) (start_of (value (codes "--start"))) (time_of (codes "--from") (value (codes "--from")))
+    (time_of (codes "--to") (value (codes "--to"))) ordered (only (codes "--begin") (codes "run") reasons.Begin (value (codes "--begin")))
+    (only (codes "--lost") (codes "cut") reasons.Lost (value (codes "--lost"))) (λ (unit : ℕ). tasks_asked unit (value (codes "--tasks"))) asked is in
     let unit = unit_between (value (codes "--us")) parts.number parts.us_is in
     let speed = speed_between (value (codes "--khz")) parts.speed parts.khz_is in
     let fine = subst (λ u. AreAsked u asked.tasks) parts.rest.unit_is (are_asked (parts.number * 1000) (value (codes "--tasks")) asked.tasks parts.rest.tasks_is) in
@@ -317,6 +348,7 @@ asked_fits given asked is =
         deadlines = weaker (IsFine asked.unit) (λ (task : Task). asked.unit ≤ task.deadline) asked.tasks (λ task one. one.long) fine.all;
       };
       within = record { deadlines = weaker (IsFine asked.unit) (λ (task : Task). task.deadline ≤ MAX_DEADLINE) asked.tasks (λ task one. one.short) fine.all };
+      reached = subst (λ (to : Option ℕ). IfSome to (λ time. time ≤ MAX_TIME)) parts.rest.to_is (to_most (codes "--to") (value (codes "--to")) parts.end parts.end_is);
       some = fine.some;
       few = fine.few;
       labels = weaker (IsFine asked.unit) (λ (task : Task). is_label task.label ≡ true) asked.tasks (λ task one. one.label) fine.all;
@@ -333,12 +365,15 @@ request_fits words (ReadTrace asked strict) is =
     by_asked : (strictly : Bool) (found : Result Asked WordFault) → ((one : Asked) → found ≡ Ok one → IsFit one) → read_trace strictly found ≡ Ok (ReadTrace asked strict) → IsFit asked
     by_asked strictly (Err fault) fits same = absurd cc
     by_asked strictly (Ok one) fits same = let even : one ≡ asked = cc in subst IsFit even (fits one refl)
+
     by_twice : (name : Option (List ℕ)) (settings : List Setting) → asked_once name settings ≡ Ok (ReadTrace asked strict) → IsFit asked
     by_twice (Some again) settings same = absurd cc
     by_twice None settings same = by_asked (is_given (codes "--strict") settings) (asked_by settings) (asked_fits settings) same
+
     by_version : (b : Bool) (settings : List Setting) → (if b then Ok ShowVersion else asked_once (given_twice settings) settings) ≡ Ok (ReadTrace asked strict) → IsFit asked
     by_version true settings same = absurd cc
     by_version false settings same = by_twice (given_twice settings) settings same
+
     by_help : (b : Bool) (settings : List Setting)
         → (if b then Ok ShowHelp else (if is_given (codes "--version") settings then Ok ShowVersion else asked_once (given_twice settings) settings)) ≡ Ok (ReadTrace asked strict) → IsFit asked
     by_help true settings same = absurd cc

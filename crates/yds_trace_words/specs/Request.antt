@@ -1,11 +1,11 @@
 -- What the words of the command line ask for.
-use Rattle.std.specs.Prelude.{◌≡◌, ℕ, ◌*◌, ◌≤◌, List, length, codes, Bool, true, false, nat_lt, if◌then◌else◌, Option, Some, None, is_some, Result, Ok, Err}
+use Rattle.std.specs.Prelude.{◌≡◌, ℕ, ◌*◌, ◌≤◌, List, length, codes, Bool, true, false, nat_lt, if◌then◌else◌, Option, Some, None, IfSome, Result, Ok, Err}
 use Rattle.std.specs.List.{All}
 use Rattle.std.specs.Str.{bytes_eq}
 use Rattle.yds_model.specs.Spelling.{number_at}
 use Rattle.yds_kernel.specs.declared.limits.TheConstants.{MAX_NUMBER}
 use Rattle.yds_trace.specs.declared.limits.TheConstants.{MAX_PROCESSOR, MAX_TIME}
-use Rattle.yds_trace.specs.Asked.{Task, Asked, IsAsked, IsWithin}
+use Rattle.yds_trace.specs.Asked.{Asked, IsAsked, IsWithin}
 use Rattle.yds_trace_words.specs.declared.limits.TheConstants.{MAX_UNIT, MAX_TASKS}
 use Rattle.yds_trace_words.specs.declared.fault.Reason.{Reason}
 use Rattle.yds_trace_words.specs.declared.fault.Reason.TheVariants as reasons
@@ -110,6 +110,7 @@ request_of words = settings_of words >>= request_by
 pub record IsFit (asked : Asked) : Type 0 where
   pub plain : IsAsked asked
   pub within : IsWithin asked
+  pub reached : IfSome asked.to (λ to. to ≤ MAX_TIME)
   pub some : 1 ≤ length asked.tasks
   pub few : length asked.tasks ≤ MAX_TASKS
   pub labels : All (λ task. is_label task.label ≡ true) asked.tasks

@@ -1,5 +1,5 @@
 -- The texts that answer words alone.
-use Rattle.std.specs.Prelude.{ℕ, List, [], ◌∷◌, ◌++◌, map, take, codes, decimal, Bool, ◌==◌, ◌||◌, if◌then◌else◌, Option, Some, None}
+use Rattle.std.specs.Prelude.{ℕ, List, [], ◌++◌, map, take, codes, decimal, ◌==◌, ◌||◌, if◌then◌else◌, Option, Some, None}
 use Rattle.yds_model.specs.Spelling.{is_visible}
 use Rattle.yds_trace_words.specs.declared.fault.Reason.{Reason}
 use Rattle.yds_trace_words.specs.declared.fault.Reason.TheVariants as reasons

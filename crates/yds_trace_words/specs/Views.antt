@@ -3,7 +3,7 @@ use Rattle.std.specs.Prelude.{◌≡◌, ℕ, List, map, String, string_bytes, V
 use Rattle.std.specs.Borrow.{Bor}
 use Rattle.std.specs.declared.alloc.Global.{Global}
 use Rattle.yds_trace.specs.declared.asked.Task.{Task as TaskKept}
-use Rattle.yds_trace.specs.Asked.{Task, Asked}
+use Rattle.yds_trace.specs.Asked.{Task}
 use Rattle.yds_trace.specs.Views.{which_read, task_read, asked_read}
 use Rattle.yds_trace_words.specs.declared.fault.WordFault.{WordFault as FaultTold}
 use Rattle.yds_trace_words.specs.declared.fault.NoRequest.{NoRequest}

@@ -1,0 +1,36 @@
+use Rattle.yds_model.proofs.Common.{◌∙◌, arith, err_from_is_err_and}
+use Rattle.yds_trace.specs.Views.{asked_read}
+use Rattle.yds_trace_reading.proofs.Passing.{one_more, not_taken, known_whole, read_whole, stopped_whole, too_many_lines}
+use Rattle.yds_trace_reading.proofs.reading.pass_over.Goals as goal
+
+pub returns-in_err-take_line-in-Line-clause-stopped : goal.returns-in_err-take_line-in-Line-clause-stopped
+returns-in_err-take_line-in-Line-clause-stopped g c =
+    let told = err_from_is_err_and c.from_residual-in_err-take_line-in-Line.result c.from_residual-in_err-take_line-in-Line.ensures.1 in
+    rw (told.1, told.2)
+    (not_taken (asked_read c.args.asked) _ _ _ _ _ _ _ _ _ _ c.loop-lines.invariant.ahead c.in-Line.ensures.advances
+    (c.in_err-take_line-in-Line.ensures.refused (asked_read c.args.asked) c.loop-lines.invariant.ahead.past c.loop-lines.invariant.ahead.stands))
+
+pub returns-in-End-clause-read : goal.returns-in-End-clause-read
+returns-in-End-clause-read g c =
+    read_whole (asked_read c.args.asked) _ _ c.loop-lines.reader _ _ _ c.loop-lines.invariant.ahead c.in-End.ensures.advances.at_end
+    (c.end.ensures.known (asked_read c.args.asked) c.loop-lines.invariant.ahead.past c.loop-lines.invariant.ahead.stands)
+
+pub returns-in-End-clause-stopped : goal.returns-in-End-clause-stopped
+returns-in-End-clause-stopped g c =
+    stopped_whole (asked_read c.args.asked) _ _ c.loop-lines.reader _ _ _ c.loop-lines.invariant.ahead c.in-End.ensures.advances.at_end
+    (c.end.ensures.refused (asked_read c.args.asked) c.loop-lines.invariant.ahead.past c.loop-lines.invariant.ahead.stands)
+
+pub loop-lines-preserved : goal.loop-lines-preserved
+loop-lines-preserved g c = record {
+  ahead = one_more (asked_read c.args.asked) _ _ _ _ _ _ _ _ _ _ c.loop-lines.invariant.ahead c.in-Line.ensures.advances c.in-Line.ensures.counts
+      (c.in_ok-take_line-in-Line.ensures.taken (asked_read c.args.asked) c.loop-lines.invariant.ahead.past c.loop-lines.invariant.ahead.stands);
+  faults = c.in-Line.ensures.advances.no_fault ∙ c.loop-lines.invariant.faults;
+}
+
+pub returns-clause-stopped : goal.returns-clause-stopped
+returns-clause-stopped g c = too_many_lines (asked_read c.args.asked) _ _ _ _ _ c.loop-lines.invariant.ahead (omega (arith, c.loop-lines-test.false))
+
+pub returns-in-End-clause-known : goal.returns-in-End-clause-known
+returns-in-End-clause-known g c =
+    known_whole (asked_read c.args.asked) _ _ c.loop-lines.reader _ _ _ c.loop-lines.invariant.ahead
+    (c.end.ensures.known (asked_read c.args.asked) c.loop-lines.invariant.ahead.past c.loop-lines.invariant.ahead.stands)

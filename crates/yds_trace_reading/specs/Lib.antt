@@ -1,0 +1,4 @@
+pub mod LineFault
+pub mod Ahead
+pub mod Taken
+pub mod Reading

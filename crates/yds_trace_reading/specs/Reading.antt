@@ -1,0 +1,36 @@
+-- What a pass over the bytes of a trace ends with.
+use Rattle.std.specs.Prelude.{◌≡◌, ℕ, ◌+◌, ◌^◌, ◌≤◌, ◌⊎◌, List, length, Some, None}
+use Rattle.yds_kernel.specs.Event.{Said}
+use Rattle.yds_kernel.specs.Text.{trace_of}
+use Rattle.yds_kernel_text.specs.declared.limits.TheConstants.{ROOM}
+use Rattle.yds_trace.specs.declared.ended.Ended.{Ended}
+use Rattle.yds_trace.specs.Asked.{Asked}
+use Rattle.yds_trace.specs.Ended.{IsEnded}
+use Rattle.yds_trace.specs.Faults.{first_fault}
+use Rattle.yds_trace_reading.specs.declared.stopped.Stopped.{Stopped}
+use Rattle.yds_trace_reading.specs.declared.stopped.Stopped.TheVariants as stops
+use Rattle.yds_trace_reading.specs.LineFault.{InForm, AtLine, past_of, line_fault}
+
+-- it was read whole, none of its lines is refused, and this is known at its end
+pub record IsRead (asked : Asked) (input : List ℕ) (ended : Ended) : Type 0 where
+  pub sound : line_fault asked (trace_of input) ≡ None
+  pub known : IsEnded asked (past_of (trace_of input)) ended
+
+-- Some lines without a fault end so. It is so of each source, one that doesn't tell its bytes, too.
+pub record IsEndOfSome (asked : Asked) (ended : Ended) : Type 0 where
+  pub past : List Said
+  pub sound : first_fault asked past ≡ None
+  pub known : IsEnded asked past ended
+
+-- Its bytes or its lines are as many as 64 bits count, but for one buffer.
+abbrev pub IsTooLong : List ℕ → Type 0
+IsTooLong input = (2 ^ 64 ≤ length input + ROOM) ⊎ (2 ^ 64 ≤ length (trace_of input).said + 1)
+
+-- Why it wasn't read whole: the first line that is refused, or what is no fault of its lines.
+abbrev pub IsStopped : Asked → List ℕ → Stopped → Type 0
+IsStopped asked input (stops.InForm number fault) =
+    line_fault asked (trace_of input) ≡ Some (InForm (record { line = number; column = fault.column; reason = fault.reason }))
+IsStopped asked input (stops.AtLine number cause) = line_fault asked (trace_of input) ≡ Some (AtLine number cause)
+IsStopped asked input stops.TooLong = IsTooLong input
+IsStopped asked input stops.ReadFault = Unit {0}
+IsStopped asked input stops.Memory = Unit {0}

@@ -1,0 +1,49 @@
+-- What became of a line.
+use Rattle.std.specs.Prelude.{◌≡◌, ℕ, List, ◌∷◌, Option, Some, None, Result, Ok, Err}
+use Rattle.yds_model.specs.Fields.{Spot}
+use Rattle.yds_kernel.specs.declared.fault.Reason.{Reason}
+use Rattle.yds_kernel.specs.Event.{Said}
+use Rattle.yds_kernel.specs.Views.{spot_read}
+use Rattle.yds_trace.specs.declared.fault.Cause.{Cause}
+use Rattle.yds_trace.specs.declared.pass.Pass.{Pass}
+use Rattle.yds_trace.specs.Asked.{Asked}
+use Rattle.yds_trace.specs.declared.ended.Ended.{Ended}
+use Rattle.yds_trace.specs.Ended.{IsEnded}
+use Rattle.yds_trace.specs.Faults.{said_fault, whole_fault}
+use Rattle.yds_trace.specs.Kept.{IsAt}
+use Rattle.yds_trace_reading.specs.declared.stopped.Stopped.{Stopped}
+use Rattle.yds_trace_reading.specs.declared.stopped.Stopped.TheVariants as stops
+
+-- The line was taken: it says this and has no fault.
+pub record IsTaken (asked : Asked) (past : List Said) (said : Result Said (Spot Reason)) (now : Pass) : Type 0 where
+  pub line : Said
+  pub says : said ≡ Ok line
+  pub sound : said_fault asked past line ≡ None
+  pub stands : IsAt asked (line ∷ past) now
+
+-- It was refused behind the lines before it.
+pub record IsRefused (asked : Asked) (past : List Said) (said : Result Said (Spot Reason)) (cause : Cause) : Type 0 where
+  pub line : Said
+  pub says : said ≡ Ok line
+  pub fault : said_fault asked past line ≡ Some cause
+
+-- why the line of this number wasn't taken
+abbrev pub IsNotTaken : Asked → List Said → ℕ → Result Said (Spot Reason) → Stopped → Type 0
+IsNotTaken asked past number said (stops.InForm at fault) = (at ≡ number) × (said ≡ Err (spot_read fault))
+IsNotTaken asked past number said (stops.AtLine at cause) = (at ≡ number) × IsRefused asked past said cause
+IsNotTaken asked past number said stops.TooLong = ⊥
+IsNotTaken asked past number said stops.ReadFault = ⊥
+IsNotTaken asked past number said stops.Memory = Unit {0}
+
+-- the trace as a whole isn't refused, and this is known at its end
+pub record IsKnown (asked : Asked) (past : List Said) (ended : Ended) : Type 0 where
+  pub sound : whole_fault asked past ≡ None
+  pub known : IsEnded asked past ended
+
+-- why it isn't known behind the last line, which has this number
+abbrev pub IsNotKnown : Asked → List Said → ℕ → Stopped → Type 0
+IsNotKnown asked past number (stops.InForm at fault) = ⊥
+IsNotKnown asked past number (stops.AtLine at cause) = (at ≡ number) × (whole_fault asked past ≡ Some cause)
+IsNotKnown asked past number stops.TooLong = ⊥
+IsNotKnown asked past number stops.ReadFault = ⊥
+IsNotKnown asked past number stops.Memory = Unit {0}

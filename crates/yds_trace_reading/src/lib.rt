@@ -1,0 +1,12 @@
+//! One pass over the bytes of a trace, to what is known of the tasks at its end.
+//!
+//! It stands on `yds_kernel_text`, which gives the lines, on `yds_trace`, which passes over what they say, and on `yds_port`, which
+//! gives the bytes. It carries the promise that what is known at the end is what the definitions say of all bytes, or that the
+//! line is told which is refused first.
+#![tactic(auto)]
+
+mod reading;
+mod stopped;
+
+pub use reading::read_trace;
+pub use stopped::Stopped;

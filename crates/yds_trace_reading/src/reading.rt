@@ -1,0 +1,102 @@
+//! One pass over the lines of a trace.
+ghost use Rattle.std.specs.Prelude.{◌≡◌, ◌≤◌, List, [], true, Err, IfOk, IfErr, IfSome, OnOk};
+ghost use Rattle.yds_kernel.specs.Event.{Said as SaidSpec};
+ghost use Rattle.yds_kernel_text.specs.Reading.{said_by};
+ghost use Rattle.yds_port.specs.Count.{Rose};
+ghost use Rattle.yds_trace.specs.Asked as asking;
+ghost use Rattle.yds_trace.specs.Kept.{IsAt};
+ghost use Rattle.yds_trace.specs.Views.{asked_read};
+ghost use Rattle.yds_trace_reading.specs.Reading.{IsEndOfSome, IsRead, IsStopped};
+ghost use Rattle.yds_trace_reading.specs.Taken.{IsTaken, IsNotTaken, IsKnown, IsNotKnown};
+
+use crate::stopped::Stopped;
+use std::alloc::Global;
+use yds_kernel_text::{Advance, TraceReader};
+use yds_port::Source;
+use yds_trace::{Asked, Ended, Pass, Refused};
+
+/// What is known at the trace's end, or why its reading ended before that. After a fault the source is still read to its end, so
+/// that whoever writes into it isn't stopped.
+pub fn read_trace<S: Source>(alloc: Global, asked: Asked, source: &mut S) -> Result<Ended, Stopped>
+    ensures later { S.faults source.old ≤ S.faults source.new }
+    ensures no_fault { OnOk result (S.faults source.new ≡ S.faults source.old) }
+    ensures fault { result ≡ Err Stopped.ReadFault → Rose (S.faults source.old) (S.faults source.new) }
+    ensures known { IfOk result (IsEndOfSome (asked_read asked)) }
+    ensures read { IfSome (S.left source.old) (λ input. IfOk result (IsRead (asked_read asked) input)) }
+    ensures stopped { IfSome (S.left source.old) (λ input. IfErr result (IsStopped (asked_read asked) input)) }
+{
+    let mut reader = TraceReader::new(alloc)?;
+    let ended = pass_over(alloc, asked, &mut reader, source);
+    if ended.is_err() {
+        drain(&mut reader, source);
+    }
+    ended
+}
+
+/// Passes over the lines up to the end, or up to a fault.
+fn pass_over<S: Source>(
+    alloc: Global,
+    asked: Asked,
+    reader: &mut TraceReader,
+    source: &mut S,
+) -> Result<Ended, Stopped>
+    requires { reader.old ≡ record { left = []; text = []; ended = true; number = 0; taken = 0 } }
+    ensures later { S.faults source.old ≤ S.faults source.new }
+    ensures no_fault { OnOk result (S.faults source.new ≡ S.faults source.old) }
+    ensures fault { result ≡ Err Stopped.ReadFault → Rose (S.faults source.old) (S.faults source.new) }
+    ensures known { IfOk result (IsEndOfSome (asked_read asked)) }
+    ensures read { IfSome (S.left source.old) (λ input. IfOk result (IsRead (asked_read asked) input)) }
+    ensures stopped { IfSome (S.left source.old) (λ input. IfErr result (IsStopped (asked_read asked) input)) }
+{
+    let mut pass = Pass::new(alloc, asked)?;
+    for lines in 0..u64::MAX {
+        match reader.advance(source) {
+            Advance::Line => take_line(alloc, reader, &mut pass)?,
+            Advance::End => return end(alloc, lines, pass),
+            Advance::Failed => return Err(Stopped::ReadFault),
+            Advance::TooLong => return Err(Stopped::TooLong),
+        }
+    }
+    Err(Stopped::TooLong)
+}
+
+/// Takes the line that was given last.
+fn take_line(alloc: Global, reader: &TraceReader, pass: &mut Pass) -> Result<(), Stopped>
+    ensures taken { (asked : asking.Asked) (past : List SaidSpec) → IsAt asked past pass.old → OnOk result (IsTaken asked past (said_by reader.now) pass.new) }
+    ensures refused { (asked : asking.Asked) (past : List SaidSpec) → IsAt asked past pass.old
+        → IfErr result (IsNotTaken asked past reader.now.number (said_by reader.now)) }
+{
+    let number = reader.number();
+    match reader.said() {
+        Ok(said) => match pass.take(alloc, said) {
+            Ok(()) => Ok(()),
+            Err(Refused::Fault(cause)) => Err(Stopped::AtLine { number, cause }),
+            Err(Refused::Memory) => Err(Stopped::Memory),
+        },
+        Err(fault) => Err(Stopped::InForm { number, fault }),
+    }
+}
+
+/// What is known behind the last line, which has this number.
+fn end(alloc: Global, number: u64, pass: Pass) -> Result<Ended, Stopped>
+    ensures known { (asked : asking.Asked) (past : List SaidSpec) → IsAt asked past pass → IfOk result (IsKnown asked past) }
+    ensures refused { (asked : asking.Asked) (past : List SaidSpec) → IsAt asked past pass → IfErr result (IsNotKnown asked past number) }
+{
+    match pass.end(alloc) {
+        Ok(ended) => Ok(ended),
+        Err(Refused::Fault(cause)) => Err(Stopped::AtLine { number, cause }),
+        Err(Refused::Memory) => Err(Stopped::Memory),
+    }
+}
+
+/// Reads what is left.
+fn drain<S: Source>(reader: &mut TraceReader, source: &mut S)
+    ensures { S.faults source.old ≤ S.faults source.new }
+{
+    for _ in 0..u64::MAX {
+        match reader.advance(source) {
+            Advance::Line => {}
+            Advance::End | Advance::Failed | Advance::TooLong => return,
+        }
+    }
+}

@@ -1,0 +1,43 @@
+//! Why a trace wasn't read to what is known at its end.
+
+use std::alloc::AllocError;
+use yds_kernel::LineFault;
+use yds_model::Memory;
+use yds_trace::Cause;
+
+/// Why the reading of a trace ended before what is known at its end.
+#[derive(Clone, Copy, Debug, PartialEq, Eq)]
+pub enum Stopped {
+    /// The line of this number is refused by its form.
+    InForm { number: u64, fault: LineFault },
+    /// The line of this number can't stand behind those before it, or the trace as a whole tells nothing, at its last line.
+    AtLine { number: u64, cause: Cause },
+    /// The trace has as many bytes or lines as 64 bits count.
+    TooLong,
+    /// A read failed.
+    ReadFault,
+    /// Out of memory.
+    Memory,
+}
+
+impl From<Memory> for Stopped {
+    ghost use Rattle.std.specs.Prelude.{◌≡◌};
+    ghost use Rattle.yds_trace_reading.specs.declared.stopped.Stopped.TheVariants as spec;
+
+    ghost from_gives = { λ _ stopped. stopped ≡ spec.Memory };
+
+    fn from(_error: Memory) -> Stopped {
+        Stopped::Memory
+    }
+}
+
+impl From<AllocError> for Stopped {
+    ghost use Rattle.std.specs.Prelude.{◌≡◌};
+    ghost use Rattle.yds_trace_reading.specs.declared.stopped.Stopped.TheVariants as spec;
+
+    ghost from_gives = { λ _ stopped. stopped ≡ spec.Memory };
+
+    fn from(_error: AllocError) -> Stopped {
+        Stopped::Memory
+    }
+}
