@@ -1,0 +1,50 @@
+//! The program `yds_trace`: it takes the words of the command line, and runs over standard input and standard output.
+//!
+//! It stands on `yds_trace_run`, whose `run` does what the words ask for and answers with a status, and on `yds_port` for the two
+//! streams. It carries the promise that the program ends with the number of that status, and where the words can't be taken, as
+//! where one isn't text, with that of want of memory or with `NO_WORDS`. Nothing is written to standard error.
+#![tactic(auto)]
+
+use std::io::{BufWriter, ErrorKind};
+use std::process::ExitCode;
+use std::rt::Env;
+use std::{env, io};
+use yds_model::Status;
+use yds_port::{StdSink, StdSource};
+use yds_trace_run::run;
+
+/// How many bytes of the output are gathered before they are written, at most.
+const OUTPUT_BUFFER: usize = 65_536;
+
+/// The exit status where the words can't be taken, as where one isn't text. It is the number after those of `Status`.
+const NO_WORDS: u8 = 7;
+
+/// Takes the words from the environment, runs over standard input and standard output, and ends with the run's status.
+fn main(rt: HostRuntime) -> ExitCode {
+    ExitCode::from(exit_code(run_words(&rt)))
+}
+
+/// The program's exit status, after a run that ended so or after words that couldn't be taken.
+fn exit_code(ended: io::Result<Status>) -> u8 {
+    match ended {
+        Ok(status) => status.code(),
+        Err(error) if error.kind() == ErrorKind::OutOfMemory => Status::Memory.code(),
+        Err(_) => NO_WORDS,
+    }
+}
+
+/// Runs over standard input, and over standard output with a buffer before it, which `run` flushes.
+fn run_words(rt: &HostRuntime) -> io::Result<Status> {
+    let words = command_words(rt)?;
+    let output = BufWriter::with_capacity(rt.alloc(), OUTPUT_BUFFER, rt.stdout())?;
+    let mut source = StdSource::new(rt.stdin());
+    let mut sink = StdSink::new(output);
+    Ok(run(rt.alloc(), &words, &mut source, &mut sink))
+}
+
+/// The words of the command line, without the program's name.
+fn command_words(rt: &(impl Env + AllocGlobal)) -> io::Result<Vec<String>> {
+    let mut words = env::args(rt)?;
+    let _program = words.next();
+    Ok(words.collect(rt.alloc())?)
+}

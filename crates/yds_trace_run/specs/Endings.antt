@@ -1,0 +1,94 @@
+-- What a run writes, by its status.
+use Rattle.std.specs.Prelude.{◌≡◌, ◌≢◌, ℕ, ◌<◌, ◌≤◌, ◌⊎◌, List, Bool, Option, None, Some, Result}
+use Rattle.std.specs.Io.KnownBytes.{Appends}
+use Rattle.yds_model.specs.declared.status.Status.{Status}
+use Rattle.yds_model.specs.declared.status.Status.TheVariants as statuses
+use Rattle.yds_port.specs.Count.{Rose, next_count}
+use Rattle.yds_port.specs.Sink.{AppendsFront, IsFlushed}
+use Rattle.yds_trace_words.specs.Words.{WordFault}
+use Rattle.yds_trace_words.specs.Request.{Request}
+use Rattle.yds_trace_run.specs.Answer.{Answers}
+use Rattle.yds_kernel.specs.Event.{Said}
+use Rattle.yds_trace.specs.declared.ended.Ended.{Ended}
+use Rattle.yds_trace.specs.Asked.{Asked}
+use Rattle.yds_trace.specs.Ended.{IsEnded as KnowsEnd}
+use Rattle.yds_trace_text.specs.Text.{text_of}
+use Rattle.yds_trace_reading.specs.declared.stopped.Stopped.{Stopped}
+use Rattle.yds_trace_reading.specs.declared.stopped.Stopped.TheVariants as stops
+use Rattle.yds_trace_reading.specs.LineFault.{InForm, AtLine}
+use Rattle.yds_trace_run.specs.Fault.{TraceFault, document_fault}
+use Rattle.yds_trace_run.specs.FaultText.{failed, line_text, fault_text, too_long_text, memory_text, read_fault_text}
+
+-- the text with which a run ends so: an answer, or why there is none
+abbrev pub IsText : Result Request WordFault → List ℕ → List ℕ → Status → Type 0
+IsText request input text statuses.Memory = text ≡ memory_text
+IsText request input text statuses.ReadFault = text ≡ read_fault_text
+IsText request input text statuses.WriteFault = ⊥
+IsText request input text statuses.No = ⊥
+IsText request input text status = Answers request input text status
+
+-- the text was written whole and flushed, and the run ended with the text's status
+pub record WritesWhole (ended : Status) (text : List ℕ) (status : Status) (old new : Option (List ℕ)) (flushed : Option ℕ) : Type 0 where
+  pub said : ended ≡ status
+  pub whole : Appends old new text
+  pub all_flushed : IsFlushed new flushed
+
+-- What a run that ended so wrote of a text with this status: all of it, or after a fault of the sink a front.
+abbrev pub Outcome : Status → List ℕ → Status → Option (List ℕ) → Option (List ℕ) → Option ℕ → Type 0
+Outcome statuses.WriteFault text status old new flushed = AppendsFront text old new
+Outcome ended text status old new flushed = WritesWhole ended text status old new flushed
+
+-- what was written is one of the texts for the words and this input
+pub record Writes (request : Result Request WordFault) (input : List ℕ) (ended : Status) (old new : Option (List ℕ)) (flushed : Option ℕ) : Type 0 where
+  pub text : List ℕ
+  pub status : Status
+  pub is_text : IsText request input text status
+  pub outcome : Outcome ended text status old new flushed
+
+-- A text with this status was delivered to the sink, whose members stand first: whole and flushed, or up to a counted fault.
+pub record IsDelivered {K : Type 0} (written : K → Option (List ℕ)) (flushed : K → Option ℕ) (flushes faults : K → ℕ) (text : List ℕ) (status ended : Status) (old new : K) : Type 0 where
+  pub said : (ended ≡ status) ⊎ (ended ≡ statuses.WriteFault)
+  pub outcome : Outcome ended text status (written old) (written new) (flushed new)
+  pub later : faults old ≤ faults new
+  pub counted : ended ≡ statuses.WriteFault → Rose (faults old) (faults new)
+  pub told : faults old < faults new → ended ≡ statuses.WriteFault
+  pub flushed_once : ended ≢ statuses.WriteFault → flushes new ≡ next_count (flushes old)
+
+-- what each run does to the sink
+pub record IsEnded {K : Type 0} (written : K → Option (List ℕ)) (flushed : K → Option ℕ) (flushes faults : K → ℕ) (ended : Status) (old new : K) : Type 0 where
+  pub later : faults old ≤ faults new
+  pub counted : ended ≡ statuses.WriteFault → Rose (faults old) (faults new)
+  pub told : faults old < faults new → ended ≡ statuses.WriteFault
+  pub flushed_once : ended ≢ statuses.WriteFault → flushes new ≡ next_count (flushes old)
+
+-- # Why a trace wasn't read
+
+abbrev pub stopped_text : Stopped → List ℕ
+stopped_text (stops.InForm number fault) = failed (line_text (InForm (record { line = number; column = fault.column; reason = fault.reason })))
+stopped_text (stops.AtLine number cause) = failed (line_text (AtLine number cause))
+stopped_text stops.TooLong = too_long_text
+stopped_text stops.ReadFault = read_fault_text
+stopped_text stops.Memory = memory_text
+
+abbrev pub stopped_status : Stopped → Status
+stopped_status (stops.InForm number fault) = statuses.Refused
+stopped_status (stops.AtLine number cause) = statuses.Refused
+stopped_status stops.TooLong = statuses.Refused
+stopped_status stops.ReadFault = statuses.ReadFault
+stopped_status stops.Memory = statuses.Memory
+
+-- # What is known at a trace's end
+
+-- the text with this status for these lines
+abbrev pub IsTextOfLines : Asked → Bool → List Said → List ℕ → Status → Type 0
+IsTextOfLines asked strict past text statuses.Done = (document_fault asked strict past ≡ None) × (text ≡ text_of asked past)
+IsTextOfLines asked strict past text statuses.Refused = (fault : TraceFault) × (document_fault asked strict past ≡ Some fault) × (text ≡ fault_text fault)
+IsTextOfLines asked strict past text statuses.Memory = text ≡ memory_text
+IsTextOfLines asked strict past text _ = ⊥
+
+-- of all lines that end so, the text was delivered
+pub record Tells {K : Type 0} (written : K → Option (List ℕ)) (flushed : K → Option ℕ) (flushes faults : K → ℕ) (known : Ended) (strict : Bool) (ended : Status) (old new : K) : Type 0 where
+  pub text : List ℕ
+  pub status : Status
+  pub delivered : IsDelivered written flushed flushes faults text status ended old new
+  pub says : (asked : Asked) (past : List Said) → KnowsEnd asked past known → IsTextOfLines asked strict past text status

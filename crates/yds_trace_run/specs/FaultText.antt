@@ -1,0 +1,80 @@
+-- The texts of a run that tells no document: one comment with the place, the cause and what to do, and a line that no reader of documents takes.
+use Rattle.std.specs.Prelude.{ℕ, ◌+◌, List, ◌++◌, codes, decimal}
+use Rattle.yds_kernel.specs.declared.fault.Reason.{Reason}
+use Rattle.yds_kernel.specs.declared.fault.Reason.TheVariants as reasons
+use Rattle.yds_trace.specs.declared.fault.Cause.{Cause}
+use Rattle.yds_trace.specs.declared.fault.Cause.TheVariants as causes
+use Rattle.yds_trace_document.specs.declared.fault.DocumentFault.{DocumentFault}
+use Rattle.yds_trace_document.specs.declared.fault.DocumentFault.TheVariants as faults
+use Rattle.yds_trace_reading.specs.LineFault.{LineFault, InForm, AtLine}
+use Rattle.yds_trace_run.specs.Fault.{TraceFault, OfLine, OfDocument, OfText}
+
+-- a comment, and the last line
+abbrev pub failed : List ℕ → List ℕ
+failed comment = codes "# " ++ comment ++ codes "\nfailed\n"
+
+-- # Lines
+
+abbrev pub form_text : Reason → List ℕ
+form_text reasons.Processor = codes "the number of the processor is above 4294967295; leave the line out"
+form_text reasons.Time = codes "the time has more than nine digits behind the point, or is too great; leave the line out"
+form_text reasons.UnknownSwitch = codes "a switch in an unknown form, or cut short; leave the line out, or write the trace anew"
+form_text reasons.UnknownWakeUp = codes "a wake-up in an unknown form, or cut short; leave the line out, or write the trace anew"
+form_text reasons.UnknownSpeed = codes "a cpu_frequency line in an unknown form, or cut short; leave the line out, or write the trace anew"
+form_text reasons.Long = codes "the line is longer than 65536 bytes; leave it out"
+form_text reasons.Cut = codes "the last line is cut short; leave it out, or write the trace anew"
+
+-- A task is told by its place in --tasks, counted from 1.
+abbrev pub cause_text : Cause → List ℕ
+cause_text causes.ProcessorTooGreat = codes "the number of the processor is above 8191; leave the line out"
+cause_text causes.TimeTooGreat = codes "the time is above 9223372036.854775807 seconds; leave the line out"
+cause_text causes.TimeGoesBack = codes "its time is before that of an earlier line; sort the lines by their times"
+cause_text causes.EventsLost = codes "events were lost before it; record with a larger buffer, choose --from and --to around it, or go on by --lost cut"
+cause_text causes.UnknownState = codes "a task leaves in a state that the kernel doesn't have; write the trace anew"
+cause_text causes.TwoThreads = codes "a task's name is that of another thread before; give its number by PID=NAME:DEADLINE"
+cause_text causes.TwoTasks = codes "one thread is two tasks, by its number and by its name; leave one out"
+cause_text causes.TooLong = codes "more than 250000 lines tell of the tasks; choose a shorter time by --from and --to, or fewer tasks"
+cause_text causes.NoLine = codes "no line of a kernel's trace; write the trace as text, by trace-cmd report or perf script"
+cause_text (causes.Unseen number) = codes "no line names task " ++ decimal (number + 1) ++ codes " of --tasks; write its name as the trace has it"
+cause_text causes.NoWakeUp = codes "no wake-up of a task; record sched_waking too, or let jobs begin at their first run by --begin run"
+
+-- # Documents
+
+-- A job is told by its place among those that are written, or among all that were found, in order of begin and counted from 1.
+abbrev pub written_job : ℕ → List ℕ → List ℕ
+written_job place text = codes "written job " ++ decimal (place + 1) ++ text
+
+abbrev pub found_job : ℕ → List ℕ → List ℕ
+found_job place text = codes "found job " ++ decimal (place + 1) ++ text
+
+abbrev pub document_text : DocumentFault → List ℕ
+document_text faults.TooManyJobs = codes "more than 4000 jobs; choose a shorter time by --from and --to"
+document_text faults.TooManyRuns = codes "more than 100000 runs; choose a shorter time by --from and --to, or a greater unit by --us"
+document_text (faults.NameTooLong place) = written_job place (codes ": its name is longer than 64 bytes; choose a shorter time by --from and --to")
+document_text (faults.TimeTooGreat place) = written_job place (codes ": its times are above 1000000000 units; choose a greater unit by --us, or a later --from")
+document_text (faults.WorkTooGreat place) = written_job place (codes ": its work is above 1000000; choose greater units by --us and --khz")
+document_text (faults.SpeedTooCoarse place) = found_job place (codes ": it ran at a speed that is 0, or off by more than a twentieth in its unit; choose a smaller unit by --khz")
+document_text (faults.SpeedTooGreat place) = found_job place (codes ": it ran at a speed above 1000000 units; choose a greater unit by --khz")
+document_text faults.NoJob = codes "no job can be written, and a document without jobs is feasible; choose another processor by --cpu, or a longer time by --from and --to"
+document_text (faults.Missed place) = found_job place (codes ": it doesn't stand as it is, and --strict is given; leave that out, or choose --from and --to around the job")
+
+abbrev pub line_text : LineFault → List ℕ
+line_text (InForm fault) = codes "line " ++ decimal fault.line ++ codes ", column " ++ decimal fault.column ++ codes ": " ++ form_text fault.reason
+line_text (AtLine number cause) = codes "line " ++ decimal number ++ codes ": " ++ cause_text cause
+
+abbrev pub fault_text : TraceFault → List ℕ
+fault_text (OfLine fault) = failed (line_text fault)
+fault_text (OfDocument fault) = failed (document_text fault)
+fault_text OfText = failed (codes "the document is longer than 8388608 bytes; choose a shorter time by --from and --to")
+
+-- # Other ends
+
+-- the trace has as many bytes or lines as can be counted
+abbrev pub too_long_text : List ℕ
+too_long_text = failed (codes "the trace has more bytes than 64 bits count; give a part of it")
+
+abbrev pub memory_text : List ℕ
+memory_text = failed (codes "out of memory; ask for fewer tasks, or choose a shorter time by --from and --to")
+
+abbrev pub read_fault_text : List ℕ
+read_fault_text = failed (codes "the input couldn't be read to its end; give it anew")

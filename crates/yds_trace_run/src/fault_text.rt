@@ -1,0 +1,222 @@
+//! The texts of a run that tells no document.
+ghost use Rattle.std.specs.Prelude.{◌≡◌, ◌≤◌, ◌+◌, ◌++◌, length, decimal};
+ghost use Rattle.arrayvec.specs.ArrayString.{array_string_len};
+ghost use Rattle.yds_trace_reading.specs.LineFault.{InForm, AtLine};
+ghost use Rattle.yds_trace_run.specs.FaultText as spec;
+
+use arrayvec::ArrayString;
+use itoa::Buffer;
+use yds_kernel::{LineFault, Reason};
+use yds_trace::Cause;
+use yds_trace_document::DocumentFault;
+
+/// How many bytes such a text has at most.
+pub(crate) const LINE_BYTES: usize = 320;
+
+/// The text for want of memory. It takes none.
+pub(crate) const MEMORY: &[u8] =
+    b"# out of memory; ask for fewer tasks, or choose a shorter time by --from and --to\nfailed\n";
+
+/// The text for an input that couldn't be read.
+pub(crate) const READ_FAULT: &[u8] =
+    b"# the input couldn't be read to its end; give it anew\nfailed\n";
+
+/// The text for a trace of as many bytes or lines as can be counted.
+pub(crate) const TOO_LONG: &[u8] =
+    b"# the trace has more bytes than 64 bits count; give a part of it\nfailed\n";
+
+/// The text for a document that is longer than a document may be.
+pub(crate) const TEXT_TOO_LONG: &[u8] =
+    b"# the document is longer than 8388608 bytes; choose a shorter time by --from and --to\nfailed\n";
+
+/// The last line of each of these texts, with the end of the comment before it.
+const FAILED: &str = "\nfailed\n";
+
+/// The text for a line whose form is refused.
+pub(crate) fn form_line(number: u64, fault: LineFault) -> ArrayString<LINE_BYTES>
+    ensures { result.bytes ≡ spec.failed (spec.line_text (InForm (record { line = number; column = fault.column; reason = fault.reason }))) }
+{
+    let mut line = ArrayString::new();
+    line.push_str("# line ");
+    line.push_str(Buffer::new().format(number));
+    line.push_str(", column ");
+    line.push_str(Buffer::new().format(fault.column));
+    line.push_str(": ");
+    line.push_str(form_text(fault.reason));
+    line.push_str(FAILED);
+    line
+}
+
+/// What is wrong with a line's form, and what to do.
+fn form_text(reason: Reason) -> &'static str
+    ensures text { result.now ≡ spec.form_text reason }
+    ensures short { length result.now ≤ 160 }
+{
+    match reason {
+        Reason::Processor => "the number of the processor is above 4294967295; leave the line out",
+        Reason::Time => {
+            "the time has more than nine digits behind the point, or is too great; leave the line out"
+        }
+        Reason::UnknownSwitch => {
+            "a switch in an unknown form, or cut short; leave the line out, or write the trace anew"
+        }
+        Reason::UnknownWakeUp => {
+            "a wake-up in an unknown form, or cut short; leave the line out, or write the trace anew"
+        }
+        Reason::UnknownSpeed => {
+            "a cpu_frequency line in an unknown form, or cut short; leave the line out, or write the trace anew"
+        }
+        Reason::Long => "the line is longer than 65536 bytes; leave it out",
+        Reason::Cut => "the last line is cut short; leave it out, or write the trace anew",
+    }
+}
+
+/// The text for a line that can't stand behind those before it, or for a whole trace that tells nothing, at its last line.
+pub(crate) fn cause_line(number: u64, cause: Cause) -> ArrayString<LINE_BYTES>
+    ensures { result.bytes ≡ spec.failed (spec.line_text (AtLine number cause)) }
+{
+    let mut line = ArrayString::new();
+    line.push_str("# line ");
+    line.push_str(Buffer::new().format(number));
+    line.push_str(": ");
+    push_cause(cause, &mut line);
+    line.push_str(FAILED);
+    line
+}
+
+/// Why a line can't stand there, and what to do.
+fn push_cause(cause: Cause, line: &mut ArrayString<LINE_BYTES>)
+    requires { array_string_len line.old ≤ 40 }
+    ensures text { line.new.bytes ≡ line.old.bytes ++ spec.cause_text cause }
+    ensures short { array_string_len line.new ≤ 240 }
+{
+    match cause {
+        Cause::Unseen(number) => push_placed(
+            "no line names task ",
+            number,
+            " of --tasks; write its name as the trace has it",
+            line,
+        ),
+        Cause::ProcessorTooGreat => line.push_str(
+            "the number of the processor is above 8191; leave the line out",
+        ),
+        Cause::TimeTooGreat => line.push_str(
+            "the time is above 9223372036.854775807 seconds; leave the line out",
+        ),
+        Cause::TimeGoesBack => line.push_str(
+            "its time is before that of an earlier line; sort the lines by their times",
+        ),
+        Cause::EventsLost => line.push_str(
+            "events were lost before it; record with a larger buffer, choose --from and --to around it, or go on by --lost cut",
+        ),
+        Cause::UnknownState => line.push_str(
+            "a task leaves in a state that the kernel doesn't have; write the trace anew",
+        ),
+        Cause::TwoThreads => line.push_str(
+            "a task's name is that of another thread before; give its number by PID=NAME:DEADLINE",
+        ),
+        Cause::TwoTasks => line.push_str(
+            "one thread is two tasks, by its number and by its name; leave one out",
+        ),
+        Cause::TooLong => line.push_str(
+            "more than 250000 lines tell of the tasks; choose a shorter time by --from and --to, or fewer tasks",
+        ),
+        Cause::NoLine => line.push_str(
+            "no line of a kernel's trace; write the trace as text, by trace-cmd report or perf script",
+        ),
+        Cause::NoWakeUp => line.push_str(
+            "no wake-up of a task; record sched_waking too, or let jobs begin at their first run by --begin run",
+        ),
+    }
+}
+
+/// The text for a document that is beyond a limit.
+pub(crate) fn document_line(fault: DocumentFault) -> ArrayString<LINE_BYTES>
+    ensures { result.bytes ≡ spec.failed (spec.document_text fault) }
+{
+    let mut line = ArrayString::new();
+    line.push_str("# ");
+    push_document(fault, &mut line);
+    line.push_str(FAILED);
+    line
+}
+
+/// Which limit it is, and what to do.
+fn push_document(fault: DocumentFault, line: &mut ArrayString<LINE_BYTES>)
+    requires { array_string_len line.old ≤ 10 }
+    ensures text { line.new.bytes ≡ line.old.bytes ++ spec.document_text fault }
+    ensures short { array_string_len line.new ≤ 240 }
+{
+    match fault {
+        DocumentFault::TooManyJobs => {
+            line.push_str("more than 4000 jobs; choose a shorter time by --from and --to");
+        }
+        DocumentFault::TooManyRuns => line.push_str(
+            "more than 100000 runs; choose a shorter time by --from and --to, or a greater unit by --us",
+        ),
+        DocumentFault::NameTooLong(place) => push_placed(
+            "written job ",
+            place,
+            ": its name is longer than 64 bytes; choose a shorter time by --from and --to",
+            line,
+        ),
+        DocumentFault::TimeTooGreat(place) => push_placed(
+            "written job ",
+            place,
+            ": its times are above 1000000000 units; choose a greater unit by --us, or a later --from",
+            line,
+        ),
+        DocumentFault::WorkTooGreat(place) => push_placed(
+            "written job ",
+            place,
+            ": its work is above 1000000; choose greater units by --us and --khz",
+            line,
+        ),
+        DocumentFault::SpeedTooCoarse(place) => push_placed(
+            "found job ",
+            place,
+            ": it ran at a speed that is 0, or off by more than a twentieth in its unit; choose a smaller unit by --khz",
+            line,
+        ),
+        DocumentFault::SpeedTooGreat(place) => push_placed(
+            "found job ",
+            place,
+            ": it ran at a speed above 1000000 units; choose a greater unit by --khz",
+            line,
+        ),
+        DocumentFault::NoJob => line.push_str(
+            "no job can be written, and a document without jobs is feasible; choose another processor by --cpu, or a longer time by --from and --to",
+        ),
+        DocumentFault::Missed(place) => push_placed(
+            "found job ",
+            place,
+            ": it doesn't stand as it is, and --strict is given; leave that out, or choose --from and --to around the job",
+            line,
+        ),
+    }
+}
+
+/// What is wrong with the job or the task at a place, which counts from 0.
+fn push_placed(which: &str, place: usize, text: &str, line: &mut ArrayString<LINE_BYTES>)
+    requires room { array_string_len line.old ≤ 40 }
+    requires which { length which.now ≤ 20 }
+    requires text { length text.now ≤ 140 }
+    ensures text { line.new.bytes ≡ line.old.bytes ++ (which.now ++ decimal (place + 1) ++ text.now) }
+    ensures short { array_string_len line.new ≤ 240 }
+{
+    line.push_str(which);
+    push_place(place, line);
+    line.push_str(text);
+}
+
+/// A place that counts from 1, of one that counts from 0.
+fn push_place(place: usize, line: &mut ArrayString<LINE_BYTES>)
+    requires { array_string_len line.old ≤ 60 }
+    ensures text { line.new.bytes ≡ line.old.bytes ++ decimal (place + 1) }
+    ensures short { array_string_len line.new ≤ array_string_len line.old + 20 }
+{
+    match place.checked_add(1) {
+        Some(number) => line.push_str(Buffer::new().format(number)),
+        None => line.push_str("18446744073709551616"),
+    }
+}

@@ -1,0 +1,130 @@
+//! The run of the program.
+ghost use Rattle.std.specs.Prelude.{◌≡◌, ◌≢◌, ◌⊎◌, ◌<◌, ◌≤◌, ℕ, List, Ok, IfSome, Bool};
+ghost use Rattle.std.specs.Io.KnownBytes.{Appends};
+ghost use Rattle.yds_port.specs.Count.{Rose, next_count};
+ghost use Rattle.yds_kernel.specs.Text.{trace_of};
+ghost use Rattle.yds_trace.specs.Asked as asking;
+ghost use Rattle.yds_trace_words.specs.Request.{request_of, ReadTrace, IsFit};
+ghost use Rattle.yds_trace_words.specs.Views.{words_of};
+ghost use Rattle.yds_trace_reading.specs.LineFault.{past_of};
+ghost use Rattle.yds_trace_document.specs.Kept.{IsPlain};
+ghost use Rattle.yds_trace.specs.Views.{asked_read};
+ghost use Rattle.yds_trace_run.specs.Answer.{ReadsInput};
+ghost use Rattle.yds_trace_run.specs.Endings.{Writes, IsEnded, IsDelivered, Tells, stopped_text, stopped_status};
+ghost use Rattle.yds_trace_run.specs.Worth.{NothingLate};
+
+use crate::delivery::deliver;
+use crate::fault_text::{
+    MEMORY, READ_FAULT, TEXT_TOO_LONG, TOO_LONG, cause_line, document_line, form_line,
+};
+use std::alloc::Global;
+use yds_model::Status;
+use yds_port::{Sink, Source};
+use yds_trace::{Asked, Ended};
+use yds_trace_reading::{Stopped, read_trace};
+use yds_trace_text::{NoText, document_text};
+use yds_trace_words::{HELP, NoRequest, Request, VERSION, fault_line, read_words};
+
+/// Runs what the words ask for: reads the source to its end in one pass, writes the text and flushes the sink, once.
+///
+/// - `Done`: the text of a document, of `--help` or of `--version` was written whole.
+/// - `Usage`: the words can't be taken. The source isn't read.
+/// - `Refused`: the trace has a fault, or its document passes a limit. Just a comment with the place, the cause and what to do was
+///   written, and the line `failed`. The source was read to its end, or up to a fault of its own.
+/// - `ReadFault`, `Memory`: the input couldn't be read, or memory ran out. A comment says so, and the last line is `failed`.
+/// - `WriteFault`: a front of one of these texts was written.
+///
+/// The source and the sink need not tell their bytes. Where both do, what was written is what the definitions say of the words and
+/// of all bytes of the source. The code is one for all sources and sinks.
+pub fn run<S: Source, K: Sink>(
+    alloc: Global,
+    words: &[String],
+    source: &mut S,
+    sink: &mut K,
+) -> Status
+    // The counts of faults tell the faults of the source and of the sink.
+    ensures source_later { S.faults source.old ≤ S.faults source.new }
+    ensures sink_later { K.faults sink.old ≤ K.faults sink.new }
+    ensures read_fault { result ≡ Status.ReadFault → Rose (S.faults source.old) (S.faults source.new) }
+    ensures write_fault { result ≡ Status.WriteFault → Rose (K.faults sink.old) (K.faults sink.new) }
+    ensures sink_rose { K.faults sink.old < K.faults sink.new → result ≡ Status.WriteFault }
+    ensures no_fault_passed_over { result ≡ Status.Done → S.faults source.new ≡ S.faults source.old }
+
+    // Words that ask for no trace leave the source unread.
+    ensures unread { ¬ ReadsInput (request_of (words_of words.now)) → source.new ≡ source.old }
+    ensures flushed_once { result ≢ Status.WriteFault → K.flushes sink.new ≡ next_count (K.flushes sink.old) }
+
+    // What was written is one of the texts for the words and all bytes of the source: the document with its status, or why there is none.
+    ensures answer { IfSome (S.left source.old) (λ input.
+        Writes (request_of (words_of words.now)) input result (K.written sink.old) (K.written sink.new) (K.flushed sink.new)) }
+
+    // What was written as a document is worth what its reader takes it for: where it is feasible, each job that is known to be late is
+    // late by less than a unit of time, and a comment names it.
+    ensures nothing_late { result ≡ Status.Done → (asked : asking.Asked) (strict : Bool) → request_of (words_of words.now) ≡ Ok (ReadTrace asked strict)
+        → IfSome (S.left source.old) (λ input.
+        (text : List ℕ) × Appends (K.written sink.old) (K.written sink.new) text × NothingLate asked (past_of (trace_of input)) text) }
+{
+    match read_words(alloc, words) {
+        Ok(Request::Help) => deliver(HELP, Status::Done, sink),
+        Ok(Request::Version) => deliver(VERSION, Status::Done, sink),
+        Ok(Request::Trace { asked, strict }) => run_trace(alloc, asked, strict, source, sink),
+        Err(NoRequest::Fault(fault)) => {
+            deliver(fault_line(&fault).as_bytes(), Status::Usage, sink)
+        }
+        Err(NoRequest::Memory) => deliver(MEMORY, Status::Memory, sink),
+    }
+}
+
+/// Reads a trace and writes its document.
+fn run_trace<S: Source, K: Sink>(
+    alloc: Global,
+    asked: Asked,
+    strict: bool,
+    source: &mut S,
+    sink: &mut K,
+) -> Status
+    requires { IsFit (asked_read asked) }
+    ensures source_later { S.faults source.old ≤ S.faults source.new }
+    ensures read_fault { result ≡ Status.ReadFault → Rose (S.faults source.old) (S.faults source.new) }
+    ensures no_fault_passed_over { result ≡ Status.Done → S.faults source.new ≡ S.faults source.old }
+    ensures sink { IsEnded K.written K.flushed K.flushes K.faults result sink.old sink.new }
+    ensures answer { IfSome (S.left source.old) (λ input.
+        Writes (Ok (ReadTrace (asked_read asked) strict)) input result (K.written sink.old) (K.written sink.new) (K.flushed sink.new)) }
+{
+    match read_trace(alloc, asked, source) {
+        Ok(ended) => tell(alloc, &ended, strict, sink),
+        Err(stopped) => tell_stopped(stopped, sink),
+    }
+}
+
+/// Writes why a trace wasn't read to what is known at its end.
+fn tell_stopped<K: Sink>(stopped: Stopped, sink: &mut K) -> Status
+    ensures { IsDelivered K.written K.flushed K.flushes K.faults (stopped_text stopped) (stopped_status stopped) result sink.old sink.new }
+{
+    match stopped {
+        Stopped::ReadFault => deliver(READ_FAULT, Status::ReadFault, sink),
+        Stopped::Memory => deliver(MEMORY, Status::Memory, sink),
+        Stopped::TooLong => deliver(TOO_LONG, Status::Refused, sink),
+        Stopped::InForm { number, fault } => {
+            deliver(form_line(number, fault).as_bytes(), Status::Refused, sink)
+        }
+        Stopped::AtLine { number, cause } => {
+            deliver(cause_line(number, cause).as_bytes(), Status::Refused, sink)
+        }
+    }
+}
+
+/// Writes the document of what is known at a trace's end, or why there is none.
+fn tell<K: Sink>(alloc: Global, ended: &Ended, strict: bool, sink: &mut K) -> Status
+    requires { IsPlain ended.now }
+    ensures { Tells K.written K.flushed K.flushes K.faults ended.now strict result sink.old sink.new }
+{
+    match document_text(alloc, ended, strict) {
+        Ok(text) => deliver(&text, Status::Done, sink),
+        Err(NoText::Limit(fault)) => {
+            deliver(document_line(fault).as_bytes(), Status::Refused, sink)
+        }
+        Err(NoText::TooLong) => deliver(TEXT_TOO_LONG, Status::Refused, sink),
+        Err(NoText::Memory) => deliver(MEMORY, Status::Memory, sink),
+    }
+}
