@@ -1,0 +1,3 @@
+pub mod Told
+pub mod Plain
+pub mod Worth

@@ -213,10 +213,7 @@ fn push_placed(which: &str, place: usize, text: &str, line: &mut ArrayString<LIN
 fn push_place(place: usize, line: &mut ArrayString<LINE_BYTES>)
     requires { array_string_len line.old ≤ 60 }
     ensures text { line.new.bytes ≡ line.old.bytes ++ decimal (place + 1) }
-    ensures short { array_string_len line.new ≤ array_string_len line.old + 20 }
+    ensures short { array_string_len line.new ≤ array_string_len line.old + 40 }
 {
-    match place.checked_add(1) {
-        Some(number) => line.push_str(Buffer::new().format(number)),
-        None => line.push_str("18446744073709551616"),
-    }
+    line.push_str(Buffer::new().format(u128::from(place as u64) + 1));
 }

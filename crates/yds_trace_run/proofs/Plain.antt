@@ -1,0 +1,58 @@
+-- What is known at a trace's end is what a document's call needs.
+use Rattle.yds_model.proofs.Common.{◌≡◌, ℕ, suc, ◌+◌, ◌≤◌, List, [], ◌∷◌, length, map, All, All-cons, All-nil, All-head, All-tail, Option, Some, None, refl, sym, ap, subst, ◌∙◌, arith, length-map}
+use Rattle.std.specs.Prelude.{IfSome, Vec}
+use Rattle.std.specs.declared.alloc.Global.{Global}
+use Rattle.yds_kernel.specs.Event.{Said}
+use Rattle.yds_trace.specs.declared.limits.TheConstants.{MAX_TIME, MAX_DEADLINE}
+use Rattle.yds_trace.specs.declared.job.Job.{Job as JobKept}
+use Rattle.yds_trace.specs.declared.ended.Ended.{Ended}
+use Rattle.yds_trace.specs.Asked.{Task, Asked}
+use Rattle.yds_trace.specs.Jobs.{Job}
+use Rattle.yds_trace.specs.Document.{jobs_of}
+use Rattle.yds_trace.specs.Ended.{jobs_from, in_order_of_begin}
+use Rattle.yds_trace.specs.Faults.{first_fault}
+use Rattle.yds_trace.specs.Views.{task_read, job_read, asked_read}
+use Rattle.yds_trace_laws.specs.Laws.{IsReached}
+use Rattle.yds_trace_laws.proofs.Begins.{begins_in_time}
+use Rattle.yds_trace_document.specs.Kept.{IsPlain, HaveBegins}
+use Rattle.yds_trace_words.specs.Request.{IsFit}
+use Rattle.yds_trace_reading.specs.Reading.{IsEndOfSome}
+
+unmap : {X Y : Type 0} (P : Y → Type 0) (f : X → Y) (xs : List X) → All P (map f xs) → All (λ x. P (f x)) xs
+unmap P f [] all = All-nil _
+unmap P f (x ∷ xs) all = All-cons (λ x. P (f x)) x xs (All-head P (f x) (map f xs) all) (unmap P f xs (All-tail P (f x) (map f xs) all))
+
+reached : (to : Option ℕ) → IfSome to (λ time. time ≤ MAX_TIME) → IsReached to
+reached None is = tt
+reached (Some time) is = is
+
+lists_in_time : (asked : Asked) (past : List Said) (number : ℕ) (tasks : List Task) → IsReached asked.to → first_fault asked past ≡ None
+    → All (λ (jobs : List Job). All (λ (job : Job). job.begin ≤ MAX_TIME) jobs) (jobs_from asked past number tasks)
+lists_in_time asked past number [] to sound = All-nil _
+lists_in_time asked past number (task ∷ tasks) to sound =
+    All-cons (λ (jobs : List Job). All (λ (job : Job). job.begin ≤ MAX_TIME) jobs) (jobs_of asked past number) (jobs_from asked past (number + 1) tasks)
+    (begins_in_time asked past number to sound) (lists_in_time asked past (number + 1) tasks to sound)
+
+lists_len : (asked : Asked) (past : List Said) (number : ℕ) (tasks : List Task) → length (jobs_from asked past number tasks) ≡ length tasks
+lists_len asked past number [] = refl
+lists_len asked past number (task ∷ tasks) = ap (λ (n : ℕ). suc n) (lists_len asked past (number + 1) tasks)
+
+kept_begins : (lists : List (Vec JobKept Global)) → All (λ (jobs : List Job). All (λ (job : Job). job.begin ≤ MAX_TIME) jobs) (map in_order_of_begin lists) → HaveBegins lists
+kept_begins lists all = λ i d within.
+    unmap (λ (job : Job). job.begin ≤ MAX_TIME) job_read _ (unmap (λ (jobs : List Job). All (λ (job : Job). job.begin ≤ MAX_TIME) jobs) in_order_of_begin lists all i d within)
+
+pub plain : (asked : Asked) (ended : Ended) → IsFit asked → IsEndOfSome asked ended → IsPlain ended
+plain asked ended fit some =
+    let same : asked_read ended.asked ≡ asked = some.known.same_asked in
+    record {
+      has_unit = subst (λ (a : Asked). 1 ≤ a.unit) (sym same) fit.plain.has_unit;
+      has_speed_unit = subst (λ (a : Asked). 1 ≤ a.khz) (sym same) fit.plain.has_speed_unit;
+      deadlines = unmap (λ (task : Task). task.deadline ≤ MAX_DEADLINE) task_read ended.asked.tasks.items
+          (subst (λ (a : Asked). All (λ (task : Task). task.deadline ≤ MAX_DEADLINE) a.tasks) (sym same) fit.within.deadlines);
+      begins = kept_begins ended.jobs.items
+          (subst (λ (lists : List (List Job)). All (λ (jobs : List Job). All (λ (job : Job). job.begin ≤ MAX_TIME) jobs) lists) (sym some.known.jobs)
+          (lists_in_time asked some.past 0 asked.tasks (reached asked.to fit.reached) some.sound));
+      of_each_task =
+          sym (length-map ended.jobs.items in_order_of_begin) ∙ ap length some.known.jobs ∙ lists_len asked some.past 0 asked.tasks
+          ∙ ap (λ (a : Asked). length a.tasks) (sym same) ∙ length-map ended.asked.tasks.items task_read;
+    }

@@ -1,0 +1,91 @@
+-- From what was read of a trace to what was written of it.
+use Rattle.yds_model.proofs.Common.{◌≡◌, ℕ, ◌<◌, ◌≤◌, ◌⊎◌, inl, inr, List, length, Bool, Option, Some, None, Result, Ok, Err, refl, sym, ap, subst, ◌∙◌, arith}
+use Rattle.std.specs.Prelude.{IfSome}
+use Rattle.yds_model.specs.declared.status.Status.{Status}
+use Rattle.yds_model.specs.declared.status.Status.TheVariants as statuses
+use Rattle.yds_port.specs.Sink.{AppendsFront}
+use Rattle.yds_kernel.specs.Parts.{or_else}
+use Rattle.yds_kernel.specs.Text.{trace_of}
+use Rattle.yds_trace.specs.declared.ended.Ended.{Ended}
+use Rattle.yds_trace.specs.Asked.{Asked}
+use Rattle.yds_trace.specs.Ended.{IsEnded as KnowsEnd}
+use Rattle.yds_kernel.specs.Event.{Said}
+use Rattle.yds_trace_reading.specs.declared.stopped.Stopped.{Stopped}
+use Rattle.yds_trace_reading.specs.declared.stopped.Stopped.TheVariants as stops
+use Rattle.yds_trace_reading.specs.LineFault.{LineFault, InForm, AtLine, past_of, line_fault}
+use Rattle.yds_trace_reading.specs.Reading.{IsEndOfSome, IsRead, IsStopped}
+use Rattle.yds_trace_words.specs.Words.{WordFault}
+use Rattle.yds_trace_words.specs.Request.{Request, ReadTrace}
+use Rattle.yds_trace_run.specs.Fault.{TraceFault, OfLine, of_line, document_fault, fault_of}
+use Rattle.yds_trace_run.specs.FaultText.{fault_text}
+use Rattle.yds_trace_run.specs.Answer.{IsTold}
+use Rattle.yds_trace_run.specs.Endings.{IsText, Outcome, Writes, IsDelivered, Tells, IsTextOfLines, stopped_text, stopped_status}
+
+-- # Why it wasn't read
+
+stopped_fault : (asked : Asked) (strict : Bool) (bytes : List ℕ) (fault : LineFault) → line_fault asked (trace_of bytes) ≡ Some fault → fault_of asked strict (trace_of bytes) ≡ Some (OfLine fault)
+stopped_fault asked strict bytes fault is =
+    ap (λ (line : Option LineFault). or_else (of_line line) (document_fault asked strict (past_of (trace_of bytes)))) is
+
+stopped_is : (asked : Asked) (strict : Bool) (bytes : List ℕ) (stopped : Stopped) → IsStopped asked bytes stopped
+    → IsText (Ok (ReadTrace asked strict)) bytes (stopped_text stopped) (stopped_status stopped)
+stopped_is asked strict bytes (stops.InForm number fault) is =
+    inl (record {
+      fault = OfLine (InForm (record { line = number; column = fault.column; reason = fault.reason }));
+      first = stopped_fault asked strict bytes (InForm (record { line = number; column = fault.column; reason = fault.reason })) is;
+      says = refl;
+    })
+stopped_is asked strict bytes (stops.AtLine number cause) is =
+    inl (record { fault = OfLine (AtLine number cause); first = stopped_fault asked strict bytes (AtLine number cause) is; says = refl })
+stopped_is asked strict bytes stops.TooLong is = inr (record { long = is; refused = refl; says = refl })
+stopped_is asked strict bytes stops.ReadFault is = refl
+stopped_is asked strict bytes stops.Memory is = refl
+
+pub stopped_writes : {K : Type 0} (written : K → Option (List ℕ)) (flushed : K → Option ℕ) (flushes faults : K → ℕ) (asked : Asked) (strict : Bool) (input : Option (List ℕ)) (stopped : Stopped)
+    (ended : Status) (old new : K) → IfSome input (λ bytes. IsStopped asked bytes stopped)
+    → IsDelivered written flushed flushes faults (stopped_text stopped) (stopped_status stopped) ended old new
+    → IfSome input (λ bytes. Writes (Ok (ReadTrace asked strict)) bytes ended (written old) (written new) (flushed new))
+stopped_writes written flushed flushes faults asked strict None stopped ended old new is delivered = tt
+stopped_writes written flushed flushes faults asked strict (Some bytes) stopped ended old new is delivered =
+    record { text = stopped_text stopped; status = stopped_status stopped; is_text = stopped_is asked strict bytes stopped is; outcome = delivered.outcome }
+
+-- # What was read
+
+told_is : (asked : Asked) (strict : Bool) (bytes : List ℕ) (text : List ℕ) (status : Status) → line_fault asked (trace_of bytes) ≡ None
+    → IsTextOfLines asked strict (past_of (trace_of bytes)) text status → IsText (Ok (ReadTrace asked strict)) bytes text status
+told_is asked strict bytes text statuses.Done sound is = inl (record { sound = sound; fits = is.0; says = is.1 })
+told_is asked strict bytes text statuses.Refused sound is =
+    inl (record {
+      fault = is.0;
+      first = ap (λ (line : Option LineFault). or_else (of_line line) (document_fault asked strict (past_of (trace_of bytes)))) sound ∙ is.1;
+      says = is.2;
+    })
+told_is asked strict bytes text statuses.Memory sound is = is
+told_is asked strict bytes text statuses.No sound is = absurd is
+told_is asked strict bytes text statuses.Usage sound is = absurd is
+told_is asked strict bytes text statuses.ReadFault sound is = absurd is
+told_is asked strict bytes text statuses.WriteFault sound is = absurd is
+
+pub told_writes : {K : Type 0} (written : K → Option (List ℕ)) (flushed : K → Option ℕ) (flushes faults : K → ℕ) (asked : Asked) (strict : Bool) (input : Option (List ℕ)) (known : Ended)
+    (ended : Status) (old new : K) → IfSome input (λ bytes. IsRead asked bytes known) → Tells written flushed flushes faults known strict ended old new
+    → IfSome input (λ bytes. Writes (Ok (ReadTrace asked strict)) bytes ended (written old) (written new) (flushed new))
+told_writes written flushed flushes faults asked strict None known ended old new is tells = tt
+told_writes written flushed flushes faults asked strict (Some bytes) known ended old new is tells =
+    record {
+      text = tells.text;
+      status = tells.status;
+      is_text = told_is asked strict bytes tells.text tells.status is.sound (tells.says asked (past_of (trace_of bytes)) is.known);
+      outcome = tells.delivered.outcome;
+    }
+
+read_fault_none : (asked : Asked) (strict : Bool) (known : Ended) (text : List ℕ) (status ended : Status) → (ended ≡ status) ⊎ (ended ≡ statuses.WriteFault)
+    → ((one : Asked) (past : List Said) → KnowsEnd one past known → IsTextOfLines one strict past text status) → IsEndOfSome asked known → ended ≡ statuses.ReadFault → ⊥
+read_fault_none asked strict known text status ended (inl same) says some fault =
+    let told : IsTextOfLines asked strict some.past text statuses.ReadFault = subst (λ (s : Status). IsTextOfLines asked strict some.past text s) (sym same ∙ fault) (says asked some.past some.known) in
+    told
+read_fault_none asked strict known text status ended (inr write) says some fault = let both : statuses.WriteFault ≡ statuses.ReadFault = sym write ∙ fault in absurd cc
+
+pub no_read_fault : {K : Type 0} (written : K → Option (List ℕ)) (flushed : K → Option ℕ) (flushes faults : K → ℕ) (asked : Asked) (strict : Bool) (known : Ended)
+    (ended : Status) (old new : K) → IsEndOfSome asked known → Tells written flushed flushes faults known strict ended old new → ended ≡ statuses.ReadFault → ⊥
+no_read_fault written flushed flushes faults asked strict known ended old new some tells fault =
+    read_fault_none asked strict known tells.text tells.status ended tells.delivered.said tells.says some fault
