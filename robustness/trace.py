@@ -774,28 +774,27 @@ class Document:
 
     def check(self) -> None:
         """The first limit that it passes."""
-        placed = [one for one, _, _, _ in self.rows]
-        runs = {one.name: one.runs for one in placed if not one.reason}
-        for one, _, due, _ in self.rows:
+        runs = {one.name: one.runs for one, _, _, _ in self.rows if not one.reason}
+        for place, (one, _, due, _) in enumerate(self.rows, 1):
             if due > MOST_UNITS or any(end > MOST_UNITS for _, end, _ in runs.get(one.name, [])):
-                raise Wrong(f"job {one.name}: its times are above 1000000000 units; choose a greater unit by --us, or a later --from", 3)
-        for one, _, _, work in self.rows:
+                raise Wrong(f"written job {place}: its times are above 1000000000 units; choose a greater unit by --us, or a later --from", 3)
+        for place, (one, _, _, work) in enumerate(self.rows, 1):
             if work > MOST_WORK:
-                raise Wrong(f"job {one.name}: its work is above 1000000; choose greater units by --us and --khz", 3)
-        for one in self.judged:
+                raise Wrong(f"written job {place}: its work is above 1000000; choose greater units by --us and --khz", 3)
+        for place, one in enumerate(self.judged, 1):
             if not one.reason and any(self.is_coarse(ran) for ran in one.job.ran):
-                raise Wrong(f"job {one.name}: it ran at a speed that is 0, or off by more than a twentieth in its unit;"
+                raise Wrong(f"found job {place}: it ran at a speed that is 0, or off by more than a twentieth in its unit;"
                             " choose a smaller unit by --khz", 3)
-        for one in self.judged:
+        for place, one in enumerate(self.judged, 1):
             if not one.reason and any(self.is_in_run(ran) and self.speed(ran.khz or 0) > MOST_SPEED for ran in one.job.ran):
-                raise Wrong(f"job {one.name}: it ran at a speed above 1000000 units; choose a greater unit by --khz", 3)
+                raise Wrong(f"found job {place}: it ran at a speed above 1000000 units; choose a greater unit by --khz", 3)
         if not self.rows:
             raise Wrong("no job can be written, and a document without jobs is feasible; choose another processor by --cpu,"
                         " or a longer time by --from and --to", 3)
-        for one in self.judged:
+        for place, one in enumerate(self.judged, 1):
             missed = bool(one.reason) and (one.late is not None or one.reason not in ("before from", "after to"))
             if self.asked.strict and missed:
-                raise Wrong(f"job {one.name}: it doesn't stand as it is, and --strict is given; leave that out,"
+                raise Wrong(f"found job {place}: it doesn't stand as it is, and --strict is given; leave that out,"
                             " or choose --from and --to around the job", 3)
 
     def is_in_run(self, ran: Stretch) -> bool:
