@@ -1,6 +1,7 @@
 # Builds, tries, tests and installs yds_cli. `make help` writes these lines.
 #
-#   make            proves every crate and builds build/yds_cli
+#   make            proves every crate and builds build/yds_cli and build/yds_trace
+#   make trace      proves what the reader of kernel traces is made of, and builds build/yds_trace
 #   make try        runs the program on DOCUMENT with the words of COMMAND, unproved, after a minute or two
 #   make run        plans the document EXAMPLE with the program unproved, says so, proves what it is made of, builds it, and plans it again
 #   make test       the gate: every proof, test, refused edit and stored run, and the checks that checks/gate.py lists
@@ -38,6 +39,7 @@
 SHELL := /bin/bash
 PROGRAM := yds_cli
 BINARY := build/$(PROGRAM)
+TRACER := build/yds_trace
 SOURCES := crates.txt $(shell find crates -path '*/out' -prune -o \( -name '*.rt' -o -name '*.antt' \) -print)
 # Some wait for those that they stand on: so there are twice as many as processors, where memory holds them.
 JOBS ?= $(shell awk -v n=$$(nproc) '/^MemTotal/ { m = int($$2 / 2097152); print m < 1 ? 1 : m < 2 * n ? m : 2 * n }' /proc/meminfo)
@@ -54,9 +56,9 @@ export PREFIX DESTDIR LIBDIR INSTALLED DOCUMENT EXAMPLE
 LIBRARY := build/libyds.so
 LINKER_CACHE = test -n "$$DESTDIR" || ldconfig 2>/dev/null || echo "ldconfig, run by root, lets programs find libyds.so.1 there"
 
-.PHONY: all help run try test tools-check tools-test check recipes faults fuzz costly bench bench-library library library-test wheel sdist install install-program install-tools install-pages install-library uninstall uninstall-program uninstall-tools uninstall-pages uninstall-library map deb dist check-build record-build packages-test clean tool
+.PHONY: all help run try trace test tools-check tools-test check recipes faults fuzz costly bench bench-library library library-test wheel sdist install install-program install-tools install-pages install-library uninstall uninstall-program uninstall-tools uninstall-pages uninstall-library map deb dist check-build record-build packages-test clean tool
 
-all: $(BINARY) build/proved
+all: $(BINARY) $(TRACER) build/proved
 
 help:
 	@sed -n '/^#/!q; s/^# \{0,1\}//p' $(firstword $(MAKEFILE_LIST))
@@ -74,6 +76,16 @@ $(BINARY): $(SOURCES)
 	@cp crates/$(PROGRAM)/out/$(PROGRAM).o build/
 	@cp crates/$(PROGRAM)/out/$(PROGRAM) build/$(PROGRAM)-dynamic
 	@CC=$(CC) LINK=$(LINK) sh packaging/link.sh $(PROGRAM)
+
+# The second program, which reads kernel traces. Nothing of the first one stands on it.
+$(TRACER): $(SOURCES)
+	@$(HAS_TOOL)
+	@python3 packaging/prove.py trace --jobs $(JOBS)
+	@cp crates/yds_trace_cli/out/yds_trace_cli.o build/yds_trace.o
+	@cp crates/yds_trace_cli/out/yds_trace_cli build/yds_trace-dynamic
+	@CC=$(CC) LINK=$(LINK) sh packaging/link.sh yds_trace
+
+trace: $(TRACER)
 
 # All crates: what the program is made of is kept, so the library's, the textbook's, the law of parts and the examples are left.
 build/proved: $(SOURCES) | $(BINARY)
@@ -102,7 +114,7 @@ tools-test:
 check: $(BINARY)
 	@sh examples/check.sh ../$(BINARY)
 
-recipes: $(BINARY)
+recipes: $(BINARY) $(TRACER)
 	@sh recipes/test.sh
 
 faults: $(BINARY)
@@ -144,11 +156,11 @@ bench-library: $(BINARY) $(LIBRARY)
 	@CC=$(CC) sh bench/library.sh
 
 # What is put where stands in packaging/install.sh. PREFIX and DESTDIR reach it by the environment, so they may have blanks.
-install: $(BINARY)
+install: $(BINARY) $(TRACER)
 	@sh packaging/install.sh put programs tools pages $(if $(wildcard $(LIBRARY)),library headers)
 	@$(if $(wildcard $(LIBRARY)),$(LINKER_CACHE),true)
 
-install-program: $(BINARY)
+install-program: $(BINARY) $(TRACER)
 	@sh packaging/install.sh put programs
 
 install-tools:
@@ -179,19 +191,19 @@ uninstall-library:
 map:
 	@python3 docs/pictures/crates.py crates.txt >docs/pictures/crates.svg
 
-deb: $(BINARY)
+deb: $(BINARY) $(TRACER)
 	@sh packaging/deb.sh
 
-dist: $(BINARY)
+dist: $(BINARY) $(TRACER)
 	@CC=$(CC) sh packaging/dist.sh
 
-check-build: $(BINARY)
+check-build: $(BINARY) $(TRACER)
 	@CC=$(CC) sh packaging/check-build.sh
 
-record-build: $(BINARY)
+record-build: $(BINARY) $(TRACER)
 	@CC=$(CC) sh packaging/check-build.sh --record
 
-packages-test: $(BINARY)
+packages-test: $(BINARY) $(TRACER)
 	@CC=$(CC) sh packaging/test.sh
 
 clean:

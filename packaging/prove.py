@@ -1,6 +1,7 @@
 """prove.py: proves the crates of the program, of the library or all others, and tells how far it is (`make` calls it).
 
     python3 packaging/prove.py program [--jobs N] [--example FILE]    what the program is made of, and builds it
+    python3 packaging/prove.py trace [--jobs N]                       what the reader of traces is made of, and builds it
     python3 packaging/prove.py library                                the C library's own crate, and builds it
     python3 packaging/prove.py others [--jobs N]                      all other crates
 
@@ -25,7 +26,7 @@ BUILD = ROOT / "build"
 LOG = BUILD / "log"
 
 # The crate on which all others stand, and what they are made into.
-LOWEST, PROGRAM, LIBRARY = "yds_model", "yds_cli", "yds_c"
+LOWEST, PROGRAM, TRACE, LIBRARY = "yds_model", "yds_cli", "yds_trace_cli", "yds_c"
 
 # A crate that took less than this part of its time was proved before, and tells nothing of the pace.
 WAS_KEPT = 0.1
@@ -201,6 +202,12 @@ def steps_of(what: str, jobs: int) -> List[Step]:
         return [Step(["rt", "lib"], crates / LIBRARY, LIBRARY)]
     if what == "others":
         return [Step(check, ROOT, None)]
+    if what == "trace":
+        return [
+            Step(["rt", "lib"], crates / LOWEST, LOWEST),
+            Step(check, crates / TRACE, None),
+            Step(["rt", "run", TRACE, "--", "--version"], crates / TRACE, TRACE),
+        ]
     return [
         Step(["rt", "lib"], crates / LOWEST, LOWEST),
         Step(check, crates / PROGRAM, None),
@@ -212,6 +219,8 @@ def crates_of(what: str, graph: Graph) -> Set[str]:
     """Which crates these are."""
     if what == "library":
         return {LIBRARY}
+    if what == "trace":
+        return all_below(graph, TRACE)
     return all_below(graph, PROGRAM) if what == "program" else set(graph) - all_below(graph, PROGRAM)
 
 
@@ -233,7 +242,7 @@ def show_unproved(example: str) -> None:
 def main(words: Sequence[str]) -> int:
     """Proves what the words say. Gives the exit status."""
     parser = argparse.ArgumentParser(prog="prove.py", allow_abbrev=False)
-    parser.add_argument("what", choices=("program", "library", "others"))
+    parser.add_argument("what", choices=("program", "trace", "library", "others"))
     parser.add_argument("--jobs", type=int, default=os.cpu_count() or 1)
     parser.add_argument("--example")
     options = parser.parse_args(words)

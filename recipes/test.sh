@@ -4,7 +4,7 @@
 #   sh recipes/test.sh [PART ..]      parts: trace points comma energy rtapp folder page manual readme,
 #                               and the files of tests/; all without one
 #
-# Environment: YDS (the program; build/yds_cli beside this folder), AWK (awk), PYTHON (python3), HOUR (with any value the manual's trace of
+# Environment: YDS (the program; build/yds_cli beside this folder), YDS_TRACE (build/yds_trace there), AWK (awk), PYTHON (python3), HOUR (with any value the manual's trace of
 # an hour is tried too, which takes minutes; without it that section is left out and counted). The last line is
 # 'N passed, M failed', and the exit status is 1 where M isn't 0. What needs a missing package, or a command that
 # the program doesn't have, is left out and counted on a line of its own.
@@ -13,6 +13,8 @@ here=$(cd "$(dirname "$0")" && pwd)
 YDS=${YDS:-$here/../build/yds_cli}
 case $YDS in /*) ;; *) YDS=$(pwd)/$YDS ;; esac
 export YDS
+YDS_TRACE=${YDS_TRACE:-$here/../build/yds_trace}
+case $YDS_TRACE in /*) ;; *) YDS_TRACE=$(pwd)/$YDS_TRACE ;; esac
 AWK=${AWK:-awk}
 PYTHON=${PYTHON:-python3}
 PYTHONDONTWRITEBYTECODE=1
@@ -376,6 +378,7 @@ commands_of() {
 			want $words || continue
 			mkdir -p "$section.folder/bin" "$section.folder/build"
 			ln -s "$YDS" "$section.folder/bin/yds_cli"
+			ln -s "$YDS_TRACE" "$section.folder/bin/yds_trace"
 			ln -s "$YDS" "$section.folder/build/yds_cli"
 			ln -s "$here" "$section.folder/recipes"
 			ln -s "$here/../examples" "$section.folder/examples"
