@@ -279,6 +279,15 @@ def call(number: int = 1) -> Kind:
         self.assertEqual((lines[-1], status), ("3 passed, 2 failed", 1))
 
 
+class Version(unittest.TestCase):
+    """The version stands in one file, and a crate can't read it."""
+
+    def test_the_reader_of_traces_tells_the_version(self) -> None:
+        told = (ROOT / "crates" / "yds_trace_words" / "src" / "texts.rt").read_text(encoding="utf-8")
+        version = (ROOT / "VERSION").read_text(encoding="utf-8").strip()
+        self.assertIn(f'b"yds_trace {version}\\n"', told)
+
+
 def main() -> int:
     suite = unittest.defaultTestLoader.loadTestsFromModule(sys.modules[__name__])
     result = unittest.TextTestRunner(stream=sys.stdout).run(suite)
