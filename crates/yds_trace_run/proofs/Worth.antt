@@ -47,9 +47,10 @@ named asked past i d within =
     (in_each (late_comment (units_of asked past)) (all_judged asked past) i d within)))))))
 
 told_late : (asked : Asked) (past : List Said) (text : List ℕ) → IsAsked asked → text ≡ text_of asked past → NothingLate asked past text
-told_late asked past text fit is = λ feasible i d within by late.
-    (feasible_means_in_time asked past fit feasible i d within by late,
-    subst (λ (one : List ℕ). Holds one (late_comment (units_of asked past) (get_or (all_judged asked past) i d))) (sym is) (named asked past i d within))
+told_late asked past text fit is = λ feasible i d within by late. (
+  feasible_means_in_time asked past fit feasible i d within by late,
+  subst (λ (one : List ℕ). Holds one (late_comment (units_of asked past) (get_or (all_judged asked past) i d))) (sym is) (named asked past i d within),
+)
 
 worth_of : (asked : Asked) (strict : Bool) (bytes text : List ℕ) (status : Status) → IsFit asked → statuses.Done ≡ status → IsText (Ok (ReadTrace asked strict)) bytes text status
     → NothingLate asked (past_of (trace_of bytes)) text
