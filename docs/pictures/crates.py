@@ -402,7 +402,11 @@ def main(words: Sequence[str]) -> int:
     if len(words) != 1:
         print("usage: python3 crates.py FILE", file=sys.stderr)
         return 2
-    crates = read_crates(Path(words[0]).read_text(encoding="utf-8"))
+    try:
+        text = Path(words[0]).read_text(encoding="utf-8")
+    except (OSError, UnicodeDecodeError) as error:
+        fail(f"{words[0]} can't be read: {error}")
+    crates = read_crates(text)
     if not crates:
         fail("there is no line of a crate")
     print("\n".join(Picture(Graph(crates)).draw()))
