@@ -177,7 +177,7 @@ class ByHand(Frames):
         called = self.called(MS + "job r.0 10 19 50\n", trace, "--zero", "200.010001")
         self.assertEqual(
             called.err,
-            "yds-frames: time 0 of the jobs is no whole number of the trace's units after its own; give it to yds-trace as --from\n",
+            "yds-frames: time 0 of the jobs is no whole number of the trace's units after its own; give it to yds_trace as --from\n",
         )
 
     def test_who_else_ran(self) -> None:
@@ -248,12 +248,12 @@ class Refused(Frames):
             (
                 MS.replace("1000 us", "25 us"),
                 TRACE,
-                "a unit of 25 us is no whole number of the trace's ticks of 10 us; give yds-trace --us 25",
+                "a unit of 25 us is no whole number of the trace's ticks of 10 us; give yds_trace --us 25",
             ),
             (
                 MS.replace("1000 us", "5 us"),
                 TRACE,
-                "a unit of 5 us is no whole number of the trace's ticks of 10 us; give yds-trace --us 5",
+                "a unit of 5 us is no whole number of the trace's ticks of 10 us; give yds_trace --us 5",
             ),
         ]:
             called = self.called(frames + "job r.0 0 9 50\n", trace)
@@ -336,7 +336,7 @@ def up(nano: int) -> str:
 
 
 def trace_of(jobs: Sequence[Truth], tick: int, length: int, last: int) -> str:
-    """The document, by the rules of yds-trace, where each deadline is so long after the begin."""
+    """The document, by the rules of yds_trace, where each deadline is so long after the begin."""
     lines, runs, behind = [], [], []
     for job in jobs:
         name, due = f"{job.task}.{job.number}", job.begin + length

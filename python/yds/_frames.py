@@ -103,7 +103,7 @@ def read_frames(source: Iterable[Line], file: str) -> Frames:
 
 
 def read_trace(source: Iterable[Line]) -> Trace:
-    """The document of a trace, as yds-trace writes it."""
+    """The document of a trace, as yds_trace writes it."""
     reading = _Reading()
     rows = Rows(source)
     for row in rows:
@@ -123,7 +123,7 @@ def read_trace(source: Iterable[Line]) -> Trace:
 
 
 def _not_of_trace(row: Row) -> Fault:
-    return row.line.fault("this is no line of a trace's document; give what yds-trace writes", 0)
+    return row.line.fault("this is no line of a trace's document; give what yds_trace writes", 0)
 
 
 class _Reading:
@@ -164,7 +164,7 @@ class _Reading:
         if row.name in self._jobs:
             raise row.line.fault(f"a second job is named {row.name}", 1)
         if _NUMBERED(row.name) is None:
-            raise row.line.fault(f"the job {row.name} has no number, as decode.0; give what yds-trace writes", 1)
+            raise row.line.fault(f"the job {row.name} has no number, as decode.0; give what yds_trace writes", 1)
         self._jobs[row.name] = row
 
     def take_run(self, row: Slot) -> None:
@@ -184,10 +184,10 @@ class _Reading:
     def finish(self, khz: Optional[Fraction]) -> Trace:
         """The document, of which all lines are read."""
         if self._ticks is None:
-            raise Fault("the trace's document has no ticks line; give what yds-trace writes")
+            raise Fault("the trace's document has no ticks line; give what yds_trace writes")
         if self._clock.zero is None or not self._clock.unit or not khz:
             raise Fault(
-                "no comment tells time 0 and the units of the trace; give what yds-trace writes, with its comments"
+                "no comment tells time 0 and the units of the trace; give what yds_trace writes, with its comments"
             )
         return Trace(
             *(self._head, self._clock, khz, self._ticks, self._jobs, self._notes, self._groups),
@@ -383,11 +383,11 @@ def scale(trace: Trace, us: Fraction, zero: Fraction) -> Scale:
     """How times become the application's. us: microseconds in its unit. zero: its time 0 in units of the trace."""
     ticks = us / trace.tick
     if ticks.denominator != 1:
-        finer = f"yds-trace --us {us}" if us.denominator == 1 else "a finer --us to yds-trace"
+        finer = f"yds_trace --us {us}" if us.denominator == 1 else "a finer --us to yds_trace"
         raise Fault(f"a unit of {us} us is no whole number of the trace's ticks of {trace.tick} us; give {finer}")
     if zero.denominator != 1:
         raise Fault(
-            "time 0 of the jobs is no whole number of the trace's units after its own; give it to yds-trace as --from"
+            "time 0 of the jobs is no whole number of the trace's units after its own; give it to yds_trace as --from"
         )
     return Scale(ticks.numerator, trace.ticks, zero.numerator * trace.ticks, trace.tick)
 
