@@ -17,7 +17,7 @@
 #   make library    builds the C library, build/libyds.a and build/libyds.so
 #   make library-test   the library answers every stored row, and DOCUMENTS drawn documents (20,000), as the program does; refused memory, threads, examples;
 #                       the Python package does so too, and as a wheel; and the commands of docs/library.md write what stands there
-#   make wheel      the Python package with the shared object as a wheel, in build/dist
+#   make wheel      a wheel with the Python package, the shared object, the programs and the commands, in build/dist
 #   make sdist      the sources of the Python package alone, in build/dist
 #   make install    copies to PREFIX (/usr/local): the programs and the commands yds-.. to bin, manual pages, completion, recipes, examples and
 #                   pages to share, the Python package to lib/python3/dist-packages, and the library, where it was built
@@ -139,13 +139,13 @@ $(LIBRARY): $(SOURCES) library/build.sh library/yds.map | $(BINARY)
 
 library: $(LIBRARY)
 
-library-test: $(BINARY) $(LIBRARY)
+library-test: $(BINARY) $(TRACER) $(LIBRARY)
 	@CC=$(CC) CXX=$(CXX) sh library/test/test.sh
 	@sh python/test.sh
 	@sh recipes/test.sh library
 
 # Packages have what is built: only where it isn't there, the library is built first.
-wheel: $(if $(wildcard $(LIBRARY)),,$(LIBRARY))
+wheel: $(BINARY) $(TRACER) $(if $(wildcard $(LIBRARY)),,$(LIBRARY))
 	@sh packaging/wheel.sh
 
 # Sources alone: neither the toolchain nor the library is needed.

@@ -14,10 +14,13 @@
 #               manager's own folders has to be as it was
 #   manual      the same commands where the packages are installed that the manual names (jq, parallel, python3-matplotlib, ..), and
 #               the library's test (debian/tests/library)
-#   upgrade     1.0.0 is installed, upgraded, tried and removed. Its packages are stand-ins: the same names, fields and files
-#               (packaging/released-files), of which each says only its name
+#   wheel       the wheel alone, installed by pip as the manual says, by one who isn't root: the rows, the first example, the manual
+#               pages, the pages' commands, a page to send on. Once where nothing else is, and once where the manual's packages are
+#   archive     the archive of the program, unpacked as README says: the rows, the first example, the pages' commands
+#   upgrade     1.0.0 is installed, upgraded, tried and removed. Its packages are made of its commit, but with the program and the
+#               library that were built here
 #
-# Then the static programs answer the rows in a root that has nothing but themselves. Two builds in two folders have to be the same
+# Then the static programs answer in a root that has nothing but themselves. Two builds in two folders have to be the same
 # bytes, and so those of the sources' archive. Each log is kept in build/packages-test.
 #
 # It needs root, debootstrap, and the network for the roots (MIRROR names another one of Debian). HOUR=1 types the manual's trace of
@@ -28,6 +31,10 @@ needs debootstrap debootstrap chroot coreutils unshare util-linux dpkg-deb dpkg 
 [ "$(id -u)" = 0 ] || die "chroot and debootstrap need root"
 are_built
 MIRROR=${MIRROR:-http://deb.debian.org/debian}
+# The release before this one, and the commit that recorded its sums.
+OLD=1.0.0
+BEFORE=e2fd3074e72d6dd6444b7e195150b4ac04d15974
+PIP="python3-venv"
 MANUAL="jq parallel python3-matplotlib gcc libc6-dev pkg-config"
 logs=build/packages-test
 work=$(mktemp -d) || exit 1
@@ -42,17 +49,21 @@ fail() { failed=$((failed + 1)); echo "FAILED: $1"; }
 try() {
 	tried=$1
 	shift
-	if "$@" >"$work/log" 2>&1; then pass "$tried: $(tail -n 1 "$work/log")"; else fail "$tried"; tail -n 25 "$work/log"; fi
+	"$@" >"$work/log" 2>&1
+	got=$?
+	if [ $got = 0 ]; then pass "$tried: $(tail -n 1 "$work/log")"; else fail "$tried"; tail -n 25 "$work/log"; fi
 	{ echo "== $tried"; cat "$work/log"; } >>"$logs/${suite:-all}.log"
+	return $got
 }
-# inside COMMAND ..: in the root of the suite, with a network; alone COMMAND ..: without; user COMMAND ..: without, by nobody, in /home/reader.
+# inside COMMAND ..: in the root of the suite, with a network; alone COMMAND ..: without; user COMMAND ..: without, by nobody, in
+# /home/reader, with the commands of $bin.
 inside() { env -i PATH=/usr/sbin:/usr/bin:/sbin:/bin LC_ALL=C HOME=/ DEBIAN_FRONTEND=noninteractive chroot "$root" "$@"; }
 alone() {
 	env -i PATH=/usr/sbin:/usr/bin:/sbin:/bin LC_ALL=C HOME=/ DEBIAN_FRONTEND=noninteractive ROOT="$root" unshare -n -m \
 		sh -c 'mount -t proc proc "$ROOT/proc" && exec chroot "$ROOT" "$@"' sh "$@"
 }
 user() {
-	alone env -u DEBIAN_FRONTEND PATH=/usr/bin:/bin LC_ALL=C.UTF-8 HOME=/home/reader USER=reader \
+	alone env -u DEBIAN_FRONTEND PATH="$bin:/usr/bin:/bin" SHARED="$shared" LC_ALL=C.UTF-8 HOME=/home/reader USER=reader \
 		setpriv --reuid 65534 --regid 65534 --clear-groups sh -c 'cd && exec "$@"' sh "$@"
 }
 
@@ -70,6 +81,12 @@ rows() {
 	sh examples/check.sh "$work/program"
 }
 
+# stored_trace ROOT PROGRAM: the stored run of the reader of traces, by the program in that root.
+stored_trace() {
+	folder=crates/yds_trace_cli
+	xargs -d '\n' -a $folder/args chroot "$1" "$2" <$folder/stdin >"$work/answer" && cmp "$work/answer" $folder/stdout && echo "$(wc -l <"$work/answer") lines as stored"
+}
+
 # base SUITE: the root of the suite, made once.
 base() {
 	base=${ROOTS:-$work/roots}/$1
@@ -79,13 +96,19 @@ base() {
 		debootstrap --variant=minbase --include=python3,man-db "$1" "$base" "$MIRROR" >"$work/log" 2>&1 || { fail "$1: debootstrap"; tail -n 3 "$work/log"; return 1; }
 		: >"$base.done"
 	fi
-	[ ! -f "$base.full.done" ] || return 0
-	rm -rf "$base.full"
-	cp -a "$base" "$base.full"
-	root=$base.full
 	# shellcheck disable=SC2086
-	inside sh -c 'apt-get update && apt-get install -y --no-install-recommends "$@"' sh $MANUAL >"$work/log" 2>&1 || { fail "$1: $MANUAL"; tail -n 3 "$work/log"; return 1; }
-	: >"$base.full.done"
+	with pip $PIP && with full $PIP $MANUAL
+}
+
+# with NAME PACKAGE ..: the suite's root with these packages, made once.
+with() {
+	root=$base.$1
+	[ ! -f "$root.done" ] || return 0
+	rm -rf "$root"
+	cp -a "$base" "$root"
+	shift
+	inside sh -c 'apt-get update && apt-get install -y --no-install-recommends "$@"' sh "$@" >"$work/log" 2>&1 || { fail "$suite: $*"; tail -n 3 "$work/log"; return 1; }
+	: >"$root.done"
 }
 
 # fresh FROM: a root of its own, as FROM is, which knows of no mirror; with the packages and this folder's tests in /srv.
@@ -96,10 +119,15 @@ fresh() {
 	rm -rf "$root"/var/lib/apt/lists/*
 	mkdir -p "$root/srv/tests" "$root/home/reader"
 	cp build/dist/*_"$version"_*.deb "$root/srv"
+	cp build/dist/yds-"$version"-*.whl build/dist/yds_cli-"$version"-*.tar.gz "$root/srv" 2>/dev/null
 	cp debian/tests/first-example debian/tests/text-tools debian/tests/library packaging/typed.py "$root/srv/tests"
 	chmod 755 "$root/srv/tests"/*
+	places /usr
 	chown -R 65534:65534 "$root/home/reader"
 }
+
+# places PREFIX: where the reader has the commands, what they share, and the pages.
+places() { bin=$1/bin shared=$1/share/yds_cli pages=${2:-$1/share/doc/yds-doc}; }
 
 # as_readme_says: the line of README.md by which the packages are installed, typed where they are.
 as_readme_says() {
@@ -114,7 +142,7 @@ library_too() { alone sh -c "cd /srv && apt install -y ./libyds1_${version}_amd6
 type_pages() {
 	log=$1
 	shift
-	user python3 /srv/tests/typed.py --log "/home/reader/$log" "$@" /usr/share/doc/yds-doc/README.md /usr/share/doc/yds-doc/docs/manual.md
+	user python3 /srv/tests/typed.py --log "/home/reader/$log" --shared "$shared" "$@" "$pages/README.md" "$pages/docs/manual.md"
 	got=$?
 	cp "$root/home/reader/$log" "$logs/$suite-$log"
 	return $got
@@ -124,23 +152,26 @@ hour() { [ -n "${HOUR:-}" ] || echo "--leave-out=Long traces and many machines";
 # pages_of_man: each program and command has a page, without a fault, and a line of its own in the list of pages.
 pages_of_man() {
 	user sh -c '
-		for name in /usr/bin/yds_* /usr/bin/yds-*; do
-			name=${name##*/}
+		cd "$1" && names=$(ls -d yds_* yds-*) && cd || exit 1
+		for name in $names; do
 			man --warnings "$name" >/dev/null 2>page || { echo "no page of $name"; exit 1; }
 			[ ! -s page ] || { echo "$name:"; cat page; exit 1; }
+			lexgrog "$(man --where "$name")" | sed "s/^[^-]* - //" >>lines
 		done
-		whatis $(cd /usr/bin && ls -d yds_* yds-*) | sed "s/^[^-]* - //" | sort | uniq -d | grep . && { echo "one description of two commands"; exit 1; }
-		whatis $(cd /usr/bin && ls -d yds_* yds-*) | wc -l | sed "s/$/ pages, each with a description of its own/"'
+		sort lines | uniq -d | grep . && { echo "one description of two commands"; exit 1; }
+		[ "$1" != /usr/bin ] || whatis $names >/dev/null || exit 1
+		wc -l <lines | sed "s/$/ pages, each with a description of its own/"' sh "$bin"
 }
 
-# a_page: what one sends on, of the first example, as a file that fetches nothing.
+# a_page: what one sends on, by the three commands of the manual, as a file that fetches nothing.
 a_page() {
-	if [ ! -x "$root/usr/bin/yds-page" ]; then echo "yds-page isn't there: the page to send on is left out"; return; fi
-	user sh -c 'ln -sfn /usr/share/yds_cli/recipes recipes
-		yds-points --domain cpu0 recipes/samples/energy-model.txt > points.txt &&
-		yds-trace tasks=decode:16.667,audio:10 recipes/samples/trace-late.txt > trace.txt &&
-		yds-page points.txt trace.txt > late.html && grep -q "decode.2" late.html &&
-		! grep -oE "(src|href)=\"https?:[^\"]*\"" late.html && echo "$(wc -c <late.html) bytes, $(grep -o "<svg" late.html | wc -l) pictures"'
+	user sh -c '
+		ln -sfn "$SHARED/recipes" recipes
+		awk "/^### /{ its = /^### A page to send on/ } its && /^    \\$ / && ++n <= 3 { print substr(\$0, 7) }" "$1/docs/manual.md" >commands
+		[ "$(wc -l <commands)" = 3 ] || { echo "the manual has no three commands of a page to send on"; exit 1; }
+		cat commands
+		. ./commands && grep -q "decode.2" late.html && ! grep -oE "(src|href)=\"https?:[^\"]*\"" late.html &&
+			echo "$(wc -c <late.html) bytes, $(grep -o "<svg" late.html | wc -l) pictures"' sh "$pages"
 }
 
 try_walk() {
@@ -170,42 +201,96 @@ try_manual() {
 	try "$suite: the library" user /srv/tests/library
 }
 
-# stand_in NAME: a package of 1.0.0 with the names of its files, each of which says only its own.
-stand_in() {
-	tree=$work/old/$1
-	mkdir -p "$tree/DEBIAN"
-	while read -r package path kind target; do
-		[ "$package" = "$1" ] || continue
-		mkdir -p "$(dirname "$tree$path")"
-		if [ "$kind" = link ]; then ln -s "$target" "$tree$path"; else echo "$path of 1.0.0" >"$tree$path"; fi
-		[ "$kind" != program ] || chmod 755 "$tree$path"
-	done <packaging/released-files
-	case $1 in
-	yds-cli) printf 'Package: yds-cli\nArchitecture: amd64\nSuggests: jq, gnuplot-nox, parallel, trace-cmd, bash-completion\n' ;;
-	libyds) printf 'Package: libyds\nArchitecture: amd64\nDepends: libc6 (>= 2.14)\n' ;;
-	python3-yds) printf 'Package: python3-yds\nArchitecture: all\nDepends: python3 (>= 3.8), libyds (= 1.0.0)\n' ;;
-	esac >"$tree/DEBIAN/control"
-	printf 'Version: 1.0.0\nMaintainer: the yds_cli authors <maintainers@yds-cli.invalid>\nDescription: a stand-in of 1.0.0\n' >>"$tree/DEBIAN/control"
-	dpkg-deb --root-owner-group --build "$tree" "$root/srv/$1_1.0.0.deb"
+# as_manual_says WORD ..: the line of the manual by which pip installs the wheel, with these words for the environment.
+as_manual_says() {
+	line=$(sed -n 's/^    # \(python3 -m venv .*\)/\1/p' docs/manual.md | head -n 1)
+	[ -n "$line" ] || { echo "the manual has no line by which the wheel is installed"; return 1; }
+	line=$(echo "$line" | sed "s/-m venv/& $*/")
+	echo "# $line"
+	user sh -c "cp /srv/*.whl . && $line" && echo "$line"
+}
+# no_wheel: pip takes away all that it has brought.
+no_wheel() {
+	user sh -c 'yds/bin/pip uninstall --yes yds && cd yds && ! find . -type f | grep yds && echo "no file is left"'
 }
 
-# upgraded: nothing of 1.0.0 is left but what 2.0.0 has, too.
+# try_wheel WITH WORD ..: where the suite's root has these packages.
+try_wheel() {
+	fresh "$base.$1"
+	name="the wheel alone"
+	[ "$1" = pip ] || name="the wheel beside the manual's packages"
+	places /home/reader/yds
+	shift
+	try "$suite: $name: install as the manual says" as_manual_says "$@"
+	try "$suite: $name: rows" rows "$root" "$bin/yds_cli"
+	try "$suite: $name: the first example" user /srv/tests/first-example
+	try "$suite: $name: manual pages" pages_of_man
+	try "$suite: $name: README's and the manual's commands" type_pages "wheel$1.log" "$(hour)"
+	try "$suite: $name: a page to send on" a_page
+	try "$suite: $name: remove" no_wheel
+}
+
+# unpacked: the archive of the program, by the line of README.md.
+unpacked() {
+	line=$(sed -n 's/^    # \(tar .*\)/\1/p' README.md | head -n 1)
+	[ -n "$line" ] || { echo "README.md has no line by which the archive is unpacked"; return 1; }
+	echo "# $line"
+	user sh -c "cp /srv/*.tar.gz . && $line" && echo "$line"
+}
+
+try_archive() {
+	fresh "$base"
+	places "/home/reader/yds_cli-$version-linux-x86_64" "/home/reader/yds_cli-$version-linux-x86_64"
+	try "$suite: the archive: unpack as README says" unpacked
+	try "$suite: the archive: rows" rows "$root" "$bin/yds_cli"
+	try "$suite: the archive: the first example" user /srv/tests/first-example
+	try "$suite: the archive: manual pages" pages_of_man
+	try "$suite: the archive: README's and the manual's commands" type_pages archive.log "$(hour)"
+	try "$suite: the archive: a page to send on" a_page
+}
+
+# older: the packages of the release before, made of its commit as it made them, in /srv. They have the program and the library that
+# were built here, for those of then would have to be proved.
+older() {
+	git cat-file -e "$BEFORE^{commit}" 2>/dev/null || { echo "there is no commit $BEFORE here; the packages of $OLD are made in a clone with all commits"; return 1; }
+	rm -rf "$work/old"
+	git clone -q . "$work/old" && git -C "$work/old" checkout -q "$BEFORE" && mkdir "$work/old/build" || return 1
+	cp build/yds_cli build/yds_cli.o build/yds_cli-dynamic build/libyds.so build/libyds.a "$work/old/build" && touch "$work/old"/build/* || return 1
+	(cd "$work/old" && sh packaging/deb.sh >/dev/null) && cp "$work/old/build/dist"/*_"$OLD"_*.deb "$root/srv" || return 1
+	(cd "$root/srv" && ls ./*_"$OLD"_*.deb)
+}
+# old_words: what is installed knows the words of the release before.
+old_words() {
+	user sh -c 'yds-points domain=cpu0 "$SHARED/recipes/samples/energy-model.txt" && printf "job a 0 4 8\n" | yds_cli report | tail -n 1'
+}
+# new_words: what is installed refuses them, and tells the new ones.
+new_words() {
+	user sh -c '! yds-points domain=cpu0 "$SHARED/recipes/samples/energy-model.txt" >told 2>&1 && grep -e "--domain" told'
+}
+
+# upgraded: each file of the release before is gone, or is one of the new packages'; and these are whole.
 upgraded() {
-	alone dpkg -l yds-cli python3-yds libyds1 libyds-dev yds-doc >"$work/list" || return 1
 	if alone dpkg -s libyds 2>/dev/null | grep -q '^Status: install ok installed'; then echo "libyds is still there"; return 1; fi
-	left=$(cd "$root" && find usr -type f -exec grep -l ' of 1\.0\.0$' {} + 2>/dev/null)
-	[ -z "$left" ] || { echo "of 1.0.0 is left: $left"; return 1; }
-	awk '/^ii/ { print $2, $3 }' "$work/list"
+	alone dpkg -L yds-cli python3-yds libyds1 libyds-dev yds-doc >"$work/list" && alone dpkg --verify yds-cli python3-yds libyds1 libyds-dev yds-doc >"$work/altered" || return 1
+	if [ -s "$work/altered" ]; then cat "$work/altered"; return 1; fi
+	for package in "$work/old/build/dist"/*_"$OLD"_*.deb; do dpkg-deb -c "$package"; done | awk '$1 !~ /^d/ { print substr($6, 2) }' >"$work/before-files"
+	while read -r file; do
+		[ ! -e "$root$file" ] || grep -qx "$file" "$work/list" || echo "of $OLD is left: $file"
+	done <"$work/before-files" >"$work/left"
+	if [ -s "$work/left" ]; then cat "$work/left"; return 1; fi
+	echo "$(wc -l <"$work/before-files") files of $OLD are gone, or are those of $version"
 }
 
 try_upgrade() {
 	fresh "$base"
 	files >"$work/before"
-	for package in yds-cli libyds python3-yds; do stand_in $package; done >"$work/log" 2>&1
-	try "$suite: install 1.0.0" alone sh -c 'cd /srv && apt install -y ./yds-cli_1.0.0.deb ./libyds_1.0.0.deb ./python3-yds_1.0.0.deb </dev/null'
-	rm -f "$root"/srv/*_1.0.0.deb
+	try "$suite: the packages of $OLD" older || return
+	try "$suite: install $OLD" alone sh -c "cd /srv && apt install -y ./*_${OLD}_*.deb </dev/null"
+	try "$suite: words of $OLD" old_words
+	rm -f "$root"/srv/*_"$OLD"_*.deb
 	try "$suite: upgrade" alone sh -c 'cd /srv && apt install -y ./*.deb </dev/null'
-	try "$suite: nothing of 1.0.0 is left" upgraded
+	try "$suite: nothing of $OLD is left" upgraded
+	try "$suite: an old word, after the upgrade" new_words
 	try "$suite: the first example, after the upgrade" user /srv/tests/first-example
 	try "$suite: Python's module, after the upgrade" user python3 -c 'import yds
 print(yds.__version__, [str(level.speed) for level in yds.Document(jobs=[("a", 0, 4, 8)]).plan().levels])'
@@ -264,16 +349,17 @@ for suite in ${*:-bookworm trixie}; do
 	base "$suite" || continue
 	try_walk
 	try_manual
+	try_wheel pip
+	try_wheel full --system-site-packages
+	try_archive
 	try_upgrade
 done
 suite=
 if are_static; then
-	for program in $programs; do
-		[ "$program" = yds_cli ] || continue
-		mkdir "$work/empty"
-		cp build/yds_cli "$work/empty/yds_cli"
-		try "the static program in an empty root: rows" rows "$work/empty" /yds_cli
-	done
+	mkdir "$work/empty"
+	cp build/yds_cli build/yds_trace "$work/empty"
+	try "the static program in an empty root: rows" rows "$work/empty" /yds_cli
+	try "the static reader of traces in an empty root" stored_trace "$work/empty" /yds_trace
 else
 	fail "a program isn't static"
 fi

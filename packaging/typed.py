@@ -1,13 +1,13 @@
 """Types what the pages say: each command of a page, in a shell, as a reader would, and compares what is shown.
 
-    python3 packaging/typed.py [--log FILE] [--leave-out TITLE ..] PAGE ..
+    python3 packaging/typed.py [--log FILE] [--leave-out TITLE ..] [--shared FOLDER] PAGE ..
 
 A command is a line of a code block that begins with `$ `, its further lines begin with `> `, and what is shown stands
-below it. Each section (`##`) is a session of bash in a new folder, with links to what /usr/share/yds_cli has. A command
-that needs a package that isn't installed is left out, and so are those behind it in its part of the section (a picture
-alone: no command reads pictures), and later ones that miss a file of these, with what they change behind them. FILE gets
-each command with what was shown. The last line is 'N passed, M failed', and before it stands how many were left out and
-why; the status is 1 where M isn't 0.
+below it. Each section (`##`) is a session of bash in a new folder, with links to what FOLDER has, which is
+/usr/share/yds_cli without that word. A command that needs a package that isn't installed is left out, and so are those
+behind it in its part of the section (a picture alone: no command reads pictures), and later ones that miss a file of
+these, with what they change behind them. FILE gets each command with what was shown. The last line is 'N passed, M
+failed', and before it stands how many were left out and why; the status is 1 where M isn't 0.
 """
 
 from __future__ import annotations
@@ -22,7 +22,7 @@ import tempfile
 from pathlib import Path
 from typing import Dict, List, NamedTuple, Optional, Set, TextIO
 
-SHARED = Path("/usr/share/yds_cli")
+SHARED = "/usr/share/yds_cli"
 NEEDED = {"jq": re.compile(r"\bjq "), "parallel": re.compile(r"\bparallel "), "pictures": re.compile(r"\byds-plot\b")}
 PLACE = re.compile(r"^.*: line [0-9]+: ", re.MULTILINE)
 
@@ -70,11 +70,11 @@ def missing() -> Dict[str, str]:
     return told
 
 
-def typed(given: List[Command], folder: Path) -> List[str]:
+def typed(given: List[Command], folder: Path, shared: Path) -> List[str]:
     """What is shown at each command of a section, in one session of bash."""
     (folder / ".typed").mkdir()
-    for shared in SHARED.iterdir():
-        (folder / shared.name).symlink_to(shared)
+    for each in shared.iterdir():
+        (folder / each.name).symlink_to(each)
     names = [folder / ".typed" / f"{place:03d}" for place in range(len(given))]
     for name, command in zip(names, given):
         name.write_text(command.text, encoding="utf-8")
@@ -119,7 +119,7 @@ class Count:
         )
 
 
-def try_section(page: Path, given: List[Command], absent: Dict[str, str], count: Count) -> None:
+def try_section(page: Path, given: List[Command], absent: Dict[str, str], shared: Path, count: Count) -> None:
     """Types the commands of a section that can be typed here."""
     count.note(f"\n== {page.name}: {given[0].section}\n")
     kept: List[Command] = []
@@ -135,7 +135,7 @@ def try_section(page: Path, given: List[Command], absent: Dict[str, str], count:
         count.leave_out(command, reason)
     without: Set[int] = set()
     with tempfile.TemporaryDirectory() as folder:
-        for command, shown in zip(kept, typed(kept, Path(folder))):
+        for command, shown in zip(kept, typed(kept, Path(folder), shared)):
             lacks_a_file = bool(stopped) and "No such file or directory" in shown
             if shown != command.shown and (lacks_a_file or command.part in without):
                 without.add(command.part)
@@ -148,6 +148,7 @@ def main(words: List[str]) -> int:
     parser = argparse.ArgumentParser()
     parser.add_argument("--log")
     parser.add_argument("--leave-out", action="append", default=[])
+    parser.add_argument("--shared", default=SHARED)
     parser.add_argument("pages", nargs="+")
     options = parser.parse_args(words)
     absent = missing()
@@ -162,7 +163,7 @@ def main(words: List[str]) -> int:
                     for command in given:
                         count.leave_out(command, "takes minutes")
                     continue
-                try_section(page, given, absent, count)
+                try_section(page, given, absent, Path(options.shared).resolve(), count)
     for reason, number in count.left_out.items():
         print(f"left out: {number} commands, {reason}")
     print(f"{count.passed} passed, {count.failed} failed")

@@ -1,4 +1,8 @@
-"""Writes the wheel: wheel.py VERSION EPOCH FOLDER, at the top of the repository. Each file has the time EPOCH."""
+"""Writes the wheel: wheel.py VERSION EPOCH FOLDER STAGE, at the top of the repository. Each file has the time EPOCH.
+
+In STAGE lies what packaging/install.sh puts with an empty PREFIX. Its programs and its `share` go where pip puts the
+commands and the files beside them. The module and the shared object are taken from python and build.
+"""
 
 import base64
 import hashlib
@@ -7,7 +11,7 @@ import sys
 import time
 import zipfile
 from pathlib import Path
-from typing import Dict, Tuple
+from typing import Dict, List, Tuple
 
 # The platform's name promises a C library of 2.17 or later, and no other library.
 PLATFORM, MOST_GLIBC = "manylinux2014_x86_64", (2, 17)
@@ -30,6 +34,12 @@ Classifier: Typing :: Typed
 Description-Content-Type: text/markdown
 
 {description}"""
+
+# The recipe that isn't in Python: pip makes no command of it, so it comes as a script.
+RECIPE = """\
+#!/bin/sh
+exec sh "$(dirname "$(readlink -f "$0")")/../share/yds_cli/recipes/command.sh" {name} "$@"
+"""
 
 WHEEL = """\
 Wheel-Version: 1.0
@@ -72,11 +82,30 @@ def metadata(version: str) -> bytes:
     return METADATA.format(version=version, description=Path("python/README.md").read_text(encoding="utf-8")).encode()
 
 
-def contents(version: str) -> Dict[str, bytes]:
+def installed(stage: Path, version: str) -> Dict[str, bytes]:
+    """What isn't of the module, by its name: the programs and a recipe as scripts, and what they share."""
+    data = f"yds-{version}.data"
+    files = {f"{data}/data/{path.relative_to(stage).as_posix()}": path.read_bytes() for path in shared_files(stage)}
+    files[f"{data}/data/share/doc/yds-doc/copyright"] = Path("debian/copyright").read_bytes()
+    for path in (stage / "bin").iterdir():
+        if not path.is_symlink():
+            files[f"{data}/scripts/{path.name}"] = path.read_bytes()
+        elif f"\n{path.name} = " not in entry_points():
+            files[f"{data}/scripts/{path.name}"] = RECIPE.format(name=path.name).encode()
+    return files
+
+
+def shared_files(stage: Path) -> List[Path]:
+    """The samples, examples, manual pages, completion and pages. A link is what it leads to: a wheel has no links."""
+    return [path for path in (stage / "share").rglob("*") if path.is_file()]
+
+
+def contents(version: str, stage: Path) -> Dict[str, bytes]:
     """The files of the wheel by their names, all but its record."""
     info = f"yds-{version}.dist-info"
     files = module_files(version)
     files["yds/libyds.so.1"] = shared_object(Path("build/libyds.so"))
+    files.update(installed(stage, version))
     files[f"{info}/METADATA"] = metadata(version)
     files[f"{info}/entry_points.txt"] = entry_points().encode()
     files[f"{info}/WHEEL"] = WHEEL.format(platform=PLATFORM).encode()
@@ -101,12 +130,18 @@ def write(path: Path, files: Dict[str, bytes], epoch: int) -> None:
         for name, data in files.items():
             entry = zipfile.ZipInfo(name, moment)  # type: ignore[arg-type]
             entry.compress_type = zipfile.ZIP_DEFLATED
-            entry.external_attr = (0o100755 if ".so" in name else 0o100644) << 16
+            entry.external_attr = (0o100755 if is_program(name) else 0o100644) << 16
             archive.writestr(entry, data)
 
 
-def main(version: str, epoch: str, folder: str) -> None:
-    files = contents(version)
+def is_program(name: str) -> bool:
+    """Whether the file is one that is run."""
+    return ".so" in name or ".data/scripts/" in name or name.endswith(".sh")
+
+
+def main(version: str, epoch: str, folder: str, stage: str) -> None:
+    """Writes it."""
+    files = contents(version, Path(stage))
     name = f"yds-{version}.dist-info/RECORD"
     files[name] = record(files, name)
     write(Path(folder) / f"yds-{version}-py3-none-{PLATFORM}.whl", files, int(epoch))

@@ -32,7 +32,8 @@ from_here() { YDS_LIBRARY=$PWD/build/libyds.so PYTHONPATH=python tests "$PYTHON"
 # The wheel, made twice: into the folder of releases and, from a copy of it all, into another.
 twice() {
 	sh packaging/wheel.sh >"$work/sums" && mkdir "$work/again" || return 1
-	cp -r VERSION CHANGELOG.md LICENSE-MIT LICENSE-APACHE packaging library python "$work/again" && mkdir "$work/again/build" && cp build/libyds.so "$work/again/build" || return 1
+	cp -r VERSION ./*.md LICENSE-* packaging library python recipes examples completions docs debian "$work/again" && mkdir "$work/again/build" || return 1
+	cp -p build/libyds.so build/yds_cli build/yds_trace build/yds_*-dynamic "$work/again/build" || return 1
 	SOURCE_DATE_EPOCH=$(git log -1 --format=%ct 2>/dev/null || cat packaging/commit-time) sh "$work/again/packaging/wheel.sh" >"$work/sums" || return 1
 	cmp build/dist/yds-*.whl "$work"/again/build/dist/yds-*.whl && echo "the same bytes"
 }

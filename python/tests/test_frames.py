@@ -118,12 +118,45 @@ class ByHand(Frames):
         self.assertEqual(called[:2], (1, "failed\n"))
         self.assertEqual(
             called.err,
-            "yds-frames: which job of r is the first at or after time 0 isn't known: r.1 or r.2, or between; "
-            "give --first r.1, or what it is\n",
+            "yds-frames: which job of r is the first at or after time 0 isn't known: r.1 or r.2 "
+            "(when r.1 began isn't told: no wake-up); give it, as --first r.1\n",
         )
         self.assertEqual(self.told(lines, unknown, "--first", "r.2")[:9], told[:9])
         shifted = self.told(lines, unknown, "--first", "r.1")
         self.assertIn("# 2 jobs begin outside of their windows, the first r.1; look at time 0 and at --first", shifted)
+
+    def test_what_yds_trace_tells_together(self) -> None:
+        """It names no job before --from, and tells those that moved in one line: all begin at --from or later."""
+        trace = (
+            HEAD + UNITS + "job r.5 1000 1900 50\njob r.7 3000 3900 50\nticks 1\nrun r.5 1000 1950 1\nrun r.7 3000 3050 1\n"
+            "# late: r.5, 0.501234 ms after its deadline\n"
+            "# left out: 2 jobs of r (ran on another processor), the first r.4, the last r.6\n"
+            "# left out: 4 jobs before from or after to\n# 2 jobs written, 6 left out\n"
+        )
+        lines = MS + "".join(f"job r.{number} {10 * number} {10 * number + 9} 50\n" for number in range(4))
+        told = self.told(lines, trace)
+        self.assertEqual([line for line in told if line[:3] == "run"], ["run r.1 1000 1950 1", "run r.3 3000 3050 1"])
+        self.assertEqual(
+            told[-4:],
+            [
+                "# left out: 2 jobs of r (ran on another processor), the first r.0, the last r.2",
+                "# 2 jobs of app.txt have no run here, the first r.0",
+                "# left out: 4 jobs before from or after to",
+                "# 4 jobs written, 6 left out",
+            ],
+        )
+        self.assertNotIn("# late: ", "\n".join(told))
+        lost = trace.replace("ran on another processor", "events lost")
+        self.assertEqual(
+            self.called(lines, lost).err,
+            "yds-frames: which job of r is the first at or after time 0 isn't known: r.4 or r.5 "
+            "(when 2 jobs from r.4 on began isn't told: events lost); give it, as --first r.4\n",
+        )
+        self.assertEqual(self.told(lines, lost, "--first", "r.4")[:10], told[:10])
+        later = self.called(lines, trace, "--zero", "200.005")
+        self.assertIn("r.4 or r.5 (when 2 jobs from r.4 on began isn't told: ran on another processor)", later.err)
+        earlier = self.called(lines, trace.replace("200.000000000", "200.100000000"), "--zero", "200")
+        self.assertIn("isn't known: r.0 to r.4", earlier.err)
 
     def test_another_time_0(self) -> None:
         trace = (
@@ -144,7 +177,7 @@ class ByHand(Frames):
         called = self.called(MS + "job r.0 10 19 50\n", trace, "--zero", "200.010001")
         self.assertEqual(
             called.err,
-            "yds-frames: time 0 of the jobs is no whole number of the trace's units after its own; give it to yds-trace as --from\n",
+            "yds-frames: time 0 of the jobs is no whole number of the trace's units after its own; give it to yds_trace as --from\n",
         )
 
     def test_who_else_ran(self) -> None:
@@ -215,12 +248,12 @@ class Refused(Frames):
             (
                 MS.replace("1000 us", "25 us"),
                 TRACE,
-                "a unit of 25 us is no whole number of the trace's ticks of 10 us; give yds-trace --us 25",
+                "a unit of 25 us is no whole number of the trace's ticks of 10 us; give yds_trace --us 25",
             ),
             (
                 MS.replace("1000 us", "5 us"),
                 TRACE,
-                "a unit of 5 us is no whole number of the trace's ticks of 10 us; give yds-trace --us 5",
+                "a unit of 5 us is no whole number of the trace's ticks of 10 us; give yds_trace --us 5",
             ),
         ]:
             called = self.called(frames + "job r.0 0 9 50\n", trace)
@@ -303,7 +336,7 @@ def up(nano: int) -> str:
 
 
 def trace_of(jobs: Sequence[Truth], tick: int, length: int, last: int) -> str:
-    """The document, by the rules of yds-trace, where each deadline is so long after the begin."""
+    """The document, by the rules of yds_trace, where each deadline is so long after the begin."""
     lines, runs, behind = [], [], []
     for job in jobs:
         name, due = f"{job.task}.{job.number}", job.begin + length

@@ -1,11 +1,12 @@
-"""What the wheel says of itself is what pyproject.toml says to who builds the package from its sources."""
+"""What packages say of themselves: the wheel what pyproject.toml says, and debian/copyright whose code is in them."""
 
+import re
 import sys
 import unittest
 from email import message_from_string
 from importlib.util import find_spec
 
-from stored import ROOT
+from called import ROOT
 
 
 class Metadata(unittest.TestCase):
@@ -28,6 +29,27 @@ class Metadata(unittest.TestCase):
         wanted = [f"{name}; extra == '{extra}'" for extra, names in extras.items() for name in names]
         self.assertEqual(told.get_all("Requires-Dist"), wanted)
         self.assertEqual(told.get_all("Provides-Extra"), list(extras))
+
+
+class Copyright(unittest.TestCase):
+    def test_each_crate_of_others_is_named(self) -> None:
+        stands_on = {}
+        for line in (ROOT / "crates.txt").read_text().splitlines():
+            head, colon, below = line.partition("#")[0].partition(":")
+            if colon:
+                stands_on[head.split()[0]] = below.split()
+        told = (ROOT / "debian" / "copyright").read_text().split("Files: *")[0]
+        for program, its in (("yds_cli", "yds_cli\n and the library of (.*?);"), ("yds_trace_cli", "yds_trace of (.*?)\\.")):
+            named = re.search(its, told, re.DOTALL)
+            self.assertIsNotNone(named)
+            crates = set(re.split(r",\s+|\s+and\s+", named.group(1).strip())) | {"json"}  # type: ignore[union-attr]
+            below, waiting = set(), [program]
+            while waiting:
+                crate = waiting.pop()
+                if crate not in below:
+                    below.add(crate)
+                    waiting += stands_on.get(crate, [])
+            self.assertEqual(crates - {"json"}, below - set(stands_on) - {"json"})
 
 
 if __name__ == "__main__":

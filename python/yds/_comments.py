@@ -87,19 +87,27 @@ class LeftOut(NamedTuple):
     number: int
     task: str
     reason: str
+    first: str
+    """The first of them; empty where it isn't told."""
+    last: str
 
 
-_LEFT_OUT_JOBS = re.compile(r"# left out: ([0-9]{1,18}) jobs? of (.+?) \((.+)\)(?:, the first .+)?").fullmatch
+_LEFT_OUT_JOBS = re.compile(
+    r"# left out: ([0-9]{1,18}) jobs? of (.+?) \((.+)\)(?:, (?:the first ([^ ]+), the last ([^ ]+)|.+))?"
+).fullmatch
 
 
 def left_out_jobs(text: str) -> Optional[LeftOut]:
     """What a comment tells of several jobs at once; None where it is none.
 
     >>> left_out_jobs("# left out: 356 jobs of t0 (ran on another processor), the first t0.3, the last t0.621")
-    LeftOut(number=356, task='t0', reason='ran on another processor')
+    LeftOut(number=356, task='t0', reason='ran on another processor', first='t0.3', last='t0.621')
     """
     found = _LEFT_OUT_JOBS(text)
-    return None if found is None else LeftOut(int(found.group(1)), found.group(2), found.group(3))
+    if found is None:
+        return None
+    number, task, reason, first, last = found.groups()
+    return LeftOut(int(number), task, reason, first or "", last or "")
 
 
 class OtherSpan(NamedTuple):

@@ -14,7 +14,9 @@ from yds._comments import (
     WITHOUT_RUNS,
     Clock,
     Ends,
+    LeftOut,
     Note,
+    left_out_jobs,
     note_of,
     other_span,
 )
@@ -25,11 +27,14 @@ OTHERS = "others"
 """The task of the jobs that stand for all other tasks."""
 BEFORE = "before from"
 """The reason of a job that began before the time from which on the trace was asked for."""
+MOVED = "ran on another processor"
+"""The reason of a job that began at or after that time: yds_trace tells it only where none before it holds."""
 _NUMBERED = re.compile(r"(.+)\.(-1|before|[0-9]{1,18})").fullmatch
 _PART = re.compile(r"# part [0-9]+:").match
-_OF_JOBS = re.compile(r"# (?:[0-9]+ jobs? written, |the deadline of |APART of )").match
+_OF_JOBS = re.compile(r"# (?:[0-9]+ jobs? written, |the deadline of |APART of |late: )").match
 _OF_UNITS = re.compile(r"# .*(?:time 0 is [0-9]|time unit [0-9])").match
 _HEAD = re.compile(r"# (.+); time 0 is [0-9]").match
+_CUT_OFF = re.compile(r"# left out: ([0-9]{1,18}) jobs? before from or after to").fullmatch
 
 
 class Run(NamedTuple):
@@ -52,6 +57,8 @@ class Trace(NamedTuple):
     ticks: int
     jobs: Dict[str, Job]
     notes: List[Note]
+    groups: List[LeftOut]
+    """Jobs of which one comment tells several."""
     ends: Ends
     runs: List[Run]
     points: List[str]
@@ -96,7 +103,7 @@ def read_frames(source: Iterable[Line], file: str) -> Frames:
 
 
 def read_trace(source: Iterable[Line]) -> Trace:
-    """The document of a trace, as yds-trace writes it."""
+    """The document of a trace, as yds_trace writes it."""
     reading = _Reading()
     rows = Rows(source)
     for row in rows:
@@ -116,7 +123,7 @@ def read_trace(source: Iterable[Line]) -> Trace:
 
 
 def _not_of_trace(row: Row) -> Fault:
-    return row.line.fault("this is no line of a trace's document; give what yds-trace writes", 0)
+    return row.line.fault("this is no line of a trace's document; give what yds_trace writes", 0)
 
 
 class _Reading:
@@ -128,6 +135,7 @@ class _Reading:
         self._ends = Ends()
         self._jobs: Dict[str, Job] = {}
         self._notes: List[Note] = []
+        self._groups: List[LeftOut] = []
         self._runs: List[Run] = []
         self._comments: List[str] = []
         self._ticks: Optional[int] = None
@@ -143,8 +151,10 @@ class _Reading:
             self._head = head.group(1)
         if self._ends.take(row.text) or _OF_JOBS(row.text) or _OF_UNITS(row.text):
             return
-        note = note_of(row.text)
-        if note is not None and (note.job in self._jobs or _NUMBERED(note.job)):
+        note, group = note_of(row.text), left_out_jobs(row.text)
+        if group is not None and _NUMBERED(group.first) and _NUMBERED(group.last):
+            self._groups.append(group)
+        elif note is not None and (note.job in self._jobs or _NUMBERED(note.job)):
             self._notes.append(note)
         else:
             self._comments.append(row.line.text)
@@ -154,7 +164,7 @@ class _Reading:
         if row.name in self._jobs:
             raise row.line.fault(f"a second job is named {row.name}", 1)
         if _NUMBERED(row.name) is None:
-            raise row.line.fault(f"the job {row.name} has no number, as decode.0; give what yds-trace writes", 1)
+            raise row.line.fault(f"the job {row.name} has no number, as decode.0; give what yds_trace writes", 1)
         self._jobs[row.name] = row
 
     def take_run(self, row: Slot) -> None:
@@ -174,14 +184,14 @@ class _Reading:
     def finish(self, khz: Optional[Fraction]) -> Trace:
         """The document, of which all lines are read."""
         if self._ticks is None:
-            raise Fault("the trace's document has no ticks line; give what yds-trace writes")
+            raise Fault("the trace's document has no ticks line; give what yds_trace writes")
         if self._clock.zero is None or not self._clock.unit or not khz:
             raise Fault(
-                "no comment tells time 0 and the units of the trace; give what yds-trace writes, with its comments"
+                "no comment tells time 0 and the units of the trace; give what yds_trace writes, with its comments"
             )
         return Trace(
-            *(self._head, self._clock, khz, self._ticks, self._jobs, self._notes, self._ends),
-            *(self._runs, self.points, self._comments),
+            *(self._head, self._clock, khz, self._ticks, self._jobs, self._notes, self._groups),
+            *(self._ends, self._runs, self.points, self._comments),
         )
 
 
@@ -222,26 +232,88 @@ def told_jobs(trace: Trace) -> List[Told]:
     return sorted(found, key=lambda one: (one.task, one.number))
 
 
-def first_numbers(jobs: Sequence[Told], zero: Fraction, asked: Dict[str, int]) -> Dict[str, int]:
+class Span(NamedTuple):
+    """Jobs of a task that one comment tells together: from which number to which, and why they were left out."""
+
+    task: str
+    first: int
+    last: int
+    group: LeftOut
+
+
+def spans(groups: Sequence[LeftOut]) -> List[Span]:
+    """The numbers of the groups."""
+    numbers = [(_number(group.first), _number(group.last)) for group in groups]
+    return [Span(group.task, first, last, group) for group, (first, last) in zip(groups, numbers)]
+
+
+def _number(name: str) -> int:
+    """The number of a job, by its name."""
+    number = name.rpartition(".")[2]
+    return -1 if number == "before" else int(number)
+
+
+def first_numbers(
+    jobs: Sequence[Told], groups: Sequence[Span], zero: Fraction, asked: Dict[str, int]
+) -> Dict[str, int]:
     """The number of each task's first job that begins at time 0 of the frames or later.
 
     zero: that time in the trace's units. asked: the numbers that are given. One that isn't known is a fault.
     """
     firsts: Dict[str, int] = {}
-    for task in dict.fromkeys(job.task for job in jobs):
+    for task in dict.fromkeys([*(job.task for job in jobs), *(group.task for group in groups)]):
         its = [job for job in jobs if job.task == task and job.number >= 0]
-        before = [job.number for job in its if job.is_before or (job.begin is not None and job.begin < zero)]
-        behind = [job.number for job in its if job.begin is not None and job.begin >= zero and not job.is_before]
+        together = [group for group in groups if group.task == task]
+        before = _before(its, together, zero)
+        behind = _behind(its, together, zero)
         least = max(before, default=-1) + 1
-        greatest = min(behind, default=max([least, *(job.number + 1 for job in its)]))
+        numbers = [*(job.number for job in its), *(group.last for group in together)]
+        greatest = min(behind, default=max([least, *(number + 1 for number in numbers)]))
         firsts[task] = asked.get(task, least)
         if task not in asked and least < greatest:
-            last = f"{task}.{greatest}" if behind else "a later one"
-            told = (
-                f"which job of {task} is the first at or after time 0 isn't known: {task}.{least} or {last}, or between"
-            )
-            raise Fault(f"{told}; give --first {task}.{least}, or what it is")
+            which = _which(task, least, greatest if behind else None)
+            why = _why(its, together, range(least, greatest))
+            told = f"which job of {task} is the first at or after time 0 isn't known: {which}{why}"
+            raise Fault(f"{told}; give it, as --first {task}.{least}")
     return firsts
+
+
+def _before(its: Sequence[Told], together: Sequence[Span], zero: Fraction) -> List[int]:
+    """The numbers of jobs of a task that surely begin before time 0. zero: as for first_numbers."""
+    found = [job.number for job in its if (job.is_before and zero >= 0) or (job.begin is not None and job.begin < zero)]
+    named = [*(job.number for job in its), *(group.first for group in together)]
+    # What is asked for from a time on: no comment names the jobs before it, and their numbers are the least.
+    return [*found, min(named) - 1] if zero >= 0 and min(named, default=0) > 0 else found
+
+
+def _behind(its: Sequence[Told], together: Sequence[Span], zero: Fraction) -> List[int]:
+    """The numbers of jobs of a task that surely begin at time 0 or later. zero: as for first_numbers."""
+    found = [job.number for job in its if job.begin is not None and job.begin >= zero and not job.is_before]
+    if zero <= 0:
+        found += [job.number for job in its if job.note is not None and job.note.reason == MOVED]
+        found += [group.first for group in together if group.group.reason == MOVED]
+    return found
+
+
+def _which(task: str, least: int, greatest: Optional[int]) -> str:
+    """The jobs that may be the first."""
+    if greatest is None:
+        return f"{task}.{least} or a later one"
+    between = "or" if greatest == least + 1 else "to"
+    return f"{task}.{least} {between} {task}.{greatest}"
+
+
+def _why(its: Sequence[Told], together: Sequence[Span], open_numbers: range) -> str:
+    """Why a begin isn't known: of a job with one of the numbers, or of several."""
+    for job in its:
+        if job.number in open_numbers and job.begin is None:
+            reason = f": {job.note.reason}" if job.note is not None and job.note.reason else ""
+            return f" (when {job.name} began isn't told{reason})"
+    for group in together:
+        if group.first < open_numbers.stop and group.last >= open_numbers.start:
+            count = counted(group.group.number, "job", "jobs")
+            return f" (when {count} from {group.group.first} on began isn't told: {group.group.reason})"
+    return ""
 
 
 class Placed(NamedTuple):
@@ -311,11 +383,11 @@ def scale(trace: Trace, us: Fraction, zero: Fraction) -> Scale:
     """How times become the application's. us: microseconds in its unit. zero: its time 0 in units of the trace."""
     ticks = us / trace.tick
     if ticks.denominator != 1:
-        finer = f"yds-trace --us {us}" if us.denominator == 1 else "a finer --us to yds-trace"
+        finer = f"yds_trace --us {us}" if us.denominator == 1 else "a finer --us to yds_trace"
         raise Fault(f"a unit of {us} us is no whole number of the trace's ticks of {trace.tick} us; give {finer}")
     if zero.denominator != 1:
         raise Fault(
-            "time 0 of the jobs is no whole number of the trace's units after its own; give it to yds-trace as --from"
+            "time 0 of the jobs is no whole number of the trace's units after its own; give it to yds_trace as --from"
         )
     return Scale(ticks.numerator, trace.ticks, zero.numerator * trace.ticks, trace.tick)
 
@@ -423,12 +495,13 @@ def document(trace: Trace, frames: Frames, us: Fraction, zero: Fraction, asked: 
     """
     by = scale(trace, us, zero)
     jobs = told_jobs(trace)
-    placed = place(frames, jobs, first_numbers(jobs, zero, asked))
+    firsts = first_numbers(jobs, spans(trace.groups), zero, asked)
+    placed = place(frames, jobs, firsts)
     if not placed.frame_of:
         tasks = ", ".join(dict.fromkeys(job.task for job in jobs)) or "none"
         raise Fault(f"no job of the trace has a line in {base(frames.file)}; the trace's tasks are {tasks}")
     judged = _Judge(trace, frames, placed, by).told(jobs)
-    written = _Written(trace, frames, by, placed, judged)
+    written = _Written(trace, frames, by, placed, judged, firsts)
     yield from written.head()
     yield from written.jobs()
     yield from written.runs()
@@ -438,8 +511,11 @@ def document(trace: Trace, frames: Frames, us: Fraction, zero: Fraction, asked: 
 class _Written:
     """The lines of the document."""
 
-    def __init__(self, trace: Trace, frames: Frames, by: Scale, placed: Placed, judged: Ended) -> None:
+    def __init__(
+        self, trace: Trace, frames: Frames, by: Scale, placed: Placed, judged: Ended, firsts: Dict[str, int]
+    ) -> None:
         self._trace, self._frames, self._by, self._placed, self._judged = trace, frames, by, placed, judged
+        self._firsts = firsts
         self._others = {name: row for name, row in trace.jobs.items() if name.startswith(f"{OTHERS}.")}
         self._names = {job: frame for job, frame in placed.frame_of.items() if job not in set(judged.dropped)}
         self._whole_others = [line for line in map(self._other, self._others.values()) if line]
@@ -487,6 +563,7 @@ class _Written:
         yield from self._judged.notes
         yield from self._begins_and_ends(jobs)
         yield from self._judged.left
+        yield from self._together()
         yield from self._unplaced(jobs)
         for comment in self._trace.comments:
             span = other_span(comment)
@@ -496,10 +573,24 @@ class _Written:
                 begin = max(span.start - self._by.zero, 0)
                 yield f"# other {span.name}-{span.pid} {begin} {span.end - self._by.zero}"
         left = len(self._judged.left) + sum(map(len, self._placed.unknown.values())) + self._placed.before
+        left += sum(group.number for group in self._trace.groups) + self._cut_off()
         written = len(self._frames.jobs) + (len(self._others) if len(self._whole_others) == len(self._others) else 0)
         late = self._judged.late
         without = f", {late} late without {'its' if late == 1 else 'their'} runs" if late else ""
         yield f"# {counted(written, 'job', 'jobs')} written, {left or 'none'} left out{without}"
+
+    def _together(self) -> Iterator[str]:
+        """The comments on several jobs that were left out, by the application's numbers."""
+        for task, first, last, group in spans(self._trace.groups):
+            number = self._firsts.get(task, 0)
+            names = [f"{task}.{place - number}" if place >= number else "before time 0" for place in (first, last)]
+            span = f"the first {names[0]}, the last {names[1]}"
+            yield f"# {LEFT_OUT}: {counted(group.number, 'job', 'jobs')} of {task} ({group.reason}), {span}"
+
+    def _cut_off(self) -> int:
+        """How many jobs the trace's document tells in a line that were before or after what was asked for."""
+        found = [_CUT_OFF(comment) for comment in self._trace.comments]
+        return sum(int(told.group(1)) for told in found if told is not None)
 
     def _begins_and_ends(self, jobs: Sequence[Told]) -> Iterator[str]:
         """Begins and ends that no run shows: of several jobs that are one, the begin of the first and the end of the last."""

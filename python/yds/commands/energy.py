@@ -17,7 +17,7 @@ COMMAND = Command(
     "yds-energy",
     "what the slots or runs of a document spend on its points, in the lines of `yds_cli compare`",
     """
-Input: a document with points and slots or runs, as of yds-trace, or of yds_cli plan or oa. Output: `NAME energy X` and
+Input: a document with points and slots or runs, as of yds_trace, or of yds_cli plan or oa. Output: `NAME energy X` and
 for each point `NAME time SPEED X`, in the document's units: power times time, time.
 
     yds-join points.txt trace.txt | yds-energy --name governor
@@ -26,7 +26,7 @@ A slot at a point's speed draws that point's power; another draws that of the ne
 time; what isn't run from the first release to the last deadline or last end draws the first point's. Exact where every
 slot is on a point and the times are whole or in ticks; else rounded to thousandths, as a comment says.
 
-A deadline is missed where a job runs past it, or has less work by then than it needs, or where a comment of yds-trace
+A deadline is missed where a job runs past it, or has less work by then than it needs, or where a comment of yds_trace
 says so: of a job that was left out and was late, or one late by less than a unit of time. The last line tells how many
 are missed: `# NAME misses 3 deadlines, the first JOB`. Comments above it tell how many jobs aren't in the document, or
 not with their runs: their energy is in no line; how many have no work, as where all runs of a job are shorter than a

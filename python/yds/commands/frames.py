@@ -15,7 +15,7 @@ COMMAND = Command(
     "yds-frames",
     "the document of a trace with the job lines of an application in the place of its own",
     """
-    yds-trace us=1 khz=1000 from=5123.400623456 tasks=decode:16.667,audio:10 report.txt > trace.txt
+    yds_trace --us 1 --khz 1000 --from 5123.400623456 --tasks decode:16.667,audio:10 < report.txt > trace.txt
     yds-frames --jobs frames.txt --us 1000 --khz 1000 trace.txt > document.txt
 
 An application may know its frames: when each is released, when it is due, and how much work it has. FILE has a line
@@ -23,9 +23,9 @@ An application may know its frames: when each is released, when it is due, and h
 1000 us, speed unit 1000 kHz`, give --us and --khz. The trace's document may be in finer units of time, and has to be in
 the same unit of speed.
 
-Input: the document of a trace, as yds-trace writes it, with its comments. Output: the lines of FILE; the runs of the
+Input: the document of a trace, as yds_trace writes it, with its comments. Output: the lines of FILE; the runs of the
 trace, of which those of a task's k-th job from time 0 on, counted from 0, are NAME.k's, or NAME's where FILE has no
-NAME.k; and comments. The deadlines that yds-trace was given count no more: what its comments tell of ends is told anew,
+NAME.k; and comments. The deadlines that yds_trace was given count no more: what its comments tell of ends is told anew,
 by FILE's deadlines. A time by which a job is late is then a least one, since the trace's times are rounded.
 
   # left out: decode.7 (ran on CPU 1); window 117 134       its runs aren't here

@@ -18,7 +18,7 @@ COMMAND = Command(
     "yds-jobs",
     "the table of a document's jobs: when each was released and due, when it began and ended, how late it was",
     """
-Input: a document with jobs and slots or runs, as of yds-trace, or of yds_cli plan, round, avr or oa; with points for
+Input: a document with jobs and slots or runs, as of yds_trace, or of yds_cli plan, round, avr or oa; with points for
 the energies.
 
     yds-jobs trace.txt
@@ -31,9 +31,9 @@ neighbours on the points' lower hull, by time. All in the document's units, frac
 places; what isn't 0 is never rounded to 0.
 
 A job whose slots give less than its work hasn't ended: its end is `never` (in CSV inf), its response and its lateness
-inf. Where the first or last run is too short to be in the document, begin and end are those that a comment of yds-trace
-tells. A late job that yds-trace has without its runs has the end and the lateness that the comment below its line
-tells. Jobs that yds-trace left out, and that admit refused, follow where their comments stand, with the reason in
+inf. Where the first or last run is too short to be in the document, begin and end are those that a comment of yds_trace
+tells. A late job that yds_trace has without its runs has the end and the lateness that the comment below its line
+tells. Jobs that yds_trace left out, and that admit refused, follow where their comments stand, with the reason in
 brackets after the name and what is known of them.
 
 What isn't known, and the energy without points, is `-`, in CSV nothing. A job of no work needs no slot: it ends at its
@@ -58,7 +58,7 @@ deadlines were moved.
         ),
         Option(
             "zero",
-            "trace: release, deadline, begin and end in seconds of the trace's clock, from the comments of yds-trace, and "
+            "trace: release, deadline, begin and end in seconds of the trace's clock, from the comments of yds_trace, and "
             "response, slack and late in milliseconds; seconds: the same where there are no comments, time 0 is then",
             "trace|SECONDS",
         ),

@@ -15,7 +15,7 @@ COMMAND = Command(
     """
     yds-join points.txt trace.txt > governor.txt
 
-Input: texts of one document, as of yds-points, yds-trace, yds-tasks and yds-rtapp. Output: their lines, one text after
+Input: texts of one document, as of yds-points, yds_trace, yds-tasks and yds-rtapp. Output: their lines, one text after
 the other.
 
 The program reads no comments, so of points in one unit and a trace in another it would tell wrong energies. Here each

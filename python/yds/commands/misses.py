@@ -15,18 +15,18 @@ COMMAND = Command(
     "yds-misses",
     "all missed deadlines of a document, where `yds_cli audit` tells the first",
     """
-Input: a document with jobs and slots or runs, as yds-trace writes it, of any length.
+Input: a document with jobs and slots or runs, as yds_trace writes it, of any length.
 
     yds-misses trace.txt
 
 A job has missed its deadline where a slot ends after it (`late slot ..`, the verdict of audit); where its work isn't
-done (`work NAME given .. wanted ..`, the verdict of audit; yds-trace writes jobs so that never ended); or where a
-comment of yds-trace tells it: jobs that are there without their runs, of which the comment says by how much they were
+done (`work NAME given .. wanted ..`, the verdict of audit; yds_trace writes jobs so that never ended); or where a
+comment of yds_trace tells it: jobs that are there without their runs, of which the comment says by how much they were
 late, and jobs that were late by less than a unit of time.
 
 Each job is told once, in one line. A late job's line has its last slot and that slot's end: `late slot I JOB END
 deadline D, by X` says that the job was done at END, X after its deadline. `by at least X: given .. wanted ..` says that
-it wasn't done even then. Where a comment of yds-trace tells a job's end, the line ends with it: `15.004 ms after its
+it wasn't done even then. Where a comment of yds_trace tells a job's end, the line ends with it: `15.004 ms after its
 deadline`, or `not ended 13.000 ms after its deadline`, where the trace or its cut ends. END may be from such a comment,
 too: of a job whose last run was shorter than a tick.
 

@@ -29,7 +29,7 @@ COMMAND = Command(
     yds_cli round < jobs.txt > plan.txt && yds-page --title Plan plan.txt > plan.html
     yds-page --folder pages --points points.txt cpu0.txt cpu1.txt cpu2.txt
 
-Input: the texts of one document with jobs and slots or runs, as of yds-trace, or of yds_cli plan, round, avr or oa;
+Input: the texts of one document with jobs and slots or runs, as of yds_trace, or of yds_cli plan, round, avr or oa;
 points before them for the energies. Several texts are put together as by yds-join, which refuses other units.
 
 Output: a page with
