@@ -4,3 +4,4 @@ pub mod RowsRead
 pub mod Fits
 pub mod Comments
 pub mod Again
+mod Examples
