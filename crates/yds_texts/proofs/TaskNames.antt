@@ -18,7 +18,7 @@ no_middle : (front back : List ℕ) → All (λ byte. byte ≢ 46) (front ++ 46 
 no_middle front back none = none (length front) 0 (omega (arith, length-append front (46 ∷ back))) (get_or-append_seam front 46 back 0)
 
 -- what stands before and after the last dot
-parted : (a b c d : List ℕ) → All (λ byte. byte ≢ 46) b → All (λ byte. byte ≢ 46) d → a ++ 46 ∷ b ≡ c ++ 46 ∷ d → (a ≡ c) × (b ≡ d)
+pub parted : (a b c d : List ℕ) → All (λ byte. byte ≢ 46) b → All (λ byte. byte ≢ 46) d → a ++ 46 ∷ b ≡ c ++ 46 ∷ d → (a ≡ c) × (b ≡ d)
 parted [] b [] d without_b without_d same = (refl, cc)
 parted [] b (y ∷ c) d without_b without_d same =
     let rest : b ≡ c ++ 46 ∷ d = cc in absurd (no_middle c d (subst (All (λ byte. byte ≢ 46)) rest without_b))

@@ -9,6 +9,7 @@ ghost use Rattle.yds_trace_words.specs.Views.{words_of};
 ghost use Rattle.yds_trace_reading.specs.LineFault.{past_of};
 ghost use Rattle.yds_trace_document.specs.Kept.{IsPlain};
 ghost use Rattle.yds_trace.specs.Views.{asked_read};
+ghost use Rattle.yds_trace_again.specs.Again.{IsReadAgain};
 ghost use Rattle.yds_trace_run.specs.Answer.{ReadsInput};
 ghost use Rattle.yds_trace_run.specs.Endings.{Writes, IsEnded, IsDelivered, Tells, stopped_text, stopped_status};
 ghost use Rattle.yds_trace_run.specs.Worth.{NothingLate};
@@ -63,6 +64,11 @@ pub fn run<S: Source, K: Sink>(
     ensures nothing_late { result ≡ Status.Done → (asked : asking.Asked) (strict : Bool) → request_of (words_of words.now) ≡ Ok (ReadTrace asked strict)
         → IfSome (S.left source.old) (λ input.
         (text : List ℕ) × Appends (K.written sink.old) (K.written sink.new) text × NothingLate asked (past_of (trace_of input)) text) }
+
+    // It is read again by the definition of documents, within the limits, as just its jobs and its runs, in their order.
+    ensures read_again { result ≡ Status.Done → (asked : asking.Asked) (strict : Bool) → request_of (words_of words.now) ≡ Ok (ReadTrace asked strict)
+        → IfSome (S.left source.old) (λ input.
+        (text : List ℕ) × Appends (K.written sink.old) (K.written sink.new) text × IsReadAgain asked (past_of (trace_of input)) text) }
 {
     match read_words(alloc, words) {
         Ok(Request::Help) => deliver(HELP, Status::Done, sink),

@@ -1,6 +1,6 @@
 -- What holds of what is asked of a trace, from the words that ask for it.
 use Rattle.std.specs.Prelude.{IfSome}
-use Rattle.yds_model.proofs.Common.{◌≡◌, ℕ, ◌+◌, ◌*◌, ◌^◌, ◌≤◌, ◌⊎◌, inl, inr, List, [], ◌∷◌, length, All, All-cons, All-nil, Bool, true, false, nat_le, nat_lt, Option, Some, None, Result, Ok, Err, refl, ap, subst, ◌∙◌, arith, if◌then◌else◌, leb-true, ltb-false, codes, and_parts, ◌&&◌, digits_value}
+use Rattle.yds_model.proofs.Common.{◌≡◌, ◌≢◌, ℕ, ◌+◌, ◌*◌, ◌^◌, ◌≤◌, ◌⊎◌, inl, inr, List, [], ◌∷◌, length, All, All-cons, All-nil, Bool, true, false, nat_le, nat_lt, Option, Some, None, Result, Ok, Err, refl, ap, subst, AllPairs, AllPairs-cons, get_or, list_any_at, bytes_eq, bytes_eq-Decides, cases_Bool, ◌∙◌, arith, if◌then◌else◌, leb-true, ltb-false, codes, and_parts, ◌&&◌, digits_value}
 use Rattle.std.specs.List.{slice_split, list_any, before_first, after_first}
 use Rattle.std.specs.Result.{result_ok}
 use Rattle.std.proofs.lemmas.List.Splits.{length-slice_split}
@@ -19,7 +19,7 @@ use Rattle.yds_trace_words.specs.declared.letter.Sign.TheVariants as signs
 use Rattle.yds_trace_words.specs.Words.{WordFault, refuse, ◌>>=◌, Setting, settings_of, value_of, is_given, given_twice}
 use Rattle.yds_trace_words.specs.Decimal.{decimal_at, at_most, fraction_at, behind_point, is_point}
 use Rattle.yds_trace_words.specs.Letters.{letters_of, is_at, text_of}
-use Rattle.yds_trace_words.specs.Tasks.{known, is_label, refuse_task, label_at, Called, pid_at, numbered_at, named_at, called_at, milliseconds_at, deadline_at, Times, apart_at, alone_at, times_at, task_of_parts, task_at, tasks_behind, before_tasks, tasks_from, tasks_of, tasks_asked, different_from, unless}
+use Rattle.yds_trace_words.specs.Tasks.{known, is_label, refuse_task, label_at, Called, pid_at, numbered_at, named_at, called_at, milliseconds_at, deadline_at, Times, apart_at, alone_at, times_at, task_of_parts, task_at, tasks_behind, before_tasks, tasks_from, tasks_of, tasks_asked, is_same_label, is_same_thread, again_in, different_from, unless}
 use Rattle.yds_trace_words.specs.Request.{Request, ShowHelp, ShowVersion, ReadTrace, whole_or_refused, whole_or, start_of, time_or_refused, time_of, ordered, only, asked_by, read_trace, asked_once, request_by, request_of, IsFit, IsFitRequest}
 
 -- # Steps
@@ -238,8 +238,39 @@ unless_same : (fault : Option WordFault) (tasks given : List Task) → unless fa
 unless_same None tasks given is = cc
 unless_same (Some fault) tasks given is = absurd cc
 
+unless_none : (fault : Option WordFault) (tasks given : List Task) → unless fault tasks ≡ Ok given → fault ≡ None
+unless_none None tasks given is = refl
+unless_none (Some fault) tasks given is = absurd cc
+
+-- where no task stands there again each label is another
+same_bytes : (one other : List ℕ) → one ≡ other → bytes_eq one other ≡ true
+same_bytes one other same = grind (arith, bytes_eq, bytes_eq-Decides, cases_Bool)
+
+label_once : (task : Task) (others : List Task) → again_in task others ≡ None → All (λ other. task.label ≢ other.label) others
+label_once task others once k d within same =
+    by (list_any (is_same_label task) others) once
+    (list_any_at (is_same_label task) others k d within (same_bytes task.label (get_or others k d).label same))
+  where
+    by : (b : Bool) → (if b then Some reasons.LabelTwice else (if list_any (is_same_thread task) others then Some reasons.ThreadTwice else None)) ≡ None → b ≡ true → ⊥
+    by true none again = cc
+    by false none again = cc
+
+labels_differ : (place : ℕ) (tasks : List Task) → different_from place tasks ≡ None → AllPairs (λ task other. task.label ≢ other.label) tasks
+labels_differ place [] none = λ i j d order within. absurd (omega (arith, within))
+labels_differ place (task ∷ tasks) none = by (again_in task tasks) refl none (λ rest. labels_differ (place + 1) tasks rest)
+  where
+    by : (again : Option Reason) → again_in task tasks ≡ again
+        → (elim again as (λ _. Option WordFault) [
+          | Some reason ↦ Some (record { word = codes "--tasks"; task = Some place; reason = reason })
+          | None ↦ different_from (place + 1) tasks
+        ]) ≡ None
+        → (different_from (place + 1) tasks ≡ None → AllPairs (λ task other. task.label ≢ other.label) tasks) → AllPairs (λ task other. task.label ≢ other.label) (task ∷ tasks)
+    by (Some reason) was same rest = cc
+    by None was same rest = AllPairs-cons (λ task other. task.label ≢ other.label) task tasks (label_once task tasks was) (rest same)
+
 record AreAsked (unit : ℕ) (tasks : List Task) : Type 0 where
   pub all : All (IsFine unit) tasks
+  pub different : AllPairs (λ task other. task.label ≢ other.label) tasks
   pub some : 1 ≤ length tasks
   pub few : length tasks ≤ MAX_TASKS
 
@@ -254,7 +285,7 @@ pieces_asked unit pieces tasks some is = by (nat_lt MAX_TASKS (length pieces)) r
         let even = unless_same (different_from 1 found.value) found.value tasks found.is in
         let fine = tasks_fit unit 1 pieces found.value found.was in
         subst (AreAsked unit) even
-        (record { all = fine.all; some = omega (arith, fine.as_many, some); few = omega (arith, fine.as_many, ltb-false MAX_TASKS (length pieces) few) })
+        (record { all = fine.all; different = labels_differ 1 found.value (unless_none (different_from 1 found.value) found.value tasks found.is); some = omega (arith, fine.as_many, some); few = omega (arith, fine.as_many, ltb-false MAX_TASKS (length pieces) few) })
 
 are_asked : (unit : ℕ) (value : Option (List ℕ)) (tasks : List Task) → tasks_asked unit value ≡ Ok tasks → AreAsked unit tasks
 are_asked unit None tasks is = absurd cc
@@ -352,6 +383,7 @@ asked_fits given asked is =
       some = fine.some;
       few = fine.few;
       labels = weaker (IsFine asked.unit) (λ (task : Task). is_label task.label ≡ true) asked.tasks (λ task one. one.label) fine.all;
+      different = fine.different;
     }
 
 -- What holds of each request that words make.

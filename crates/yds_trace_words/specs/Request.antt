@@ -1,6 +1,6 @@
 -- What the words of the command line ask for.
-use Rattle.std.specs.Prelude.{◌≡◌, ℕ, ◌*◌, ◌≤◌, List, length, codes, Bool, true, false, nat_lt, if◌then◌else◌, Option, Some, None, IfSome, Result, Ok, Err}
-use Rattle.std.specs.List.{All}
+use Rattle.std.specs.Prelude.{◌≡◌, ◌≢◌, ℕ, ◌*◌, ◌≤◌, List, length, codes, Bool, true, false, nat_lt, if◌then◌else◌, Option, Some, None, IfSome, Result, Ok, Err}
+use Rattle.std.specs.List.{All, AllPairs}
 use Rattle.std.specs.Str.{bytes_eq}
 use Rattle.yds_model.specs.Spelling.{number_at}
 use Rattle.yds_kernel.specs.declared.limits.TheConstants.{MAX_NUMBER}
@@ -114,6 +114,7 @@ pub record IsFit (asked : Asked) : Type 0 where
   pub some : 1 ≤ length asked.tasks
   pub few : length asked.tasks ≤ MAX_TASKS
   pub labels : All (λ task. is_label task.label ≡ true) asked.tasks
+  pub different : AllPairs (λ task other. task.label ≢ other.label) asked.tasks
 
 abbrev pub IsFitRequest : Request → Type 0
 IsFitRequest ShowHelp = Unit {0}

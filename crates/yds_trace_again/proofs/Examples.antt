@@ -1,0 +1,103 @@
+-- A trace's text that is read again, and near misses.
+use Rattle.yds_model.proofs.Common.{◌≡◌, ℕ, true, false, List, [], ◌∷◌, ◌++◌, reverse, codes, Some, None, Ok, Err, refl, digits, flat_map, of_whole, Document, no_document, reading}
+use Rattle.yds_model.specs.declared.reason.Reason.TheVariants as reasons
+use Rattle.yds_kernel.specs.declared.state.State.TheVariants as states
+use Rattle.yds_kernel.specs.Event.{Thread, Happening, Switch, WakeUp, Said, Stamped}
+use Rattle.yds_trace.specs.Asked.{Asked, Named}
+use Rattle.yds_trace.specs.Document.{named, Written, Placed, document_of}
+use Rattle.yds_trace_text.specs.Text.{comment, unit_comment, job_text, ticks_text, run_text, text_of}
+use Rattle.yds_trace_again.specs.Again.{document_read}
+
+-- # A small trace
+
+abbrev thread : Thread
+thread = record { name = codes "t"; pid = 7 }
+
+abbrev idle : Thread
+idle = record { name = codes "swapper"; pid = 0 }
+
+abbrev at : ℕ → Happening → Said
+at time happening = Stamped (record { processor = 0; time = time; happening = happening })
+
+-- it is woken, comes, and sleeps
+abbrev lines : List Said
+lines = reverse (at 1000 (WakeUp thread) ∷ at 1020 (Switch idle states.GoesOn thread) ∷ at 1040 (Switch thread states.Sleeps idle) ∷ [])
+
+-- A unit of time is 10 nanoseconds, one of speed 1 kilohertz.
+abbrev asked : Asked
+asked = record {
+  tasks = record { label = codes "t"; thread = Named (codes "t"); deadline = 100; apart = 0 } ∷ [];
+  processor = 0;
+  unit = 10;
+  khz = 1;
+  start = Some 5;
+  from = None;
+  to = None;
+  begin_at_run = false;
+  cut_losses = false;
+}
+
+abbrev just_this : Document
+just_this = record no_document {
+  names = codes "t.0" ∷ [];
+  jobs = record { release = 0; deadline = 10; work = 10 } ∷ [];
+  slots = record { job = 0; from = of_whole 2; to = of_whole 4; work = of_whole 10 } ∷ [];
+}
+
+its_document : document_read (document_of asked lines) ≡ just_this
+unfolding digits
+its_document = refl
+
+-- The text of its document, comments and all, is read as that.
+it_is_read : reading (text_of asked lines) ≡ Ok just_this
+unfolding digits comment unit_comment
+it_is_read = refl
+
+-- # Near misses
+
+abbrev job : Written
+job = record { name = codes "t.0"; release = 0; deadline = 10; work = 10; runs = record { from = 2; to = 4; speed = 5 } ∷ [] }
+
+abbrev runs : List Placed
+runs = record { job = 0; run = record { from = 2; to = 4; speed = 5 } } ∷ []
+
+-- Without its line of ticks no run is read.
+without_ticks : reading (flat_map job_text (job ∷ []) ++ flat_map (run_text (codes "t.0" ∷ [])) runs) ≡ Err (record { line = 2; column = 1; reason = reasons.Misplaced })
+unfolding digits
+without_ticks = refl
+
+-- Two jobs of one name are refused: labels differ.
+one_name_twice : reading (flat_map job_text (job ∷ job ∷ []) ++ ticks_text) ≡ Err (record { line = 2; column = 5; reason = reasons.DuplicateName })
+unfolding digits
+one_name_twice = refl
+
+-- A line feed in a label would end a comment, and what comes after it would be read.
+line_feed : reading (comment (codes "left out: a\njob b 0 5 1" ∷ [])) ≡
+    Ok (record no_document { names = codes "b" ∷ []; jobs = record { release = 0; deadline = 5; work = 1 } ∷ [] })
+unfolding digits comment
+line_feed = refl
+
+-- A carriage return in one doesn't.
+carriage_return : reading (comment (codes "left out: a\rjob b 0 5 1\r" ∷ [])) ≡ Ok no_document
+unfolding comment
+carriage_return = refl
+
+-- # Names
+
+-- A label may have a dot and a number in it, and be another's with one more: the last dot parts it from the job's number.
+second_of_a : named (codes "a") false 1 ≡ codes "a.1"
+unfolding digits
+second_of_a = refl
+
+first_of_a_1 : named (codes "a.1") false 0 ≡ codes "a.1.0"
+unfolding digits
+first_of_a_1 = refl
+
+-- The first job that began before the trace has a word in the number's place.
+before_the_trace : named (codes "a") true 0 ≡ codes "a.before"
+before_the_trace = refl
+
+-- Near miss: numbers of more digits than are told have one name. None is so long within 64 bytes.
+too_long : named (codes "a") false 10000000000000000000000000000000000000000000000000000000000000000 ≡ named (codes "a") false 20000000000000000000000000000000000000000000000000000000000000000
+unfolding digits
+too_long = refl

@@ -1,0 +1,7 @@
+pub mod Plain
+pub mod Names
+pub mod RowsRead
+pub mod Fits
+pub mod Comments
+pub mod Again
+mod Examples
