@@ -79,6 +79,7 @@ advances_kept advances.Line old middle new before between now first second third
 }
 advances_kept advances.End old middle new before between now first second third kept number no_fault given = record {
   at_end = ends_kept (unread old before) (unread middle between) kept given.at_end;
+  none_left = given.none_left;
   no_fault = given.no_fault ∙ no_fault;
 }
 advances_kept advances.Failed old middle new before between now first second third kept number no_fault given =

@@ -29,9 +29,10 @@ pub record GivesLine (old new : Reading) (before now : Option (List ℕ)) (fault
   pub says : Gives new.number (said_by new) (unread old before) (unread new now)
   pub no_fault : faults_now ≡ faults_before
 
--- nothing was unread
-pub record IsOver (old : Reading) (before : Option (List ℕ)) (faults_before faults_now : ℕ) : Type 0 where
+-- nothing was unread, and the source has nothing left
+pub record IsOver (old : Reading) (before now : Option (List ℕ)) (faults_before faults_now : ℕ) : Type 0 where
   pub at_end : IsAtEnd (unread old before)
+  pub none_left : IsAtEnd now
   pub no_fault : faults_now ≡ faults_before
 
 -- as many bytes were taken as can be counted, but for one buffer
@@ -41,6 +42,6 @@ pub record IsTooLong (new : Reading) (faults_before faults_now : ℕ) : Type 0 w
 
 abbrev pub Advances : Advance → Reading → Reading → Option (List ℕ) → Option (List ℕ) → ℕ → ℕ → Type 0
 Advances advances.Line old new before now faults_before faults_now = GivesLine old new before now faults_before faults_now
-Advances advances.End old new before now faults_before faults_now = IsOver old before faults_before faults_now
+Advances advances.End old new before now faults_before faults_now = IsOver old before now faults_before faults_now
 Advances advances.Failed old new before now faults_before faults_now = Rose faults_before faults_now
 Advances advances.TooLong old new before now faults_before faults_now = IsTooLong new faults_before faults_now

@@ -5,9 +5,13 @@
 //! where one isn't text, with that of want of memory or with `NO_WORDS`. Nothing is written to standard error.
 #![tactic(auto)]
 
+ghost use Rattle.std.specs.Prelude.{◌≡◌, IfOk, drop};
+ghost use Rattle.std.specs.Result.{IfErr};
+ghost use Rattle.yds_model.specs.Status.{status_code};
+ghost use Rattle.yds_trace_cli.specs.Codes.{code_without_words};
+
 use std::io::{BufWriter, ErrorKind};
 use std::process::ExitCode;
-use std::rt::Env;
 use std::{env, io};
 use yds_model::Status;
 use yds_port::{StdSink, StdSource};
@@ -21,30 +25,37 @@ const NO_WORDS: u8 = 7;
 
 /// Takes the words from the environment, runs over standard input and standard output, and ends with the run's status.
 fn main(rt: HostRuntime) -> ExitCode {
-    ExitCode::from(exit_code(run_words(&rt)))
+    let ended = run_words(&rt).map_err(|error| error.kind());
+    ExitCode::from(exit_code(ended))
 }
 
 /// The program's exit status, after a run that ended so or after words that couldn't be taken.
-fn exit_code(ended: io::Result<Status>) -> u8 {
+fn exit_code(ended: Result<Status, ErrorKind>) -> u8
+    ensures run { IfOk ended (λ status. result ≡ status_code status) }
+    ensures no_words { IfErr ended (λ kind. result ≡ code_without_words kind) }
+{
     match ended {
         Ok(status) => status.code(),
-        Err(error) if error.kind() == ErrorKind::OutOfMemory => Status::Memory.code(),
+        Err(ErrorKind::OutOfMemory) => Status::Memory.code(),
         Err(_) => NO_WORDS,
     }
 }
 
 /// Runs over standard input, and over standard output with a buffer before it, which `run` flushes.
 fn run_words(rt: &HostRuntime) -> io::Result<Status> {
-    let words = command_words(rt)?;
+    let line: Vec<String> = env::args(rt)?.collect(rt.alloc())?;
     let output = BufWriter::with_capacity(rt.alloc(), OUTPUT_BUFFER, rt.stdout())?;
     let mut source = StdSource::new(rt.stdin());
     let mut sink = StdSink::new(output);
-    Ok(run(rt.alloc(), &words, &mut source, &mut sink))
+    Ok(run(rt.alloc(), words_of(&line), &mut source, &mut sink))
 }
 
-/// The words of the command line, without the program's name.
-fn command_words(rt: &(impl Env + AllocGlobal)) -> io::Result<Vec<String>> {
-    let mut words = env::args(rt)?;
-    let _program = words.next();
-    Ok(words.collect(rt.alloc())?)
+/// The words of a command line: all behind the program's name.
+fn words_of(line: &[String]) -> &[String]
+    ensures { result.now ≡ drop 1 line.now }
+{
+    match line.split_first() {
+        Some((_name, words)) => words,
+        None => line,
+    }
 }

@@ -56,7 +56,7 @@ pub record IsAhead (asked : Asked) (input : Option (List ℕ)) (pass : Pass) (re
   pub agrees : Agrees input past count (unread reading left)
   pub counts : Counts input left 0 reading.taken
 
-counts_on : (input before now : Option (List ℕ)) (old new : ℕ) → Counts input before 0 old → Counts before now old new → Counts input now 0 new
+pub counts_on : (input before now : Option (List ℕ)) (old new : ℕ) → Counts input before 0 old → Counts before now old new → Counts input now 0 new
 counts_on None before now old new first second = tt
 counts_on (Some bytes) None now old new first second = absurd first
 counts_on (Some bytes) (Some rest) None old new first second = absurd second

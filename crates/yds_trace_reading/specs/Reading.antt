@@ -1,5 +1,6 @@
 -- What a pass over the bytes of a trace ends with.
-use Rattle.std.specs.Prelude.{◌≡◌, ℕ, ◌+◌, ◌^◌, ◌≤◌, ◌⊎◌, List, length, Some, None}
+use Rattle.std.specs.Prelude.{◌≡◌, ℕ, ◌+◌, ◌^◌, ◌≤◌, ◌⊎◌, ⊤, List, [], length, Option, Some, None}
+use Rattle.yds_port.specs.Count.{Rose}
 use Rattle.yds_kernel.specs.Event.{Said}
 use Rattle.yds_kernel.specs.Text.{trace_of}
 use Rattle.yds_kernel_text.specs.declared.limits.TheConstants.{ROOM}
@@ -34,3 +35,13 @@ IsStopped asked input (stops.AtLine number cause) = line_fault asked (trace_of i
 IsStopped asked input stops.TooLong = IsTooLong input
 IsStopped asked input stops.ReadFault = Unit {0}
 IsStopped asked input stops.Memory = Unit {0}
+
+-- No more is left than there was, where the source tells it.
+abbrev pub IsRest : Option (List ℕ) → Option (List ℕ) → Type 0
+IsRest None now = ⊤
+IsRest (Some input) None = ⊥
+IsRest (Some input) (Some rest) = length rest ≤ length input
+
+-- Nothing is left of the input, or a read of it failed, or its bytes are as many as 64 bits count.
+abbrev pub IsReadOut : List ℕ → Option (List ℕ) → ℕ → ℕ → Type 0
+IsReadOut input left faults_before faults_now = (left ≡ Some []) ⊎ Rose faults_before faults_now ⊎ (2 ^ 64 ≤ length input + 1)

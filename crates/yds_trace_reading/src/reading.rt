@@ -1,19 +1,22 @@
 //! One pass over the lines of a trace.
-ghost use Rattle.std.specs.Prelude.{◌≡◌, ◌≤◌, List, [], true, Err, IfOk, IfErr, IfSome, OnOk};
+ghost use Rattle.std.specs.Prelude.{◌≡◌, ◌≤◌, List, [], Err, Some, IfOk, IfErr, IfSome, OnOk};
 ghost use Rattle.yds_kernel.specs.Event.{Said as SaidSpec};
 ghost use Rattle.yds_kernel_text.specs.Reading.{said_by};
 ghost use Rattle.yds_port.specs.Count.{Rose};
 ghost use Rattle.yds_trace.specs.Asked as asking;
 ghost use Rattle.yds_trace.specs.Kept.{IsAt};
 ghost use Rattle.yds_trace.specs.Views.{asked_read};
-ghost use Rattle.yds_trace_reading.specs.Reading.{IsEndOfSome, IsRead, IsStopped};
+ghost use Rattle.yds_trace_reading.specs.Reading.{IsEndOfSome, IsRead, IsStopped, IsRest, IsReadOut};
 ghost use Rattle.yds_trace_reading.specs.Taken.{IsTaken, IsNotTaken, IsKnown, IsNotKnown};
 
 use crate::stopped::Stopped;
 use std::alloc::Global;
 use yds_kernel_text::{Advance, TraceReader};
-use yds_port::Source;
+use yds_port::{Source, Taken};
 use yds_trace::{Asked, Ended, Pass, Refused};
+
+/// How many bytes one read of `drain` asks for.
+const DRAIN_PIECE: usize = 65_536;
 
 /// What is known at the trace's end, or why its reading ended before that. After a fault the source is still read to its end, so
 /// that whoever writes into it isn't stopped.
@@ -24,34 +27,36 @@ pub fn read_trace<S: Source>(alloc: Global, asked: Asked, source: &mut S) -> Res
     ensures known { IfOk result (IsEndOfSome (asked_read asked)) }
     ensures read { IfSome (S.left source.old) (λ input. IfOk result (IsRead (asked_read asked) input)) }
     ensures stopped { IfSome (S.left source.old) (λ input. IfErr result (IsStopped (asked_read asked) input)) }
+
+    // The source is read to its end, also behind a fault, or up to a fault of its own.
+    ensures none_left { IfSome (S.left source.old) (λ input. OnOk result (S.left source.new ≡ Some [])) }
+    ensures read_out { IfSome (S.left source.old) (λ input. IsReadOut input (S.left source.new) (S.faults source.old) (S.faults source.new)) }
 {
-    let mut reader = TraceReader::new(alloc)?;
-    let ended = pass_over(alloc, asked, &mut reader, source);
-    if ended.is_err() {
-        drain(&mut reader, source);
+    match pass_over(alloc, asked, source) {
+        Ok(ended) => Ok(ended),
+        Err(stopped) => {
+            drain(source);
+            Err(stopped)
+        }
     }
-    ended
 }
 
 /// Passes over the lines up to the end, or up to a fault.
-fn pass_over<S: Source>(
-    alloc: Global,
-    asked: Asked,
-    reader: &mut TraceReader,
-    source: &mut S,
-) -> Result<Ended, Stopped>
-    requires { reader.old ≡ record { left = []; text = []; ended = true; number = 0; taken = 0 } }
+fn pass_over<S: Source>(alloc: Global, asked: Asked, source: &mut S) -> Result<Ended, Stopped>
     ensures later { S.faults source.old ≤ S.faults source.new }
     ensures no_fault { OnOk result (S.faults source.new ≡ S.faults source.old) }
     ensures fault { result ≡ Err Stopped.ReadFault → Rose (S.faults source.old) (S.faults source.new) }
     ensures known { IfOk result (IsEndOfSome (asked_read asked)) }
     ensures read { IfSome (S.left source.old) (λ input. IfOk result (IsRead (asked_read asked) input)) }
     ensures stopped { IfSome (S.left source.old) (λ input. IfErr result (IsStopped (asked_read asked) input)) }
+    ensures none_left { IfSome (S.left source.old) (λ input. OnOk result (S.left source.new ≡ Some [])) }
+    ensures rest { IsRest (S.left source.old) (S.left source.new) }
 {
+    let mut reader = TraceReader::new(alloc)?;
     let mut pass = Pass::new(alloc, asked)?;
     for lines in 0..u64::MAX {
         match reader.advance(source) {
-            Advance::Line => take_line(alloc, reader, &mut pass)?,
+            Advance::Line => take_line(alloc, &reader, &mut pass)?,
             Advance::End => return end(alloc, lines, pass),
             Advance::Failed => return Err(Stopped::ReadFault),
             Advance::TooLong => return Err(Stopped::TooLong),
@@ -89,14 +94,17 @@ fn end(alloc: Global, number: u64, pass: Pass) -> Result<Ended, Stopped>
     }
 }
 
-/// Reads what is left.
-fn drain<S: Source>(reader: &mut TraceReader, source: &mut S)
-    ensures { S.faults source.old ≤ S.faults source.new }
+/// Reads what is left. It takes no memory.
+fn drain<S: Source>(source: &mut S)
+    ensures later { S.faults source.old ≤ S.faults source.new }
+    ensures read_out { IfSome (S.left source.old) (λ input. IsReadOut input (S.left source.new) (S.faults source.old) (S.faults source.new)) }
 {
-    for _ in 0..u64::MAX {
-        match reader.advance(source) {
-            Advance::Line => {}
-            Advance::End | Advance::Failed | Advance::TooLong => return,
+    let mut piece = [0; DRAIN_PIECE];
+    for _reads in 0..u64::MAX {
+        match source.read(&mut piece) {
+            Taken::Bytes(_) => {}
+            Taken::End => return,
+            Taken::Failed => return,
         }
     }
 }

@@ -1,5 +1,5 @@
 -- What a run writes, by its status.
-use Rattle.std.specs.Prelude.{◌≡◌, ◌≢◌, ℕ, ◌<◌, ◌≤◌, ◌⊎◌, List, Bool, Option, None, Some, Result}
+use Rattle.std.specs.Prelude.{◌≡◌, ◌≢◌, ℕ, ◌<◌, ◌≤◌, ◌⊎◌, List, [], Bool, Option, None, Some, Result}
 use Rattle.std.specs.Io.KnownBytes.{Appends}
 use Rattle.yds_model.specs.declared.status.Status.{Status}
 use Rattle.yds_model.specs.declared.status.Status.TheVariants as statuses
@@ -16,6 +16,7 @@ use Rattle.yds_trace_text.specs.Text.{text_of}
 use Rattle.yds_trace_reading.specs.declared.stopped.Stopped.{Stopped}
 use Rattle.yds_trace_reading.specs.declared.stopped.Stopped.TheVariants as stops
 use Rattle.yds_trace_reading.specs.LineFault.{InForm, AtLine}
+use Rattle.yds_trace_reading.specs.Reading.{IsReadOut}
 use Rattle.yds_trace_run.specs.Fault.{TraceFault, document_fault}
 use Rattle.yds_trace_run.specs.FaultText.{failed, line_text, fault_text, too_long_text, memory_text, read_fault_text}
 
@@ -60,6 +61,13 @@ pub record IsEnded {K : Type 0} (written : K → Option (List ℕ)) (flushed : K
   pub counted : ended ≡ statuses.WriteFault → Rose (faults old) (faults new)
   pub told : faults old < faults new → ended ≡ statuses.WriteFault
   pub flushed_once : ended ≢ statuses.WriteFault → flushes new ≡ next_count (flushes old)
+
+-- What a run over a trace that ended so leaves of this input: nothing, or where the trace was refused, what was left at a failed read or of
+-- as many bytes as 64 bits count.
+abbrev pub Leaves : Status → List ℕ → Option (List ℕ) → ℕ → ℕ → Type 0
+Leaves statuses.Done input left faults_before faults_now = left ≡ Some []
+Leaves statuses.Refused input left faults_before faults_now = IsReadOut input left faults_before faults_now
+Leaves _ input left faults_before faults_now = Unit {0}
 
 -- # Why a trace wasn't read
 

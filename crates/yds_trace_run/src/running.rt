@@ -11,7 +11,7 @@ ghost use Rattle.yds_trace_document.specs.Kept.{IsPlain};
 ghost use Rattle.yds_trace.specs.Views.{asked_read};
 ghost use Rattle.yds_trace_again.specs.Again.{IsReadAgain};
 ghost use Rattle.yds_trace_run.specs.Answer.{ReadsInput};
-ghost use Rattle.yds_trace_run.specs.Endings.{Writes, IsEnded, IsDelivered, Tells, stopped_text, stopped_status};
+ghost use Rattle.yds_trace_run.specs.Endings.{Writes, IsEnded, IsDelivered, Tells, Leaves, stopped_text, stopped_status};
 ghost use Rattle.yds_trace_run.specs.Worth.{NothingLate};
 
 use crate::delivery::deliver;
@@ -51,8 +51,11 @@ pub fn run<S: Source, K: Sink>(
     ensures sink_rose { K.faults sink.old < K.faults sink.new → result ≡ Status.WriteFault }
     ensures no_fault_passed_over { result ≡ Status.Done → S.faults source.new ≡ S.faults source.old }
 
-    // Words that ask for no trace leave the source unread.
+    // Words that ask for no trace leave the source unread. A trace that was told or refused was read to its end, also behind the line
+    // that was refused, so that whoever writes into the source isn't stopped.
     ensures unread { ¬ ReadsInput (request_of (words_of words.now)) → source.new ≡ source.old }
+    ensures read_to_its_end { ReadsInput (request_of (words_of words.now))
+        → IfSome (S.left source.old) (λ input. Leaves result input (S.left source.new) (S.faults source.old) (S.faults source.new)) }
     ensures flushed_once { result ≢ Status.WriteFault → K.flushes sink.new ≡ next_count (K.flushes sink.old) }
 
     // What was written is one of the texts for the words and all bytes of the source: the document with its status, or why there is none.
@@ -93,6 +96,7 @@ fn run_trace<S: Source, K: Sink>(
     ensures source_later { S.faults source.old ≤ S.faults source.new }
     ensures read_fault { result ≡ Status.ReadFault → Rose (S.faults source.old) (S.faults source.new) }
     ensures no_fault_passed_over { result ≡ Status.Done → S.faults source.new ≡ S.faults source.old }
+    ensures read_to_its_end { IfSome (S.left source.old) (λ input. Leaves result input (S.left source.new) (S.faults source.old) (S.faults source.new)) }
     ensures sink { IsEnded K.written K.flushed K.flushes K.faults result sink.old sink.new }
     ensures answer { IfSome (S.left source.old) (λ input.
         Writes (Ok (ReadTrace (asked_read asked) strict)) input result (K.written sink.old) (K.written sink.new) (K.flushed sink.new)) }

@@ -1,6 +1,7 @@
 use Rattle.yds_model.proofs.Common.{◌∙◌, arith, err_from_is_err_and}
 use Rattle.yds_trace.specs.Views.{asked_read}
-use Rattle.yds_trace_reading.proofs.Passing.{one_more, not_taken, known_whole, read_whole, stopped_whole, too_many_lines}
+use Rattle.yds_trace_reading.proofs.Passing.{counts_on, one_more, not_taken, known_whole, read_whole, stopped_whole, too_many_lines}
+use Rattle.yds_trace_reading.proofs.Draining.{rest_same, rest_of, nothing_left}
 use Rattle.yds_trace_reading.proofs.reading.pass_over.Goals as goal
 
 pub returns-in_err-take_line-in-Line-clause-stopped : goal.returns-in_err-take_line-in-Line-clause-stopped
@@ -34,3 +35,31 @@ pub returns-in-End-clause-known : goal.returns-in-End-clause-known
 returns-in-End-clause-known g c =
     known_whole (asked_read c.args.asked) _ _ c.loop-lines.reader _ _ _ c.loop-lines.invariant.ahead
     (c.end.ensures.known (asked_read c.args.asked) c.loop-lines.invariant.ahead.past c.loop-lines.invariant.ahead.stands)
+
+-- # What is left
+
+pub returns-in_err-reader-clause-rest : goal.returns-in_err-reader-clause-rest
+returns-in_err-reader-clause-rest g c = rest_same (g.S.Source.left c.args.source.now)
+
+pub returns-in_err-pass-clause-rest : goal.returns-in_err-pass-clause-rest
+returns-in_err-pass-clause-rest g c = rest_same (g.S.Source.left c.args.source.now)
+
+pub returns-in_err-take_line-in-Line-clause-rest : goal.returns-in_err-take_line-in-Line-clause-rest
+returns-in_err-take_line-in-Line-clause-rest g c = rest_of _ _ _ (counts_on (g.S.Source.left c.args.source.now) _ _ _ _ c.loop-lines.invariant.ahead.counts c.in-Line.ensures.counts)
+
+pub returns-in-End-clause-rest : goal.returns-in-End-clause-rest
+returns-in-End-clause-rest g c = rest_of _ _ _ (counts_on (g.S.Source.left c.args.source.now) _ _ _ _ c.loop-lines.invariant.ahead.counts c.in-End.ensures.counts)
+
+pub returns-in-End-clause-none_left : goal.returns-in-End-clause-none_left
+returns-in-End-clause-none_left g c =
+    nothing_left (g.S.Source.left c.args.source.now) _ _ _ (counts_on (g.S.Source.left c.args.source.now) _ _ _ _ c.loop-lines.invariant.ahead.counts c.in-End.ensures.counts)
+    c.in-End.ensures.advances.none_left
+
+pub returns-in-Failed-clause-rest : goal.returns-in-Failed-clause-rest
+returns-in-Failed-clause-rest g c = rest_of _ _ _ (counts_on (g.S.Source.left c.args.source.now) _ _ _ _ c.loop-lines.invariant.ahead.counts c.in-Failed.ensures.counts)
+
+pub returns-in-TooLong-clause-rest : goal.returns-in-TooLong-clause-rest
+returns-in-TooLong-clause-rest g c = rest_of _ _ _ (counts_on (g.S.Source.left c.args.source.now) _ _ _ _ c.loop-lines.invariant.ahead.counts c.in-TooLong.ensures.counts)
+
+pub returns-clause-rest : goal.returns-clause-rest
+returns-clause-rest g c = rest_of _ _ _ c.loop-lines.invariant.ahead.counts

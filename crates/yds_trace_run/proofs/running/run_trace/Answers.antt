@@ -1,6 +1,7 @@
 use Rattle.yds_trace.specs.Views.{asked_read}
 use Rattle.yds_trace_run.proofs.Told.{told_writes, stopped_writes, no_read_fault}
 use Rattle.yds_trace_run.proofs.Plain.{plain}
+use Rattle.yds_trace_run.proofs.Left.{leaves_nothing, leaves_as_stopped}
 use Rattle.yds_trace_run.proofs.running.run_trace.Goals as goal
 
 pub tell-requires : goal.tell-requires
@@ -20,3 +21,12 @@ pub returns-in-Err-clause-answer : goal.returns-in-Err-clause-answer
 returns-in-Err-clause-answer g c =
     stopped_writes g.K.Sink.written g.K.Sink.flushed g.K.Sink.flushes g.K.Sink.faults (asked_read c.args.asked) c.args.strict (g.S.Source.left c.args.source.now) c.in-Err.stopped
     c.tell_stopped.result c.args.sink.now c.tell_stopped.new.sink c.in-Err.ensures.stopped c.tell_stopped.ensures
+
+pub returns-in-Ok-clause-read_to_its_end : goal.returns-in-Ok-clause-read_to_its_end
+returns-in-Ok-clause-read_to_its_end g c =
+    leaves_nothing (g.S.Source.left c.args.source.now) (g.S.Source.left c.read_trace.new.source) c.tell.result _ _ c.in-Ok.ensures.none_left
+
+pub returns-in-Err-clause-read_to_its_end : goal.returns-in-Err-clause-read_to_its_end
+returns-in-Err-clause-read_to_its_end g c =
+    leaves_as_stopped (g.S.Source.left c.args.source.now) (g.S.Source.left c.read_trace.new.source) c.in-Err.stopped c.tell_stopped.result _ _ c.tell_stopped.ensures.said
+    c.in-Err.ensures.read_out
