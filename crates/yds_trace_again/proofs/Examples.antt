@@ -1,10 +1,13 @@
 -- A trace's text that is read again, and near misses.
-use Rattle.yds_model.proofs.Common.{◌≡◌, ℕ, true, false, List, [], ◌∷◌, ◌++◌, reverse, codes, Some, None, Ok, Err, refl, digits, flat_map, of_whole, Document, no_document, reading}
+use Rattle.yds_model.proofs.Common.{◌≡◌, ℕ, true, false, List, [], ◌∷◌, ◌++◌, reverse, codes, Some, None, Ok, Err, refl, digits, flat_map, of_whole, Document, no_document, reading, ap, arith, ◌≤◌}
 use Rattle.yds_model.specs.declared.reason.Reason.TheVariants as reasons
 use Rattle.yds_kernel.specs.declared.state.State.TheVariants as states
 use Rattle.yds_kernel.specs.Event.{Thread, Happening, Switch, WakeUp, Said, Stamped}
 use Rattle.yds_trace.specs.Asked.{Asked, Named}
+use Rattle.yds_trace.specs.declared.job.Stretch.{Stretch}
+use Rattle.yds_trace.specs.WrittenTime.{Units, Run}
 use Rattle.yds_trace.specs.Document.{named, Written, Placed, document_of}
+use Rattle.yds_trace_laws.specs.Faithful.{IsRounded, IsWithinRun}
 use Rattle.yds_trace_text.specs.Text.{comment, unit_comment, job_text, ticks_text, run_text, text_of}
 use Rattle.yds_trace_again.specs.Again.{document_read}
 
@@ -101,3 +104,31 @@ before_the_trace = refl
 too_long : named (codes "a") false 10000000000000000000000000000000000000000000000000000000000000000 ≡ named (codes "a") false 20000000000000000000000000000000000000000000000000000000000000000
 unfolding digits
 too_long = refl
+
+-- # Runs and stretches
+
+-- Time 0 is 1000, a unit of time 10.
+abbrev units : Units
+units = record { zero = 1000; time = 10; speed = 1 }
+
+abbrev stretch : ℕ → ℕ → ℕ → Stretch
+stretch from to khz = record { processor = 0; from = from; to = to; khz = Some khz }
+
+-- Two stretches that meet in a unit, at one speed, are one run.
+meet : IsRounded units (record { from = 0; to = 4; speed = 5 }) (stretch 1002 1022 5 ∷ stretch 1027 1041 5 ∷ [])
+meet = (refl, refl, refl)
+
+-- Near miss: a whole unit is between them.
+apart : IsRounded units (record { from = 0; to = 4; speed = 5 }) (stretch 1002 1019 5 ∷ stretch 1027 1041 5 ∷ []) → ⊥
+apart is = let from : 2 ≡ 1 = ap (λ (run : Run). run.from) is.2 in omega (arith, from)
+
+-- Near miss: the second is faster.
+faster : IsRounded units (record { from = 0; to = 4; speed = 5 }) (stretch 1002 1022 5 ∷ stretch 1027 1041 6 ∷ []) → ⊥
+faster is = let speed : 6 ≡ 5 = ap (λ (run : Run). run.speed) is.2 in omega (arith, speed)
+
+-- So each stretch is within the run; near miss: one that ends in a unit after it.
+second_within : IsWithinRun units (stretch 1027 1041 5) (record { from = 0; to = 4; speed = 5 })
+second_within = record { not_before = omega arith; not_after = omega arith; same_speed = refl }
+
+too_late : IsWithinRun units (stretch 1027 1051 5) (record { from = 0; to = 4; speed = 5 }) → ⊥
+too_late within = let end : 5 ≤ 4 = within.not_after in omega (arith, end)

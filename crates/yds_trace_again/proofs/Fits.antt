@@ -1,17 +1,17 @@
 -- A trace's document that passes no limit of the program is within those of documents.
-use Rattle.yds_model.proofs.Common.{◌≡◌, ◌≢◌, ℕ, zero, suc, ◌+◌, ◌<◌, ◌≤◌, ◌==◌, ◌&&◌, Bool, true, false, nat_lt, List, [], ◌∷◌, ◌++◌, length, map, get_or, Option, Some, None, is_some, refl, sym, ap, subst, ◌∙◌, arith, inl, codes, if◌then◌else◌, All, All-nil, AllByRecursion, AllPairs, recursion_from_All, All-from_recursion, All-map, list_any, list_all, position, position_or_len, option_map, filter_map, flat_map, enumerate_from, ArePoints, AreLevelsOf, IsLevel, fails_before_first, and_parts, or_parts, and_from, ltb-false, ltb-true, cond_both, nat_le, eqb-true, reverse, sum_by-cons, list_all-append, decimal, le-leb, length-map, length-append, IsJob, of_whole, written_slot_at, IsFraction, IsSlot, AreNamedJobs, AreDifferentNames, IsDocument, name_at, is_name, is_visible}
+use Rattle.yds_model.proofs.Common.{◌≡◌, ◌≢◌, ℕ, zero, suc, ◌+◌, ◌<◌, ◌≤◌, ◌&&◌, Bool, true, false, nat_lt, List, [], ◌∷◌, ◌++◌, length, map, get_or, Option, Some, None, is_some, refl, sym, ap, subst, ◌∙◌, arith, inl, codes, if◌then◌else◌, All, All-nil, AllByRecursion, AllPairs, recursion_from_All, All-from_recursion, All-map, list_any, list_all, position, position_or_len, option_map, filter_map, flat_map, enumerate_from, ArePoints, AreLevelsOf, IsLevel, fails_before_first, and_parts, or_parts, and_from, ltb-false, cond_both, nat_le, reverse, sum_by-cons, list_all-append, decimal, le-leb, length-map, length-append, IsJob, of_whole, written_slot_at, IsFraction, IsSlot, AreNamedJobs, AreDifferentNames, IsDocument, name_at, is_name, is_visible}
 use Rattle.std.specs.List.{cons_option}
 use Rattle.yds_texts.proofs.Within.{only_jobs}
 use Rattle.yds_model.specs.declared.limits.TheConstants.{MAX_JOBS, MAX_TIME, MAX_WORK, MAX_SLOTS, MAX_SLOT_WORK, MAX_NAME}
 use Rattle.yds_kernel.specs.Parts.{or_else}
 use Rattle.yds_kernel.specs.Event.{Said}
-use Rattle.yds_trace.specs.declared.job.Stretch.{Stretch}
 use Rattle.yds_trace.specs.Asked.{Task, no_task, Asked, IsAsked, task_at}
 use Rattle.yds_trace.specs.Jobs.{Job as TracedJob}
-use Rattle.yds_trace.specs.WrittenTime.{Units, Run, run_of, before, runs_of, work_of_run, work_of_runs}
+use Rattle.yds_trace.specs.WrittenTime.{Units, Run, before, work_of_run, work_of_runs}
 use Rattle.yds_trace.specs.Document.{named, Judged, judged, judged_of, judged_from, all_judged, began_before, jobs_of, stands, put_in, in_order, units_of, Written, with_runs, without_runs, written_of, written_jobs, Placed, placed_runs, all_runs, document_of}
 use Rattle.yds_trace_laws.specs.AsSlots.{job_read, jobs_read, slot_read, slots_read}
-use Rattle.yds_trace_laws.proofs.Ordered.{put_in-all, in_order-all, append-all, map-all}
+use Rattle.yds_trace_laws.proofs.Ordered.{put_in-all, in_order-all, append-all, map-all, filter_map-all}
+use Rattle.yds_trace_laws.proofs.Runs.{IsForward, runs_forward}
 use Rattle.yds_trace_laws.proofs.Times.{lateness_is_kept}
 use Rattle.yds_trace_laws.proofs.Judging.{zero_before}
 use Rattle.yds_trace_document.specs.declared.fault.DocumentFault.{DocumentFault}
@@ -223,16 +223,6 @@ written_name units one job is = by (stands one) (is_some one.late) is
     by false true is = let same : without_runs units one ≡ job = cc in ap (λ (job : Written). job.name) same
     by false false is = cc
 
--- what a list gives, element by element
-given_all : {A B : Type 0} (h : A → Option B) (P : A → Type 0) (Q : B → Type 0) → ((x : A) (y : B) → P x → h x ≡ Some y → Q y) → (xs : List A) →
-    AllByRecursion P xs → AllByRecursion Q (filter_map h xs)
-given_all {A} {B} h P Q each [] all = tt
-given_all {A} {B} h P Q each (x ∷ xs) all = by (filter_map h xs) (h x) refl (given_all h P Q each xs all.1)
-  where
-    by : (ys : List B) (o : Option B) → h x ≡ o → AllByRecursion Q ys → AllByRecursion Q (cons_option o ys)
-    by ys None is rest = rest
-    by ys (Some y) is rest = (each x y all.0 is, rest)
-
 written_apart : (units : Units) (ones : List Judged) → Apart judged_name ones → Apart name_of (filter_map (written_of units) ones)
 written_apart units [] apart = tt
 written_apart units (one ∷ ones) apart = by (written_of units one) refl (written_apart units ones apart.1)
@@ -241,7 +231,7 @@ written_apart units (one ∷ ones) apart = by (written_of units one) refl (writt
         Apart name_of (cons_option o (filter_map (written_of units) ones))
     by None is rest = rest
     by (Some job) is rest = (
-      given_all (written_of units) (λ y. Other one.name y.name) (λ y. Other job.name y.name)
+      filter_map-all (written_of units) (λ y. Other one.name y.name) (λ y. Other job.name y.name)
           (λ x y other given. subst (λ name. Other name y.name) (written_name units one job is) (subst (λ name. Other one.name name) (written_name units x y given) other)) ones apart.0,
       rest,
     )
@@ -265,24 +255,6 @@ different_names (job ∷ jobs) apart small (suc i) (suc j) i_within j_within sam
 
 -- # Runs
 
-run_forward : (units : Units) (stretches : List Stretch) → AllByRecursion (λ run. run.from < run.to) (runs_of units stretches)
-run_forward units [] = tt
-run_forward units (stretch ∷ stretches) =
-    forward_if (run_of units stretch) (runs_of units stretches) (nat_lt (run_of units stretch).from (run_of units stretch).to) refl (run_forward units stretches)
-  where
-    joined_forward : (run : Run) (runs : List Run) → run.from < run.to → AllByRecursion (λ run. run.from < run.to) runs → AllByRecursion (λ run. run.from < run.to) (before run runs)
-    joined_forward run [] first rest = (first, tt)
-    joined_forward run (next ∷ runs) first rest =
-        cond_both ((run.to == next.from) && (run.speed == next.speed)) (record { from = run.from; to = next.to; speed = run.speed } ∷ runs) (run ∷ next ∷ runs)
-        (AllByRecursion (λ run. run.from < run.to))
-        (λ meet. (omega (arith, first, rest.0, eqb-true run.to next.from (and_parts (run.to == next.from) (run.speed == next.speed) meet).0), rest.1))
-        (λ apart. (first, rest))
-
-    forward_if : (run : Run) (runs : List Run) (b : Bool) → nat_lt run.from run.to ≡ b → AllByRecursion (λ run. run.from < run.to) runs →
-        AllByRecursion (λ run. run.from < run.to) (if b then before run runs else runs)
-    forward_if run runs true is rest = joined_forward run runs (ltb-true run.from run.to is) rest
-    forward_if run runs false is rest = rest
-
 runs_end_soon : (runs : List Run) → list_any ends_late runs ≡ false → AllByRecursion (λ run. run.to ≤ MAX_TIME) runs
 runs_end_soon [] none = tt
 runs_end_soon (run ∷ runs) none =
@@ -295,7 +267,7 @@ runs_work most (run ∷ runs) within =
     let all : work_of_runs (run ∷ runs) ≡ work_of_run run + work_of_runs runs = sum_by-cons work_of_run run runs in
     (omega (arith, all, within), runs_work most runs (omega (arith, all, within)))
 
-runs_are : (runs : List Run) → AllByRecursion (λ run. run.from < run.to) runs → AllByRecursion (λ run. run.to ≤ MAX_TIME) runs → AllByRecursion (λ run. work_of_run run ≤ MAX_WORK) runs →
+runs_are : (runs : List Run) → AllByRecursion IsForward runs → AllByRecursion (λ run. run.to ≤ MAX_TIME) runs → AllByRecursion (λ run. work_of_run run ≤ MAX_WORK) runs →
     AllByRecursion IsRun runs
 runs_are [] forward ends works = tt
 runs_are (run ∷ runs) forward ends works =
@@ -311,7 +283,7 @@ record IsDueLater (units : Units) (one : Judged) : Type 0 where
 -- what is written of one
 record IsWritten (job : Written) : Type 0 where
   window : job.release < job.deadline
-  forward : AllByRecursion (λ run. run.from < run.to) job.runs
+  forward : AllByRecursion IsForward job.runs
   enough : work_of_runs job.runs ≤ job.work
 
 written_is : (units : Units) (one : Judged) (job : Written) → 1 ≤ units.time → IsDueLater units one → written_of units one ≡ Some job → IsWritten job
@@ -320,7 +292,7 @@ written_is units one job positive later is = by (stands one) (is_some one.late) 
     whole : stands one ≡ true → IsWritten (with_runs units one)
     whole stand = record {
       window = lateness_is_kept units one.job.begin one.due positive (later.zero_first stand) later.due_later;
-      forward = run_forward units (reverse one.job.stretches);
+      forward = runs_forward units (reverse one.job.stretches);
       enough = omega arith;
     }
 
@@ -340,7 +312,7 @@ due_later asked past fit k d within =
 
 all_written : (asked : Asked) (past : List Said) → IsAsked asked → AllByRecursion IsWritten (written_jobs asked past)
 all_written asked past fit =
-    given_all (written_of (units_of asked past)) (IsDueLater (units_of asked past)) IsWritten
+    filter_map-all (written_of (units_of asked past)) (IsDueLater (units_of asked past)) IsWritten
     (λ one job later is. written_is (units_of asked past) one job fit.has_unit later is) (all_judged asked past)
     (recursion_from_All (IsDueLater (units_of asked past)) (all_judged asked past) (due_later asked past fit))
 
@@ -434,7 +406,7 @@ fits asked strict past fit labelled none =
     written_apart (units_of asked past) (all_judged asked past)
     (apart_in_order judged_name (λ one. one.job.begin) (judged_from asked past 0 asked.tasks) (apart_from asked past 0 asked.tasks labelled.different (omega arith))) in
     let shown_names : AllByRecursion (λ job. IsShown job.name) jobs =
-    given_all (written_of (units_of asked past)) (IsOfTask asked 0 (length asked.tasks)) (λ job. IsShown job.name)
+    filter_map-all (written_of (units_of asked past)) (IsOfTask asked 0 (length asked.tasks)) (λ job. IsShown job.name)
     (λ one job of is. subst IsShown (written_name (units_of asked past) one job is) (shown asked one labelled of)) (all_judged asked past) ones in
     let placed : AllByRecursion (λ (placed : Placed). (placed.job < length jobs) × IsRun placed.run) (all_runs jobs) =
     in_order-all (λ (placed : Placed). (placed.job < length jobs) × IsRun placed.run) (λ placed. placed.run.from) (flat_map placed_runs (enumerate_from 0 jobs))

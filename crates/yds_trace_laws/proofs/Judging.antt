@@ -29,24 +29,24 @@ judged_is asked past number before numbered = record {
   asked_for = λ whole. first_reason (is_after_from asked.from numbered.1.begin) _ _ whole;
 }
 
-judged_of-all : (asked : Asked) (past : List Said) (number : ℕ) → AllByRecursion (IsJudged asked (last_asked asked past)) (judged_of asked past number)
-judged_of-all asked past number =
-    map-all (IsJudged asked (last_asked asked past)) (judged asked past number (began_before (jobs_of asked past number)))
-    (enumerate_from 0 (jobs_of asked past number)) (judged_is asked past number (began_before (jobs_of asked past number)))
+-- What holds of each job of each task as it is judged holds of all jobs.
+each_of : (P : Judged → Type 0) (asked : Asked) (past : List Said) → ((number : ℕ) (before : Bool) (numbered : ℕ × Job) → P (judged asked past number before numbered)) →
+    (number : ℕ) (tasks : List Task) → AllByRecursion P (judged_from asked past number tasks)
+each_of P asked past each number [] = tt
+each_of P asked past each number (task ∷ tasks) =
+    append-all P (judged_of asked past number) (judged_from asked past (number + 1) tasks)
+    (map-all P (judged asked past number (began_before (jobs_of asked past number))) (enumerate_from 0 (jobs_of asked past number))
+    (each number (began_before (jobs_of asked past number)))) (each_of P asked past each (number + 1) tasks)
 
-judged_from-all : (asked : Asked) (past : List Said) (number : ℕ) (tasks : List Task) →
-    AllByRecursion (IsJudged asked (last_asked asked past)) (judged_from asked past number tasks)
-judged_from-all asked past number [] = tt
-judged_from-all asked past number (task ∷ tasks) =
-    append-all (IsJudged asked (last_asked asked past)) (judged_of asked past number) (judged_from asked past (number + 1) tasks)
-    (judged_of-all asked past number) (judged_from-all asked past (number + 1) tasks)
+pub each_judged : (P : Judged → Type 0) (asked : Asked) (past : List Said) → ((number : ℕ) (before : Bool) (numbered : ℕ × Job) → P (judged asked past number before numbered)) →
+    AllByRecursion P (all_judged asked past)
+each_judged P asked past each =
+    in_order-all P (λ one. one.job.begin) (judged_from asked past 0 asked.tasks) (each_of P asked past each 0 asked.tasks)
 
--- each of all jobs
 pub all_are_judged : (asked : Asked) (past : List Said) → All (IsJudged asked (last_asked asked past)) (all_judged asked past)
 all_are_judged asked past =
     All-from_recursion (IsJudged asked (last_asked asked past)) (all_judged asked past)
-    (in_order-all (IsJudged asked (last_asked asked past)) (λ one. one.job.begin) (judged_from asked past 0 asked.tasks)
-    (judged_from-all asked past 0 asked.tasks))
+    (each_judged (IsJudged asked (last_asked asked past)) asked past (judged_is asked past))
 
 -- # Time 0
 

@@ -5,3 +5,5 @@ pub mod AsRead
 pub mod Judging
 pub mod Seen
 pub mod Begins
+pub mod Runs
+pub mod Faithful

@@ -1,6 +1,6 @@
 -- Lists put in order have the same elements and the same sums.
-use Rattle.yds_model.proofs.Common.{◌≡◌, ℕ, ◌+◌, List, [], ◌∷◌, ◌++◌, map, Bool, true, false, nat_le, if◌then◌else◌, arith, sum_by, sum_by-cons}
-use Rattle.std.specs.List.{AllByRecursion}
+use Rattle.yds_model.proofs.Common.{◌≡◌, ℕ, ◌+◌, List, [], ◌∷◌, ◌++◌, map, Bool, true, false, nat_le, if◌then◌else◌, Option, Some, None, refl, arith, sum_by, sum_by-cons}
+use Rattle.std.specs.List.{AllByRecursion, filter_map, cons_option}
 use Rattle.yds_trace.specs.Document.{put_in, in_order}
 
 -- in either case
@@ -67,3 +67,13 @@ append-all P (x ∷ xs) ys first second = (first.0, append-all P xs ys first.1 s
 pub map-all : {A B : Type 0} (P : B → Type 0) (f : A → B) (xs : List A) → ((x : A) → P (f x)) → AllByRecursion P (map f xs)
 map-all P f [] each = tt
 map-all P f (x ∷ xs) each = (each x, map-all P f xs each)
+
+-- of what a list gives, element by element
+pub filter_map-all : {A B : Type 0} (h : A → Option B) (P : A → Type 0) (Q : B → Type 0) → ((x : A) (y : B) → P x → h x ≡ Some y → Q y) → (xs : List A) →
+    AllByRecursion P xs → AllByRecursion Q (filter_map h xs)
+filter_map-all {A} {B} h P Q each [] all = tt
+filter_map-all {A} {B} h P Q each (x ∷ xs) all = by (filter_map h xs) (h x) refl (filter_map-all h P Q each xs all.1)
+  where
+    by : (ys : List B) (o : Option B) → h x ≡ o → AllByRecursion Q ys → AllByRecursion Q (cons_option o ys)
+    by ys None is rest = rest
+    by ys (Some y) is rest = (each x y all.0 is, rest)

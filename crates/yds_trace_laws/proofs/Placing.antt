@@ -3,13 +3,8 @@ use Rattle.yds_model.proofs.Common.{◌≡◌, ℕ, zero, suc, ◌+◌, ◌<◌,
 use Rattle.std.specs.List.{AllByRecursion, enumerate_from, filter_map, cons_option, slice_index_or}
 use Rattle.yds_trace.specs.WrittenTime.{Run, work_of_run, work_of_runs}
 use Rattle.yds_trace.specs.Document.{Written, Placed, placed_runs}
+pub use Rattle.yds_trace_laws.specs.Faithful.{IsAt}
 use Rattle.yds_trace_laws.proofs.Ordered.{append-all_left, append-all_right}
-
--- the element stands at this place
-abbrev pub IsAt : {A : Type 0} → List A → ℕ → A → Type 0
-IsAt [] n x = ⊥
-IsAt (y ∷ ys) zero x = y ≡ x
-IsAt (y ∷ ys) (suc n) x = IsAt ys n x
 
 -- # What a list gives of another
 

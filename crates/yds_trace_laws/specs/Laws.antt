@@ -11,6 +11,7 @@ use Rattle.yds_trace.specs.Asked.{Asked, IsAsked}
 use Rattle.yds_trace.specs.WrittenTime.{Units, written_time, runs_of, work_of_run, work_of_runs}
 use Rattle.yds_trace.specs.Document.{Written, Placed, all_runs, all_judged, jobs_of, document_of}
 use Rattle.yds_trace_laws.specs.AsSlots.{jobs_read, slots_read}
+use Rattle.yds_trace_laws.specs.Faithful.{IsFaithful}
 
 -- # Written times
 
@@ -58,3 +59,9 @@ abbrev pub FeasibleMeansInTime : Type 0
 FeasibleMeansInTime = (asked : Asked) (past : List Said) → IsAsked asked →
     IsFeasible (jobs_read (document_of asked past).jobs) (slots_read (document_of asked past).runs) →
     All (λ judged. (by : ℕ) → judged.late ≡ Some by → by < asked.unit) (all_judged asked past)
+
+-- # Runs and stretches
+
+-- Each job and each run of a trace's document is one that the trace shows, and each run that it shows of a job that stands as it is is there.
+abbrev pub DocumentsAreFaithful : Type 0
+DocumentsAreFaithful = (asked : Asked) (past : List Said) → IsAsked asked → IsFaithful asked past

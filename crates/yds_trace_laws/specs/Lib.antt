@@ -1,2 +1,3 @@
 pub mod AsSlots
+pub mod Faithful
 pub mod Laws

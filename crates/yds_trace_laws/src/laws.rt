@@ -1,4 +1,4 @@
-ghost use Rattle.yds_trace_laws.specs.Laws.{BeginsAreInTime, EndsAreKept, FeasibleMeansInTime, FrontsAreInfeasible, LatenessIsKept, OrderIsKept, WorkNeedsASlot};
+ghost use Rattle.yds_trace_laws.specs.Laws.{BeginsAreInTime, DocumentsAreFaithful, EndsAreKept, FeasibleMeansInTime, FrontsAreInfeasible, LatenessIsKept, OrderIsKept, WorkNeedsASlot};
 
 /// A written time keeps order.
 pub fn order_is_kept()
@@ -33,4 +33,9 @@ pub fn work_needs_a_slot()
 /// A front of a document that misses a run isn't feasible.
 pub fn fronts_are_infeasible()
     ensures { FrontsAreInfeasible }
+{}
+
+/// No job and no run of a trace's document is invented, and no run is missing.
+pub fn documents_are_faithful()
+    ensures { DocumentsAreFaithful }
 {}

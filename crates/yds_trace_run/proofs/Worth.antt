@@ -1,4 +1,4 @@
--- A document that was written names each late job, and is read again.
+-- A document that was written names each late job, is read again, and is faithful to the trace.
 use Rattle.yds_model.proofs.Common.{◌≡◌, ℕ, zero, suc, ◌<◌, inl, inr, List, [], ◌∷◌, ◌++◌, length, get_or, flat_map, All, Bool, Option, Some, None, Ok, refl, sym, ap, subst, ◌∙◌, arith, append_assoc, append-nil, ◌≢◌, ◌≤◌, true, false, nat_lt, if◌then◌else◌, ltb-false, and_parts, AllPairs, is_name}
 use Rattle.std.specs.Prelude.{IfSome}
 use Rattle.std.specs.Io.KnownBytes.{Appends}
@@ -10,6 +10,8 @@ use Rattle.yds_kernel.specs.Event.{Said}
 use Rattle.yds_kernel.specs.Text.{trace_of}
 use Rattle.yds_trace.specs.Asked.{Task, Asked, IsAsked}
 use Rattle.yds_trace.specs.Document.{Judged, all_judged, units_of}
+use Rattle.yds_trace_laws.specs.Faithful.{IsFaithful}
+use Rattle.yds_trace_laws.proofs.Faithful.{documents_are_faithful}
 use Rattle.yds_trace_laws.proofs.Seen.{feasible_means_in_time}
 use Rattle.yds_trace_document.specs.declared.fault.DocumentFault.{DocumentFault}
 use Rattle.yds_trace_document.specs.Settled.{settled_of}
@@ -123,3 +125,9 @@ pub read_again : (asked : Asked) (strict : Bool) (input old new : Option (List �
 read_again asked strict input old new flushed ended fit done writes =
     done_holds (λ bytes text. IsReadAgain asked (past_of (trace_of bytes)) text) asked strict
     (λ bytes text document. document_again asked strict (past_of (trace_of bytes)) text fit document.fits document.says) input old new flushed ended done writes
+
+-- # It is faithful
+
+pub faithful : (asked : Asked) (input : Option (List ℕ)) → IsFit asked → IfSome input (λ bytes. IsFaithful asked (past_of (trace_of bytes)))
+faithful asked None fit = tt
+faithful asked (Some bytes) fit = documents_are_faithful asked (past_of (trace_of bytes)) fit.plain

@@ -10,6 +10,7 @@ ghost use Rattle.yds_trace_reading.specs.LineFault.{past_of};
 ghost use Rattle.yds_trace_document.specs.Kept.{IsPlain};
 ghost use Rattle.yds_trace.specs.Views.{asked_read};
 ghost use Rattle.yds_trace_again.specs.Again.{IsReadAgain};
+ghost use Rattle.yds_trace_laws.specs.Faithful.{IsFaithful};
 ghost use Rattle.yds_trace_run.specs.Answer.{ReadsInput};
 ghost use Rattle.yds_trace_run.specs.Endings.{Writes, IsEnded, IsDelivered, Tells, Leaves, stopped_text, stopped_status};
 ghost use Rattle.yds_trace_run.specs.Worth.{NothingLate};
@@ -72,6 +73,10 @@ pub fn run<S: Source, K: Sink>(
     ensures read_again { result ≡ Status.Done → (asked : asking.Asked) (strict : Bool) → request_of (words_of words.now) ≡ Ok (ReadTrace asked strict)
         → IfSome (S.left source.old) (λ input.
         (text : List ℕ) × Appends (K.written sink.old) (K.written sink.new) text × IsReadAgain asked (past_of (trace_of input)) text) }
+
+    // No job and no run of it is invented: each run is stretches of time that the trace shows of its job. And none is missing.
+    ensures faithful { result ≡ Status.Done → (asked : asking.Asked) (strict : Bool) → request_of (words_of words.now) ≡ Ok (ReadTrace asked strict)
+        → IfSome (S.left source.old) (λ input. IsFaithful asked (past_of (trace_of input))) }
 {
     match read_words(alloc, words) {
         Ok(Request::Help) => deliver(HELP, Status::Done, sink),

@@ -1,0 +1,236 @@
+-- Each job and each run of a trace's document is one that the trace shows, and no run of a job that stands as it is is missing.
+use Rattle.yds_model.proofs.Common.{◌≡◌, ◌∙◌, ℕ, zero, suc, ◌+◌, ◌<◌, ◌≤◌, ◌⊎◌, inl, inr, ◌==◌, ◌&&◌, List, [], ◌∷◌, ◌++◌, map, length, flat_map, reverse, Bool, true, false, not, nat_lt, if◌then◌else◌, Option, Some, None, is_some, is_none, refl, sym, ap, subst, arith, get_or, All, All-from_recursion, recursion_from_All, All-contains_itself, Contains, list_any, or_parts, and_parts, eqb-true, lt-ltb, cases_lt}
+use Rattle.std.specs.List.{AllByRecursion, filter_map, cons_option, enumerate_from}
+use Rattle.yds_kernel.specs.Event.{Said}
+use Rattle.yds_trace.specs.declared.job.Stretch.{Stretch}
+use Rattle.yds_trace.specs.declared.reason.Reason.{Reason}
+use Rattle.yds_trace.specs.declared.reason.Reason.TheVariants as reasons
+use Rattle.yds_trace.specs.Asked.{Task, Asked, IsAsked, task_at, is_after_from}
+use Rattle.yds_trace.specs.Late.{last_asked, is_open, lateness}
+use Rattle.yds_trace.specs.Jobs.{Job}
+use Rattle.yds_trace.specs.WrittenTime.{Units, Run, written_time, run_of, runs_of}
+use Rattle.yds_trace.specs.Document.{is_lost, reaches_to, is_elsewhere, is_of_unknown_speed, reason_of, Judged, judged, all_judged, stands, units_of, Written, with_runs, without_runs, written_runs, written_of, written_jobs, Placed, placed_runs, all_runs, document_of}
+use Rattle.yds_trace_laws.specs.Faithful.{IsAt, IsRounded, IsShown, IsStanding, IsTraced, IsTracedJob, IsWithinRun, HasRun, HasItsRuns, IsFaithful}
+use Rattle.yds_trace_laws.specs.Laws.{DocumentsAreFaithful}
+use Rattle.yds_trace_laws.proofs.Ordered.{in_order-all, in_order-all_back, append-all, append-all_left, append-all_right, filter_map-all}
+use Rattle.yds_trace_laws.proofs.Placing.{found, place}
+use Rattle.yds_trace_laws.proofs.Times.{order_is_kept}
+use Rattle.yds_trace_laws.proofs.Judging.{each_judged}
+use Rattle.yds_trace_laws.proofs.Runs.{all_weaker, reverse-all, reverse-all_back, IsForward, IsRunOf, WhereForward, runs_are_stretches, IsInSome, stretches_have_runs}
+
+-- # A job that stands as it is
+
+-- its stretches are on the processor, and their speeds are known
+record IsWhole (asked : Asked) (one : Judged) : Type 0 where
+  none_elsewhere : stands one ≡ true → list_any (is_elsewhere asked.processor) one.job.stretches ≡ false
+  none_unknown : stands one ≡ true → list_any is_of_unknown_speed one.job.stretches ≡ false
+
+none_left : (first second third fourth fifth moved unknown : Bool) (one two three four five six seven : Reason)
+    → is_none (if first then Some one else (if second then Some two else (if third then Some three else (if fourth then Some four
+    else (if fifth then Some five else (if moved then Some six else (if unknown then Some seven else None))))))) ≡ true → (moved ≡ false) × (unknown ≡ false)
+none_left true second third fourth fifth moved unknown one two three four five six seven none = cc
+none_left false true third fourth fifth moved unknown one two three four five six seven none = cc
+none_left false false true fourth fifth moved unknown one two three four five six seven none = cc
+none_left false false false true fifth moved unknown one two three four five six seven none = cc
+none_left false false false false true moved unknown one two three four five six seven none = cc
+none_left false false false false false true unknown one two three four five six seven none = cc
+none_left false false false false false false true one two three four five six seven none = cc
+none_left false false false false false false false one two three four five six seven none = (refl, refl)
+
+whole_job : (asked : Asked) (past : List Said) (task : Task) (job : Job) → is_none (reason_of asked past task job) ≡ true →
+    (list_any (is_elsewhere asked.processor) job.stretches ≡ false) × (list_any is_of_unknown_speed job.stretches ≡ false)
+whole_job asked past task job whole =
+    none_left (not (is_after_from asked.from job.begin)) (is_lost (last_asked asked past) job.end) job.switch_missing
+    (is_open job.end && is_none (lateness asked task (last_asked asked past) job)) (not job.begin_known)
+    (list_any (is_elsewhere asked.processor) job.stretches) (list_any is_of_unknown_speed job.stretches)
+    reasons.BeforeFrom reasons.EventsLost reasons.SwitchMissing (if reaches_to asked past then reasons.AfterTo else reasons.NotEnded) reasons.BeginUnseen reasons.Moved
+    reasons.SpeedUnknown whole
+
+whole_is : (asked : Asked) (past : List Said) (number : ℕ) (before : Bool) (numbered : ℕ × Job) → IsWhole asked (judged asked past number before numbered)
+whole_is asked past number before numbered = record {
+  none_elsewhere = λ whole. (whole_job asked past (task_at asked number) numbered.1 whole).0;
+  none_unknown = λ whole. (whole_job asked past (task_at asked number) numbered.1 whole).1;
+}
+
+same_processor : (b : Bool) → not b ≡ false → b ≡ true
+same_processor true same = refl
+same_processor false same = cc
+
+known_speed : (stretch : Stretch) → is_of_unknown_speed stretch ≡ false → stretch.from < stretch.to → (khz : ℕ) × (stretch.khz ≡ Some khz)
+known_speed stretch none takes = by stretch.khz (second (nat_lt stretch.from stretch.to) (is_none stretch.khz) none (lt-ltb stretch.from stretch.to takes))
+  where
+    second : (a b : Bool) → (a && b) ≡ false → a ≡ true → b ≡ false
+    second true b none so = none
+    second false b none so = cc
+
+    by : (khz : Option ℕ) → is_none khz ≡ false → (n : ℕ) × (khz ≡ Some n)
+    by None none = cc
+    by (Some n) none = (n, refl)
+
+-- a stretch that ends in a later unit of time takes time
+takes_time : (units : Units) (stretch : Stretch) → 1 ≤ units.time → IsForward (run_of units stretch) → stretch.from < stretch.to
+takes_time units stretch positive forward = elim (cases_lt stretch.from stretch.to) [
+  | inl takes ↦ takes
+  | inr none ↦ absurd (omega (arith, forward, order_is_kept units stretch.to stretch.from positive none))
+]
+
+shown_each : (asked : Asked) (units : Units) (one : Judged) (stretches : List Stretch) → 1 ≤ units.time → AllByRecursion (Contains one.job.stretches) stretches →
+    list_any (is_elsewhere asked.processor) stretches ≡ false → list_any is_of_unknown_speed stretches ≡ false → AllByRecursion (WhereForward units (IsShown asked one)) stretches
+shown_each asked units one [] positive own there known = tt
+shown_each asked units one (stretch ∷ stretches) positive own there known =
+    let here = or_parts (is_elsewhere asked.processor stretch) (list_any (is_elsewhere asked.processor) stretches) there in
+    let speed = or_parts (is_of_unknown_speed stretch) (list_any is_of_unknown_speed stretches) known in (
+      λ forward.
+          let khz = known_speed stretch speed.0 (takes_time units stretch positive forward) in
+          record {
+            own = own.0;
+            there = eqb-true stretch.processor asked.processor (same_processor (stretch.processor == asked.processor) here.0);
+            khz = khz.0;
+            khz_is = khz.1;
+          },
+      shown_each asked units one stretches positive own.1 here.1 speed.1,
+    )
+
+shown : (asked : Asked) (units : Units) (one : Judged) → 1 ≤ units.time → IsWhole asked one → stands one ≡ true → AllByRecursion (WhereForward units (IsShown asked one)) (reverse one.job.stretches)
+shown asked units one positive whole stand =
+    reverse-all (WhereForward units (IsShown asked one)) one.job.stretches
+    (shown_each asked units one one.job.stretches positive
+    (recursion_from_All (Contains one.job.stretches) one.job.stretches (All-contains_itself one.job.stretches)) (whole.none_elsewhere stand) (whole.none_unknown stand))
+
+-- # Each job
+
+traced_job : (asked : Asked) (past : List Said) (one : Judged) (job : Written) → Contains (all_judged asked past) one → written_of (units_of asked past) one ≡ Some job →
+    IsTracedJob asked past job
+traced_job asked past one job has is = chosen (stands one) refl one.late refl is
+  where
+    chosen : (b : Bool) → stands one ≡ b → (late : Option ℕ) → one.late ≡ late
+        → (if b then Some (with_runs (units_of asked past) one) else (if is_some late then Some (without_runs (units_of asked past) one) else None)) ≡ Some job → IsTracedJob asked past job
+    chosen true stand late late_is given =
+        let same : with_runs (units_of asked past) one ≡ job = cc in record { one = one; is_judged = has; written = inl (stand, sym same) }
+    chosen false stand (Some n) late_is given =
+        let same : without_runs (units_of asked past) one ≡ job = cc in record { one = one; is_judged = has; written = inr (stand, (n, late_is), sym same) }
+    chosen false stand None late_is given = cc
+
+traced_jobs : (asked : Asked) (past : List Said) → AllByRecursion (IsTracedJob asked past) (written_jobs asked past)
+traced_jobs asked past =
+    filter_map-all (written_of (units_of asked past)) (Contains (all_judged asked past)) (IsTracedJob asked past) (traced_job asked past) (all_judged asked past)
+    (recursion_from_All (Contains (all_judged asked past)) (all_judged asked past) (All-contains_itself (all_judged asked past)))
+
+-- # Each run
+
+-- what holds of each run of each job holds of each run as it is placed
+placed_from : (P : Placed → Type 0) (start : ℕ) (jobs : List Written) →
+    ((n : ℕ) (job : Written) → IsAt jobs n job → AllByRecursion (λ run. P (place (start + n) run)) job.runs) → AllByRecursion P (flat_map placed_runs (enumerate_from start jobs))
+placed_from P start [] each = tt
+placed_from P start (job ∷ jobs) each =
+    append-all P (placed_runs (start, job)) (flat_map placed_runs (enumerate_from (start + 1) jobs))
+    (own job.runs (each 0 job refl))
+    (placed_from P (start + 1) jobs (λ n other at.
+    all_weaker (λ run. P (place (start + suc n) run)) (λ run. P (place (start + 1 + n) run))
+    (λ run holds. let number : start + suc n ≡ start + 1 + n = omega arith in subst (λ (m : ℕ). P (place m run)) number holds) other.runs (each (suc n) other at)))
+  where
+    own : (runs : List Run) → AllByRecursion (λ run. P (place (start + 0) run)) runs → AllByRecursion P (map (λ run. record { job = start; run = run }) runs)
+    own [] all = tt
+    own (run ∷ runs) all = (let number : start + 0 ≡ start = omega arith in subst (λ (m : ℕ). P (place m run)) number all.0, own runs all.1)
+
+-- and back, of those of one job
+placed_back : (P : Placed → Type 0) (start n : ℕ) (jobs : List Written) (job : Written) → IsAt jobs n job → AllByRecursion P (flat_map placed_runs (enumerate_from start jobs)) →
+    AllByRecursion (λ run. P (place (start + n) run)) job.runs
+placed_back P start n [] job at all = absurd at
+placed_back P start zero (first ∷ jobs) job at all =
+    subst (λ (written : Written). AllByRecursion (λ run. P (place (start + 0) run)) written.runs) at
+    (own first.runs (append-all_left P (placed_runs (start, first)) (flat_map placed_runs (enumerate_from (start + 1) jobs)) all))
+  where
+    own : (runs : List Run) → AllByRecursion P (map (λ run. record { job = start; run = run }) runs) → AllByRecursion (λ run. P (place (start + 0) run)) runs
+    own [] all = tt
+    own (run ∷ runs) all = (let number : start ≡ start + 0 = omega arith in subst (λ (m : ℕ). P (place m run)) number all.0, own runs all.1)
+placed_back P start (suc n) (first ∷ jobs) job at all =
+    all_weaker (λ run. P (place (start + 1 + n) run)) (λ run. P (place (start + suc n) run))
+    (λ run holds. let number : start + 1 + n ≡ start + suc n = omega arith in subst (λ (m : ℕ). P (place m run)) number holds) job.runs
+    (placed_back P (start + 1) n jobs job at (append-all_right P (placed_runs (start, first)) (flat_map placed_runs (enumerate_from (start + 1) jobs)) all))
+
+at_all : {A : Type 0} (P : A → Type 0) (xs : List A) (n : ℕ) (x : A) → IsAt xs n x → AllByRecursion P xs → P x
+at_all P [] n x at all = absurd at
+at_all P (y ∷ ys) zero x at all = subst P at all.0
+at_all P (y ∷ ys) (suc n) x at all = at_all P ys n x at all.1
+
+contained : {A : Type 0} (P : A → Type 0) (xs : List A) (x : A) → Contains xs x → All P xs → P x
+contained P xs x has all = subst P has.2 (all has.0 x has.1)
+
+all_whole : (asked : Asked) (past : List Said) → All (IsWhole asked) (all_judged asked past)
+all_whole asked past = All-from_recursion (IsWhole asked) (all_judged asked past) (each_judged (IsWhole asked) asked past (whole_is asked past))
+
+runs_of_job : (asked : Asked) (past : List Said) → IsAsked asked → (n : ℕ) (job : Written) → IsAt (written_jobs asked past) n job → AllByRecursion (λ run. IsTraced asked past (place n run)) job.runs
+runs_of_job asked past fit n job at = by (at_all (IsTracedJob asked past) (written_jobs asked past) n job at (traced_jobs asked past))
+  where
+    standing : (one : Judged) → Contains (all_judged asked past) one → stands one ≡ true → IsAt (written_jobs asked past) n (with_runs (units_of asked past) one) →
+        AllByRecursion (λ run. IsTraced asked past (place n run)) (written_runs (units_of asked past) one.job)
+    standing one has stand there =
+        all_weaker (IsRunOf (units_of asked past) (IsShown asked one)) (λ run. IsTraced asked past (place n run))
+        (λ run is. record {
+          one = one;
+          standing = record { is_judged = has; stands_so = stand; is_there = there };
+          stretches = is.stretches;
+          shown = All-from_recursion (IsShown asked one) is.stretches is.each;
+          rounded = is.rounded;
+        }) (written_runs (units_of asked past) one.job)
+        (runs_are_stretches (units_of asked past) (IsShown asked one) (reverse one.job.stretches)
+        (shown asked (units_of asked past) one fit.has_unit (contained (IsWhole asked) (all_judged asked past) one has (all_whole asked past)) stand))
+
+    by : IsTracedJob asked past job → AllByRecursion (λ run. IsTraced asked past (place n run)) job.runs
+    by traced = elim traced.written [
+      | inl whole ↦
+          subst (λ (written : Written). AllByRecursion (λ run. IsTraced asked past (place n run)) written.runs) (sym whole.1)
+          (standing traced.one traced.is_judged whole.0 (subst (IsAt (written_jobs asked past) n) whole.1 at))
+      | inr late ↦ subst (λ (written : Written). AllByRecursion (λ run. IsTraced asked past (place n run)) written.runs) (sym late.2) tt
+    ]
+
+no_run_invented : (asked : Asked) (past : List Said) → IsAsked asked → AllByRecursion (IsTraced asked past) (all_runs (written_jobs asked past))
+no_run_invented asked past fit =
+    in_order-all (IsTraced asked past) (λ placed. placed.run.from) (flat_map placed_runs (enumerate_from 0 (written_jobs asked past)))
+    (placed_from (IsTraced asked past) 0 (written_jobs asked past)
+    (λ n job at.
+    all_weaker (λ run. IsTraced asked past (place n run)) (λ run. IsTraced asked past (place (0 + n) run))
+    (λ run is. let number : n ≡ 0 + n = omega arith in subst (λ (m : ℕ). IsTraced asked past (place m run)) number is) job.runs (runs_of_job asked past fit n job at)))
+
+-- # No run is missing
+
+stands_written : (units : Units) (one : Judged) → stands one ≡ true → written_of units one ≡ Some (with_runs units one)
+stands_written units one whole = rw whole refl
+
+-- the run that has a stretch, as it is placed
+placed_run : (asked : Asked) (past : List Said) (one : Judged) (n : ℕ) (stretch : Stretch) (runs : List Run) → IsStanding asked past n one →
+    AllByRecursion (λ run. Contains (document_of asked past).runs (place n run)) runs → IsInSome (units_of asked past) stretch runs → HasRun asked past one stretch
+placed_run asked past one n stretch [] standing all there = absurd there
+placed_run asked past one n stretch (run ∷ runs) standing all (inl within) = record { placed = place n run; is_there = all.0; standing = standing; within = within }
+placed_run asked past one n stretch (run ∷ runs) standing all (inr more) = placed_run asked past one n stretch runs standing all.1 more
+
+no_run_missing : (asked : Asked) (past : List Said) → All (HasItsRuns asked past) (all_judged asked past)
+no_run_missing asked past i d within stand =
+    let one : Judged = get_or (all_judged asked past) i d in
+    let units : Units = units_of asked past in
+    let jobs : List Written = written_jobs asked past in
+    let runs : List Placed = all_runs jobs in
+    let at = found (written_of units) (all_judged asked past) i d (with_runs units one) within (stands_written units one stand) in
+    let standing : IsStanding asked past at.0 one =
+    record { is_judged = All-contains_itself (all_judged asked past) i d within; stands_so = stand; is_there = at.1 } in
+    let there : AllByRecursion (Contains runs) (flat_map placed_runs (enumerate_from 0 jobs)) =
+    in_order-all_back (Contains runs) (λ placed. placed.run.from) (flat_map placed_runs (enumerate_from 0 jobs))
+    (recursion_from_All (Contains runs) runs (All-contains_itself runs)) in
+    let its : AllByRecursion (λ run. Contains runs (place at.0 run)) (written_runs units one.job) =
+    all_weaker (λ run. Contains runs (place (0 + at.0) run)) (λ run. Contains runs (place at.0 run))
+    (λ run has. let number : 0 + at.0 ≡ at.0 = omega arith in subst (λ (m : ℕ). Contains runs (place m run)) number has) (written_runs units one.job)
+    (placed_back (Contains runs) 0 at.0 jobs (with_runs units one) at.1 there) in
+    All-from_recursion (λ stretch. IsForward (run_of units stretch) → HasRun asked past one stretch) one.job.stretches
+    (reverse-all_back (λ stretch. IsForward (run_of units stretch) → HasRun asked past one stretch) one.job.stretches
+    (all_weaker (λ stretch. IsForward (run_of units stretch) → IsInSome units stretch (written_runs units one.job)) (λ stretch. IsForward (run_of units stretch) → HasRun asked past one stretch)
+    (λ stretch has forward. placed_run asked past one at.0 stretch (written_runs units one.job) standing its (has forward)) (reverse one.job.stretches)
+    (stretches_have_runs units (reverse one.job.stretches))))
+
+-- the law
+pub documents_are_faithful : DocumentsAreFaithful
+documents_are_faithful asked past fit = record {
+  no_job_invented = All-from_recursion (IsTracedJob asked past) (written_jobs asked past) (traced_jobs asked past);
+  no_run_invented = All-from_recursion (IsTraced asked past) (all_runs (written_jobs asked past)) (no_run_invented asked past fit);
+  no_run_missing = no_run_missing asked past;
+}
