@@ -1,5 +1,5 @@
 //! The kinds of event, by their names.
-ghost use Rattle.std.specs.Prelude.{◌≡◌};
+ghost use Rattle.std.specs.Prelude.{◌≡◌, true};
 ghost use Rattle.yds_kernel.specs.Form.{bare_name, is_marker, is_wake_up, kind_of, kind_of_name};
 ghost use Rattle.yds_kernel.specs.Line.{matters};
 
@@ -21,7 +21,22 @@ impl Kind {
     pub(crate) fn of(word: &[u8]) -> Kind
         ensures { result ≡ kind_of word.now }
     {
-        let name = bare_name(word);
+        if is_name(word, b"sched_switch:".as_slice()) {
+            return Kind::Switch;
+        }
+        if is_name(word, b"sched_waking:".as_slice()) {
+            return Kind::WakeUp;
+        }
+        if is_name(word, b"sched_wakeup:".as_slice()) {
+            return Kind::WakeUp;
+        }
+        Kind::of_name(bare_name(word))
+    }
+
+    /// The kind of the event with this name, without the system that perf writes before it.
+    fn of_name(name: &[u8]) -> Kind
+        ensures { result ≡ kind_of_name name.now }
+    {
         if name == b"sched_switch:".as_slice() {
             Kind::Switch
         } else if is_wake_up(name) {
@@ -46,6 +61,14 @@ impl Kind {
             Kind::Marker | Kind::Other => false,
         }
     }
+}
+
+/// Whether the word is this name.
+#[inline(always)]
+fn is_name(word: &[u8], name: &[u8]) -> bool
+    ensures { result ≡ true → word.now ≡ name.now }
+{
+    word.len() == name.len() && word.starts_with(name)
 }
 
 /// The name without the system that perf writes before it.

@@ -35,6 +35,7 @@ pub(crate) struct Marked<'a> {
 
 impl Mark {
     /// The byte with which it begins.
+    #[inline(always)]
     pub(crate) fn first_byte(self) -> u8
         ensures { result ≡ spec.first_byte self }
     {
@@ -45,6 +46,7 @@ impl Mark {
     }
 
     /// The mark at the front of these bytes.
+    #[inline(always)]
     pub(crate) fn at(self, bytes: &[u8]) -> Option<Marked<'_>>
         ensures { Reads marked_read result (spec.marked self bytes.now) }
     {
@@ -59,6 +61,7 @@ impl Mark {
     }
 }
 
+#[inline(always)]
 #[tactic(auto, unfolding(crate::specs::Form::leaves))]
 fn leaves(bytes: &[u8]) -> Option<Marked<'_>>
     ensures { Reads marked_read result (spec.leaves bytes.now) }
@@ -74,6 +77,7 @@ fn leaves(bytes: &[u8]) -> Option<Marked<'_>>
 }
 
 /// What comes after the arrow and `next_comm=`; a raw trace has no arrow.
+#[inline(always)]
 fn after_arrow(bytes: &[u8]) -> Option<&[u8]>
     ensures { Reads (λ rest. rest.now) result (spec.after_arrow bytes.now) }
 {
@@ -83,6 +87,7 @@ fn after_arrow(bytes: &[u8]) -> Option<&[u8]>
     }
 }
 
+#[inline(always)]
 #[tactic(auto, unfolding(crate::specs::Form::comes))]
 fn comes(bytes: &[u8]) -> Option<Marked<'_>>
     ensures { Reads marked_read result (spec.comes bytes.now) }
@@ -102,6 +107,7 @@ fn comes(bytes: &[u8]) -> Option<Marked<'_>>
     }
 }
 
+#[inline(always)]
 #[tactic(auto, unfolding(crate::specs::Form::wakes))]
 fn wakes(bytes: &[u8]) -> Option<Marked<'_>>
     ensures { Reads marked_read result (spec.wakes bytes.now) }
@@ -116,6 +122,7 @@ fn wakes(bytes: &[u8]) -> Option<Marked<'_>>
     })
 }
 
+#[inline(always)]
 #[tactic(auto, unfolding(crate::specs::Form::short))]
 fn short(bytes: &[u8]) -> Option<Marked<'_>>
     ensures { Reads marked_read result (spec.short bytes.now) }
@@ -132,6 +139,7 @@ fn short(bytes: &[u8]) -> Option<Marked<'_>>
     })
 }
 
+#[inline(always)]
 #[tactic(auto, unfolding(crate::specs::Form::short_leaves))]
 fn short_leaves(bytes: &[u8]) -> Option<Marked<'_>>
     ensures { Reads marked_read result (spec.short_leaves bytes.now) }
@@ -147,6 +155,7 @@ fn short_leaves(bytes: &[u8]) -> Option<Marked<'_>>
     })
 }
 
+#[inline(always)]
 #[tactic(auto, unfolding(crate::specs::Form::short_comes))]
 fn short_comes(bytes: &[u8]) -> Option<Marked<'_>>
     ensures { Reads marked_read result (spec.short_comes bytes.now) }
