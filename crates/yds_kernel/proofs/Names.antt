@@ -1,19 +1,27 @@
 -- Names that stand at the front of bytes.
-use Rattle.yds_model.proofs.Common.{◌≡◌, ℕ, ◌++◌, List, length, codes, take, drop, true, Some, sym, ap, subst, ◌∙◌, refl, take_all, take-append-drop, le_refl}
+use Rattle.yds_model.proofs.Common.{◌≡◌, ◌≤◌, ℕ, ◌++◌, ◌&&◌, nat_le, leb-true, List, length, codes, take, drop, true, Some, sym, ap, subst, ◌∙◌, refl, take_all, take-append-drop, le_refl}
 use Rattle.std.specs.Str.{bytes_eq}
+use Rattle.std.proofs.lemmas.Bool.{and_parts}
 use Rattle.std.proofs.lemmas.Slice.Eq.{bytes_eq-Decides}
 use Rattle.yds_kernel.specs.Stamp.{word_at}
 
 -- what begins with a text is that text and what comes after it
-pub begins_with : (bytes text : List ℕ) → bytes_eq text (take (length text) bytes) ≡ true → bytes ≡ text ++ drop (length text) bytes
-begins_with bytes text same =
-    sym (take-append-drop (length text) bytes) ∙ ap (λ (front : List ℕ). front ++ drop (length text) bytes) (sym ((bytes_eq-Decides text (take (length text) bytes)).0 same))
+pub begins_with : (bytes text : List ℕ) → (nat_le (length text) (length bytes) && bytes_eq (take (length text) bytes) text) ≡ true → bytes ≡ text ++ drop (length text) bytes
+begins_with bytes text begins =
+    let same = (and_parts (nat_le (length text) (length bytes)) (bytes_eq (take (length text) bytes) text) begins).1 in
+    sym (take-append-drop (length text) bytes) ∙ ap (λ (front : List ℕ). front ++ drop (length text) bytes) ((bytes_eq-Decides (take (length text) bytes) text).0 same)
 
 -- what begins with a text of its length is that text
-pub is_whole : (bytes text : List ℕ) → length bytes ≡ length text → bytes_eq text (take (length text) bytes) ≡ true → bytes ≡ text
-is_whole bytes text same_len same =
+pub is_whole : (bytes text : List ℕ) → length bytes ≡ length text → (nat_le (length text) (length bytes) && bytes_eq (take (length text) bytes) text) ≡ true → bytes ≡ text
+is_whole bytes text same_len begins =
+    let same = (and_parts (nat_le (length text) (length bytes)) (bytes_eq (take (length text) bytes) text) begins).1 in
     sym (ap (λ (len : ℕ). take len bytes) (sym same_len) ∙ take_all (length bytes) bytes (le_refl (length bytes)))
-    ∙ sym ((bytes_eq-Decides text (take (length text) bytes)).0 same)
+    ∙ (bytes_eq-Decides (take (length text) bytes) text).0 same
+
+-- it is as long at least
+pub begins_within : (bytes text : List ℕ) → (nat_le (length text) (length bytes) && bytes_eq (take (length text) bytes) text) ≡ true → length text ≤ length bytes
+begins_within bytes text begins =
+    leb-true (length text) (length bytes) (and_parts (nat_le (length text) (length bytes)) (bytes_eq (take (length text) bytes) text) begins).0
 
 -- the commonest names, and a blank behind them
 pub switch_word : (rest : List ℕ) → word_at (codes "sched_switch: " ++ rest) ≡ Some (take 13 (codes "sched_switch: " ++ rest), drop 13 (codes "sched_switch: " ++ rest))

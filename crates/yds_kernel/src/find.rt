@@ -29,9 +29,9 @@ pub(crate) fn first_stamp(line: &[u8]) -> Option<Stamp<'_>>
 fn stamp_at(bytes: &[u8]) -> Option<Stamp<'_>>
     ensures { Reads stamp_read result (spec.stamp_at bytes.now) }
 {
-    let inside = after(bytes, b"[".as_slice())?;
+    let inside = after(bytes, b"[")?;
     let (processor, rest) = number(inside)?;
-    let behind = after(rest, b"]".as_slice())?;
+    let behind = after(rest, b"]")?;
     let here = after_blanks(behind)?;
     match timed(processor, here) {
         Some(stamp) => Some(stamp),
@@ -57,9 +57,9 @@ fn timed(processor: u64, bytes: &[u8]) -> Option<Stamp<'_>>
     ensures { Reads stamp_read result (spec.timed processor bytes.now) }
 {
     let (seconds, rest) = number(bytes)?;
-    let behind_point = after(rest, b".".as_slice())?;
+    let behind_point = after(rest, b".")?;
     let (parts, fraction, rest) = spelled(behind_point)?;
-    let behind_colon = after(rest, b":".as_slice())?;
+    let behind_colon = after(rest, b":")?;
     let here = after_blanks(behind_colon)?;
     let (word, text) = word_at(here)?;
     Some(Stamp {
@@ -95,13 +95,13 @@ fn word_at(bytes: &[u8]) -> Option<(&[u8], &[u8])>
 fn common_len(bytes: &[u8]) -> Option<usize>
     ensures { IfSome result (λ len. (len ≤ length bytes.now) × (spec.word_at bytes.now ≡ Some (take len bytes.now, drop len bytes.now))) }
 {
-    if begins(bytes, b"sched_switch: ".as_slice()) {
+    if begins(bytes, b"sched_switch: ") {
         return Some(13);
     }
-    if begins(bytes, b"sched_waking: ".as_slice()) {
+    if begins(bytes, b"sched_waking: ") {
         return Some(13);
     }
-    if begins(bytes, b"sched_wakeup: ".as_slice()) {
+    if begins(bytes, b"sched_wakeup: ") {
         return Some(13);
     }
     None

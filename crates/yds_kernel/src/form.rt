@@ -76,7 +76,7 @@ fn switch_by(leaving: Mark, coming: Mark, text: &[u8]) -> Option<Happening<'_>>
 pub(crate) fn switch_in(text: &[u8]) -> Option<Happening<'_>>
     ensures { Reads happening_read result (spec.switch_in text.now) }
 {
-    match after(text, b"prev_comm=".as_slice()) {
+    match after(text, b"prev_comm=") {
         Some(names) => switch_by(Mark::Leaves, Mark::Comes, names),
         None => switch_by(Mark::ShortLeaves, Mark::ShortComes, text),
     }
@@ -97,7 +97,7 @@ fn woken_by(mark: Mark, text: &[u8]) -> Option<Happening<'_>>
 pub(crate) fn wake_up_in(text: &[u8]) -> Option<Happening<'_>>
     ensures { Reads happening_read result (spec.wake_up_in text.now) }
 {
-    match after(text, b"comm=".as_slice()) {
+    match after(text, b"comm=") {
         Some(names) => woken_by(Mark::Wakes, names),
         None => woken_by(Mark::ShortWakes, text),
     }
@@ -109,10 +109,10 @@ pub(crate) fn wake_up_in(text: &[u8]) -> Option<Happening<'_>>
 pub(crate) fn speed_in(text: &[u8]) -> Option<Happening<'_>>
     ensures { Reads happening_read result (spec.speed_in text.now) }
 {
-    let rest = after(text, b"state=".as_slice())?;
+    let rest = after(text, b"state=")?;
     let (khz, rest) = small_number(rest)?;
     let rest = after_blanks(rest)?;
-    let rest = after(rest, b"cpu_id=".as_slice())?;
+    let rest = after(rest, b"cpu_id=")?;
     let (processor, rest) = small_number(rest)?;
     if only_blanks(rest) {
         Some(Happening::Speed { processor, khz })

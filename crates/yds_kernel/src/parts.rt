@@ -1,7 +1,8 @@
 //! What stands at the front of bytes, and the bytes after it.
-ghost use Rattle.std.specs.Prelude.{◌≡◌, ◌+◌, ◌*◌, ◌^◌, ◌<◌, ◌≤◌, ◌++◌, length, take, drop, true, IfSome};
+ghost use Rattle.std.specs.Prelude.{◌≡◌, ◌+◌, ◌*◌, ◌^◌, ◌<◌, ◌≤◌, ◌&&◌, length, nat_le, take, true, IfSome};
 ghost use Rattle.std.specs.Char.{digit_value};
 ghost use Rattle.std.specs.List.{position_or_len, prefix_len};
+ghost use Rattle.std.specs.Str.{bytes_eq};
 ghost use Rattle.std.specs.Str.Parse.{digits_value};
 ghost use Rattle.yds_model.specs.Lines.{is_blank};
 ghost use Rattle.yds_model.specs.Spelling.{is_digit};
@@ -12,21 +13,27 @@ ghost use Rattle.yds_kernel.specs.Views.{Reads};
 
 use crate::limits::{MAX_NUMBER, MAX_U64};
 
-/// What comes after this text, where the bytes begin with it.
-#[inline(always)]
-pub(crate) fn after<'a>(bytes: &'a [u8], text: &[u8]) -> Option<&'a [u8]>
-    ensures { Reads (λ rest. rest.now) result (spec.after text.now bytes.now) }
-{
-    bytes.strip_prefix(text)
-}
-
 /// Whether the bytes begin with this text.
 #[inline(always)]
-pub(crate) fn begins(bytes: &[u8], text: &[u8]) -> bool
-    ensures says { result ≡ true → bytes.now ≡ text.now ++ drop (length text.now) bytes.now }
-    ensures within { result ≡ true → length text.now ≤ length bytes.now }
+pub(crate) fn begins<const N: usize>(bytes: &[u8], text: &[u8; N]) -> bool
+    ensures { result ≡ (nat_le (length text.now) (length bytes.now) && bytes_eq (take (length text.now) bytes.now) text.now) }
 {
-    bytes.starts_with(text)
+    match bytes.first_chunk::<N>() {
+        Some(front) => *front == *text,
+        None => false,
+    }
+}
+
+/// What comes after this text, where the bytes begin with it.
+#[inline(always)]
+pub(crate) fn after<'a, const N: usize>(bytes: &'a [u8], text: &[u8; N]) -> Option<&'a [u8]>
+    ensures { Reads (λ rest. rest.now) result (spec.after text.now bytes.now) }
+{
+    if begins(bytes, text) {
+        Some(&bytes[N..])
+    } else {
+        None
+    }
 }
 
 /// The digits at the front, at least one, and the bytes after them.
