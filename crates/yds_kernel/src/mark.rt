@@ -61,7 +61,6 @@ impl Mark {
     }
 }
 
-#[inline(always)]
 #[tactic(auto, unfolding(crate::specs::Form::leaves))]
 fn leaves(bytes: &[u8]) -> Option<Marked<'_>>
     ensures { Reads marked_read result (spec.leaves bytes.now) }
@@ -87,7 +86,6 @@ fn after_arrow(bytes: &[u8]) -> Option<&[u8]>
     }
 }
 
-#[inline(always)]
 #[tactic(auto, unfolding(crate::specs::Form::comes))]
 fn comes(bytes: &[u8]) -> Option<Marked<'_>>
     ensures { Reads marked_read result (spec.comes bytes.now) }
@@ -107,7 +105,6 @@ fn comes(bytes: &[u8]) -> Option<Marked<'_>>
     }
 }
 
-#[inline(always)]
 #[tactic(auto, unfolding(crate::specs::Form::wakes))]
 fn wakes(bytes: &[u8]) -> Option<Marked<'_>>
     ensures { Reads marked_read result (spec.wakes bytes.now) }
@@ -122,7 +119,6 @@ fn wakes(bytes: &[u8]) -> Option<Marked<'_>>
     })
 }
 
-#[inline(always)]
 #[tactic(auto, unfolding(crate::specs::Form::short))]
 fn short(bytes: &[u8]) -> Option<Marked<'_>>
     ensures { Reads marked_read result (spec.short bytes.now) }
@@ -139,7 +135,6 @@ fn short(bytes: &[u8]) -> Option<Marked<'_>>
     })
 }
 
-#[inline(always)]
 #[tactic(auto, unfolding(crate::specs::Form::short_leaves))]
 fn short_leaves(bytes: &[u8]) -> Option<Marked<'_>>
     ensures { Reads marked_read result (spec.short_leaves bytes.now) }
@@ -155,7 +150,6 @@ fn short_leaves(bytes: &[u8]) -> Option<Marked<'_>>
     })
 }
 
-#[inline(always)]
 #[tactic(auto, unfolding(crate::specs::Form::short_comes))]
 fn short_comes(bytes: &[u8]) -> Option<Marked<'_>>
     ensures { Reads marked_read result (spec.short_comes bytes.now) }
