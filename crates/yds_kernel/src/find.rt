@@ -1,12 +1,11 @@
 //! Where a line's stamp stands.
-ghost use Rattle.std.specs.Prelude.{◌≡◌, ◌≤◌, ◌==◌, length, true};
+ghost use Rattle.std.specs.Prelude.{◌≡◌, ◌≤◌, ◌<◌, ◌==◌, ◌-◌, ◌*◌, ◌^◌, Some, length, take, drop, IfSome};
 ghost use Rattle.std.specs.List.{list_all};
-ghost use Rattle.yds_model.specs.Spelling.{is_digit};
 ghost use Rattle.yds_kernel.specs.Stamp as spec;
-ghost use Rattle.yds_kernel.specs.Stamp.{is_word, is_word_byte, last_byte, nanoseconds};
+ghost use Rattle.yds_kernel.specs.Stamp.{is_word, is_word_byte, last_byte};
 ghost use Rattle.yds_kernel.specs.Views.{Reads, stamp_read};
 
-use crate::parts::{after, after_blanks, digits, field, number, value_of};
+use crate::parts::{after, after_blanks, begins, field, number, spelled};
 use crate::stamp::Stamp;
 use memchr::memchr;
 
@@ -25,13 +24,14 @@ pub(crate) fn first_stamp(line: &[u8]) -> Option<Stamp<'_>>
 }
 
 /// `[CPU]`, perhaps a field of flags, the time and the event's name, at the front of these bytes.
+#[inline(always)]
 #[tactic(auto, unfolding(crate::specs::Stamp::stamp_at))]
 fn stamp_at(bytes: &[u8]) -> Option<Stamp<'_>>
     ensures { Reads stamp_read result (spec.stamp_at bytes.now) }
 {
-    let inside = after(bytes, b"[".as_slice())?;
+    let inside = after(bytes, b"[")?;
     let (processor, rest) = number(inside)?;
-    let behind = after(rest, b"]".as_slice())?;
+    let behind = after(rest, b"]")?;
     let here = after_blanks(behind)?;
     match timed(processor, here) {
         Some(stamp) => Some(stamp),
@@ -40,6 +40,7 @@ fn stamp_at(bytes: &[u8]) -> Option<Stamp<'_>>
 }
 
 /// A field of flags, and a time and a name behind it.
+#[inline(always)]
 #[tactic(auto, unfolding(crate::specs::Stamp::flagged))]
 fn flagged(processor: u64, bytes: &[u8]) -> Option<Stamp<'_>>
     ensures { Reads stamp_read result (spec.flagged processor bytes.now) }
@@ -50,14 +51,15 @@ fn flagged(processor: u64, bytes: &[u8]) -> Option<Stamp<'_>>
 }
 
 /// `SECONDS.FRACTION:` and the event's name.
+#[inline(always)]
 #[tactic(auto, unfolding(crate::specs::Stamp::timed))]
 fn timed(processor: u64, bytes: &[u8]) -> Option<Stamp<'_>>
     ensures { Reads stamp_read result (spec.timed processor bytes.now) }
 {
     let (seconds, rest) = number(bytes)?;
-    let behind_point = after(rest, b".".as_slice())?;
-    let (fraction, rest) = digits(behind_point)?;
-    let behind_colon = after(rest, b":".as_slice())?;
+    let behind_point = after(rest, b".")?;
+    let (parts, fraction, rest) = spelled(behind_point)?;
+    let behind_colon = after(rest, b":")?;
     let here = after_blanks(behind_colon)?;
     let (word, text) = word_at(here)?;
     Some(Stamp {
@@ -65,22 +67,44 @@ fn timed(processor: u64, bytes: &[u8]) -> Option<Stamp<'_>>
         left: bytes.len(),
         seconds,
         fraction,
+        parts,
         word,
         text,
     })
 }
 
 /// The name of an event at the front.
+#[inline(always)]
 #[tactic(auto, unfolding(crate::specs::Stamp::word_at))]
 fn word_at(bytes: &[u8]) -> Option<(&[u8], &[u8])>
     ensures { Reads (λ x. (x.0.now, x.1.now)) result (spec.word_at bytes.now) }
 {
+    if let Some(len) = common_len(bytes) {
+        return Some(bytes.split_at(len));
+    }
     let (word, rest) = field(bytes)?;
     if is_word(word) {
         Some((word, rest))
     } else {
         None
     }
+}
+
+/// How long the event's name at the front is, where it is one of the commonest.
+#[inline(always)]
+fn common_len(bytes: &[u8]) -> Option<usize>
+    ensures { IfSome result (λ len. (len ≤ length bytes.now) × (spec.word_at bytes.now ≡ Some (take len bytes.now, drop len bytes.now))) }
+{
+    if begins(bytes, b"sched_switch: ") {
+        return Some(13);
+    }
+    if begins(bytes, b"sched_waking: ") {
+        return Some(13);
+    }
+    if begins(bytes, b"sched_wakeup: ") {
+        return Some(13);
+    }
+    None
 }
 
 /// Whether it is the name of an event, which ends with a colon, or what perf writes of lost events.
@@ -114,19 +138,25 @@ impl Stamp<'_> {
     pub(crate) fn time(&self) -> Option<u64>
         ensures { result ≡ spec.time_of (stamp_read self.now) }
     {
-        if self.fraction.len() > 9 {
+        let len = self.fraction.len();
+        if len > 9 {
             return None;
         }
         let whole = self.seconds.checked_mul(1_000_000_000)?;
-        whole.checked_add(nanoseconds(self.fraction))
+        whole.checked_add(nanoseconds(self.parts, len))
     }
 }
 
-/// The digits of a fraction as nanoseconds.
-fn nanoseconds(fraction: &[u8]) -> u64
-    requires digits { list_all is_digit fraction.now ≡ true }
-    requires few { length fraction.now ≤ 9 }
-    ensures { result ≡ nanoseconds fraction.now }
+/// The number that so many digits of a fraction spell, as nanoseconds.
+#[inline(always)]
+fn nanoseconds(parts: u64, len: usize) -> u64
+    requires few { len ≤ 9 }
+    requires below { parts < 10 ^ len }
+    ensures { result ≡ parts * 10 ^ (9 - len) }
 {
-    value_of(fraction) * 10_u64.pow(9 - fraction.len() as u32)
+    match len {
+        6 => parts * 1_000,
+        9 => parts,
+        _ => parts * 10_u64.pow(9 - len as u32),
+    }
 }

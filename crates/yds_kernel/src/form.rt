@@ -21,6 +21,7 @@ pub(crate) struct Named<'a> {
 }
 
 /// The first place at which the mark stands, and what it says.
+#[inline(always)]
 fn first_marked(mark: Mark, bytes: &[u8]) -> Option<(usize, Marked<'_>)>
     ensures value { Reads (λ x. (x.0, marked_read x.1)) result (spec.first_marked 0 mark bytes.now) }
     ensures within { IfSome result (λ x. x.0 ≤ length bytes.now) }
@@ -37,6 +38,7 @@ fn first_marked(mark: Mark, bytes: &[u8]) -> Option<(usize, Marked<'_>)>
 }
 
 /// The thread whose name ends at the first mark of this kind.
+#[inline(always)]
 #[tactic(auto, unfolding(crate::specs::Form::thread_at))]
 fn thread_at(mark: Mark, bytes: &[u8]) -> Option<Named<'_>>
     ensures { Reads named_read result (spec.thread_at mark bytes.now) }
@@ -54,6 +56,7 @@ fn thread_at(mark: Mark, bytes: &[u8]) -> Option<Named<'_>>
 }
 
 /// A switch, by the marks of who leaves and of who comes.
+#[inline(always)]
 #[tactic(auto, unfolding(crate::specs::Form::switch_by))]
 fn switch_by(leaving: Mark, coming: Mark, text: &[u8]) -> Option<Happening<'_>>
     ensures { Reads happening_read result (spec.switch_by leaving coming text.now) }
@@ -68,16 +71,18 @@ fn switch_by(leaving: Mark, coming: Mark, text: &[u8]) -> Option<Happening<'_>>
 }
 
 /// The switch that this text is.
+#[inline(always)]
 #[tactic(auto, unfolding(crate::specs::Form::switch_in))]
 pub(crate) fn switch_in(text: &[u8]) -> Option<Happening<'_>>
     ensures { Reads happening_read result (spec.switch_in text.now) }
 {
-    match after(text, b"prev_comm=".as_slice()) {
+    match after(text, b"prev_comm=") {
         Some(names) => switch_by(Mark::Leaves, Mark::Comes, names),
         None => switch_by(Mark::ShortLeaves, Mark::ShortComes, text),
     }
 }
 
+#[inline(always)]
 #[tactic(auto, unfolding(crate::specs::Form::woken_by))]
 fn woken_by(mark: Mark, text: &[u8]) -> Option<Happening<'_>>
     ensures { Reads happening_read result (spec.woken_by mark text.now) }
@@ -87,25 +92,27 @@ fn woken_by(mark: Mark, text: &[u8]) -> Option<Happening<'_>>
 }
 
 /// The wake-up that this text is.
+#[inline(always)]
 #[tactic(auto, unfolding(crate::specs::Form::wake_up_in))]
 pub(crate) fn wake_up_in(text: &[u8]) -> Option<Happening<'_>>
     ensures { Reads happening_read result (spec.wake_up_in text.now) }
 {
-    match after(text, b"comm=".as_slice()) {
+    match after(text, b"comm=") {
         Some(names) => woken_by(Mark::Wakes, names),
         None => woken_by(Mark::ShortWakes, text),
     }
 }
 
 /// The speed that this text tells: `state=KHZ cpu_id=CPU`.
+#[inline(always)]
 #[tactic(auto, unfolding(crate::specs::Form::speed_in))]
 pub(crate) fn speed_in(text: &[u8]) -> Option<Happening<'_>>
     ensures { Reads happening_read result (spec.speed_in text.now) }
 {
-    let rest = after(text, b"state=".as_slice())?;
+    let rest = after(text, b"state=")?;
     let (khz, rest) = small_number(rest)?;
     let rest = after_blanks(rest)?;
-    let rest = after(rest, b"cpu_id=".as_slice())?;
+    let rest = after(rest, b"cpu_id=")?;
     let (processor, rest) = small_number(rest)?;
     if only_blanks(rest) {
         Some(Happening::Speed { processor, khz })

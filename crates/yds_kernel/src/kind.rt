@@ -1,9 +1,9 @@
 //! The kinds of event, by their names.
-ghost use Rattle.std.specs.Prelude.{◌≡◌};
+ghost use Rattle.std.specs.Prelude.{◌≡◌, true};
 ghost use Rattle.yds_kernel.specs.Form.{bare_name, is_marker, is_wake_up, kind_of, kind_of_name};
 ghost use Rattle.yds_kernel.specs.Line.{matters};
 
-use crate::parts::after;
+use crate::parts::{after, begins};
 
 /// What an event is, by its name.
 #[derive(Clone, Copy)]
@@ -21,7 +21,22 @@ impl Kind {
     pub(crate) fn of(word: &[u8]) -> Kind
         ensures { result ≡ kind_of word.now }
     {
-        let name = bare_name(word);
+        if is_name(word, b"sched_switch:") {
+            return Kind::Switch;
+        }
+        if is_name(word, b"sched_waking:") {
+            return Kind::WakeUp;
+        }
+        if is_name(word, b"sched_wakeup:") {
+            return Kind::WakeUp;
+        }
+        Kind::of_name(bare_name(word))
+    }
+
+    /// The kind of the event with this name, without the system that perf writes before it.
+    fn of_name(name: &[u8]) -> Kind
+        ensures { result ≡ kind_of_name name.now }
+    {
         if name == b"sched_switch:".as_slice() {
             Kind::Switch
         } else if is_wake_up(name) {
@@ -48,17 +63,25 @@ impl Kind {
     }
 }
 
+/// Whether the word is this name.
+#[inline(always)]
+fn is_name<const N: usize>(word: &[u8], name: &[u8; N]) -> bool
+    ensures { result ≡ true → word.now ≡ name.now }
+{
+    word.len() == name.len() && begins(word, name)
+}
+
 /// The name without the system that perf writes before it.
 fn bare_name(word: &[u8]) -> &[u8]
     ensures { result.now ≡ bare_name word.now }
 {
-    if let Some(name) = after(word, b"sched:".as_slice()) {
+    if let Some(name) = after(word, b"sched:") {
         return name;
     }
-    if let Some(name) = after(word, b"power:".as_slice()) {
+    if let Some(name) = after(word, b"power:") {
         return name;
     }
-    match after(word, b"ftrace:".as_slice()) {
+    match after(word, b"ftrace:") {
         Some(name) => name,
         None => word,
     }

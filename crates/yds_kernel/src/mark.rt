@@ -35,6 +35,7 @@ pub(crate) struct Marked<'a> {
 
 impl Mark {
     /// The byte with which it begins.
+    #[inline(always)]
     pub(crate) fn first_byte(self) -> u8
         ensures { result ≡ spec.first_byte self }
     {
@@ -45,6 +46,7 @@ impl Mark {
     }
 
     /// The mark at the front of these bytes.
+    #[inline(always)]
     pub(crate) fn at(self, bytes: &[u8]) -> Option<Marked<'_>>
         ensures { Reads marked_read result (spec.marked self bytes.now) }
     {
@@ -63,23 +65,24 @@ impl Mark {
 fn leaves(bytes: &[u8]) -> Option<Marked<'_>>
     ensures { Reads marked_read result (spec.leaves bytes.now) }
 {
-    let rest = after(bytes, b" prev_pid=".as_slice())?;
+    let rest = after(bytes, b" prev_pid=")?;
     let (pid, rest) = small_number(rest)?;
-    let rest = after(rest, b" prev_prio=".as_slice())?;
+    let rest = after(rest, b" prev_prio=")?;
     let rest = after_priority(rest)?;
-    let rest = after(rest, b" prev_state=".as_slice())?;
+    let rest = after(rest, b" prev_state=")?;
     let (state, rest) = field(rest)?;
     let rest = after_arrow(rest)?;
     Some(Marked { pid, state, rest })
 }
 
 /// What comes after the arrow and `next_comm=`; a raw trace has no arrow.
+#[inline(always)]
 fn after_arrow(bytes: &[u8]) -> Option<&[u8]>
     ensures { Reads (λ rest. rest.now) result (spec.after_arrow bytes.now) }
 {
-    match after(bytes, b" ==> next_comm=".as_slice()) {
+    match after(bytes, b" ==> next_comm=") {
         Some(rest) => Some(rest),
-        None => after(bytes, b" next_comm=".as_slice()),
+        None => after(bytes, b" next_comm="),
     }
 }
 
@@ -87,9 +90,9 @@ fn after_arrow(bytes: &[u8]) -> Option<&[u8]>
 fn comes(bytes: &[u8]) -> Option<Marked<'_>>
     ensures { Reads marked_read result (spec.comes bytes.now) }
 {
-    let rest = after(bytes, b" next_pid=".as_slice())?;
+    let rest = after(bytes, b" next_pid=")?;
     let (pid, rest) = small_number(rest)?;
-    let rest = after(rest, b" next_prio=".as_slice())?;
+    let rest = after(rest, b" next_prio=")?;
     let rest = after_priority(rest)?;
     if only_blanks(rest) {
         Some(Marked {
@@ -106,9 +109,9 @@ fn comes(bytes: &[u8]) -> Option<Marked<'_>>
 fn wakes(bytes: &[u8]) -> Option<Marked<'_>>
     ensures { Reads marked_read result (spec.wakes bytes.now) }
 {
-    let rest = after(bytes, b" pid=".as_slice())?;
+    let rest = after(bytes, b" pid=")?;
     let (pid, rest) = small_number(rest)?;
-    let rest = after(rest, b" prio=".as_slice())?;
+    let rest = after(rest, b" prio=")?;
     Some(Marked {
         pid,
         state: &[],
@@ -120,11 +123,11 @@ fn wakes(bytes: &[u8]) -> Option<Marked<'_>>
 fn short(bytes: &[u8]) -> Option<Marked<'_>>
     ensures { Reads marked_read result (spec.short bytes.now) }
 {
-    let rest = after(bytes, b":".as_slice())?;
+    let rest = after(bytes, b":")?;
     let (pid, rest) = small_number(rest)?;
-    let rest = after(rest, b" [".as_slice())?;
+    let rest = after(rest, b" [")?;
     let rest = after_priority(rest)?;
-    let rest = after(rest, b"]".as_slice())?;
+    let rest = after(rest, b"]")?;
     Some(Marked {
         pid,
         state: &[],
@@ -137,9 +140,9 @@ fn short_leaves(bytes: &[u8]) -> Option<Marked<'_>>
     ensures { Reads marked_read result (spec.short_leaves bytes.now) }
 {
     let found = short(bytes)?;
-    let rest = after(found.rest, b" ".as_slice())?;
+    let rest = after(found.rest, b" ")?;
     let (state, rest) = field(rest)?;
-    let rest = after(rest, b" ==> ".as_slice())?;
+    let rest = after(rest, b" ==> ")?;
     Some(Marked {
         pid: found.pid,
         state,

@@ -1,7 +1,8 @@
 //! What stands at the front of bytes, and the bytes after it.
-ghost use Rattle.std.specs.Prelude.{◌≡◌, ◌+◌, ◌*◌, ◌^◌, ◌<◌, ◌≤◌, length, true, IfSome};
+ghost use Rattle.std.specs.Prelude.{◌≡◌, ◌+◌, ◌*◌, ◌^◌, ◌<◌, ◌≤◌, ◌&&◌, length, nat_le, take, true, IfSome};
 ghost use Rattle.std.specs.Char.{digit_value};
-ghost use Rattle.std.specs.List.{list_all, position_or_len, prefix_len};
+ghost use Rattle.std.specs.List.{position_or_len, prefix_len};
+ghost use Rattle.std.specs.Str.{bytes_eq};
 ghost use Rattle.std.specs.Str.Parse.{digits_value};
 ghost use Rattle.yds_model.specs.Lines.{is_blank};
 ghost use Rattle.yds_model.specs.Spelling.{is_digit};
@@ -12,21 +13,33 @@ ghost use Rattle.yds_kernel.specs.Views.{Reads};
 
 use crate::limits::{MAX_NUMBER, MAX_U64};
 
+/// Whether the bytes begin with this text.
+#[inline(always)]
+pub(crate) fn begins<const N: usize>(bytes: &[u8], text: &[u8; N]) -> bool
+    ensures { result ≡ (nat_le (length text.now) (length bytes.now) && bytes_eq (take (length text.now) bytes.now) text.now) }
+{
+    match bytes.first_chunk::<N>() {
+        Some(front) => *front == *text,
+        None => false,
+    }
+}
+
 /// What comes after this text, where the bytes begin with it.
-pub(crate) fn after<'a>(bytes: &'a [u8], text: &[u8]) -> Option<&'a [u8]>
+#[inline(always)]
+pub(crate) fn after<'a, const N: usize>(bytes: &'a [u8], text: &[u8; N]) -> Option<&'a [u8]>
     ensures { Reads (λ rest. rest.now) result (spec.after text.now bytes.now) }
 {
-    if bytes.len() < text.len() {
-        return None;
+    if begins(bytes, text) {
+        Some(&bytes[N..])
+    } else {
+        None
     }
-    let (front, rest) = bytes.split_at(text.len());
-    if front == text { Some(rest) } else { None }
 }
 
 /// The digits at the front, at least one, and the bytes after them.
+#[inline(always)]
 pub(crate) fn digits(bytes: &[u8]) -> Option<(&[u8], &[u8])>
-    ensures value { Reads (λ x. (x.0.now, x.1.now)) result (spec.digits bytes.now) }
-    ensures digits { IfSome result (λ x. list_all is_digit x.0.now ≡ true) }
+    ensures { Reads (λ x. (x.0.now, x.1.now)) result (spec.digits bytes.now) }
 {
     let len = digit_len(bytes);
     if len == 0 {
@@ -36,7 +49,23 @@ pub(crate) fn digits(bytes: &[u8]) -> Option<(&[u8], &[u8])>
     Some((digits, rest))
 }
 
+/// The same, and the number that the digits spell. One beyond 64 bits counts as the greatest of 64 bits.
+#[inline(always)]
+pub(crate) fn spelled(bytes: &[u8]) -> Option<(u64, &[u8], &[u8])>
+    ensures digits { Reads (λ x. (x.1.now, x.2.now)) result (spec.digits bytes.now) }
+    ensures value { IfSome result (λ x. x.0 ≡ capped (digits_value 10 x.1.now)) }
+    ensures below { IfSome result (λ x. digits_value 10 x.1.now < 10 ^ length x.1.now) }
+{
+    let (value, len) = front_number(bytes);
+    if len == 0 {
+        return None;
+    }
+    let (digits, rest) = bytes.split_at(len);
+    Some((value, digits, rest))
+}
+
 /// The bytes before the next blank, at least one, and the bytes after them.
+#[inline(always)]
 pub(crate) fn field(bytes: &[u8]) -> Option<(&[u8], &[u8])>
     ensures { Reads (λ x. (x.0.now, x.1.now)) result (spec.field bytes.now) }
 {
@@ -49,6 +78,7 @@ pub(crate) fn field(bytes: &[u8]) -> Option<(&[u8], &[u8])>
 }
 
 /// What comes after the blanks at the front, if there are any.
+#[inline(always)]
 pub(crate) fn skip_blanks(bytes: &[u8]) -> &[u8]
     ensures { result.now ≡ spec.skip_blanks bytes.now }
 {
@@ -56,6 +86,7 @@ pub(crate) fn skip_blanks(bytes: &[u8]) -> &[u8]
 }
 
 /// What comes after the blanks at the front, at least one.
+#[inline(always)]
 pub(crate) fn after_blanks(bytes: &[u8]) -> Option<&[u8]>
     ensures { Reads (λ rest. rest.now) result (spec.after_blanks bytes.now) }
 {
@@ -65,15 +96,17 @@ pub(crate) fn after_blanks(bytes: &[u8]) -> Option<&[u8]>
 
 /// The number that the digits at the front spell, leading zeros too, and the bytes after them. One beyond 64 bits counts
 /// as the greatest of 64 bits.
+#[inline(always)]
 #[tactic(auto, unfolding(crate::specs::Parts::number))]
 pub(crate) fn number(bytes: &[u8]) -> Option<(u64, &[u8])>
     ensures { Reads (λ x. (x.0, x.1.now)) result (spec.number bytes.now) }
 {
-    let (text, rest) = digits(bytes)?;
-    Some((value_of(text), rest))
+    let (value, _, rest) = spelled(bytes)?;
+    Some((value, rest))
 }
 
 /// The same of a number within the limit of processors, processes and speeds.
+#[inline(always)]
 #[tactic(auto, unfolding(crate::specs::Parts::small_number))]
 pub(crate) fn small_number(bytes: &[u8]) -> Option<(u64, &[u8])>
     ensures { Reads (λ x. (x.0, x.1.now)) result (spec.small_number bytes.now) }
@@ -87,6 +120,7 @@ pub(crate) fn small_number(bytes: &[u8]) -> Option<(u64, &[u8])>
 }
 
 /// What comes after a priority, which may have a minus.
+#[inline(always)]
 #[tactic(auto, unfolding(crate::specs::Parts::after_priority))]
 pub(crate) fn after_priority(bytes: &[u8]) -> Option<&[u8]>
     ensures { Reads (λ rest. rest.now) result (spec.after_priority bytes.now) }
@@ -95,6 +129,7 @@ pub(crate) fn after_priority(bytes: &[u8]) -> Option<&[u8]>
     Some(rest)
 }
 
+#[inline(always)]
 fn skip_minus(bytes: &[u8]) -> &[u8]
     ensures { result.now ≡ spec.skip_minus bytes.now }
 {
@@ -105,6 +140,7 @@ fn skip_minus(bytes: &[u8]) -> &[u8]
 }
 
 /// Whether nothing but blanks is left.
+#[inline(always)]
 pub(crate) fn only_blanks(bytes: &[u8]) -> bool
     ensures { result ≡ only_blanks bytes.now }
 {
@@ -112,27 +148,47 @@ pub(crate) fn only_blanks(bytes: &[u8]) -> bool
 }
 
 /// Whether the byte is a space or a tab.
+#[inline(always)]
 fn is_blank(byte: u8) -> bool
     ensures { result ≡ is_blank byte }
 {
     byte == b' ' || byte == b'\t'
 }
 
-/// The number that digits spell, the greatest of 64 bits where it is beyond.
-pub(crate) fn value_of(digits: &[u8]) -> u64
-    requires { list_all is_digit digits.now ≡ true }
-    ensures value { result ≡ capped (digits_value 10 digits.now) }
-    ensures below { digits_value 10 digits.now < 10 ^ length digits.now }
+/// The number that the digits at the front spell, the greatest of 64 bits where it is beyond, and how many digits they are.
+#[inline(always)]
+fn front_number(bytes: &[u8]) -> (u64, usize)
+    ensures value { result.0 ≡ capped (digits_value 10 (take result.1 bytes.now)) }
+    ensures below { digits_value 10 (take result.1 bytes.now) < 10 ^ result.1 }
+    ensures len { result.1 ≡ prefix_len is_digit bytes.now }
+    ensures within { result.1 ≤ length bytes.now }
 {
     let mut value: u64 = 0;
-    for &byte in digits {
+    for (index, &byte) in bytes.iter().enumerate() {
+        if !byte.is_ascii_digit() {
+            return (value, index);
+        }
         value = with_digit(value, byte);
     }
-    value
+    (value, bytes.len())
 }
 
 /// The number with one more digit.
+#[inline(always)]
 fn with_digit(value: u64, digit: u8) -> u64
+    requires { is_digit digit ≡ true }
+    ensures { result ≡ capped (value * 10 + digit_value digit) }
+{
+    if value < 1_000_000_000_000_000_000 {
+        value * 10 + u64::from(digit - b'0')
+    } else {
+        with_late_digit(value, digit)
+    }
+}
+
+/// The same of a number that one more digit may put beyond 64 bits.
+#[inline(never)]
+fn with_late_digit(value: u64, digit: u8) -> u64
     requires { is_digit digit ≡ true }
     ensures { result ≡ capped (value * 10 + digit_value digit) }
 {
@@ -143,6 +199,7 @@ fn with_digit(value: u64, digit: u8) -> u64
 }
 
 /// How many digits stand at the front.
+#[inline(always)]
 pub(crate) fn digit_len(bytes: &[u8]) -> usize
     ensures value { result ≡ prefix_len is_digit bytes.now }
     ensures within { result ≤ length bytes.now }
@@ -156,6 +213,7 @@ pub(crate) fn digit_len(bytes: &[u8]) -> usize
 }
 
 /// How many blanks stand at the front.
+#[inline(always)]
 fn blank_len(bytes: &[u8]) -> usize
     ensures value { result ≡ prefix_len is_blank bytes.now }
     ensures within { result ≤ length bytes.now }
@@ -169,6 +227,7 @@ fn blank_len(bytes: &[u8]) -> usize
 }
 
 /// How many bytes stand before the first blank.
+#[inline(always)]
 fn field_len(bytes: &[u8]) -> usize
     ensures value { result ≡ position_or_len is_blank bytes.now }
     ensures within { result ≤ length bytes.now }

@@ -162,9 +162,9 @@ fn lost_on<'a>(processor: u64, since: Since) -> Result<Said<'a>, LineFault>
 fn dropped(bytes: &[u8]) -> Option<u64>
     ensures { Reads (λ processor. processor) result (spec.dropped bytes.now) }
 {
-    let rest = after(skip_blanks(bytes), b"CPU:".as_slice())?;
+    let rest = after(skip_blanks(bytes), b"CPU:")?;
     let (processor, rest) = number(rest)?;
-    let rest = after(rest, b" [".as_slice())?;
+    let rest = after(rest, b" [")?;
     let _ = loss_told(rest)?;
     Some(processor)
 }
@@ -173,10 +173,10 @@ fn dropped(bytes: &[u8]) -> Option<u64>
 fn loss_told(bytes: &[u8]) -> Option<&[u8]>
     ensures { Reads (λ rest. rest.now) result (spec.tells_loss bytes.now) }
 {
-    let rest = after(after_number(after_lost(bytes)), b"EVENTS".as_slice())?;
-    match after(rest, b"]".as_slice()) {
+    let rest = after(after_number(after_lost(bytes)), b"EVENTS")?;
+    match after(rest, b"]") {
         Some(rest) => Some(rest),
-        None => after(rest, b" DROPPED]".as_slice()),
+        None => after(rest, b" DROPPED]"),
     }
 }
 
@@ -184,7 +184,7 @@ fn loss_told(bytes: &[u8]) -> Option<&[u8]>
 fn after_lost(bytes: &[u8]) -> &[u8]
     ensures { result.now ≡ spec.after_lost bytes.now }
 {
-    match after(bytes, b"LOST ".as_slice()) {
+    match after(bytes, b"LOST ") {
         Some(rest) => rest,
         None => bytes,
     }
@@ -195,7 +195,7 @@ fn after_number(bytes: &[u8]) -> &[u8]
     ensures { result.now ≡ spec.after_number bytes.now }
 {
     match digits(bytes) {
-        Some((_, rest)) => match after(rest, b" ".as_slice()) {
+        Some((_, rest)) => match after(rest, b" ") {
             Some(rest) => rest,
             None => rest,
         },
@@ -208,10 +208,10 @@ fn after_number(bytes: &[u8]) -> &[u8]
 fn started(bytes: &[u8]) -> Option<u64>
     ensures { Reads (λ processor. processor) result (spec.started bytes.now) }
 {
-    let rest = after(bytes, b"#".as_slice())?;
-    let rest = after(skip_hashes(rest), b" CPU ".as_slice())?;
+    let rest = after(bytes, b"#")?;
+    let rest = after(skip_hashes(rest), b" CPU ")?;
     let (processor, rest) = number(rest)?;
-    let _ = after(rest, b" buffer started #".as_slice())?;
+    let _ = after(rest, b" buffer started #")?;
     Some(processor)
 }
 
@@ -276,7 +276,7 @@ fn opens_somewhere(bytes: &[u8]) -> bool
 fn opens(bytes: &[u8]) -> bool
     ensures { result ≡ spec.opens bytes.now }
 {
-    match after(bytes, b"[".as_slice()) {
+    match after(bytes, b"[") {
         Some(inside) => closes(&inside[digit_len(inside)..]),
         None => false,
     }

@@ -1,7 +1,7 @@
 //! A line's stamp: the processor, the time and the event's name.
-ghost use Rattle.std.specs.Prelude.{◌≡◌, true};
-ghost use Rattle.std.specs.List.{list_all};
-ghost use Rattle.yds_model.specs.Spelling.{is_digit};
+ghost use Rattle.std.specs.Prelude.{◌≡◌, ◌<◌, ◌^◌, length};
+ghost use Rattle.std.specs.Str.Parse.{digits_value};
+ghost use Rattle.yds_kernel.specs.Parts.{capped};
 
 /// The stamp of a line.
 #[derive(Clone, Copy)]
@@ -18,5 +18,8 @@ pub(crate) struct Stamp<'a> {
     pub word: &'a [u8],
     /// The event's text.
     pub text: &'a [u8],
-    pub ghost digits: { list_all is_digit fraction.now ≡ true },
+    /// The number that they spell.
+    pub parts: u64,
+    pub ghost told: { parts ≡ capped (digits_value 10 fraction.now) },
+    pub ghost below: { digits_value 10 fraction.now < 10 ^ length fraction.now },
 }

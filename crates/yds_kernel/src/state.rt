@@ -19,6 +19,17 @@ impl State {
     pub(crate) fn of(text: &[u8]) -> State
         ensures { result ≡ state_of text.now }
     {
+        match text {
+            [b'S'] => State::Sleeps,
+            [b'R'] => State::GoesOn,
+            [] | [_, ..] => State::of_any(text),
+        }
+    }
+
+    /// The same, by all that such a state may be.
+    fn of_any(text: &[u8]) -> State
+        ensures { result ≡ state_of text.now }
+    {
         if !is_state(text) {
             State::Unknown
         } else if goes_on(text) {
