@@ -5,6 +5,7 @@ pub mod Late
 pub mod WrittenTime
 pub mod Document
 pub mod Faults
+pub mod Parts
 pub mod Views
 pub mod Ended
 pub mod Steps
