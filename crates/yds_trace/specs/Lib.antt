@@ -8,6 +8,7 @@ pub mod Faults
 pub mod Parts
 pub mod Views
 pub mod Ended
+pub mod Shown
 pub mod Steps
 pub mod Kept
 pub mod Finding
