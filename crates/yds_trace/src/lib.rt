@@ -22,6 +22,7 @@ mod past;
 mod places;
 mod reason;
 mod refused;
+mod shown;
 mod step;
 
 pub use asked::{Asked, Task, Which};
@@ -29,10 +30,14 @@ pub use ended::Ended;
 pub use fault::Cause;
 pub use job::{End, Job, Leaving, Standing, Stretch, Turn};
 pub use known::Known;
-pub use limits::{MAX_DEADLINE, MAX_PROCESSOR, MAX_TIME, MAX_TOUCHES};
+pub use limits::{
+    LOOK_EVERY, MAX_DEADLINE, MAX_PROCESSOR, MAX_TIME, MAX_TOUCHES, PART_JOBS, PART_STRETCHES,
+    WAITING_JOBS, WAITING_STRETCHES,
+};
 pub use pass::Pass;
 pub use reason::Reason;
 pub use refused::Refused;
+pub use shown::{Shown, ShownTask};
 
 #[cfg(test)]
 mod tests;
