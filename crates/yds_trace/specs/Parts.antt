@@ -7,6 +7,7 @@ use Rattle.std.specs.List.{list_any, list_all}
 use Rattle.yds_kernel.specs.declared.loss.Since.TheVariants as since
 use Rattle.yds_kernel.specs.Event.{Said, Stamped, Lost, Nothing, Event, Happening, Switch}
 use Rattle.yds_kernel.specs.Parts.{or_else, capped}
+use Rattle.yds_trace.specs.declared.cut.Cut.{Cut}
 use Rattle.yds_trace.specs.declared.fault.Cause.{Cause}
 use Rattle.yds_trace.specs.declared.fault.Cause.TheVariants as causes
 use Rattle.yds_trace.specs.declared.job.End.{End}
@@ -122,18 +123,7 @@ is_due past = length past % LOOK_EVERY == 0
 abbrev pub may_write : Asked → List Said → Bool
 may_write asked past = asked.begin_at_run || has_wake_up asked past
 
--- What was written up to a line.
-pub record Cut : Type 0 where
-  -- The parts have the jobs that begin before this time.
-  pub boundary : ℕ
-  -- the trace's time when the last part was written
-  pub decided : ℕ
-  -- how many parts there are, and how many jobs are written in them; beyond 64 bits neither is counted
-  pub parts : ℕ
-  pub jobs : ℕ
-  -- the last deadline of these jobs
-  pub due : ℕ
-
+-- before the first part
 abbrev pub no_cut : Cut
 no_cut = record { boundary = 0; decided = 0; parts = 0; jobs = 0; due = 0 }
 

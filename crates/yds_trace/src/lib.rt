@@ -8,6 +8,7 @@
 mod asked;
 mod check;
 mod counted;
+mod cut;
 mod ended;
 mod fault;
 mod find;
@@ -26,6 +27,7 @@ mod shown;
 mod step;
 
 pub use asked::{Asked, Task, Which};
+pub use cut::{Cut, NO_CUT};
 pub use ended::Ended;
 pub use fault::Cause;
 pub use job::{End, Job, Leaving, Standing, Stretch, Turn};

@@ -6,7 +6,8 @@ use Rattle.yds_trace.specs.Asked.{Task, Asked}
 use Rattle.yds_trace.specs.Past.{first_time}
 use Rattle.yds_trace.specs.WrittenTime.{Units}
 use Rattle.yds_trace.specs.Document.{Judged, judged_of, written_of, all_runs}
-use Rattle.yds_trace.specs.Parts.{Cut, begins_from, is_before_end, part_until}
+use Rattle.yds_trace.specs.declared.cut.Cut.{Cut}
+use Rattle.yds_trace.specs.Parts.{begins_from, is_before_end, part_until}
 use Rattle.yds_trace_document.specs.declared.fault.DocumentFault.{DocumentFault}
 use Rattle.yds_trace_document.specs.Settled.{Settled}
 use Rattle.yds_trace_document.specs.Limits.{limit_fault, missed_fault}

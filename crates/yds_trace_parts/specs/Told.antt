@@ -12,7 +12,8 @@ use Rattle.yds_trace.specs.declared.fault.Cause.TheVariants as causes
 use Rattle.yds_trace.specs.Asked.{Asked}
 use Rattle.yds_trace.specs.Document.{Judged}
 use Rattle.yds_trace.specs.Faults.{said_fault, whole_fault}
-use Rattle.yds_trace.specs.Parts.{Cut, cut_after, part_fault, waiting, place_of, is_settled, is_due, is_too_much, may_write}
+use Rattle.yds_trace.specs.declared.cut.Cut.{Cut}
+use Rattle.yds_trace.specs.Parts.{cut_after, part_fault, waiting, place_of, is_settled, is_due, is_too_much, may_write}
 use Rattle.yds_trace_document.specs.declared.fault.DocumentFault.{DocumentFault}
 use Rattle.yds_trace_document.specs.Part.{part_of, part_limit_fault}
 use Rattle.yds_trace_text.specs.PartText.{part_text}

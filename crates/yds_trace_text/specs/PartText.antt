@@ -4,7 +4,8 @@ use Rattle.yds_kernel.specs.Parts.{capped}
 use Rattle.yds_kernel.specs.Event.{Said}
 use Rattle.yds_trace.specs.Asked.{Asked}
 use Rattle.yds_trace.specs.Document.{Written}
-use Rattle.yds_trace.specs.Parts.{Cut, part_until}
+use Rattle.yds_trace.specs.declared.cut.Cut.{Cut}
+use Rattle.yds_trace.specs.Parts.{part_until}
 use Rattle.yds_trace_document.specs.Settled.{Settled}
 use Rattle.yds_trace_document.specs.Part.{shift_of, part_of}
 use Rattle.yds_trace_text.specs.Text.{comment, settled_text}
