@@ -5,7 +5,7 @@ use Rattle.yds_model.specs.declared.limits.TheConstants.{MAX_INPUT}
 use Rattle.yds_model.specs.Fields.{Fault}
 use Rattle.yds_kernel.specs.declared.fault.Reason.{Reason}
 use Rattle.yds_kernel.specs.Event.{Said}
-use Rattle.yds_kernel.specs.Parts.{or_else}
+use Rattle.yds_kernel.specs.Parts.{or_else, capped}
 use Rattle.yds_kernel.specs.Text.{Trace}
 use Rattle.yds_trace.specs.declared.fault.Cause.{Cause}
 use Rattle.yds_trace.specs.declared.fault.Cause.TheVariants as causes
@@ -25,10 +25,10 @@ pub data Halt : Type 0 where
   InForm : (fault : Fault Reason) → Halt
   -- the line of this number can't stand behind those before it
   AtLine : (number : ℕ) (cause : Cause) → Halt
-  -- the next part passes a limit of documents
-  OfDocument : (fault : DocumentFault) → Halt
+  -- the part of this number passes a limit of documents
+  OfDocument : (part : ℕ) (fault : DocumentFault) → Halt
   -- its text is longer than a document may be
-  OfText : Halt
+  OfText : (part : ℕ) → Halt
   -- More wait than may, and there is no place to cut. This job has been open longest, or is the first that waits: its name, its begin, and by
   -- how much it is known to be late.
   NoPlace : (name : List ℕ) (begin : ℕ) (late : Option ℕ) → Halt
@@ -51,17 +51,22 @@ line_halt asked past said =
 
 -- # A part
 
-abbrev pub of_document : Option DocumentFault → Option Halt
-of_document None = None
-of_document (Some fault) = Some (OfDocument fault)
+-- the number of the part behind these
+abbrev pub next_number : Cut → ℕ
+next_number cut = capped (cut.parts + 1)
 
-abbrev pub of_text : List ℕ → Option Halt
-of_text text = if nat_lt MAX_INPUT (length text) then Some OfText else None
+abbrev pub of_document : ℕ → Option DocumentFault → Option Halt
+of_document part None = None
+of_document part (Some fault) = Some (OfDocument part fault)
+
+abbrev pub of_text : ℕ → List ℕ → Option Halt
+of_text part text = if nat_lt MAX_INPUT (length text) then Some (OfText part) else None
 
 -- why the part that ends at this time, or the last one, isn't written
 abbrev pub part_halt : Asked → Bool → List Said → Cut → Option ℕ → Option Halt
 part_halt asked strict past cut until =
-    or_else (of_document (part_limit_fault strict cut (part_of asked past cut until))) (of_text (part_text asked past cut until))
+    or_else (of_document (next_number cut) (part_limit_fault strict cut (part_of asked past cut until)))
+    (of_text (next_number cut) (part_text asked past cut until))
 
 -- with this part, or with the reason why it isn't written
 abbrev pub with_part : List ℕ → Option Halt → List ℕ → Told
