@@ -3,13 +3,14 @@ use Rattle.yds_model.proofs.Common.{◌≡◌, ◌∙◌, ℕ, suc, ◌+◌, ◌
 use Rattle.yds_kernel.specs.Parts.{or_else}
 use Rattle.yds_kernel.specs.Event.{Happening, Switch, WakeUp, Speed, Loss, Marker, Other, Event, Said, Stamped}
 use Rattle.yds_trace.specs.declared.limits.TheConstants.{MAX_TOUCHES}
+use Rattle.yds_trace.specs.declared.fault.Cause.{Cause}
 use Rattle.yds_trace.specs.declared.fault.Cause.TheVariants as causes
 use Rattle.yds_trace.specs.declared.followed.Followed.{Followed}
 use Rattle.yds_trace.specs.declared.step.Step.{Step}
 use Rattle.yds_trace.specs.declared.step.Whose.{Whose}
 use Rattle.yds_trace.specs.Asked.{Task, Asked, task_at, task_of, is_number}
 use Rattle.yds_trace.specs.Jobs.{Known, stands_on, after_switch, wakes_up, after_event, known_after}
-use Rattle.yds_trace.specs.Faults.{pid_in, pid_before, runs_on, touches, touched, touched_fault}
+use Rattle.yds_trace.specs.Faults.{pid_in, pid_before, runs_on, touches, touched, touched_fault, counted_fault}
 use Rattle.yds_trace.specs.Steps.{leaving_after, step_in, step_of, stepped, first_in, second_in, pid_of}
 use Rattle.yds_trace.specs.Following.{IsTaken, touches_by}
 use Rattle.yds_trace.specs.Kept.{IsFollowed}
@@ -120,8 +121,23 @@ touched_same asked counting event not_so = rw not_so
 
 -- # Too many
 
-pub too_long : (asked : Asked) (lines : List Said) → MAX_TOUCHES < touched asked lines → touched_fault asked lines ≡ Some causes.TooLong
-too_long asked lines much = rw (lt-ltb MAX_TOUCHES (touched asked lines) much)
+-- Told in parts nothing is too much.
+if_counted : (asked : Asked) (lines : List Said) (fault : Option Cause) → (asked.in_parts ≡ true → None ≡ fault)
+    → (asked.in_parts ≡ false → touched_fault asked lines ≡ fault) → counted_fault asked lines ≡ fault
+if_counted asked lines fault in_parts counted = by asked.in_parts refl
+  where
+    by : (b : Bool) → asked.in_parts ≡ b → (if b then None else touched_fault asked lines) ≡ fault
+    by true is = in_parts is
+    by false is = counted is
 
-pub not_too_long : (asked : Asked) (lines : List Said) → touched asked lines ≤ MAX_TOUCHES → touched_fault asked lines ≡ None
-not_too_long asked lines few = rw (le-ltb MAX_TOUCHES (touched asked lines) few)
+pub too_long : (asked : Asked) (lines : List Said) (count : ℕ) → (asked.in_parts ≡ true → count ≤ MAX_TOUCHES) →
+    (asked.in_parts ≡ false → count ≡ touched asked lines) → MAX_TOUCHES < count → counted_fault asked lines ≡ Some causes.TooLong
+too_long asked lines count uncounted counted much =
+    if_counted asked lines (Some causes.TooLong) (λ is. absurd (omega (arith, uncounted is)))
+    (λ is. let more : MAX_TOUCHES < touched asked lines = omega (arith, counted is) in rw (lt-ltb MAX_TOUCHES (touched asked lines) more))
+
+pub not_too_long : (asked : Asked) (lines : List Said) (count : ℕ) → (asked.in_parts ≡ false → count ≡ touched asked lines) →
+    count ≤ MAX_TOUCHES → counted_fault asked lines ≡ None
+not_too_long asked lines count counted few =
+    if_counted asked lines None (λ is. refl)
+    (λ is. let fewer : touched asked lines ≤ MAX_TOUCHES = omega (arith, counted is) in rw (le-ltb MAX_TOUCHES (touched asked lines) fewer))

@@ -42,7 +42,8 @@ pub record IsCounted (asked : Asked) (counting : List Said) (counted : Counted) 
   pub as_many : vec_len counted.tasks ≡ length asked.tasks
   pub tasks : (number : ℕ) (default : Followed) → number < length asked.tasks →
       IsFollowed asked counting number (slice_index_or counted.tasks.items number default)
-  pub touched : counted.touched ≡ touched asked counting
+  -- told in parts they aren't counted
+  pub touched : asked.in_parts ≡ false → counted.touched ≡ touched asked counting
   pub few : counted.touched ≤ MAX_TOUCHES
 
 -- # All lines

@@ -1,5 +1,5 @@
 //! What is kept of the lines that count: those up to the end of what is asked for.
-ghost use Rattle.std.specs.Prelude.{◌≡◌, ℕ, ◌<◌, List, [], ◌∷◌, length, Option, None, IfOk, OnOk, IfErr, map};
+ghost use Rattle.std.specs.Prelude.{◌≡◌, ℕ, ◌<◌, List, [], ◌∷◌, length, Option, None, IfOk, OnOk, IfErr, map, true, false};
 ghost use Rattle.yds_kernel.specs.Event as trace;
 ghost use Rattle.yds_kernel.specs.Views.{event_read, happening_read};
 ghost use Rattle.yds_trace.specs.Asked as asking;
@@ -60,14 +60,14 @@ impl Counted {
         requires first { first ≡ first_in (map task_read asked.now.tasks.items) (event_read event.now).happening }
         requires second { second ≡ second_in (map task_read asked.now.tasks.items) (event_read event.now).happening }
         ensures few { (counting : List trace.Said) → IsCounted (asked_read asked.now) counting self.old
-            → OnOk result (spec.touched_fault (asked_read asked.now) (trace.Stamped (event_read event.now) ∷ counting) ≡ None) }
+            → OnOk result (spec.counted_fault (asked_read asked.now) (trace.Stamped (event_read event.now) ∷ counting) ≡ None) }
         ensures stands { (counting : List trace.Said) → IsCounted (asked_read asked.now) counting self.old
             → OnOk result (IsCounted (asked_read asked.now) (trace.Stamped (event_read event.now) ∷ counting) self.new) }
         ensures refused { (counting : List trace.Said) → IsCounted (asked_read asked.now) counting self.old
-            → IfErr result (IsRefusedFor (spec.touched_fault (asked_read asked.now) (trace.Stamped (event_read event.now) ∷ counting))) }
+            → IfErr result (IsRefusedFor (spec.counted_fault (asked_read asked.now) (trace.Stamped (event_read event.now) ∷ counting))) }
     {
         let step = self.past.step(event);
-        let touched = self.touched_by(first, second, step);
+        let touched = self.touched_by(asked.in_parts, first, second, step);
         if touched > MAX_TOUCHES {
             return Err(Refused::Fault(Cause::TooLong));
         }
@@ -85,13 +85,17 @@ impl Counted {
         Ok(())
     }
 
-    /// How many lines tell of the tasks, with an event that is this step.
-    fn touched_by(&self, first: Whose, second: Whose, step: Step) -> u64
-        ensures { (asked : asking.Asked) (counting : List trace.Said) (event : trace.Event) → IsCounted asked counting self.now
+    /// How many lines tell of the tasks, with an event that is this step. Told in parts they aren't counted.
+    fn touched_by(&self, in_parts: bool, first: Whose, second: Whose, step: Step) -> u64
+        ensures counted { (asked : asking.Asked) (counting : List trace.Said) (event : trace.Event) → IsCounted asked counting self.now
             → first ≡ first_in asked.tasks event.happening → second ≡ second_in asked.tasks event.happening
-            → step ≡ step_of asked.start counting event
+            → step ≡ step_of asked.start counting event → in_parts ≡ false → asked.in_parts ≡ false
             → result ≡ spec.touched asked (trace.Stamped event ∷ counting) }
+        ensures not_counted { in_parts ≡ true → result ≡ self.now.touched }
     {
+        if in_parts {
+            return self.touched;
+        }
         if self.touches(first, second, step) {
             self.touched.saturating_add(1)
         } else {

@@ -92,6 +92,17 @@ impl End {
             End::Unseen { since, .. } | End::Lost(since) => End::Lost(time.min(since)),
         }
     }
+
+    /// The same of a job behind which another one has begun.
+    pub(crate) fn lost_before(self, time: u64) -> End
+        ensures { result ≡ spec.lost_before time self }
+    {
+        match self {
+            End::Unseen { since, .. } if time < since => End::Lost(time),
+            End::Unseen { since, goes_on } => End::Unseen { since, goes_on },
+            End::Open | End::Ended(_) | End::Lost(_) => self.lost(time),
+        }
+    }
 }
 
 /// A job of a task.
@@ -160,13 +171,5 @@ impl Job {
     {
         self.stretches.push(stretch)?;
         Ok(self)
-    }
-
-    /// Events were lost after this time.
-    pub(crate) fn lost(mut self, time: u64) -> Job
-        ensures { job_read result ≡ spec.lost_job time (job_read self) }
-    {
-        self.end = self.end.lost(time);
-        self
     }
 }

@@ -234,10 +234,28 @@ pub(crate) fn has_no_switch(jobs: &Vec<Job>) -> bool
 }
 
 /// Events were lost after this time.
+#[tactic(auto, using(crate::proofs::Listed::lost_last))]
 pub(crate) fn lose_all(time: u64, jobs: &mut Vec<Job>)
-    ensures { jobs_listed jobs.new.items ≡ map (spec.lost_job time) (jobs_listed jobs.old.items) }
+    ensures { jobs_listed jobs.new.items ≡ spec.lost_jobs time (jobs_listed jobs.old.items) }
+{
+    lose_earlier(time, jobs);
+    lose_last(time, jobs);
+}
+
+/// Events were lost after this time, and behind each of these jobs another one has begun.
+fn lose_earlier(time: u64, jobs: &mut Vec<Job>)
+    ensures { jobs_listed jobs.new.items ≡ map (spec.lost_earlier time) (jobs_listed jobs.old.items) }
 {
     for job in jobs.iter_mut() {
+        job.end = job.end.lost_before(time);
+    }
+}
+
+/// Events were lost after this time, and the last job may be open.
+fn lose_last(time: u64, jobs: &mut Vec<Job>)
+    ensures { jobs_listed jobs.new.items ≡ spec.changed_last (spec.lost_job time) (jobs_listed jobs.old.items) }
+{
+    if let Some(job) = jobs.last_mut() {
         job.end = job.end.lost(time);
     }
 }

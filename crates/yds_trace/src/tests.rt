@@ -68,6 +68,7 @@ fn asked(alloc: Global) -> Result<Asked, AllocError> {
         to: None,
         begin_at_run: false,
         cut_losses: false,
+        in_parts: false,
     })
 }
 
