@@ -65,7 +65,7 @@ each_lost time (job ∷ was) (after ∷ now) same each =
     ap₂ (λ (x : Job) (xs : List Job). x ∷ xs) (ap job_read (each 0 job (omega arith)))
     (each_lost time was now (omega arith) (λ k d within. each (suc k) d (omega arith)))
 
-map_reverse : (f : Job → Job) (jobs : List Job) → map f (reverse jobs) ≡ reverse (map f jobs)
+pub map_reverse : (f : Job → Job) (jobs : List Job) → map f (reverse jobs) ≡ reverse (map f jobs)
 map_reverse f [] = refl
 map_reverse f (job ∷ jobs) =
     ap (map f) (reverse-append (job ∷ []) jobs)
@@ -106,7 +106,7 @@ changed_append change (job ∷ jobs) more some = refl
 listed_first : (first : JobKept) (jobs : List JobKept) → jobs_listed (first ∷ jobs) ≡ jobs_listed jobs ++ job_read first ∷ []
 listed_first first jobs = reverse-append (job_read first ∷ []) (map job_read jobs)
 
-some_listed : (jobs : List JobKept) → length (jobs_listed jobs) ≡ length jobs
+pub some_listed : (jobs : List JobKept) → length (jobs_listed jobs) ≡ length jobs
 some_listed jobs = length-reverse (map job_read jobs) ∙ length-map jobs job_read
 
 -- What stands last in the code's list is changed.

@@ -2,7 +2,7 @@
 --
 -- A part has the waiting jobs that begin before a quiet instant: each of them is settled, and none of their runs comes after it. So all runs of
 -- the parts behind come after those of this one.
-use Rattle.std.specs.Prelude.{ℕ, ◌+◌, ◌-◌, ◌*◌, ◌/◌, ◌%◌, List, [], ◌∷◌, map, filter, length, sum_by, count_by, max, Bool, true, false, not, ◌==◌, ◌&&◌, ◌||◌, nat_lt, nat_le, if◌then◌else◌, Option, Some, None, is_some, unwrap_or}
+use Rattle.std.specs.Prelude.{ℕ, ◌+◌, ◌%◌, List, [], ◌∷◌, map, filter, length, sum_by, count_by, max, Bool, true, false, not, ◌==◌, ◌&&◌, ◌||◌, nat_lt, nat_le, if◌then◌else◌, Option, Some, None, is_some}
 use Rattle.std.specs.List.{list_any, list_all}
 use Rattle.yds_kernel.specs.declared.loss.Since.TheVariants as since
 use Rattle.yds_kernel.specs.Event.{Said, Stamped, Lost, Nothing, Event, Happening, Switch}
@@ -14,7 +14,7 @@ use Rattle.yds_trace.specs.declared.job.End.{End}
 use Rattle.yds_trace.specs.declared.job.End.TheVariants as ends
 use Rattle.yds_trace.specs.declared.limits.TheConstants.{LOOK_EVERY, PART_JOBS, PART_STRETCHES, WAITING_JOBS, WAITING_STRETCHES}
 use Rattle.yds_trace.specs.Asked.{Asked, task_at, task_of}
-use Rattle.yds_trace.specs.Past.{first_time, last_time, lost_since, is_loss, whole_since, has_switched, up_to}
+use Rattle.yds_trace.specs.Past.{last_time, lost_since, is_loss, whole_since, has_switched, up_to}
 use Rattle.yds_trace.specs.Jobs.{Job, known_after}
 use Rattle.yds_trace.specs.Late.{last_asked}
 use Rattle.yds_trace.specs.Document.{Judged, all_judged, stands}

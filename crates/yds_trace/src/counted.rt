@@ -33,17 +33,21 @@ pub(crate) struct Counted {
     pub tasks: Vec<Followed>,
     /// How many lines told of the tasks.
     pub touched: u64,
+    /// A job that begins before this time may be forgotten.
+    pub boundary: u64,
 }
 
 impl Counted {
     /// Before the first line.
     pub(crate) fn new(alloc: Global, asked: &Asked) -> Result<Counted, Memory>
-        ensures { IfOk result (λ counted. IsCounted (asked_read asked.now) [] counted) }
+        ensures stands { IfOk result (λ counted. IsCounted (asked_read asked.now) [] counted) }
+        ensures boundary { IfOk result (λ counted. counted.boundary ≡ 0) }
     {
         Ok(Counted {
             past: Past::new(alloc, asked.start),
             tasks: follow(alloc, asked.tasks.len())?,
             touched: 0,
+            boundary: 0,
         })
     }
 
@@ -65,6 +69,7 @@ impl Counted {
             → OnOk result (IsCounted (asked_read asked.now) (trace.Stamped (event_read event.now) ∷ counting) self.new) }
         ensures refused { (counting : List trace.Said) → IsCounted (asked_read asked.now) counting self.old
             → IfErr result (IsRefusedFor (spec.counted_fault (asked_read asked.now) (trace.Stamped (event_read event.now) ∷ counting))) }
+        ensures boundary { OnOk result (self.new.boundary ≡ self.old.boundary) }
     {
         let step = self.past.step(event);
         let touched = self.touched_by(asked.in_parts, first, second, step);
@@ -117,8 +122,9 @@ impl Counted {
 
     /// Takes a line without a stamp that counts: events of the processor were lost.
     pub(crate) fn lose(&mut self, processor: u64, since: Since)
-        ensures { (asked : asking.Asked) (counting : List trace.Said) → IsCounted asked counting self.old
+        ensures stands { (asked : asking.Asked) (counting : List trace.Said) → IsCounted asked counting self.old
             → IsCounted asked (trace.Lost processor since ∷ counting) self.new }
+        ensures boundary { self.new.boundary ≡ self.old.boundary }
     {
         let time = self.past.lost_since(processor, since);
         lose_each(&mut self.tasks, time);
@@ -133,9 +139,10 @@ impl Counted {
         processor: u64,
         since: Since,
     )
-        ensures { (asked : asking.Asked) (past : List trace.Said) → IsLines asked past lines.now → asked.to ≡ to
+        ensures stands { (asked : asking.Asked) (past : List trace.Said) → IsLines asked past lines.now → asked.to ≡ to
             → IsCounted asked (up_to asked.to past) self.old
             → IsCounted asked (up_to asked.to (trace.Lost processor since ∷ past)) self.new }
+        ensures boundary { self.new.boundary ≡ self.old.boundary }
     {
         if !is_within_to(to, lines.past.lost_since(processor, since)) {
             return;
@@ -237,6 +244,7 @@ impl Counted {
             → OnOk result (IsCounted (asked_read asked.now) (up_to asked.now.to (trace.Stamped (event_read event.now) ∷ past)) self.new) }
         ensures refused { (past : List trace.Said) → IsLines (asked_read asked.now) past lines.now → IsCounted (asked_read asked.now) (up_to asked.now.to past) self.old
             → IfErr result (IsRefusedFor (spec.length_fault (asked_read asked.now) (trace.Stamped (event_read event.now) ∷ past))) }
+        ensures boundary { OnOk result (self.new.boundary ≡ self.old.boundary) }
     {
         let Some(to) = asked.to else {
             return self.take(alloc, asked, event, first, second);

@@ -172,4 +172,20 @@ impl Job {
         self.stretches.push(stretch)?;
         Ok(self)
     }
+
+    /// The same once more.
+    pub(crate) fn copied(&self, alloc: Global) -> Result<Job, Memory>
+        ensures { IfOk result (λ job. job_read job ≡ job_read self.now) }
+    {
+        let mut stretches = Vec::with_capacity(alloc, self.stretches.len())?;
+        stretches.extend_from_slice(&self.stretches)?;
+        Ok(Job {
+            begin: self.begin,
+            begin_known: self.begin_known,
+            end: self.end,
+            stretches,
+            wake_ups: self.wake_ups,
+            switch_missing: self.switch_missing,
+        })
+    }
 }

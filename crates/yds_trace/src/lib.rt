@@ -15,6 +15,7 @@ mod find;
 mod followed;
 mod job;
 mod jobs;
+mod kept;
 mod known;
 mod limits;
 mod lines;
@@ -31,6 +32,7 @@ pub use cut::{Cut, NO_CUT};
 pub use ended::Ended;
 pub use fault::Cause;
 pub use job::{End, Job, Leaving, Standing, Stretch, Turn};
+pub use kept::Kept;
 pub use known::Known;
 pub use limits::{
     LOOK_EVERY, MAX_DEADLINE, MAX_PROCESSOR, MAX_TIME, MAX_TOUCHES, PART_JOBS, PART_STRETCHES,

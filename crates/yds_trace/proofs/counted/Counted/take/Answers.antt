@@ -25,7 +25,7 @@ returns-clause-stands c = λ counting is. record {
   times = c.in_ok-take.ensures c.args.asked.now.start counting is.times;
   as_many = c.in_ok-take_each.ensures.many ∙ is.as_many;
   tasks = λ number default within.
-      followed_more (asked_read c.args.asked.now) counting (event_read c.args.event.now) number _ _ c.args.first c.args.second c.step-step.result
+      followed_more (asked_read c.args.asked.now) counting (event_read c.args.event.now) c.args.self.now.boundary number _ _ c.args.first c.args.second c.step-step.result
       c.requires.first c.requires.second (c.step-step.ensures c.args.asked.now.start counting is.times)
       (is.tasks number default within)
       (rw c.deref.ensures.value at (c.in_ok-take_each.ensures.each number default (omega (arith, is.as_many))));
