@@ -1,19 +1,24 @@
 -- What is known of each task behind one more line that counts.
-use Rattle.yds_model.proofs.Common.{◌≡◌, ◌∙◌, ℕ, suc, ◌+◌, ◌<◌, ◌≤◌, List, [], ◌∷◌, length, get_or, Bool, true, false, not, ◌||◌, ◌&&◌, if◌then◌else◌, Option, Some, None, is_some, list_any, refl, sym, ap, ap₂, arith, lt-ltb, le-ltb, subst}
+use Rattle.yds_model.proofs.Common.{◌≡◌, ◌∙◌, ℕ, suc, ◌+◌, ◌<◌, ◌≤◌, List, [], ◌∷◌, map, reverse, length, get_or, Bool, true, false, not, ◌||◌, ◌&&◌, if◌then◌else◌, Option, Some, None, is_some, list_any, refl, sym, ap, ap₂, arith, lt-ltb, le-ltb, subst}
+use Rattle.yds_kernel.specs.declared.loss.Since.{Since}
 use Rattle.yds_kernel.specs.Parts.{or_else}
-use Rattle.yds_kernel.specs.Event.{Happening, Switch, WakeUp, Speed, Loss, Marker, Other, Event, Said, Stamped}
+use Rattle.yds_kernel.specs.Event.{Happening, Switch, WakeUp, Speed, Loss, Marker, Other, Event, Said, Stamped, Lost}
 use Rattle.yds_trace.specs.declared.limits.TheConstants.{MAX_TOUCHES}
+use Rattle.yds_trace.specs.declared.fault.Cause.{Cause}
 use Rattle.yds_trace.specs.declared.fault.Cause.TheVariants as causes
 use Rattle.yds_trace.specs.declared.followed.Followed.{Followed}
 use Rattle.yds_trace.specs.declared.step.Step.{Step}
 use Rattle.yds_trace.specs.declared.step.Whose.{Whose}
 use Rattle.yds_trace.specs.Asked.{Task, Asked, task_at, task_of, is_number}
-use Rattle.yds_trace.specs.Jobs.{Known, stands_on, after_switch, wakes_up, after_event, known_after}
-use Rattle.yds_trace.specs.Faults.{pid_in, pid_before, runs_on, touches, touched, touched_fault}
+use Rattle.yds_trace.specs.Jobs.{Job, Known, lost_earlier, lost_jobs, loses, stands_on, after_switch, wakes_up, after_event, known_after}
+use Rattle.yds_trace.specs.Past.{lost_since}
+use Rattle.yds_trace.specs.Faults.{pid_in, pid_before, runs_on, touches, touched, touched_fault, counted_fault}
 use Rattle.yds_trace.specs.Steps.{leaving_after, step_in, step_of, stepped, first_in, second_in, pid_of}
-use Rattle.yds_trace.specs.Following.{IsTaken, touches_by}
-use Rattle.yds_trace.specs.Kept.{IsFollowed}
+use Rattle.yds_trace.specs.Following.{IsTaken, IsLost, touches_by}
+use Rattle.yds_trace.specs.Kept.{behind, KeepsLast, IsFollowed}
 use Rattle.yds_trace.specs.Views.{known_read}
+use Rattle.yds_trace.proofs.Behind.{IsBehind, forgotten_after, stepped_behind, lost_behind, forgotten_reverse, forgotten_kept, are_forgotten_after, lost_are_forgotten}
+use Rattle.yds_trace.proofs.Listed.{map_reverse}
 
 -- # A task
 
@@ -54,22 +59,33 @@ pid_is asked number Loss before = refl
 pid_is asked number Marker before = refl
 pid_is asked number Other before = refl
 
-pub followed_more : (asked : Asked) (counting : List Said) (event : Event) (number : ℕ) (was now : Followed) (first second : Whose) (step : Step) →
+pub followed_more : (asked : Asked) (counting : List Said) (event : Event) (boundary number : ℕ) (was now : Followed) (first second : Whose) (step : Step) →
     first ≡ first_in asked.tasks event.happening → second ≡ second_in asked.tasks event.happening → step ≡ step_of asked.start counting event →
-    IsFollowed asked counting number was →
+    IsFollowed asked counting boundary number was →
     IsTaken (task_at asked number).apart (wakes_of asked) (pid_of number first) (pid_of number second) step was now →
-    IsFollowed asked (Stamped event ∷ counting) number now
-followed_more asked counting event number was now first second step first_is second_is step_is before taken =
+    IsFollowed asked (Stamped event ∷ counting) boundary number now
+followed_more asked counting event boundary number was now first second step first_is second_is step_is before taken =
     let a : ℕ = (task_at asked number).apart in
     let w : Bool = wakes_of asked in
     let one : Whose = first_in asked.tasks event.happening in
     let other : Whose = second_in asked.tasks event.happening in
+    let whole : Known = behind (reverse before.forgotten) (known_read was.known) in
+    let next : List Job = forgotten_after step before.forgotten in
+    let same : forgotten_after step (reverse before.forgotten) ≡ reverse next = forgotten_reverse step before.forgotten in
+    let after : Known = stepped a w (is_some (pid_of number first)) (is_some (pid_of number second)) step (known_read was.known) in
+    let split : IsBehind (forgotten_after step (reverse before.forgotten)) (stepped a w (is_some (pid_of number first)) (is_some (pid_of number second)) step whole) after =
+    stepped_behind (reverse before.forgotten) a w (is_some (pid_of number first)) (is_some (pid_of number second)) step (known_read was.known) before.last in
     record {
-      known = taken.known
-          ∙ ap (λ (f : Whose). stepped a w (is_some (pid_of number f)) (is_some (pid_of number second)) step (known_read was.known)) first_is
-          ∙ ap (λ (s : Whose). stepped a w (is_some (pid_of number one)) (is_some (pid_of number s)) step (known_read was.known)) second_is
+      forgotten = next;
+      known = ap₂ behind (sym same) taken.known
+          ∙ sym split.is
+          ∙ ap (λ (f : Whose). stepped a w (is_some (pid_of number f)) (is_some (pid_of number second)) step whole) first_is
+          ∙ ap (λ (s : Whose). stepped a w (is_some (pid_of number one)) (is_some (pid_of number s)) step whole) second_is
           ∙ ap₂ (λ (by : Step) (known : Known). stepped a w (is_some (pid_of number one)) (is_some (pid_of number other)) by known) step_is before.known
           ∙ stepped_is asked number counting event event.happening (known_after asked number counting);
+      last = subst (λ (known : Known). KeepsLast known.jobs (reverse next)) (sym taken.known) (subst (λ (rest : List Job). KeepsLast after.jobs rest) same split.last);
+      are_forgotten = forgotten_kept boundary next was.forgotten now.forgotten was.before now.before taken.forgotten taken.before
+          (are_forgotten_after step boundary before.forgotten was.forgotten was.before before.are_forgotten);
       pid = taken.pid
           ∙ ap₂ (λ (f s : Whose). or_else (pid_of number s) (or_else (pid_of number f) was.pid)) first_is second_is
           ∙ ap (λ (pid : Option ℕ). or_else (pid_of number other) (or_else (pid_of number one) pid)) before.pid
@@ -78,37 +94,56 @@ followed_more asked counting event number was now first second step first_is sec
 
 -- # How many lines tell of the tasks
 
-runs_on_is : (asked : Asked) (counting : List Said) (processor start : ℕ) (tasks : List Task) (kept : List Followed) → length kept ≡ length tasks →
-    ((k n : ℕ) (d : Followed) → k < length tasks → start + k ≡ n → IsFollowed asked counting n (get_or kept k d)) →
+-- Events were lost after a time.
+pub followed_lost : (asked : Asked) (counting : List Said) (processor : ℕ) (reach : Since) (boundary number time : ℕ) (was now : Followed) →
+    time ≡ lost_since processor reach counting → IsFollowed asked counting boundary number was → IsLost time was now →
+    IsFollowed asked (Lost processor reach ∷ counting) boundary number now
+followed_lost asked counting processor reach boundary number time was now time_is before lost =
+    let next : List Job = map (lost_earlier time) before.forgotten in
+    let same : map (lost_earlier time) (reverse before.forgotten) ≡ reverse next = map_reverse (lost_earlier time) before.forgotten in
+    let split : IsBehind (map (lost_earlier time) (reverse before.forgotten)) (loses time (behind (reverse before.forgotten) (known_read was.known))) (loses time (known_read was.known)) =
+    lost_behind (reverse before.forgotten) time (known_read was.known) before.last in
+    record {
+      forgotten = next;
+      known = ap₂ behind (sym same) lost.known ∙ sym split.is ∙ ap₂ loses time_is before.known;
+      last = subst (λ (known : Known). KeepsLast known.jobs (reverse next)) (sym lost.known)
+          (subst (λ (rest : List Job). KeepsLast (lost_jobs time (known_read was.known).jobs) rest) same split.last);
+      are_forgotten = forgotten_kept boundary next was.forgotten now.forgotten was.before now.before lost.forgotten lost.before
+          (lost_are_forgotten time boundary before.forgotten was.forgotten was.before before.are_forgotten);
+      pid = lost.pid ∙ before.pid;
+    }
+
+runs_on_is : (asked : Asked) (counting : List Said) (boundary processor start : ℕ) (tasks : List Task) (kept : List Followed) → length kept ≡ length tasks →
+    ((k n : ℕ) (d : Followed) → k < length tasks → start + k ≡ n → IsFollowed asked counting boundary n (get_or kept k d)) →
     runs_on asked counting processor start tasks ≡ list_any (λ followed. stands_on processor followed.known.on) kept
-runs_on_is asked counting processor start [] [] many each = refl
-runs_on_is asked counting processor start [] (one ∷ kept) many each = absurd (omega arith)
-runs_on_is asked counting processor start (task ∷ tasks) [] many each = absurd (omega arith)
-runs_on_is asked counting processor start (task ∷ tasks) (one ∷ kept) many each =
+runs_on_is asked counting boundary processor start [] [] many each = refl
+runs_on_is asked counting boundary processor start [] (one ∷ kept) many each = absurd (omega arith)
+runs_on_is asked counting boundary processor start (task ∷ tasks) [] many each = absurd (omega arith)
+runs_on_is asked counting boundary processor start (task ∷ tasks) (one ∷ kept) many each =
     ap₂ (λ (here rest : Bool). here || rest)
     (sym (ap (λ (known : Known). stands_on processor known.on) (each 0 start one (omega arith) (omega arith)).known))
-    (runs_on_is asked counting processor (start + 1) tasks kept (omega arith) (λ k n d within is. each (suc k) n d (omega arith) (omega arith)))
+    (runs_on_is asked counting boundary processor (start + 1) tasks kept (omega arith) (λ k n d within is. each (suc k) n d (omega arith) (omega arith)))
 
-touches_in : (asked : Asked) (counting : List Said) (event : Event) (happening : Happening) (kept : List Followed) → length kept ≡ length asked.tasks →
-    ((k : ℕ) (d : Followed) → k < length asked.tasks → IsFollowed asked counting k (get_or kept k d)) →
+touches_in : (asked : Asked) (counting : List Said) (boundary : ℕ) (event : Event) (happening : Happening) (kept : List Followed) → length kept ≡ length asked.tasks →
+    ((k : ℕ) (d : Followed) → k < length asked.tasks → IsFollowed asked counting boundary k (get_or kept k d)) →
     touches_by (first_in asked.tasks happening) (second_in asked.tasks happening) (step_in asked.start counting event happening) kept ≡ touches asked counting happening
-touches_in asked counting event (Switch previous state next) kept many each = refl
-touches_in asked counting event (WakeUp thread) kept many each = refl
-touches_in asked counting event (Speed processor khz) kept many each =
-    sym (runs_on_is asked counting processor 0 asked.tasks kept many
-    (λ k n d within is. let same : k ≡ n = omega arith in let P : ℕ → Type 0 = λ m. IsFollowed asked counting m (get_or kept k d) in subst P same (each k d within)))
-touches_in asked counting event Loss kept many each = refl
-touches_in asked counting event Marker kept many each = refl
-touches_in asked counting event Other kept many each = refl
+touches_in asked counting boundary event (Switch previous state next) kept many each = refl
+touches_in asked counting boundary event (WakeUp thread) kept many each = refl
+touches_in asked counting boundary event (Speed processor khz) kept many each =
+    sym (runs_on_is asked counting boundary processor 0 asked.tasks kept many
+    (λ k n d within is. let same : k ≡ n = omega arith in let P : ℕ → Type 0 = λ m. IsFollowed asked counting boundary m (get_or kept k d) in subst P same (each k d within)))
+touches_in asked counting boundary event Loss kept many each = refl
+touches_in asked counting boundary event Marker kept many each = refl
+touches_in asked counting boundary event Other kept many each = refl
 
-pub touches_is : (asked : Asked) (counting : List Said) (event : Event) (first second : Whose) (step : Step) (kept : List Followed) →
+pub touches_is : (asked : Asked) (counting : List Said) (boundary : ℕ) (event : Event) (first second : Whose) (step : Step) (kept : List Followed) →
     first ≡ first_in asked.tasks event.happening → second ≡ second_in asked.tasks event.happening → step ≡ step_of asked.start counting event →
-    length kept ≡ length asked.tasks → ((k : ℕ) (d : Followed) → k < length asked.tasks → IsFollowed asked counting k (get_or kept k d)) →
+    length kept ≡ length asked.tasks → ((k : ℕ) (d : Followed) → k < length asked.tasks → IsFollowed asked counting boundary k (get_or kept k d)) →
     touches_by first second step kept ≡ touches asked counting event.happening
-touches_is asked counting event first second step kept first_is second_is step_is many each =
+touches_is asked counting boundary event first second step kept first_is second_is step_is many each =
     ap₂ (λ (f s : Whose). touches_by f s step kept) first_is second_is
     ∙ ap (λ (by : Step). touches_by (first_in asked.tasks event.happening) (second_in asked.tasks event.happening) by kept) step_is
-    ∙ touches_in asked counting event event.happening kept many each
+    ∙ touches_in asked counting boundary event event.happening kept many each
 
 pub touched_more : (asked : Asked) (counting : List Said) (event : Event) → touches asked counting event.happening ≡ true →
     touched asked (Stamped event ∷ counting) ≡ suc (touched asked counting)
@@ -120,8 +155,23 @@ touched_same asked counting event not_so = rw not_so
 
 -- # Too many
 
-pub too_long : (asked : Asked) (lines : List Said) → MAX_TOUCHES < touched asked lines → touched_fault asked lines ≡ Some causes.TooLong
-too_long asked lines much = rw (lt-ltb MAX_TOUCHES (touched asked lines) much)
+-- Told in parts nothing is too much.
+if_counted : (asked : Asked) (lines : List Said) (fault : Option Cause) → (asked.in_parts ≡ true → None ≡ fault)
+    → (asked.in_parts ≡ false → touched_fault asked lines ≡ fault) → counted_fault asked lines ≡ fault
+if_counted asked lines fault in_parts counted = by asked.in_parts refl
+  where
+    by : (b : Bool) → asked.in_parts ≡ b → (if b then None else touched_fault asked lines) ≡ fault
+    by true is = in_parts is
+    by false is = counted is
 
-pub not_too_long : (asked : Asked) (lines : List Said) → touched asked lines ≤ MAX_TOUCHES → touched_fault asked lines ≡ None
-not_too_long asked lines few = rw (le-ltb MAX_TOUCHES (touched asked lines) few)
+pub too_long : (asked : Asked) (lines : List Said) (count : ℕ) → (asked.in_parts ≡ true → count ≤ MAX_TOUCHES) →
+    (asked.in_parts ≡ false → count ≡ touched asked lines) → MAX_TOUCHES < count → counted_fault asked lines ≡ Some causes.TooLong
+too_long asked lines count uncounted counted much =
+    if_counted asked lines (Some causes.TooLong) (λ is. absurd (omega (arith, uncounted is)))
+    (λ is. let more : MAX_TOUCHES < touched asked lines = omega (arith, counted is) in rw (lt-ltb MAX_TOUCHES (touched asked lines) more))
+
+pub not_too_long : (asked : Asked) (lines : List Said) (count : ℕ) → (asked.in_parts ≡ false → count ≡ touched asked lines) →
+    count ≤ MAX_TOUCHES → counted_fault asked lines ≡ None
+not_too_long asked lines count counted few =
+    if_counted asked lines None (λ is. refl)
+    (λ is. let fewer : touched asked lines ≤ MAX_TOUCHES = omega (arith, counted is) in rw (le-ltb MAX_TOUCHES (touched asked lines) fewer))

@@ -13,10 +13,11 @@ use Rattle.yds_trace.specs.Ended.{jobs_from, in_order_of_begin}
 use Rattle.yds_trace.specs.Kept.{IsFollowed}
 use Rattle.yds_trace.specs.Passing.{closed_at}
 use Rattle.yds_trace.specs.Views.{job_read, jobs_listed, known_read}
+use Rattle.yds_trace.proofs.Behind.{known_whole}
 
 pub jobs_are : (asked : Asked) (past : List Said) (start until : ℕ) (tasks : List Task) (kept : List Followed) (all : List (Vec JobKept Global)) →
     until ≡ last_asked asked past → length kept ≡ length tasks →
-    ((k n : ℕ) (d : Followed) → k < length tasks → start + k ≡ n → IsFollowed asked (up_to asked.to past) n (get_or kept k d)) →
+    ((k n : ℕ) (d : Followed) → k < length tasks → start + k ≡ n → IsFollowed asked (up_to asked.to past) 0 n (get_or kept k d)) →
     map (λ jobs. jobs_listed jobs.items) all ≡ map (λ followed. closed_at until asked.start (up_to asked.to past) (known_read followed.known)) kept →
     map in_order_of_begin all ≡ jobs_from asked past start tasks
 jobs_are asked past start until [] [] [] until_is many each same = refl
@@ -28,5 +29,5 @@ jobs_are asked past start until (task ∷ tasks) (one ∷ kept) (jobs ∷ all) u
     let here : jobs_listed jobs.items ≡ closed_at until asked.start (up_to asked.to past) (known_read one.known) = cc in
     ap₂ (λ (x : List Job) (xs : List (List Job)). x ∷ xs)
     (sym (reverse-reverse (map job_read jobs.items))
-    ∙ ap reverse (here ∙ ap₂ (λ (time : ℕ) (known : Known). closed_at time asked.start (up_to asked.to past) known) until_is (each 0 start one (omega arith) (omega arith)).known))
+    ∙ ap reverse (here ∙ ap₂ (λ (time : ℕ) (known : Known). closed_at time asked.start (up_to asked.to past) known) until_is (known_whole asked (up_to asked.to past) start one (each 0 start one (omega arith) (omega arith)))))
     (jobs_are asked past (start + 1) until tasks kept all until_is (omega arith) (λ k n d within is. each (suc k) n d (omega arith) (omega arith)) cc)

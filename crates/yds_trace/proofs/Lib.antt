@@ -3,5 +3,11 @@ pub mod Finding
 pub mod Seeing
 pub mod Closing
 pub mod UpTo
+pub mod Behind
 pub mod Counting
 pub mod Ending
+pub mod Showing
+pub mod Forgetting
+pub mod Copying
+pub mod Enough
+pub mod Written

@@ -1,9 +1,10 @@
 -- What stands last in the code's lists stands first in the definitions'.
-use Rattle.yds_model.proofs.Common.{◌≡◌, ℕ, zero, suc, ◌+◌, ◌<◌, ◌≤◌, List, [], ◌∷◌, ◌++◌, ◌∙◌, map, reverse, length, get_or, set, refl, ap, ap₂, sym, arith, map-append, reverse-append, get_or-set_same, get_or-set_other, get_or_default, drop_all, take_all, take, drop, append-nil, length-map, length-reverse, length-set, cases_lt, inl, inr, ◌≢◌}
+use Rattle.yds_model.proofs.Common.{◌≡◌, ℕ, zero, suc, ◌+◌, ◌<◌, ◌≤◌, List, [], ◌∷◌, ◌++◌, ◌∙◌, map, reverse, length, get_or, set, refl, ap, ap₂, sym, arith, map-append, reverse-append, get_or-set_same, get_or-set_other, get_or_default, drop_all, take_all, take, drop, append-nil, length-map, length-reverse, length-set, cases_lt, inl, inr, ◌≢◌, Bool, true, false, if◌then◌else◌, nat_lt, min, ltb-true}
 use Rattle.yds_trace.specs.declared.job.End.{End}
+use Rattle.yds_trace.specs.declared.job.End.TheVariants as ends
 use Rattle.yds_trace.specs.declared.job.Job.{Job as JobKept}
 use Rattle.yds_trace.specs.declared.job.Stretch.{Stretch}
-use Rattle.yds_trace.specs.Jobs.{Job, changed_last, lost_end, lost_job}
+use Rattle.yds_trace.specs.Jobs.{Job, changed_last, lost_end, lost_before, lost_job, lost_earlier, lost_jobs}
 use Rattle.yds_trace.specs.Views.{job_read, jobs_listed}
 
 pub reverse_push : (stretches : List Stretch) (stretch : Stretch) → reverse (stretches ++ stretch ∷ []) ≡ stretch ∷ reverse stretches
@@ -14,9 +15,9 @@ jobs_listed_push jobs job = rw (map-append, reverse-append)
 
 -- # Losses
 
--- a job of which events were lost after this time
+-- a job behind which another one has begun, and of which events were lost after this time
 abbrev pub lost_kept : ℕ → JobKept → JobKept
-lost_kept time job = record job { end = lost_end time job.end }
+lost_kept time job = record job { end = lost_before time job.end }
 
 -- the jobs below an index are those, and the others are as they were
 pub record LostBelow (time index : ℕ) (was now : List JobKept) : Type 0 where
@@ -28,7 +29,7 @@ pub lost_none : (time : ℕ) (was : List JobKept) → LostBelow time 0 was was
 lost_none time was = record { same_length = refl; below = λ k d within. absurd (omega arith); above = λ k d within. refl }
 
 pub lost_more : (time index : ℕ) (was now : List JobKept) (d : JobKept) (end : End) → index < length now → LostBelow time index was now →
-    end ≡ lost_end time (get_or now index d).end → LostBelow time (index + 1) was (set now index (record (get_or now index d) { end = end }))
+    end ≡ lost_before time (get_or now index d).end → LostBelow time (index + 1) was (set now index (record (get_or now index d) { end = end }))
 lost_more time index was now d end within before is =
     let after : JobKept = record (get_or now index d) { end = end } in
     let lost : after ≡ lost_kept time (get_or now index d) = ap (λ (e : End). record (get_or now index d) { end = e }) is in
@@ -56,7 +57,7 @@ kept_whole len xs ys same within =
 
 each_lost : (time : ℕ) (was now : List JobKept) → length now ≡ length was →
     ((k : ℕ) (d : JobKept) → k < length was → get_or now k d ≡ lost_kept time (get_or was k d)) →
-    map job_read now ≡ map (lost_job time) (map job_read was)
+    map job_read now ≡ map (lost_earlier time) (map job_read was)
 each_lost time [] [] same each = refl
 each_lost time [] (job ∷ now) same each = absurd (omega arith)
 each_lost time (job ∷ was) [] same each = absurd (omega arith)
@@ -64,7 +65,7 @@ each_lost time (job ∷ was) (after ∷ now) same each =
     ap₂ (λ (x : Job) (xs : List Job). x ∷ xs) (ap job_read (each 0 job (omega arith)))
     (each_lost time was now (omega arith) (λ k d within. each (suc k) d (omega arith)))
 
-map_reverse : (f : Job → Job) (jobs : List Job) → map f (reverse jobs) ≡ reverse (map f jobs)
+pub map_reverse : (f : Job → Job) (jobs : List Job) → map f (reverse jobs) ≡ reverse (map f jobs)
 map_reverse f [] = refl
 map_reverse f (job ∷ jobs) =
     ap (map f) (reverse-append (job ∷ []) jobs)
@@ -73,11 +74,30 @@ map_reverse f (job ∷ jobs) =
     ∙ sym (reverse-append (f job ∷ []) (map f jobs))
 
 pub lost_all : (time index : ℕ) (was now : List JobKept) → length was ≤ index → LostBelow time index was now →
-    jobs_listed now ≡ map (lost_job time) (jobs_listed was)
+    jobs_listed now ≡ map (lost_earlier time) (jobs_listed was)
 lost_all time index was now whole lost =
-    ap reverse (each_lost time was now lost.same_length (λ k d within. lost.below k d (omega arith))) ∙ sym (map_reverse (lost_job time) (map job_read was))
+    ap reverse (each_lost time was now lost.same_length (λ k d within. lost.below k d (omega arith))) ∙ sym (map_reverse (lost_earlier time) (map job_read was))
 
 -- # The last job
+
+lost_twice : (time : ℕ) (end : End) → lost_end time (lost_before time end) ≡ lost_end time end
+lost_twice time ends.Open = ap ends.Lost (omega arith)
+lost_twice time (ends.Ended end) = by (nat_lt time end) refl
+  where
+    by : (b : Bool) → nat_lt time end ≡ b → lost_end time (if b then ends.Lost time else ends.Ended end) ≡ (if b then ends.Lost time else ends.Ended end)
+    by true so = ap ends.Lost (omega arith)
+    by false so = rw so refl
+lost_twice time (ends.Unseen last goes_on) = by (nat_lt time last) refl
+  where
+    by : (b : Bool) → nat_lt time last ≡ b → lost_end time (if b then ends.Lost time else ends.Unseen last goes_on) ≡ ends.Lost (min time last)
+    by true so = ap ends.Lost (omega (arith, ltb-true time last so))
+    by false so = refl
+lost_twice time (ends.Lost last) = ap ends.Lost (omega arith)
+
+-- Of all jobs it is lost as of earlier ones, and then of the last one as of one that may be open.
+pub lost_last : (time : ℕ) (jobs : List Job) → changed_last (lost_job time) (map (lost_earlier time) jobs) ≡ lost_jobs time jobs
+lost_last time [] = refl
+lost_last time (job ∷ jobs) = ap (λ (end : End). record job { end = end } ∷ map (lost_earlier time) jobs) (lost_twice time job.end)
 
 changed_append : (change : Job → Job) (jobs more : List Job) → 1 ≤ length jobs → changed_last change (jobs ++ more) ≡ changed_last change jobs ++ more
 changed_append change [] more some = absurd (omega arith)
@@ -86,7 +106,7 @@ changed_append change (job ∷ jobs) more some = refl
 listed_first : (first : JobKept) (jobs : List JobKept) → jobs_listed (first ∷ jobs) ≡ jobs_listed jobs ++ job_read first ∷ []
 listed_first first jobs = reverse-append (job_read first ∷ []) (map job_read jobs)
 
-some_listed : (jobs : List JobKept) → length (jobs_listed jobs) ≡ length jobs
+pub some_listed : (jobs : List JobKept) → length (jobs_listed jobs) ≡ length jobs
 some_listed jobs = length-reverse (map job_read jobs) ∙ length-map jobs job_read
 
 -- What stands last in the code's list is changed.

@@ -39,6 +39,8 @@ pub record Asked : Type 0 where
   pub begin_at_run : Bool
   -- where events were lost it goes on, and leaves out the jobs that may have been open there
   pub cut_losses : Bool
+  -- it is told in parts, documents one after another
+  pub in_parts : Bool
 
 abbrev pub task_at : Asked → ℕ → Task
 task_at asked number = slice_index_or asked.tasks number no_task

@@ -160,8 +160,12 @@ stamped_fault asked past event = or_else (place_fault event) (behind_fault asked
 abbrev pub touched_fault : Asked → List Said → Option Cause
 touched_fault asked counting = if nat_lt MAX_TOUCHES (touched asked counting) then Some causes.TooLong else None
 
+-- Told in parts they may tell as much as they like: what waits is bounded.
+abbrev pub counted_fault : Asked → List Said → Option Cause
+counted_fault asked counting = if asked.in_parts then None else touched_fault asked counting
+
 abbrev pub length_fault : Asked → List Said → Option Cause
-length_fault asked lines = touched_fault asked (up_to asked.to lines)
+length_fault asked lines = counted_fault asked (up_to asked.to lines)
 
 -- what a line with this past is refused for
 abbrev pub said_fault : Asked → List Said → Said → Option Cause

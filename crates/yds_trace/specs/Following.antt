@@ -1,10 +1,13 @@
 -- What a task's kept state becomes by an event.
-use Rattle.std.specs.Prelude.{◌≡◌, ℕ, ◌||◌, Bool, true, false, List, map, Option, None, is_some}
-use Rattle.std.specs.List.{slice_index_or, list_any}
+use Rattle.std.specs.Prelude.{◌≡◌, ℕ, ◌+◌, ◌<◌, ◌≤◌, ◌==◌, ◌||◌, if◌then◌else◌, Bool, true, false, List, map, length, take, drop, sum_by, Option, None, is_some}
+use Rattle.std.specs.List.{slice_index_or, list_any, All}
+use Rattle.yds_kernel.specs.Event.{Said}
 use Rattle.yds_kernel.specs.Parts.{or_else}
 use Rattle.yds_trace.specs.declared.asked.Task.{Task as TaskKept}
 use Rattle.yds_trace.specs.declared.followed.Followed.{Followed}
+use Rattle.yds_trace.specs.declared.job.Job.{Job as JobKept}
 use Rattle.yds_trace.specs.declared.job.Standing.{Standing}
+use Rattle.yds_trace.specs.declared.shown.ShownTask.{ShownTask}
 use Rattle.yds_trace.specs.declared.step.Place.{Place}
 use Rattle.yds_trace.specs.declared.step.Place.TheVariants as places
 use Rattle.yds_trace.specs.declared.step.Step.{Step}
@@ -12,8 +15,11 @@ use Rattle.yds_trace.specs.declared.step.Step.TheVariants as steps
 use Rattle.yds_trace.specs.declared.step.Whose.{Whose}
 use Rattle.yds_trace.specs.Asked.{no_task}
 use Rattle.yds_trace.specs.Jobs.{unknown, loses, stands_on}
+use Rattle.yds_trace.specs.Document.{began_before}
+use Rattle.yds_trace.specs.Parts.{last_begin}
+use Rattle.yds_trace.specs.Passing.{closed_at}
 use Rattle.yds_trace.specs.Steps.{stepped}
-use Rattle.yds_trace.specs.Views.{known_read, task_read}
+use Rattle.yds_trace.specs.Views.{job_read, jobs_listed, known_read, task_read}
 
 -- A wake-up that comes less than so long after a job's begin goes on with it.
 abbrev pub apart_of : List TaskKept → ℕ → ℕ
@@ -23,11 +29,15 @@ apart_of tasks number = (slice_index_or (map task_read tasks) number no_task).ap
 pub record IsUnknown (followed : Followed) : Type 0 where
   pub known : known_read followed.known ≡ unknown
   pub pid : followed.pid ≡ None
+  pub forgotten : followed.forgotten ≡ 0
+  pub before : followed.before ≡ false
 
 -- It took an event, in which its thread leaves or is woken by the first number, and comes by the second.
 pub record IsTaken (apart : ℕ) (wakes : Bool) (first second : Option ℕ) (step : Step) (was now : Followed) : Type 0 where
   pub known : known_read now.known ≡ stepped apart wakes (is_some first) (is_some second) step (known_read was.known)
   pub pid : now.pid ≡ or_else second (or_else first was.pid)
+  pub forgotten : now.forgotten ≡ was.forgotten
+  pub before : now.before ≡ was.before
 
 -- Of a thread on which processor it tells something, though that neither leaves, nor comes, nor is woken.
 abbrev pub place_of : Step → Place
@@ -46,6 +56,49 @@ is_at places.Nowhere on = false
 pub record IsLost (time : ℕ) (was now : Followed) : Type 0 where
   pub known : known_read now.known ≡ loses time (known_read was.known)
   pub pid : now.pid ≡ was.pid
+  pub forgotten : now.forgotten ≡ was.forgotten
+  pub before : now.before ≡ was.before
+
+-- # What is forgotten
+
+-- Whether the first job of all began before the trace.
+abbrev pub first_before : Followed → Bool
+first_before followed = if followed.forgotten == 0 then began_before (map job_read followed.known.jobs.items) else followed.before
+
+-- So many of its first jobs were forgotten, which begin before the boundary. The last one was kept.
+pub record Forgets (boundary : ℕ) (was now : Followed) : Type 0 where
+  pub count : ℕ
+  pub earlier : All (λ job. job.begin < boundary) (take count was.known.jobs.items)
+  pub last : 1 ≤ count → count < length was.known.jobs.items
+  pub jobs : now.known.jobs.items ≡ drop count was.known.jobs.items
+  pub on : now.known.on ≡ was.known.on
+  pub woken : now.known.woken ≡ was.known.woken
+  pub pid : now.pid ≡ was.pid
+  pub forgotten : now.forgotten ≡ was.forgotten + count
+  pub before : now.before ≡ (if count == 0 then was.before else first_before was)
+
+-- # What is shown
+
+-- It is what is kept of the task, closed at the end of what is shown.
+pub record Shows (until : ℕ) (start : Option ℕ) (counting : List Said) (followed : Followed) (shown : ShownTask) : Type 0 where
+  pub jobs : jobs_listed shown.jobs.items ≡ closed_at until start counting (known_read followed.known)
+  pub forgotten : shown.forgotten ≡ followed.forgotten
+  pub before : shown.before ≡ first_before followed
+  pub last : shown.last_begin ≡ last_begin (jobs_listed followed.known.jobs.items)
+
+-- # How much is kept
+
+abbrev pub jobs_in : Followed → ℕ
+jobs_in followed = length followed.known.jobs.items
+
+abbrev pub stretches_in : JobKept → ℕ
+stretches_in job = length job.stretches.items
+
+-- A thread that stands on a processor has a stretch more when it is closed.
+abbrev pub stretches_of : Followed → ℕ
+stretches_of followed = sum_by stretches_in followed.known.jobs.items + (if is_some followed.known.on then 1 else 0)
+
+-- # Events that tell of tasks
 
 -- An event tells of one of these tasks.
 abbrev pub touches_by : Whose → Whose → Step → List Followed → Bool

@@ -222,9 +222,21 @@ lost_end time (ends.Lost last) = ends.Lost (min time last)
 abbrev pub lost_job : ℕ → Job → Job
 lost_job time job = record job { end = lost_end time job.end }
 
+-- Of a job behind which another one has begun, what was known of its end before the loss stays.
+abbrev pub lost_before : ℕ → End → End
+lost_before time (ends.Unseen last goes_on) = if nat_lt time last then ends.Lost time else ends.Unseen last goes_on
+lost_before time end = lost_end time end
+
+abbrev pub lost_earlier : ℕ → Job → Job
+lost_earlier time job = record job { end = lost_before time job.end }
+
+abbrev pub lost_jobs : ℕ → List Job → List Job
+lost_jobs time [] = []
+lost_jobs time (job ∷ jobs) = lost_job time job ∷ map (lost_earlier time) jobs
+
 abbrev pub loses : ℕ → Known → Known
 loses time known = record {
-  jobs = map (lost_job time) known.jobs;
+  jobs = lost_jobs time known.jobs;
   on = None;
   woken = false;
 }

@@ -1,7 +1,9 @@
 -- What a pass keeps of the lines so far, and when that stands for them.
-use Rattle.std.specs.Prelude.{◌≡◌, ℕ, ◌<◌, ◌≤◌, List, length, false, Option, None, unwrap_or, is_some, vec_len}
-use Rattle.std.specs.List.{slice_index_or}
+use Rattle.std.specs.Prelude.{◌≡◌, ℕ, ◌<◌, ◌≤◌, List, [], ◌∷◌, ◌++◌, length, reverse, Bool, false, Option, None, unwrap_or, is_some, vec_len}
+use Rattle.std.specs.List.{slice_index_or, All}
 use Rattle.yds_kernel.specs.Event.{Said}
+use Rattle.yds_kernel.specs.Parts.{capped}
+use Rattle.yds_trace.specs.declared.kept.Kept.{Kept as Amount}
 use Rattle.yds_trace.specs.declared.limits.TheConstants.{MAX_TOUCHES}
 use Rattle.yds_trace.specs.declared.past.Told.{Told}
 use Rattle.yds_trace.specs.declared.past.Past.{Past as PastKept}
@@ -11,9 +13,11 @@ use Rattle.yds_trace.specs.declared.lines.Lines.{Lines}
 use Rattle.yds_trace.specs.declared.pass.Pass.{Pass}
 use Rattle.yds_trace.specs.Asked.{Asked}
 use Rattle.yds_trace.specs.Past.{first_time, last_time, last_time_on, whole_since, has_switched, up_to, speed_after}
-use Rattle.yds_trace.specs.Jobs.{known_after}
+use Rattle.yds_trace.specs.Jobs.{Job, Known, known_after}
+use Rattle.yds_trace.specs.Document.{began_before}
 use Rattle.yds_trace.specs.Faults.{pid_before, lost_just_before, touched, has_stamp, has_wake_up}
-use Rattle.yds_trace.specs.Views.{known_read, asked_read}
+use Rattle.yds_trace.specs.Parts.{waiting_from, stretches_of}
+use Rattle.yds_trace.specs.Views.{jobs_listed, known_read, asked_read}
 
 -- # Lines
 
@@ -32,17 +36,38 @@ pub record IsPast (start : Option ℕ) (past : List Said) (kept : PastKept) : Ty
 
 -- # The lines that count
 
--- what is known of the task of this number, behind the lines that count
-pub record IsFollowed (asked : Asked) (counting : List Said) (number : ℕ) (followed : Followed) : Type 0 where
-  pub known : known_read followed.known ≡ known_after asked number counting
+-- what is known of a thread, with the forgotten jobs before those that are kept, all of them the last one first
+abbrev pub behind : List Job → Known → Known
+behind forgotten known = record { jobs = known.jobs ++ forgotten; on = known.on; woken = known.woken }
+
+-- The last job is kept, where any is forgotten.
+abbrev pub KeepsLast : List Job → List Job → Type 0
+KeepsLast [] forgotten = forgotten ≡ []
+KeepsLast (job ∷ jobs) forgotten = Unit {0}
+
+-- The forgotten jobs, in order of begin: all begin before the boundary. What is kept of them is their number, and whether the first began before
+-- the trace.
+pub record AreForgotten (boundary : ℕ) (forgotten : List Job) (count : ℕ) (early : Bool) : Type 0 where
+  pub earlier : All (λ job. job.begin < boundary) forgotten
+  pub as_many : count ≡ length forgotten
+  pub before : early ≡ began_before forgotten
+
+-- What is known of the task of this number, behind the lines that count. Of its jobs the first may be forgotten that begin before the boundary.
+pub record IsFollowed (asked : Asked) (counting : List Said) (boundary number : ℕ) (followed : Followed) : Type 0 where
+  -- in order of begin
+  pub forgotten : List Job
+  pub known : behind (reverse forgotten) (known_read followed.known) ≡ known_after asked number counting
+  pub last : KeepsLast (jobs_listed followed.known.jobs.items) (reverse forgotten)
+  pub are_forgotten : AreForgotten boundary forgotten followed.forgotten followed.before
   pub pid : followed.pid ≡ pid_before asked number counting
 
 pub record IsCounted (asked : Asked) (counting : List Said) (counted : Counted) : Type 0 where
   pub times : IsPast asked.start counting counted.past
   pub as_many : vec_len counted.tasks ≡ length asked.tasks
   pub tasks : (number : ℕ) (default : Followed) → number < length asked.tasks →
-      IsFollowed asked counting number (slice_index_or counted.tasks.items number default)
-  pub touched : counted.touched ≡ touched asked counting
+      IsFollowed asked counting counted.boundary number (slice_index_or counted.tasks.items number default)
+  -- told in parts they aren't counted
+  pub touched : asked.in_parts ≡ false → counted.touched ≡ touched asked counting
   pub few : counted.touched ≤ MAX_TOUCHES
 
 -- # All lines
@@ -57,7 +82,25 @@ pub record IsLines (asked : Asked) (past : List Said) (lines : Lines) : Type 0 w
 -- # A pass
 
 -- What a pass keeps stands for these lines, with what is asked.
-pub record IsAt (asked : Asked) (past : List Said) (pass : Pass) : Type 0 where
+pub record IsStanding (asked : Asked) (past : List Said) (pass : Pass) : Type 0 where
   pub same_asked : asked_read pass.asked ≡ asked
   pub lines : IsLines asked past pass.lines
   pub counted : IsCounted asked (up_to asked.to past) pass.counted
+
+-- And no job is forgotten that begins at the boundary or later.
+pub record IsAtBehind (asked : Asked) (past : List Said) (boundary : ℕ) (pass : Pass) : Type 0 where
+  pub same_asked : asked_read pass.asked ≡ asked
+  pub lines : IsLines asked past pass.lines
+  pub counted : IsCounted asked (up_to asked.to past) pass.counted
+  pub within : pass.counted.boundary ≤ boundary
+
+-- none is
+abbrev pub IsAt : Asked → List Said → Pass → Type 0
+IsAt asked past pass = IsAtBehind asked past 0 pass
+
+-- # How much waits
+
+-- At most so many jobs and stretches wait. Beyond 64 bits neither is counted.
+pub record IsEnough (asked : Asked) (past : List Said) (boundary : ℕ) (amount : Amount) : Type 0 where
+  pub jobs : capped (length (waiting_from asked past boundary)) ≤ amount.jobs
+  pub stretches : capped (stretches_of (waiting_from asked past boundary)) ≤ amount.stretches

@@ -5,8 +5,10 @@ pub mod Late
 pub mod WrittenTime
 pub mod Document
 pub mod Faults
+pub mod Parts
 pub mod Views
 pub mod Ended
+pub mod Shown
 pub mod Steps
 pub mod Kept
 pub mod Finding

@@ -1,7 +1,8 @@
 -- What a pass answers to a line, and at the end.
-use Rattle.std.specs.Prelude.{◌≡◌, ℕ, List, Option, Some, None, Result, Ok, Err}
+use Rattle.std.specs.Prelude.{◌≡◌, ℕ, List, false, Option, Some, None, Result, Ok, Err}
 use Rattle.yds_kernel.specs.Event.{Said}
 use Rattle.yds_trace.specs.declared.fault.Cause.{Cause}
+use Rattle.yds_trace.specs.declared.job.Standing.{Standing}
 use Rattle.yds_trace.specs.declared.refused.Refused.{Refused}
 use Rattle.yds_trace.specs.declared.refused.Refused.TheVariants as refusals
 use Rattle.yds_trace.specs.Past.{speed_after}
@@ -28,3 +29,7 @@ closed_at until start counting known = elim known.on [
     khz = speed_after start standing.processor counting;
   })) known.jobs
 ]
+
+-- a thread that stands there, with these jobs
+abbrev pub standing_on : Option Standing → List Job → Known
+standing_on on jobs = record { jobs = jobs; on = on; woken = false }

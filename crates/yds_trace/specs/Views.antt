@@ -45,4 +45,5 @@ asked_read asked = record {
   to = asked.to;
   begin_at_run = asked.begin_at_run;
   cut_losses = asked.cut_losses;
+  in_parts = asked.in_parts;
 }

@@ -43,4 +43,6 @@ pub struct Asked {
     pub begin_at_run: bool,
     /// Whether to go on where events were lost, and to leave out the jobs that may have been open there.
     pub cut_losses: bool,
+    /// Whether it is told in parts, documents one after another.
+    pub in_parts: bool,
 }

@@ -1,21 +1,23 @@
 //! What a line, or a whole trace, is refused for.
 ghost use Rattle.std.specs.Prelude.{◌≡◌, List};
 ghost use Rattle.yds_kernel.specs.Event as trace;
-ghost use Rattle.yds_kernel.specs.Views.{event_read};
+ghost use Rattle.yds_kernel.specs.Views.{event_read, said_read};
 ghost use Rattle.yds_trace.specs.Faults as spec;
 ghost use Rattle.yds_trace.specs.Finding.{first_found, second_found};
 ghost use Rattle.yds_trace.specs.Kept.{IsCounted, IsLines};
+ghost use Rattle.yds_trace.specs.Parts.{changes_parts, part_fault};
 ghost use Rattle.yds_trace.specs.Passing.{fault_in};
 ghost use Rattle.yds_trace.specs.Past.{up_to};
 ghost use Rattle.yds_trace.specs.Views.{asked_read};
 
 use crate::asked::Asked;
 use crate::counted::Counted;
+use crate::cut::Cut;
 use crate::fault::Cause;
-use crate::find::Found;
+use crate::find::{Found, find};
 use crate::limits::{MAX_PROCESSOR, MAX_TIME};
 use crate::lines::{Lines, is_before_to, is_behind_from, is_within_to};
-use yds_kernel::{Event, Happening, Since};
+use yds_kernel::{Event, Happening, Said, Since};
 
 /// What an event is refused for, whatever stands before it.
 pub(crate) fn check_place(event: &Event<'_>) -> Result<(), Cause>
@@ -133,4 +135,58 @@ pub(crate) fn check_whole(asked: &Asked, lines: &Lines) -> Result<(), Cause>
         return Ok(());
     }
     Err(Cause::NoWakeUp)
+}
+
+/// What a line is refused for behind the parts that are written.
+pub(crate) fn check_parts(
+    asked: &Asked,
+    lines: &Lines,
+    counted: &Counted,
+    said: &Said<'_>,
+    cut: Cut,
+) -> Result<(), Cause>
+    ensures { (past : List trace.Said) → IsLines (asked_read asked.now) past lines.now
+        → IsCounted (asked_read asked.now) (up_to asked.now.to past) counted.now
+        → fault_in result ≡ part_fault (asked_read asked.now) past cut (said_read said.now) }
+{
+    if changes_parts(asked, lines, counted, said, cut) {
+        return Err(Cause::PartWritten);
+    }
+    Ok(())
+}
+
+/// Whether a line changes what is known of jobs that are written.
+fn changes_parts(asked: &Asked, lines: &Lines, counted: &Counted, said: &Said<'_>, cut: Cut) -> bool
+    ensures { (past : List trace.Said) → IsLines (asked_read asked.now) past lines.now
+        → IsCounted (asked_read asked.now) (up_to asked.now.to past) counted.now
+        → result ≡ changes_parts (asked_read asked.now) past cut (said_read said.now) }
+{
+    match said {
+        Said::Event(event) => changes_by(asked, lines, counted, event, cut),
+        Said::Lost { processor, since } => {
+            lines.past.lost_since(*processor, *since) < cut.decided
+        }
+        Said::Nothing => false,
+    }
+}
+
+/// Whether an event does.
+fn changes_by(asked: &Asked, lines: &Lines, counted: &Counted, event: &Event<'_>, cut: Cut) -> bool
+    ensures { (past : List trace.Said) → IsLines (asked_read asked.now) past lines.now
+        → IsCounted (asked_read asked.now) (up_to asked.now.to past) counted.now
+        → result ≡ changes_parts (asked_read asked.now) past cut (trace.Stamped (event_read event.now)) }
+{
+    match event.happening {
+        Happening::Loss => {
+            lines.past.lost_since(event.processor, Since::ItsLastLine) < cut.decided
+        }
+        Happening::Switch { previous, .. } => {
+            counted
+                .past
+                .is_new(event.processor, event.time, cut.boundary)
+                && find(&asked.tasks, previous).whose().number.is_some()
+        }
+        Happening::WakeUp(_) | Happening::Speed { .. } | Happening::Marker | Happening::Other =>
+            false,
+    }
 }

@@ -1,5 +1,5 @@
 //! What is kept of the lines that count: those up to the end of what is asked for.
-ghost use Rattle.std.specs.Prelude.{◌≡◌, ℕ, ◌<◌, List, [], ◌∷◌, length, Option, None, IfOk, OnOk, IfErr, map};
+ghost use Rattle.std.specs.Prelude.{◌≡◌, ℕ, ◌<◌, List, [], ◌∷◌, length, Option, None, IfOk, OnOk, IfErr, map, true, false};
 ghost use Rattle.yds_kernel.specs.Event as trace;
 ghost use Rattle.yds_kernel.specs.Views.{event_read, happening_read};
 ghost use Rattle.yds_trace.specs.Asked as asking;
@@ -33,17 +33,21 @@ pub(crate) struct Counted {
     pub tasks: Vec<Followed>,
     /// How many lines told of the tasks.
     pub touched: u64,
+    /// A job that begins before this time may be forgotten.
+    pub boundary: u64,
 }
 
 impl Counted {
     /// Before the first line.
     pub(crate) fn new(alloc: Global, asked: &Asked) -> Result<Counted, Memory>
-        ensures { IfOk result (λ counted. IsCounted (asked_read asked.now) [] counted) }
+        ensures stands { IfOk result (λ counted. IsCounted (asked_read asked.now) [] counted) }
+        ensures boundary { IfOk result (λ counted. counted.boundary ≡ 0) }
     {
         Ok(Counted {
             past: Past::new(alloc, asked.start),
             tasks: follow(alloc, asked.tasks.len())?,
             touched: 0,
+            boundary: 0,
         })
     }
 
@@ -60,14 +64,15 @@ impl Counted {
         requires first { first ≡ first_in (map task_read asked.now.tasks.items) (event_read event.now).happening }
         requires second { second ≡ second_in (map task_read asked.now.tasks.items) (event_read event.now).happening }
         ensures few { (counting : List trace.Said) → IsCounted (asked_read asked.now) counting self.old
-            → OnOk result (spec.touched_fault (asked_read asked.now) (trace.Stamped (event_read event.now) ∷ counting) ≡ None) }
+            → OnOk result (spec.counted_fault (asked_read asked.now) (trace.Stamped (event_read event.now) ∷ counting) ≡ None) }
         ensures stands { (counting : List trace.Said) → IsCounted (asked_read asked.now) counting self.old
             → OnOk result (IsCounted (asked_read asked.now) (trace.Stamped (event_read event.now) ∷ counting) self.new) }
         ensures refused { (counting : List trace.Said) → IsCounted (asked_read asked.now) counting self.old
-            → IfErr result (IsRefusedFor (spec.touched_fault (asked_read asked.now) (trace.Stamped (event_read event.now) ∷ counting))) }
+            → IfErr result (IsRefusedFor (spec.counted_fault (asked_read asked.now) (trace.Stamped (event_read event.now) ∷ counting))) }
+        ensures boundary { OnOk result (self.new.boundary ≡ self.old.boundary) }
     {
         let step = self.past.step(event);
-        let touched = self.touched_by(first, second, step);
+        let touched = self.touched_by(asked.in_parts, first, second, step);
         if touched > MAX_TOUCHES {
             return Err(Refused::Fault(Cause::TooLong));
         }
@@ -85,13 +90,17 @@ impl Counted {
         Ok(())
     }
 
-    /// How many lines tell of the tasks, with an event that is this step.
-    fn touched_by(&self, first: Whose, second: Whose, step: Step) -> u64
-        ensures { (asked : asking.Asked) (counting : List trace.Said) (event : trace.Event) → IsCounted asked counting self.now
+    /// How many lines tell of the tasks, with an event that is this step. Told in parts they aren't counted.
+    fn touched_by(&self, in_parts: bool, first: Whose, second: Whose, step: Step) -> u64
+        ensures counted { (asked : asking.Asked) (counting : List trace.Said) (event : trace.Event) → IsCounted asked counting self.now
             → first ≡ first_in asked.tasks event.happening → second ≡ second_in asked.tasks event.happening
-            → step ≡ step_of asked.start counting event
+            → step ≡ step_of asked.start counting event → in_parts ≡ false → asked.in_parts ≡ false
             → result ≡ spec.touched asked (trace.Stamped event ∷ counting) }
+        ensures not_counted { in_parts ≡ true → result ≡ self.now.touched }
     {
+        if in_parts {
+            return self.touched;
+        }
         if self.touches(first, second, step) {
             self.touched.saturating_add(1)
         } else {
@@ -113,8 +122,9 @@ impl Counted {
 
     /// Takes a line without a stamp that counts: events of the processor were lost.
     pub(crate) fn lose(&mut self, processor: u64, since: Since)
-        ensures { (asked : asking.Asked) (counting : List trace.Said) → IsCounted asked counting self.old
+        ensures stands { (asked : asking.Asked) (counting : List trace.Said) → IsCounted asked counting self.old
             → IsCounted asked (trace.Lost processor since ∷ counting) self.new }
+        ensures boundary { self.new.boundary ≡ self.old.boundary }
     {
         let time = self.past.lost_since(processor, since);
         lose_each(&mut self.tasks, time);
@@ -129,9 +139,10 @@ impl Counted {
         processor: u64,
         since: Since,
     )
-        ensures { (asked : asking.Asked) (past : List trace.Said) → IsLines asked past lines.now → asked.to ≡ to
+        ensures stands { (asked : asking.Asked) (past : List trace.Said) → IsLines asked past lines.now → asked.to ≡ to
             → IsCounted asked (up_to asked.to past) self.old
             → IsCounted asked (up_to asked.to (trace.Lost processor since ∷ past)) self.new }
+        ensures boundary { self.new.boundary ≡ self.old.boundary }
     {
         if !is_within_to(to, lines.past.lost_since(processor, since)) {
             return;
@@ -233,6 +244,7 @@ impl Counted {
             → OnOk result (IsCounted (asked_read asked.now) (up_to asked.now.to (trace.Stamped (event_read event.now) ∷ past)) self.new) }
         ensures refused { (past : List trace.Said) → IsLines (asked_read asked.now) past lines.now → IsCounted (asked_read asked.now) (up_to asked.now.to past) self.old
             → IfErr result (IsRefusedFor (spec.length_fault (asked_read asked.now) (trace.Stamped (event_read event.now) ∷ past))) }
+        ensures boundary { OnOk result (self.new.boundary ≡ self.old.boundary) }
     {
         let Some(to) = asked.to else {
             return self.take(alloc, asked, event, first, second);

@@ -1,15 +1,15 @@
 //! What is known when a trace has ended.
 
-ghost use Rattle.std.specs.Prelude.{◌≡◌, ℕ, List, Option, map, IfOk};
+ghost use Rattle.std.specs.Prelude.{◌≡◌, ℕ, List, Option, map, IfOk, OnOk};
 ghost use Rattle.yds_kernel.specs.Event.{Said};
 ghost use Rattle.yds_trace.specs.declared.followed.Followed.{Followed};
 ghost use Rattle.yds_trace.specs.Kept.{IsPast};
-ghost use Rattle.yds_trace.specs.Passing.{closed_at};
+ghost use Rattle.yds_trace.specs.Passing.{closed_at, standing_on};
 ghost use Rattle.yds_trace.specs.Views.{jobs_listed, known_read};
 
 use crate::asked::Asked;
 use crate::followed::Followed;
-use crate::job::{Job, Stretch};
+use crate::job::{Job, Standing, Stretch};
 use crate::jobs::run_last;
 use crate::known::Known;
 use crate::past::Past;
@@ -30,21 +30,35 @@ pub struct Ended {
     pub last: u64,
 }
 
-/// The jobs of a task: what still has its processor has had it until this time.
-fn close(known: Known, past: &Past, until: u64) -> Result<Vec<Job>, Memory>
+/// What still has its processor, standing there, has had it until this time.
+pub(crate) fn close(
+    jobs: &mut Vec<Job>,
+    on: Option<Standing>,
+    past: &Past,
+    until: u64,
+) -> Result<(), Memory>
     ensures { (start : Option ℕ) (counting : List Said) → IsPast start counting past.now
-        → IfOk result (λ jobs. jobs_listed jobs.items ≡ closed_at until start counting (known_read known)) }
+        → OnOk result (jobs_listed jobs.new.items ≡ closed_at until start counting (standing_on on (jobs_listed jobs.old.items))) }
 {
-    let mut jobs = known.jobs;
-    if let Some(standing) = known.on {
+    if let Some(standing) = on {
         let stretch = Stretch {
             processor: standing.processor,
             from: standing.since,
             to: until,
             khz: past.speed(standing.processor),
         };
-        run_last(stretch, &mut jobs)?;
+        run_last(stretch, jobs)?;
     }
+    Ok(())
+}
+
+/// The jobs of a task: what still has its processor has had it until this time.
+fn closed(known: Known, past: &Past, until: u64) -> Result<Vec<Job>, Memory>
+    ensures { (start : Option ℕ) (counting : List Said) → IsPast start counting past.now
+        → IfOk result (λ jobs. jobs_listed jobs.items ≡ closed_at until start counting (known_read known)) }
+{
+    let mut jobs = known.jobs;
+    close(&mut jobs, known.on, past, until)?;
     Ok(jobs)
 }
 
@@ -61,7 +75,7 @@ pub(crate) fn close_each(
 {
     let mut all = Vec::with_capacity(alloc, tasks.len())?;
     for followed in tasks {
-        all.push(close(followed.known, past, until)?)?;
+        all.push(closed(followed.known, past, until)?)?;
     }
     Ok(all)
 }

@@ -25,4 +25,6 @@ pub enum Cause {
     Unseen(usize),
     /// No wake-up of a task is in the trace, and jobs are to begin at wake-ups.
     NoWakeUp,
+    /// It changes what is known of jobs that stand in a part which was written.
+    PartWritten,
 }

@@ -1,14 +1,15 @@
 //! What is known of each task.
-ghost use Rattle.std.specs.Prelude.{◌≡◌, ℕ, ◌<◌, slice_index_or, vec_len, is_some, IfOk, OnOk};
-ghost use Rattle.std.specs.List.{list_any};
-ghost use Rattle.yds_kernel.specs.Parts.{or_else};
+ghost use Rattle.std.specs.Prelude.{◌≡◌, ℕ, ◌+◌, ◌<◌, ◌≤◌, ◌^◌, ◌==◌, if◌then◌else◌, length, take, slice_index_or, sum_by, vec_len, is_some, IfOk, OnOk};
+ghost use Rattle.std.specs.List.{list_any, All};
+ghost use Rattle.yds_kernel.specs.Parts.{or_else, capped};
 ghost use Rattle.yds_trace.specs.declared.followed.Followed.{Followed};
-ghost use Rattle.yds_trace.specs.Following.{IsUnknown, IsTaken, IsLost, apart_of, place_of};
+ghost use Rattle.yds_trace.specs.Following.{IsUnknown, IsTaken, IsLost, Forgets, apart_of, place_of, first_before, jobs_in, stretches_of};
 ghost use Rattle.yds_trace.specs.Jobs.{stands_on};
 ghost use Rattle.yds_trace.specs.Steps.{stepped, pid_of};
 ghost use Rattle.yds_trace.specs.Views.{known_read};
 
 use crate::asked::Task;
+use crate::jobs::{began_before, count_stretches, drop_first, early};
 use crate::known::{Known, stands_on};
 use crate::step::{Place, Step, Whose};
 use std::alloc::Global;
@@ -21,6 +22,10 @@ pub(crate) struct Followed {
     pub known: Known,
     /// The number of its thread, where a line told it.
     pub pid: Option<u64>,
+    /// How many of its first jobs are forgotten.
+    pub forgotten: u64,
+    /// Whether the first of these began before the trace.
+    pub before: bool,
 }
 
 impl Followed {
@@ -53,6 +58,64 @@ impl Followed {
         )?;
         self.pid = second.or(first).or(self.pid);
         Ok(())
+    }
+
+    /// Whether the first job of all began before the trace.
+    pub(crate) fn first_before(&self) -> bool
+        ensures { result ≡ first_before self.now }
+    {
+        if self.forgotten == 0 {
+            began_before(&self.known.jobs)
+        } else {
+            self.before
+        }
+    }
+
+    /// How many of the first jobs may be forgotten: they begin before this time, and the last one isn't among them. None is where
+    /// the number of all that are forgotten didn't fit 64 bits.
+    fn forgettable(&self, boundary: u64) -> usize
+        ensures earlier { All (λ job. job.begin < boundary) (take result self.now.known.jobs.items) }
+        ensures last { 1 ≤ result → result < length self.now.known.jobs.items }
+        ensures fits { self.now.forgotten + result < 2 ^ 64 }
+    {
+        let count = early(&self.known.jobs, boundary);
+        match self.forgotten.checked_add(count as u64) {
+            Some(_) => count,
+            None => 0,
+        }
+    }
+
+    /// Whether the first job that is forgotten began before the trace, when so many more are.
+    fn before_by(&self, count: usize) -> bool
+        ensures { result ≡ (if count == 0 then self.now.before else first_before self.now) }
+    {
+        if count == 0 {
+            self.before
+        } else {
+            self.first_before()
+        }
+    }
+
+    /// Forgets the first jobs, which begin before this time.
+    fn forget(&mut self, boundary: u64)
+        ensures { Forgets boundary self.old self.new }
+    {
+        let count = self.forgettable(boundary);
+        self.before = self.before_by(count);
+        self.forgotten += count as u64;
+        drop_first(&mut self.known.jobs, count);
+    }
+
+    /// How many stretches it has when it is closed, at most the greatest number of 64 bits.
+    fn stretches(&self) -> u64
+        ensures { result ≡ capped (stretches_of self.now) }
+    {
+        let count = count_stretches(&self.known.jobs);
+        if self.known.on.is_some() {
+            count.saturating_add(1)
+        } else {
+            count
+        }
     }
 }
 
@@ -91,6 +154,8 @@ pub(crate) fn follow(alloc: Global, count: usize) -> Result<Vec<Followed>, Memor
         tasks.push(Followed {
             known: Known::new(alloc),
             pid: None,
+            forgotten: 0,
+            before: false,
         })?;
     }
     Ok(tasks)
@@ -147,6 +212,40 @@ pub(crate) fn lose_each(tasks: &mut Vec<Followed>, time: u64)
         let followed = &mut tasks[number];
         followed.known.lose(time);
     }
+}
+
+/// Of each task the first jobs are forgotten that begin before this time.
+pub(crate) fn forget_each(tasks: &mut Vec<Followed>, boundary: u64)
+    ensures many { vec_len tasks.new ≡ vec_len tasks.old }
+    ensures each { (number : ℕ) (default : Followed) → number < vec_len tasks.old
+        → Forgets boundary (slice_index_or tasks.old.items number default) (slice_index_or tasks.new.items number default) }
+{
+    for number in 0..tasks.len() {
+        let followed = &mut tasks[number];
+        followed.forget(boundary);
+    }
+}
+
+/// How many jobs are kept, at most the greatest number of 64 bits.
+pub(crate) fn count_jobs(tasks: &[Followed]) -> u64
+    ensures { result ≡ capped (sum_by jobs_in tasks.now) }
+{
+    let mut count: u64 = 0;
+    for followed in tasks {
+        count = count.saturating_add(followed.known.jobs.len() as u64);
+    }
+    count
+}
+
+/// How many stretches are kept, at most the greatest number of 64 bits.
+pub(crate) fn count_all_stretches(tasks: &[Followed]) -> u64
+    ensures { result ≡ capped (sum_by stretches_of tasks.now) }
+{
+    let mut count: u64 = 0;
+    for followed in tasks {
+        count = count.saturating_add(followed.stretches());
+    }
+    count
 }
 
 /// Whether a task runs on this processor.

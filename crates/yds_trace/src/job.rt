@@ -92,6 +92,17 @@ impl End {
             End::Unseen { since, .. } | End::Lost(since) => End::Lost(time.min(since)),
         }
     }
+
+    /// The same of a job behind which another one has begun.
+    pub(crate) fn lost_before(self, time: u64) -> End
+        ensures { result ≡ spec.lost_before time self }
+    {
+        match self {
+            End::Unseen { since, .. } if time < since => End::Lost(time),
+            End::Unseen { since, goes_on } => End::Unseen { since, goes_on },
+            End::Open | End::Ended(_) | End::Lost(_) => self.lost(time),
+        }
+    }
 }
 
 /// A job of a task.
@@ -162,11 +173,19 @@ impl Job {
         Ok(self)
     }
 
-    /// Events were lost after this time.
-    pub(crate) fn lost(mut self, time: u64) -> Job
-        ensures { job_read result ≡ spec.lost_job time (job_read self) }
+    /// The same once more.
+    pub(crate) fn copied(&self, alloc: Global) -> Result<Job, Memory>
+        ensures { IfOk result (λ job. job_read job ≡ job_read self.now) }
     {
-        self.end = self.end.lost(time);
-        self
+        let mut stretches = Vec::with_capacity(alloc, self.stretches.len())?;
+        stretches.extend_from_slice(&self.stretches)?;
+        Ok(Job {
+            begin: self.begin,
+            begin_known: self.begin_known,
+            end: self.end,
+            stretches,
+            wake_ups: self.wake_ups,
+            switch_missing: self.switch_missing,
+        })
     }
 }

@@ -1,6 +1,11 @@
 //! The jobs of a task, in order of their begins: the last one changes.
-ghost use Rattle.std.specs.Prelude.{◌≡◌, ◌+◌, ◌∷◌, map, nat_lt, OnOk};
+ghost use Rattle.std.specs.Prelude.{◌≡◌, ◌+◌, ◌<◌, ◌≤◌, ◌∷◌, map, take, drop, length, sum_by, vec_len, nat_lt, IfOk, OnOk};
+ghost use Rattle.std.specs.List.{All};
+ghost use Rattle.yds_kernel.specs.Parts.{capped};
+ghost use Rattle.yds_trace.specs.Document.{began_before};
+ghost use Rattle.yds_trace.specs.Following.{stretches_in};
 ghost use Rattle.yds_trace.specs.Jobs as spec;
+ghost use Rattle.yds_trace.specs.Parts.{last_begin};
 ghost use Rattle.yds_trace.specs.Views.{job_read, jobs_listed};
 
 use crate::job::{End, Job, Stretch};
@@ -234,10 +239,91 @@ pub(crate) fn has_no_switch(jobs: &Vec<Job>) -> bool
 }
 
 /// Events were lost after this time.
+#[tactic(auto, using(crate::proofs::Listed::lost_last))]
 pub(crate) fn lose_all(time: u64, jobs: &mut Vec<Job>)
-    ensures { jobs_listed jobs.new.items ≡ map (spec.lost_job time) (jobs_listed jobs.old.items) }
+    ensures { jobs_listed jobs.new.items ≡ spec.lost_jobs time (jobs_listed jobs.old.items) }
+{
+    lose_earlier(time, jobs);
+    lose_last(time, jobs);
+}
+
+/// Events were lost after this time, and behind each of these jobs another one has begun.
+fn lose_earlier(time: u64, jobs: &mut Vec<Job>)
+    ensures { jobs_listed jobs.new.items ≡ map (spec.lost_earlier time) (jobs_listed jobs.old.items) }
 {
     for job in jobs.iter_mut() {
+        job.end = job.end.lost_before(time);
+    }
+}
+
+/// Events were lost after this time, and the last job may be open.
+fn lose_last(time: u64, jobs: &mut Vec<Job>)
+    ensures { jobs_listed jobs.new.items ≡ spec.changed_last (spec.lost_job time) (jobs_listed jobs.old.items) }
+{
+    if let Some(job) = jobs.last_mut() {
         job.end = job.end.lost(time);
     }
+}
+
+/// The same jobs once more.
+pub(crate) fn copied(alloc: Global, jobs: &[Job]) -> Result<Vec<Job>, Memory>
+    ensures { IfOk result (λ all. map job_read all.items ≡ map job_read jobs.now) }
+{
+    let mut all = Vec::with_capacity(alloc, jobs.len())?;
+    for job in jobs {
+        all.push(job.copied(alloc)?)?;
+    }
+    Ok(all)
+}
+
+/// The begin of the last job; 0 where there is none.
+pub(crate) fn last_begin(jobs: &Vec<Job>) -> u64
+    ensures { result ≡ last_begin (jobs_listed jobs.now.items) }
+{
+    match jobs.last() {
+        Some(job) => job.begin,
+        None => 0,
+    }
+}
+
+/// Whether the first of these jobs began before the trace.
+pub(crate) fn began_before(jobs: &[Job]) -> bool
+    ensures { result ≡ began_before (map job_read jobs.now) }
+{
+    match jobs.first() {
+        Some(job) => !job.begin_known,
+        None => false,
+    }
+}
+
+/// How many jobs from the first on begin before this time, the last job aside.
+pub(crate) fn early(jobs: &[Job], boundary: u64) -> usize
+    ensures earlier { All (λ job. job.begin < boundary) (take result jobs.now) }
+    ensures last { 1 ≤ result → result < length jobs.now }
+{
+    for (index, job) in jobs.iter().enumerate() {
+        if job.begin >= boundary || index + 1 >= jobs.len() {
+            return index;
+        }
+    }
+    0
+}
+
+/// Drops so many of the first jobs.
+pub(crate) fn drop_first(jobs: &mut Vec<Job>, count: usize)
+    requires { count ≤ vec_len jobs.old }
+    ensures { jobs.new.items ≡ drop count jobs.old.items }
+{
+    drop(jobs.drain(..count));
+}
+
+/// How many stretches these jobs have, at most the greatest number of 64 bits.
+pub(crate) fn count_stretches(jobs: &[Job]) -> u64
+    ensures { result ≡ capped (sum_by stretches_in jobs.now) }
+{
+    let mut count: u64 = 0;
+    for job in jobs {
+        count = count.saturating_add(job.stretches.len() as u64);
+    }
+    count
 }

@@ -8,12 +8,14 @@
 mod asked;
 mod check;
 mod counted;
+mod cut;
 mod ended;
 mod fault;
 mod find;
 mod followed;
 mod job;
 mod jobs;
+mod kept;
 mod known;
 mod limits;
 mod lines;
@@ -22,17 +24,24 @@ mod past;
 mod places;
 mod reason;
 mod refused;
+mod shown;
 mod step;
 
 pub use asked::{Asked, Task, Which};
+pub use cut::{Cut, NO_CUT};
 pub use ended::Ended;
 pub use fault::Cause;
 pub use job::{End, Job, Leaving, Standing, Stretch, Turn};
+pub use kept::Kept;
 pub use known::Known;
-pub use limits::{MAX_DEADLINE, MAX_PROCESSOR, MAX_TIME, MAX_TOUCHES};
+pub use limits::{
+    LOOK_EVERY, MAX_DEADLINE, MAX_PROCESSOR, MAX_TIME, MAX_TOUCHES, PART_JOBS, PART_STRETCHES,
+    WAITING_JOBS, WAITING_STRETCHES,
+};
 pub use pass::Pass;
 pub use reason::Reason;
 pub use refused::Refused;
+pub use shown::{Shown, ShownTask};
 
 #[cfg(test)]
 mod tests;

@@ -1,23 +1,30 @@
 //! One pass over the lines of a trace.
-ghost use Rattle.std.specs.Prelude.{◌≡◌, List, [], ◌∷◌, None, IfOk, OnOk, IfErr};
+ghost use Rattle.std.specs.Prelude.{◌≡◌, ℕ, ◌≤◌, List, [], ◌∷◌, None, IfOk, OnOk, IfErr};
 ghost use Rattle.yds_kernel.specs.Event as trace;
 ghost use Rattle.yds_kernel.specs.Views.{event_read, said_read};
 ghost use Rattle.yds_trace.specs.Asked as asking;
 ghost use Rattle.yds_trace.specs.Ended.{IsEnded};
 ghost use Rattle.yds_trace.specs.Faults.{said_fault, whole_fault};
-ghost use Rattle.yds_trace.specs.Kept.{IsAt};
+ghost use Rattle.yds_trace.specs.Kept.{IsAt, IsAtBehind, IsEnough, IsStanding};
 ghost use Rattle.yds_trace.specs.Late.{last_asked};
 ghost use Rattle.yds_trace.specs.Past.{last_time};
-ghost use Rattle.yds_trace.specs.Passing.{IsRefusedFor};
+ghost use Rattle.yds_trace.specs.Parts.{may_write, part_fault};
+ghost use Rattle.yds_trace.specs.Passing.{IsRefusedFor, fault_in};
+ghost use Rattle.yds_trace.specs.Shown.{IsShown};
 ghost use Rattle.yds_trace.specs.Views.{asked_read};
 
 use crate::asked::Asked;
-use crate::check::{check_event, check_place, check_processor, check_whole};
+use crate::check::{check_event, check_parts, check_place, check_processor, check_whole};
 use crate::counted::Counted;
+use crate::cut::Cut;
 use crate::ended::{Ended, close_each};
+use crate::fault::Cause;
 use crate::find::{find_first, find_second};
+use crate::followed::{count_all_stretches, count_jobs, forget_each};
+use crate::kept::Kept;
 use crate::lines::Lines;
 use crate::refused::Refused;
+use crate::shown::{Shown, show_each};
 use std::alloc::Global;
 use yds_kernel::{Event, Said, Since};
 use yds_model::Memory;
@@ -47,18 +54,14 @@ impl Pass {
     /// Takes what the next line says. After an answer other than `Ok` nothing is promised of the pass: a trace with a
     /// fault tells nothing.
     pub fn take(&mut self, alloc: Global, said: Said<'_>) -> Result<(), Refused>
-        ensures taken { (asked : asking.Asked) (past : List trace.Said) → IsAt asked past self.old
+        ensures taken { (asked : asking.Asked) (past : List trace.Said) (boundary : ℕ) → IsAtBehind asked past boundary self.old
             → OnOk result (said_fault asked past (said_read said.entry) ≡ None) }
-        ensures stands { (asked : asking.Asked) (past : List trace.Said) → IsAt asked past self.old
-            → OnOk result (IsAt asked (said_read said.entry ∷ past) self.new) }
-        ensures refused { (asked : asking.Asked) (past : List trace.Said) → IsAt asked past self.old
+        ensures stands { (asked : asking.Asked) (past : List trace.Said) (boundary : ℕ) → IsAtBehind asked past boundary self.old
+            → OnOk result (IsAtBehind asked (said_read said.entry ∷ past) boundary self.new) }
+        ensures refused { (asked : asking.Asked) (past : List trace.Said) (boundary : ℕ) → IsAtBehind asked past boundary self.old
             → IfErr result (IsRefusedFor (said_fault asked past (said_read said.entry))) }
     {
-        match said {
-            Said::Event(event) => self.take_event(alloc, &event),
-            Said::Lost { processor, since } => self.lose(processor, since),
-            Said::Nothing => Ok(()),
-        }
+        self.take_said(alloc, said)
     }
 
     /// Ends behind the last line: what is known of the tasks, or why the trace as a whole tells nothing of them.
@@ -80,6 +83,7 @@ impl Pass {
             past,
             tasks,
             touched: _,
+            boundary: _,
         } = counted;
         let until = last_asked(asked.to, lines.past.last);
         let jobs = close_each(alloc, tasks, &past, until)?;
@@ -91,14 +95,86 @@ impl Pass {
         })
     }
 
+    /// What was asked for.
+    pub fn asked(&self) -> &Asked
+        ensures { (asked : asking.Asked) (past : List trace.Said) (boundary : ℕ) → IsAtBehind asked past boundary self.now → asked_read result.now ≡ asked }
+    {
+        &self.asked
+    }
+
+    /// What the next line is refused for where these parts are written.
+    pub fn check_parts(&self, said: &Said<'_>, cut: Cut) -> Result<(), Cause>
+        ensures { (asked : asking.Asked) (past : List trace.Said) → IsAtBehind asked past cut.boundary self.now
+            → fault_in result ≡ part_fault asked past cut (said_read said.now) }
+    {
+        check_parts(&self.asked, &self.lines, &self.counted, said, cut)
+    }
+
+    /// Whether a part may be written: jobs begin at their first run, or a wake-up of a task is among the lines.
+    pub fn may_write(&self) -> bool
+        ensures { (asked : asking.Asked) (past : List trace.Said) (boundary : ℕ) → IsAtBehind asked past boundary self.now → result ≡ may_write asked past }
+    {
+        self.asked.begin_at_run || self.lines.woken
+    }
+
+    /// At most so many jobs and stretches wait.
+    pub fn kept(&self) -> Kept
+        ensures { (asked : asking.Asked) (past : List trace.Said) (boundary : ℕ) → IsAtBehind asked past boundary self.now → IsEnough asked past boundary result }
+    {
+        Kept {
+            jobs: count_jobs(&self.counted.tasks),
+            stretches: count_all_stretches(&self.counted.tasks),
+        }
+    }
+
+    /// What is known of the tasks now, of the jobs that aren't forgotten.
+    pub fn shown(&self, alloc: Global) -> Result<Shown, Memory>
+        ensures { (asked : asking.Asked) (past : List trace.Said) (boundary : ℕ) → IsAtBehind asked past boundary self.now → IfOk result (IsShown asked past boundary) }
+    {
+        let until = last_asked(self.asked.to, self.lines.past.last);
+        let tasks = show_each(alloc, &self.counted.tasks, &self.counted.past, until)?;
+        Ok(Shown {
+            tasks,
+            first: self.lines.past.first.unwrap_or(0),
+            last: self.lines.past.last,
+        })
+    }
+
+    /// Forgets the jobs that begin before this time, but for each task's last one.
+    pub fn forget(&mut self, boundary: u64)
+        ensures { (asked : asking.Asked) (past : List trace.Said) (before : ℕ) → IsAtBehind asked past before self.old → before ≤ boundary
+            → IsAtBehind asked past boundary self.new }
+    {
+        forget_each(&mut self.counted.tasks, boundary);
+        self.counted.boundary = boundary;
+    }
+
+    /// Takes what the next line says, and forgets no job.
+    fn take_said(&mut self, alloc: Global, said: Said<'_>) -> Result<(), Refused>
+        ensures taken { (asked : asking.Asked) (past : List trace.Said) → IsStanding asked past self.old
+            → OnOk result (said_fault asked past (said_read said.entry) ≡ None) }
+        ensures stands { (asked : asking.Asked) (past : List trace.Said) → IsStanding asked past self.old
+            → OnOk result (IsStanding asked (said_read said.entry ∷ past) self.new) }
+        ensures refused { (asked : asking.Asked) (past : List trace.Said) → IsStanding asked past self.old
+            → IfErr result (IsRefusedFor (said_fault asked past (said_read said.entry))) }
+        ensures boundary { OnOk result (self.new.counted.boundary ≡ self.old.counted.boundary) }
+    {
+        match said {
+            Said::Event(event) => self.take_event(alloc, &event),
+            Said::Lost { processor, since } => self.lose(processor, since),
+            Said::Nothing => Ok(()),
+        }
+    }
+
     /// Takes an event.
     fn take_event(&mut self, alloc: Global, event: &Event<'_>) -> Result<(), Refused>
-        ensures taken { (past : List trace.Said) → IsAt (asked_read self.old.asked) past self.old
+        ensures taken { (past : List trace.Said) → IsStanding (asked_read self.old.asked) past self.old
             → OnOk result (said_fault (asked_read self.old.asked) past (trace.Stamped (event_read event.now)) ≡ None) }
-        ensures stands { (past : List trace.Said) → IsAt (asked_read self.old.asked) past self.old
-            → OnOk result (IsAt (asked_read self.old.asked) (trace.Stamped (event_read event.now) ∷ past) self.new) }
-        ensures refused { (past : List trace.Said) → IsAt (asked_read self.old.asked) past self.old
+        ensures stands { (past : List trace.Said) → IsStanding (asked_read self.old.asked) past self.old
+            → OnOk result (IsStanding (asked_read self.old.asked) (trace.Stamped (event_read event.now) ∷ past) self.new) }
+        ensures refused { (past : List trace.Said) → IsStanding (asked_read self.old.asked) past self.old
             → IfErr result (IsRefusedFor (said_fault (asked_read self.old.asked) past (trace.Stamped (event_read event.now)))) }
+        ensures boundary { OnOk result (self.new.counted.boundary ≡ self.old.counted.boundary) }
     {
         check_place(event)?;
         let first = find_first(&self.asked.tasks, &event.happening);
@@ -120,12 +196,13 @@ impl Pass {
 
     /// Takes a line without a stamp which says that events of the processor were lost.
     fn lose(&mut self, processor: u64, since: Since) -> Result<(), Refused>
-        ensures taken { (past : List trace.Said) → IsAt (asked_read self.old.asked) past self.old
+        ensures taken { (past : List trace.Said) → IsStanding (asked_read self.old.asked) past self.old
             → OnOk result (said_fault (asked_read self.old.asked) past (trace.Lost processor since) ≡ None) }
-        ensures stands { (past : List trace.Said) → IsAt (asked_read self.old.asked) past self.old
-            → OnOk result (IsAt (asked_read self.old.asked) (trace.Lost processor since ∷ past) self.new) }
-        ensures refused { (past : List trace.Said) → IsAt (asked_read self.old.asked) past self.old
+        ensures stands { (past : List trace.Said) → IsStanding (asked_read self.old.asked) past self.old
+            → OnOk result (IsStanding (asked_read self.old.asked) (trace.Lost processor since ∷ past) self.new) }
+        ensures refused { (past : List trace.Said) → IsStanding (asked_read self.old.asked) past self.old
             → IfErr result (IsRefusedFor (said_fault (asked_read self.old.asked) past (trace.Lost processor since))) }
+        ensures boundary { OnOk result (self.new.counted.boundary ≡ self.old.counted.boundary) }
     {
         check_processor(processor)?;
         let to = self.asked.to;

@@ -1,5 +1,5 @@
 //! What is kept of the lines so far. Times are nanoseconds.
-ghost use Rattle.std.specs.Prelude.{◌≡◌, ℕ, List, [], ◌∷◌, false, Option, None, OnOk};
+ghost use Rattle.std.specs.Prelude.{◌≡◌, ℕ, ◌&&◌, nat_lt, not, List, [], ◌∷◌, false, Option, None, OnOk};
 ghost use Rattle.yds_kernel.specs.Event.{Said, Stamped, Lost};
 ghost use Rattle.yds_kernel.specs.Views.{event_read};
 ghost use Rattle.yds_trace.specs.Faults.{processors_fault};
@@ -150,6 +150,14 @@ impl Past {
         ensures { (start : Option ℕ) (past : List Said) → IsPast start past self.now → result ≡ spec.has_switched processor past }
     {
         self.told_on(processor).switched
+    }
+
+    /// Whether a processor hasn't switched since a time before this boundary, by an event of this time.
+    pub(crate) fn is_new(&self, processor: u64, time: u64, boundary: u64) -> bool
+        ensures { (start : Option ℕ) (past : List Said) → IsPast start past self.now
+            → result ≡ (not (spec.has_switched processor past) && nat_lt (spec.whole_since time past) boundary) }
+    {
+        !self.has_switched(processor) && self.whole_since.unwrap_or(time) < boundary
     }
 
     /// The speed of a processor in kilohertz, where it is known.

@@ -1,6 +1,8 @@
 //! What no clause says: that a pass over small traces ends, and what its jobs and faults then are.
 
-use crate::{Asked, Cause, End, Ended, MAX_TOUCHES, Pass, Refused, Stretch, Task, Which};
+use crate::{
+    Asked, Cause, Cut, End, Ended, Kept, MAX_TOUCHES, NO_CUT, Pass, Refused, Stretch, Task, Which,
+};
 use std::alloc::{AllocError, Global};
 use std::test::Fail;
 use yds_kernel::{Event, Happening, Said, Since, State, Thread};
@@ -68,6 +70,7 @@ fn asked(alloc: Global) -> Result<Asked, AllocError> {
         to: None,
         begin_at_run: false,
         cut_losses: false,
+        in_parts: false,
     })
 }
 
@@ -217,5 +220,157 @@ fn each_fault_of_a_whole_trace_is_told(rt: HostRuntime) -> Result<(), Fail> {
         cause(alloc, asked(alloc)?, &[comes(0, 10)]),
         Some(Cause::NoWakeUp)
     );
+    Ok(())
+}
+
+fn pass_over(alloc: Global, asked: Asked, lines: &[Said<'_>]) -> Result<Pass, Refused> {
+    let mut pass = Pass::new(alloc, asked)?;
+    for said in lines {
+        pass.take(alloc, *said)?;
+    }
+    Ok(pass)
+}
+
+fn lost(processor: u64) -> Said<'static> {
+    Said::Lost {
+        processor,
+        since: Since::ItsLastLine,
+    }
+}
+
+#[test]
+fn what_is_written_is_forgotten(rt: HostRuntime) -> Result<(), Fail> {
+    let alloc = rt.alloc();
+    let mut asked = asked(alloc)?;
+    asked.in_parts = true;
+    let lines = [
+        woken(10_000),
+        comes(0, 12_000),
+        leaves(0, 40_000, State::Sleeps),
+        woken(110_000),
+        comes(0, 112_000),
+        leaves(0, 140_000, State::Sleeps),
+        woken(210_000),
+        comes(1, 212_000),
+        marker(2, 215_000),
+    ];
+    let mut pass = pass_over(alloc, asked, &lines)?;
+    assert!(rt; pass.asked().in_parts);
+    assert!(rt; pass.may_write());
+    let all = Kept {
+        jobs: 3,
+        stretches: 3,
+    };
+    assert_eq!(rt; pass.kept(), all);
+    let whole = pass.shown(alloc)?;
+    assert_eq!(rt; whole.first, 10_000);
+    assert_eq!(rt; whole.last, 215_000);
+    let task = &whole.tasks[0];
+    assert_eq!(rt; task.forgotten, 0);
+    assert_eq!(rt; task.jobs.len(), 3);
+    assert_eq!(rt; task.last_begin, 210_000);
+    pass.forget(200_000);
+    let one = Kept {
+        jobs: 1,
+        stretches: 1,
+    };
+    assert_eq!(rt; pass.kept(), one);
+    let rest = pass.shown(alloc)?;
+    let task = &rest.tasks[0];
+    assert_eq!(rt; task.forgotten, 2);
+    assert!(rt; !task.before);
+    assert_eq!(rt; task.jobs.len(), 1);
+    let job = &task.jobs[0];
+    assert_eq!(rt; job.begin, 210_000);
+    assert_eq!(rt;
+        job.stretches.as_slice(),
+        [stretch(1, 212_000, 215_000, 600_000)].as_slice()
+    );
+    pass.forget(300_000);
+    assert_eq!(rt; pass.kept(), one);
+    pass.take(alloc, leaves(1, 230_000, State::Sleeps))?;
+    let ended = pass.shown(alloc)?;
+    let task = &ended.tasks[0];
+    assert_eq!(rt; task.forgotten, 2);
+    let job = &task.jobs[0];
+    assert_eq!(rt; job.end, End::Ended(230_000));
+    Ok(())
+}
+
+#[test]
+fn the_first_job_of_all_is_remembered(rt: HostRuntime) -> Result<(), Fail> {
+    let alloc = rt.alloc();
+    let lines = [
+        marker(1, 1_000),
+        leaves(0, 40_000, State::Sleeps),
+        woken(110_000),
+        comes(0, 112_000),
+        leaves(0, 140_000, State::Sleeps),
+        woken(210_000),
+    ];
+    let mut pass = pass_over(alloc, asked(alloc)?, &lines)?;
+    pass.forget(110_000);
+    pass.forget(200_000);
+    let shown = pass.shown(alloc)?;
+    let task = &shown.tasks[0];
+    assert_eq!(rt; task.forgotten, 2);
+    assert!(rt; task.before);
+    Ok(())
+}
+
+#[test]
+fn a_line_that_changes_parts_is_refused(rt: HostRuntime) -> Result<(), Fail> {
+    let alloc = rt.alloc();
+    let lines = [woken(10_000), comes(0, 12_000), marker(1, 50_000)];
+    let pass = pass_over(alloc, asked(alloc)?, &lines)?;
+    let cut = Cut {
+        boundary: 40_000,
+        decided: 50_000,
+        parts: 1,
+        jobs: 1,
+        due: 0,
+    };
+    let written = Err(Cause::PartWritten);
+    assert_eq!(rt; pass.check_parts(&lost(0), cut), written);
+    assert_eq!(rt;
+        pass.check_parts(&line(0, 60_000, Happening::Loss), cut),
+        written
+    );
+    assert_eq!(rt;
+        pass.check_parts(&leaves(5, 60_000, State::Sleeps), cut),
+        written
+    );
+    assert_eq!(rt; pass.check_parts(&lost(1), cut), Ok(()));
+    assert_eq!(rt;
+        pass.check_parts(&leaves(0, 60_000, State::Sleeps), cut),
+        Ok(())
+    );
+    assert_eq!(rt; pass.check_parts(&comes(5, 60_000), cut), Ok(()));
+    assert_eq!(rt; pass.check_parts(&lost(0), NO_CUT), Ok(()));
+    Ok(())
+}
+
+#[test]
+fn an_unseen_end_stays_behind_another_job(rt: HostRuntime) -> Result<(), Fail> {
+    let alloc = rt.alloc();
+    let mut asked = asked(alloc)?;
+    asked.cut_losses = true;
+    let lines = [
+        woken(10_000),
+        comes(0, 12_000),
+        woken(15_000),
+        comes(1, 20_000),
+        lost(1),
+    ];
+    let ended = ended(alloc, asked, &lines)?;
+    let jobs = &ended.jobs[0];
+    assert_eq!(rt; jobs.len(), 2);
+    let (first, second) = (&jobs[0], &jobs[1]);
+    let unseen = End::Unseen {
+        since: 12_000,
+        goes_on: false,
+    };
+    assert_eq!(rt; first.end, unseen);
+    assert_eq!(rt; second.end, End::Lost(20_000));
     Ok(())
 }

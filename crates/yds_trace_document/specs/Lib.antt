@@ -1,4 +1,5 @@
 pub mod Settled
+pub mod Part
 pub mod Limits
 pub mod Kept
 pub mod Views

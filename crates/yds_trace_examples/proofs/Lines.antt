@@ -65,7 +65,7 @@ abbrev pub task : Task
 task = record { label = codes "t"; thread = Named (codes "t"); deadline = 100; apart = 0 }
 
 abbrev pub of_task : Task → Asked
-of_task task = record { tasks = task ∷ []; processor = 0; unit = 10; khz = 1; start = Some 5; from = None; to = None; begin_at_run = false; cut_losses = false }
+of_task task = record { tasks = task ∷ []; processor = 0; unit = 10; khz = 1; start = Some 5; from = None; to = None; begin_at_run = false; cut_losses = false; in_parts = false }
 
 abbrev pub asked : Asked
 asked = of_task task

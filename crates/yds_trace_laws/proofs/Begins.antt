@@ -17,7 +17,7 @@ use Rattle.yds_trace.specs.declared.job.Standing.{Standing}
 use Rattle.yds_trace.specs.declared.job.Leaving.{Leaving}
 use Rattle.yds_trace.specs.Asked.{Asked, task_at, is_of}
 use Rattle.yds_trace.specs.Past.{is_loss, whole_since, counts, is_first_switch, stayed, counted, up_to_time, up_to, speed_after}
-use Rattle.yds_trace.specs.Jobs.{Job, Known, began, reopened, woken_after, counted as counted_job, woken_jobs, awake_jobs, running_jobs, changed_last, ended, missing, ran, left_unseen, vanished, stands_on, passed_by, comes, has_no_switch, begun_by, begun_at_most, stretch_of, left_from, left_in, leaves, wakes_up, speeds, lost_job, loses, leaving_at, left_if, came_if, after_switch, after_event, known_after}
+use Rattle.yds_trace.specs.Jobs.{Job, Known, began, reopened, woken_after, counted as counted_job, woken_jobs, awake_jobs, running_jobs, changed_last, ended, missing, ran, left_unseen, vanished, stands_on, passed_by, comes, has_no_switch, begun_by, begun_at_most, stretch_of, left_from, left_in, leaves, wakes_up, speeds, lost_earlier, lost_jobs, loses, leaving_at, left_if, came_if, after_switch, after_event, known_after}
 use Rattle.yds_trace.specs.Faults.{first_fault, numbered, said_fault, stamped_fault, behind_fault, place_fault, processors_fault, length_fault}
 use Rattle.yds_trace.specs.Late.{last_asked}
 use Rattle.yds_trace.specs.Document.{closed, jobs_of}
@@ -155,9 +155,13 @@ speeds_on processor time khz (Some standing) known early =
       woken = known.woken;
     }) known (changed_early (ran (record { processor = processor; from = standing.since; to = time; khz = khz })) (λ job is. is) known.jobs early) early
 
-lost_early : (time : ℕ) (jobs : List Job) → AreEarly jobs → AreEarly (map (lost_job time) jobs)
+earlier_early : (time : ℕ) (jobs : List Job) → AreEarly jobs → AreEarly (map (lost_earlier time) jobs)
+earlier_early time [] early = tt
+earlier_early time (job ∷ jobs) early = (early.0, earlier_early time jobs early.1)
+
+lost_early : (time : ℕ) (jobs : List Job) → AreEarly jobs → AreEarly (lost_jobs time jobs)
 lost_early time [] early = tt
-lost_early time (job ∷ jobs) early = (early.0, lost_early time jobs early.1)
+lost_early time (job ∷ jobs) early = (early.0, earlier_early time jobs early.1)
 
 -- # The lines of a trace
 

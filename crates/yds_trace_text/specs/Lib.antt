@@ -1,4 +1,5 @@
 pub mod Laws
 pub mod Text
+pub mod PartText
 pub mod Views
 pub mod Writing

@@ -73,6 +73,7 @@ fn ended(alloc: Global, jobs: Vec<Job>) -> Result<Ended, AllocError> {
             to: None,
             begin_at_run: false,
             cut_losses: false,
+            in_parts: false,
         },
         jobs: by_task,
         first: BEGIN - 1,

@@ -309,6 +309,7 @@ last_parts : (order begin lost : Result Bool WordFault) (found : Result (List Ta
       to = to;
       begin_at_run = b;
       cut_losses = l;
+      in_parts = false;
     }))))))
     ≡ Ok asked → AskedParts unit khz to found asked
 last_parts (Err fault) begin lost found cpu unit khz start from to asked is = absurd cc
@@ -338,6 +339,7 @@ all_parts : (cpu us khz : Result ℕ WordFault) (start from to : Result (Option 
       to = e;
       begin_at_run = b;
       cut_losses = l;
+      in_parts = false;
     }))))))))))))
     ≡ Ok asked → AllParts us khz to tasks asked
 all_parts (Err fault) us khz start from to order begin lost tasks asked is = absurd cc

@@ -83,6 +83,7 @@ fn asked_by<'a>(alloc: Global, given: &[Setting<'a>]) -> Result<Asked, NoRequest
         to,
         begin_at_run,
         cut_losses,
+        in_parts: false,
     })
 }
 

@@ -34,11 +34,11 @@ fn words_ask(rt: HostRuntime) -> Result<(), Fail> {
         ("--cpu 1 --version", "version"),
         (
             "--tasks a:16.667:2 --cpu=3 --strict --from 1.5 --to 9223372036.854775807 --start 600000 --begin run --lost=cut --us 1 --khz 7",
-            "Asked { tasks: [Task { label: [97], thread: Named([97]), deadline: 16667000, apart: 2000000 }], processor: 3, unit: 1000, khz: 7, start: Some(600000), from: Some(1500000000), to: Some(9223372036854775807), begin_at_run: true, cut_losses: true } true",
+            "Asked { tasks: [Task { label: [97], thread: Named([97]), deadline: 16667000, apart: 2000000 }], processor: 3, unit: 1000, khz: 7, start: Some(600000), from: Some(1500000000), to: Some(9223372036854775807), begin_at_run: true, cut_losses: true, in_parts: false } true",
         ),
         (
             "--tasks 7=a\\,b:1,c\\:\\d:0.01",
-            "Asked { tasks: [Task { label: [97, 44, 98], thread: Numbered(7), deadline: 1000000, apart: 0 }, Task { label: [99, 58, 92, 100], thread: Named([99, 58, 92, 100]), deadline: 10000, apart: 0 }], processor: 0, unit: 10000, khz: 10000, start: None, from: None, to: None, begin_at_run: false, cut_losses: false } false",
+            "Asked { tasks: [Task { label: [97, 44, 98], thread: Numbered(7), deadline: 1000000, apart: 0 }, Task { label: [99, 58, 92, 100], thread: Named([99, 58, 92, 100]), deadline: 10000, apart: 0 }], processor: 0, unit: 10000, khz: 10000, start: None, from: None, to: None, begin_at_run: false, cut_losses: false, in_parts: false } false",
         ),
     ];
     for (line, want) in cases {

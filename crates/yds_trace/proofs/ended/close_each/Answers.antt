@@ -4,7 +4,7 @@ use Rattle.yds_trace.proofs.ended.close_each.Goals as goal
 
 pub loop-followed-preserved : goal.loop-followed-preserved
 loop-followed-preserved c = λ start counting is.
-    made_more _ _ _ _ _ _ _ _ c.in_ok-push.ensures.items c.in-Some.ensures.steps.0 (c.in_ok-close.ensures start counting is)
+    made_more _ _ _ _ _ _ _ _ c.in_ok-push.ensures.items c.in-Some.ensures.steps.0 (c.in_ok-closed.ensures start counting is)
     ∙ c.loop-followed.invariant start counting is
 
 pub returns : goal.returns

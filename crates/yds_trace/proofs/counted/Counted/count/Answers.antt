@@ -1,4 +1,4 @@
-use Rattle.yds_model.proofs.Common.{◌≡◌, ◌∙◌, ◌∷◌, false, sym, refl, arith}
+use Rattle.yds_model.proofs.Common.{◌≡◌, ◌∙◌, ◌∷◌, false, sym, refl}
 use Rattle.yds_kernel.specs.Event.{Stamped}
 use Rattle.yds_kernel.specs.Views.{event_read, thread_read}
 use Rattle.yds_trace.specs.Past.{up_to, is_first_switch}
@@ -44,7 +44,7 @@ returns-in-Switch-2-clause-few c = λ past lines is.
     let same : up_to c.args.asked.now.to (Stamped (event_read c.args.event.now) ∷ past) ≡ up_to c.args.asked.now.to past =
     up_to_passes c.args.asked.now.to c.in-Some.to (event_read c.args.event.now) past c.in-Some.is
     (sym (c.counts.ensures (asked_read c.args.asked.now) past lines) ∙ c.if-counts.false) passes in
-    rw same (not_too_long (asked_read c.args.asked.now) (up_to c.args.asked.now.to past) (omega (arith, is.touched, is.few)))
+    rw same (not_too_long (asked_read c.args.asked.now) (up_to c.args.asked.now.to past) c.args.self.now.touched is.touched is.few)
 
 pub returns-in-Switch-2-clause-stands : goal.returns-in-Switch-2-clause-stands
 returns-in-Switch-2-clause-stands c = λ past lines is.

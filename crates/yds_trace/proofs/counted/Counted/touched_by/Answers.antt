@@ -3,18 +3,18 @@ use Rattle.yds_trace.specs.Faults.{touches}
 use Rattle.yds_trace.proofs.Counting.{touches_is, touched_more, touched_same}
 use Rattle.yds_trace.proofs.counted.Counted.touched_by.Goals as goal
 
-pub returns-then-touches : goal.returns-then-touches
-returns-then-touches c = λ asked counting event is first second step.
+pub returns-then-touches-clause-counted : goal.returns-then-touches-clause-counted
+returns-then-touches-clause-counted c = λ asked counting event is first second step no_parts counted.
     let so : touches asked counting event.happening ≡ true =
-    sym (touches_is asked counting event c.args.first c.args.second c.args.step c.args.self.now.tasks.items first second step
+    sym (touches_is asked counting c.args.self.now.boundary event c.args.first c.args.second c.args.step c.args.self.now.tasks.items first second step
     (omega (arith, is.as_many, c.args.self.now.tasks.ok.0)) is.tasks)
     ∙ sym c.touches.ensures ∙ c.if-touches.true in
-    omega (arith, c.saturating_add.ensures, touched_more asked counting event so, is.touched, is.few)
+    omega (arith, c.saturating_add.ensures, touched_more asked counting event so, is.touched counted, is.few)
 
-pub returns-else-touches : goal.returns-else-touches
-returns-else-touches c = λ asked counting event is first second step.
+pub returns-else-touches-clause-counted : goal.returns-else-touches-clause-counted
+returns-else-touches-clause-counted c = λ asked counting event is first second step no_parts counted.
     let not_so : touches asked counting event.happening ≡ false =
-    sym (touches_is asked counting event c.args.first c.args.second c.args.step c.args.self.now.tasks.items first second step
+    sym (touches_is asked counting c.args.self.now.boundary event c.args.first c.args.second c.args.step c.args.self.now.tasks.items first second step
     (omega (arith, is.as_many, c.args.self.now.tasks.ok.0)) is.tasks)
     ∙ sym c.touches.ensures ∙ c.if-touches.false in
-    omega (arith, touched_same asked counting event not_so, is.touched)
+    omega (arith, touched_same asked counting event not_so, is.touched counted)

@@ -13,8 +13,11 @@ returns-clause-ended c = λ asked past at. record {
       (omega (arith, at.counted.as_many, c.args.self.counted.tasks.ok.0))
       (λ k n d within is.
       let same : k ≡ n = omega arith in
-      let P : ℕ → Type 0 = λ m. IsFollowed asked (up_to asked.to past) m (get_or c.args.self.counted.tasks.items k d) in
-      subst P same (at.counted.tasks k d within))
+      let none : c.args.self.counted.boundary ≡ 0 = omega (arith, at.within) in
+      let kept = c.args.self.counted.tasks.items in
+      let P : ℕ → Type 0 = λ m. IsFollowed asked (up_to asked.to past) c.args.self.counted.boundary m (get_or kept k d) in
+      let Q : ℕ → Type 0 = λ boundary. IsFollowed asked (up_to asked.to past) boundary n (get_or kept k d) in
+      subst Q none (subst P same (at.counted.tasks k d within)))
       (c.in_ok-jobs.ensures asked.start (up_to asked.to past) at.counted.times);
   first = c.unwrap_or.ensures ∙ sym (at.lines.times.first 0);
   last = sym at.lines.times.last;

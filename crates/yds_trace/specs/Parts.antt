@@ -1,0 +1,191 @@
+-- The parts of a trace: documents one after another, each written as soon as nothing that still comes can change its jobs.
+--
+-- A part has the waiting jobs that begin before a quiet instant: each of them is settled, and none of their runs comes after it. So all runs of
+-- the parts behind come after those of this one.
+use Rattle.std.specs.Prelude.{ℕ, ◌+◌, ◌%◌, List, [], ◌∷◌, map, filter, length, sum_by, count_by, max, Bool, true, false, not, ◌==◌, ◌&&◌, ◌||◌, nat_lt, nat_le, if◌then◌else◌, Option, Some, None, is_some}
+use Rattle.std.specs.List.{list_any, list_all}
+use Rattle.yds_kernel.specs.declared.loss.Since.TheVariants as since
+use Rattle.yds_kernel.specs.Event.{Said, Stamped, Lost, Nothing, Event, Happening, Switch}
+use Rattle.yds_kernel.specs.Parts.{or_else, capped}
+use Rattle.yds_trace.specs.declared.cut.Cut.{Cut}
+use Rattle.yds_trace.specs.declared.fault.Cause.{Cause}
+use Rattle.yds_trace.specs.declared.fault.Cause.TheVariants as causes
+use Rattle.yds_trace.specs.declared.job.End.{End}
+use Rattle.yds_trace.specs.declared.job.End.TheVariants as ends
+use Rattle.yds_trace.specs.declared.limits.TheConstants.{LOOK_EVERY, PART_JOBS, PART_STRETCHES, WAITING_JOBS, WAITING_STRETCHES}
+use Rattle.yds_trace.specs.Asked.{Asked, task_at, task_of}
+use Rattle.yds_trace.specs.Past.{last_time, lost_since, is_loss, whole_since, has_switched, up_to}
+use Rattle.yds_trace.specs.Jobs.{Job, known_after}
+use Rattle.yds_trace.specs.Late.{last_asked}
+use Rattle.yds_trace.specs.Document.{Judged, all_judged, stands}
+use Rattle.yds_trace.specs.Faults.{has_wake_up}
+
+-- # Which jobs wait
+
+abbrev pub begin_of : Judged → ℕ
+begin_of judged = judged.job.begin
+
+-- Those that begin before this time are in the parts before.
+abbrev pub begins_from : ℕ → Judged → Bool
+begins_from time judged = nat_le time judged.job.begin
+
+abbrev pub begins_before : ℕ → Judged → Bool
+begins_before time judged = nat_lt judged.job.begin time
+
+-- in order of begin
+abbrev pub waiting_from : Asked → List Said → ℕ → List Judged
+waiting_from asked past boundary = filter (begins_from boundary) (all_judged asked past)
+
+-- # Settled jobs
+
+-- the begin of a task's last job
+abbrev pub last_begin : List Job → ℕ
+last_begin [] = 0
+last_begin (job ∷ jobs) = job.begin
+
+abbrev pub last_begin_of : Asked → List Said → ℕ → ℕ
+last_begin_of asked past number = last_begin (known_after asked number (up_to asked.to past)).jobs
+
+-- Its end is known, or nothing more will be known of it: events were lost, or its thread left unseen and has begun another job since.
+abbrev pub is_over : ℕ → Bool → End → Bool
+is_over last followed ends.Open = false
+is_over last followed (ends.Ended end) = true
+is_over last followed (ends.Unseen since goes_on) = followed
+is_over last followed (ends.Lost since) = nat_lt since last
+
+-- It is over, and no wake-up can go on with it.
+abbrev pub is_settled : Asked → List Said → Judged → Bool
+is_settled asked past judged =
+    is_over (last_asked asked past) (nat_lt judged.job.begin (last_begin_of asked past judged.task)) judged.job.end
+    && nat_le (judged.job.begin + (task_at asked judged.task).apart) (last_time past)
+
+-- # Where a part may end
+
+abbrev pub ended_by : ℕ → End → Bool
+ended_by time (ends.Ended end) = nat_le end time
+ended_by time _ = false
+
+-- It is settled, and it has no run after this time.
+abbrev pub is_done_by : Asked → List Said → ℕ → Judged → Bool
+is_done_by asked past time judged = is_settled asked past judged && (not (stands judged) || ended_by time judged.job.end)
+
+abbrev pub is_written : Judged → Bool
+is_written judged = stands judged || is_some judged.late
+
+-- Its window, if it is written, is over by this time.
+abbrev pub is_closed_by : ℕ → Judged → Bool
+is_closed_by time judged = not (is_written judged) || nat_le judged.due time
+
+-- the test holds for each of these jobs that begins before this time
+abbrev pub each_before : (Judged → Bool) → ℕ → List Judged → Bool
+each_before test time jobs = list_all (λ judged. begins_from time judged || test judged) jobs
+
+-- A job that is written begins before this time.
+abbrev pub has_written : ℕ → List Judged → Bool
+has_written time jobs = list_any (λ judged. begins_before time judged && is_written judged) jobs
+
+-- at this time the processor is quiet: the waiting jobs that begin before it may be a part
+abbrev pub is_quiet : Asked → List Said → List Judged → ℕ → Bool
+is_quiet asked past waiting time = has_written time waiting && each_before (is_done_by asked past time) time waiting
+
+-- and no window is open
+abbrev pub is_closed : Asked → List Said → List Judged → ℕ → Bool
+is_closed asked past waiting time = is_quiet asked past waiting time && each_before (is_closed_by time) time waiting
+
+-- the last of these times for which the test holds
+abbrev pub last_where : (ℕ → Bool) → List ℕ → Option ℕ
+last_where test [] = None
+last_where test (time ∷ times) = or_else (last_where test times) (if test time then Some time else None)
+
+-- The last quiet begin of a waiting job at which no window is open; or else the last quiet one.
+abbrev pub place_among : Asked → List Said → List Judged → Option ℕ
+place_among asked past waiting =
+    or_else (last_where (is_closed asked past waiting) (map begin_of waiting)) (last_where (is_quiet asked past waiting) (map begin_of waiting))
+
+-- # When a part is written
+
+abbrev pub stretches_of : List Judged → ℕ
+stretches_of jobs = sum_by (λ judged. length judged.job.stretches) jobs
+
+-- so many jobs or stretches that a part is to be written
+abbrev pub is_much : List Judged → Bool
+is_much waiting = nat_lt PART_JOBS (length waiting) || nat_lt PART_STRETCHES (stretches_of waiting)
+
+-- more than may wait
+abbrev pub is_too_much : List Judged → Bool
+is_too_much waiting = nat_lt WAITING_JOBS (length waiting) || nat_lt WAITING_STRETCHES (stretches_of waiting)
+
+-- Behind each line of this number it is looked whether a part is to be written.
+abbrev pub is_due : List Said → Bool
+is_due past = length past % LOOK_EVERY == 0
+
+-- Where jobs begin at wake-ups, none is written before the first wake-up of a task.
+abbrev pub may_write : Asked → List Said → Bool
+may_write asked past = asked.begin_at_run || has_wake_up asked past
+
+-- before the first part
+abbrev pub no_cut : Cut
+no_cut = record { boundary = 0; decided = 0; parts = 0; jobs = 0; due = 0 }
+
+-- those that wait behind these parts
+abbrev pub waiting : Asked → List Said → Cut → List Judged
+waiting asked past cut = waiting_from asked past cut.boundary
+
+-- The jobs of the part that ends at this time; without one it is the last part.
+abbrev pub is_before_end : Option ℕ → Judged → Bool
+is_before_end None judged = true
+is_before_end (Some time) judged = begins_before time judged
+
+abbrev pub part_until : Asked → List Said → Cut → Option ℕ → List Judged
+part_until asked past cut until = filter (is_before_end until) (waiting asked past cut)
+
+-- where the part ends that is written behind these lines, if one is
+abbrev pub place_of : Asked → List Said → Cut → Option ℕ
+place_of asked past cut =
+    if is_due past && may_write asked past && is_much (waiting asked past cut) then place_among asked past (waiting asked past cut) else None
+
+abbrev pub greatest_due : ℕ → List Judged → ℕ
+greatest_due due [] = due
+greatest_due due (judged ∷ jobs) = greatest_due (if is_written judged then max due judged.due else due) jobs
+
+abbrev pub with_part : List Said → ℕ → List Judged → Cut → Cut
+with_part past time part cut = record {
+  boundary = time;
+  decided = last_time past;
+  parts = capped (cut.parts + 1);
+  jobs = capped (cut.jobs + count_by is_written part);
+  due = greatest_due cut.due part;
+}
+
+abbrev pub cut_at : Asked → List Said → Cut → Option ℕ → Cut
+cut_at asked past cut None = cut
+cut_at asked past cut (Some time) = with_part past time (part_until asked past cut (Some time)) cut
+
+-- what was written up to the last of these lines
+abbrev pub cut_after : Asked → List Said → Cut
+cut_after asked [] = no_cut
+cut_after asked (said ∷ past) = cut_at asked (said ∷ past) (cut_after asked past) (place_of asked (said ∷ past) (cut_after asked past))
+
+-- # What a line behind a written part is refused for
+
+-- Events were lost since a time before the last part was written.
+abbrev pub reaches_back : Cut → ℕ → Bool
+reaches_back cut time = nat_lt time cut.decided
+
+-- A listed thread leaves a processor that hasn't switched since a time before the jobs that wait: it may have had a job since then.
+abbrev pub was_there_before : Asked → List Said → Cut → Event → Happening → Bool
+was_there_before asked past cut event (Switch previous state next) =
+    is_some (task_of asked.tasks previous) && not (has_switched event.processor (up_to asked.to past))
+    && nat_lt (whole_since event.time (up_to asked.to past)) cut.boundary
+was_there_before asked past cut event _ = false
+
+abbrev pub changes_parts : Asked → List Said → Cut → Said → Bool
+changes_parts asked past cut (Stamped event) =
+    (is_loss event.happening && reaches_back cut (lost_since event.processor since.ItsLastLine past))
+    || was_there_before asked past cut event event.happening
+changes_parts asked past cut (Lost processor reach) = reaches_back cut (lost_since processor reach past)
+changes_parts asked past cut Nothing = false
+
+-- what a line is refused for, behind these parts
+abbrev pub part_fault : Asked → List Said → Cut → Said → Option Cause
+part_fault asked past cut said = if changes_parts asked past cut said then Some causes.PartWritten else None

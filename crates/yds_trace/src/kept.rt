@@ -1,0 +1,8 @@
+//! How much is kept of the tasks.
+
+/// At most so much waits of the tasks. Beyond 64 bits neither is counted.
+#[derive(Clone, Copy, Debug, PartialEq, Eq)]
+pub struct Kept {
+    pub jobs: u64,
+    pub stretches: u64,
+}

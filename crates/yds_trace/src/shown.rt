@@ -1,0 +1,71 @@
+//! What is known of the tasks behind some lines, of the jobs that aren't forgotten.
+ghost use Rattle.std.specs.Prelude.{◌≡◌, ℕ, ◌<◌, List, Option, length, slice_index_or, vec_len, IfOk};
+ghost use Rattle.yds_kernel.specs.Event.{Said};
+ghost use Rattle.yds_trace.specs.declared.followed.Followed.{Followed};
+ghost use Rattle.yds_trace.specs.declared.shown.ShownTask.{ShownTask};
+ghost use Rattle.yds_trace.specs.Following.{Shows};
+ghost use Rattle.yds_trace.specs.Kept.{IsPast};
+
+use crate::ended::close;
+use crate::followed::Followed;
+use crate::job::Job;
+use crate::jobs::{copied, last_begin};
+use crate::past::Past;
+use std::alloc::Global;
+use yds_model::Memory;
+
+/// What is known of a task's jobs.
+#[derive(Debug, Drop)]
+pub struct ShownTask {
+    /// How many jobs were forgotten: the first ones.
+    pub forgotten: u64,
+    /// Whether the first job of all began before the trace.
+    pub before: bool,
+    /// The jobs behind the forgotten ones, in order of begin. What still has its processor has had it until now.
+    pub jobs: Vec<Job>,
+    /// The begin of the last job, in nanoseconds; 0 where there is none.
+    pub last_begin: u64,
+}
+
+/// What is known of all tasks, in their order.
+#[derive(Debug, Drop)]
+pub struct Shown {
+    pub tasks: Vec<ShownTask>,
+    /// The time of the trace's first line with a stamp, in nanoseconds; 0 where there is none.
+    pub first: u64,
+    /// The time of its last line with a stamp, in nanoseconds; 0 where there is none.
+    pub last: u64,
+}
+
+/// What is known of a task: what still has its processor has had it until this time.
+fn show(alloc: Global, followed: &Followed, past: &Past, until: u64) -> Result<ShownTask, Memory>
+    ensures { (start : Option ℕ) (counting : List Said) → IsPast start counting past.now → IfOk result (Shows until start counting followed.now) }
+{
+    let mut jobs = copied(alloc, &followed.known.jobs)?;
+    close(&mut jobs, followed.known.on, past, until)?;
+    Ok(ShownTask {
+        forgotten: followed.forgotten,
+        before: followed.first_before(),
+        jobs,
+        last_begin: last_begin(&followed.known.jobs),
+    })
+}
+
+/// What is known of each task.
+pub(crate) fn show_each(
+    alloc: Global,
+    tasks: &[Followed],
+    past: &Past,
+    until: u64,
+) -> Result<Vec<ShownTask>, Memory>
+    ensures many { IfOk result (λ shown. vec_len shown ≡ length tasks.now) }
+    ensures each { (start : Option ℕ) (counting : List Said) → IsPast start counting past.now
+        → IfOk result (λ shown. (number : ℕ) (default : ShownTask) (kept : Followed) → number < length tasks.now
+        → Shows until start counting (slice_index_or tasks.now number kept) (slice_index_or shown.items number default)) }
+{
+    let mut shown = Vec::with_capacity(alloc, tasks.len())?;
+    for followed in tasks {
+        shown.push(show(alloc, followed, past, until)?)?;
+    }
+    Ok(shown)
+}
