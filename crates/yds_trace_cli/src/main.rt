@@ -2,19 +2,21 @@
 //!
 //! It stands on `yds_trace_run`, whose `run` does what the words ask for and answers with a status, and on `yds_port` for the two
 //! streams. It carries the promise that the program ends with the number of that status, and where the words can't be taken, as
-//! where one isn't text, with that of want of memory or with `NO_WORDS`. Nothing is written to standard error.
+//! where one isn't text, with that of want of memory or with `NO_WORDS`. Then too the last line is `failed`, so that no reader of
+//! documents takes the output for one. Nothing is written to standard error.
 #![tactic(auto)]
 
 ghost use Rattle.std.specs.Prelude.{◌≡◌, IfOk, drop};
 ghost use Rattle.std.specs.Result.{IfErr};
 ghost use Rattle.yds_model.specs.Status.{status_code};
 ghost use Rattle.yds_trace_cli.specs.Codes.{code_without_words};
+ghost use Rattle.yds_trace_cli.specs.Telling.{Tells, text_without_words};
 
 use std::io::{BufWriter, ErrorKind};
 use std::process::ExitCode;
 use std::{env, io};
 use yds_model::Status;
-use yds_port::{StdSink, StdSource};
+use yds_port::{Flushed, Sink, StdSink, StdSource, write_all};
 use yds_trace_run::run;
 
 /// How many bytes of the output are gathered before they are written, at most.
@@ -26,18 +28,62 @@ const NO_WORDS: u8 = 7;
 /// Takes the words from the environment, runs over standard input and standard output, and ends with the run's status.
 fn main(rt: HostRuntime) -> ExitCode {
     let ended = run_words(&rt).map_err(|error| error.kind());
-    ExitCode::from(exit_code(ended))
+    let mut sink = StdSink::new(rt.stdout());
+    ExitCode::from(exit_code(ended, &mut sink))
 }
 
-/// The program's exit status, after a run that ended so or after words that couldn't be taken.
-fn exit_code(ended: Result<Status, ErrorKind>) -> u8
-    ensures run { IfOk ended (λ status. result ≡ status_code status) }
-    ensures no_words { IfErr ended (λ kind. result ≡ code_without_words kind) }
+/// The program's exit status, after a run that ended so or after words that couldn't be taken. Then a text says why, since no run
+/// wrote one. It takes no memory.
+fn exit_code<K: Sink>(ended: Result<Status, ErrorKind>, sink: &mut K) -> u8
+    ensures run { IfOk ended (λ status. (result ≡ status_code status) × (sink.new ≡ sink.old)) }
+    ensures no_words { IfErr ended (λ kind. Tells (text_without_words kind) (code_without_words kind) result
+        (K.written sink.old) (K.written sink.new) (K.flushed sink.new) (K.faults sink.old) (K.faults sink.new)) }
 {
     match ended {
         Ok(status) => status.code(),
-        Err(ErrorKind::OutOfMemory) => Status::Memory.code(),
-        Err(_) => NO_WORDS,
+        Err(kind) => tell_no_words(kind, sink),
+    }
+}
+
+/// Writes why the words can't be taken. The exit status is that of the cause, or that of a fault of the sink.
+fn tell_no_words<K: Sink>(kind: ErrorKind, sink: &mut K) -> u8
+    ensures { Tells (text_without_words kind) (code_without_words kind) result
+        (K.written sink.old) (K.written sink.new) (K.flushed sink.new) (K.faults sink.old) (K.faults sink.new) }
+{
+    tell(text_without_words(kind), code_without_words(kind), sink)
+}
+
+/// Why the words can't be taken, and the line `failed`.
+fn text_without_words(kind: ErrorKind) -> &'static [u8]
+    ensures { result.now ≡ text_without_words kind }
+{
+    match kind {
+        ErrorKind::OutOfMemory => b"# out of memory\nfailed\n",
+        _ => b"# a word isn't text; write the words in UTF-8\nfailed\n",
+    }
+}
+
+/// The exit status where the words can't be taken.
+fn code_without_words(kind: ErrorKind) -> u8
+    ensures { result ≡ code_without_words kind }
+{
+    match kind {
+        ErrorKind::OutOfMemory => Status::Memory.code(),
+        _ => NO_WORDS,
+    }
+}
+
+/// Writes a text and flushes the sink. The exit status is this one, or that of a fault of the sink.
+fn tell<K: Sink>(text: &[u8], code: u8, sink: &mut K) -> u8
+    ensures { Tells text.now code result
+        (K.written sink.old) (K.written sink.new) (K.flushed sink.new) (K.faults sink.old) (K.faults sink.new) }
+{
+    if write_all(sink, text).is_err() {
+        return Status::WriteFault.code();
+    }
+    match sink.flush() {
+        Flushed::Done => code,
+        Flushed::Failed => Status::WriteFault.code(),
     }
 }
 
