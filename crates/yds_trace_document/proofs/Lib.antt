@@ -2,6 +2,8 @@ pub mod Caps
 pub mod Listed
 pub mod Lists
 pub mod Nearest
+pub mod Parted
 pub mod Same
 pub mod Sorting
 pub mod Steps
+pub mod Waits

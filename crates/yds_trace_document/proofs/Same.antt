@@ -19,7 +19,7 @@ use Rattle.yds_trace_document.specs.Kept.{last_of, is_to_reached, run_reason, ju
 
 -- # One job
 
-last_same : (to : Option ℕ) (last : ℕ) → last_of to last ≡ (elim to [ None ↦ last | Some time ↦ min time last ])
+pub last_same : (to : Option ℕ) (last : ℕ) → last_of to last ≡ (elim to [ None ↦ last | Some time ↦ min time last ])
 last_same None last = refl
 last_same (Some time) last = refl
 
@@ -45,14 +45,14 @@ judged_by asked number task before numbered last reached = record {
   reason = reason_by asked task numbered.1 last reached;
 }
 
-one_same : (asked : Asked) (past : List Said) (number : ℕ) (before : Bool) (numbered : ℕ × Job) →
+pub one_same : (asked : Asked) (past : List Said) (number : ℕ) (before : Bool) (numbered : ℕ × Job) →
     judged_at (within_of asked (last_time past)) number (task_at asked number) before numbered ≡ judged asked past number before numbered
 one_same asked past number before numbered =
     ap₂ (judged_by asked number (task_at asked number) before numbered) (last_same asked.to (last_time past)) (reached_same asked.to (last_time past))
 
 -- # The jobs of the tasks
 
-map_same : {A B : Type 0} (f g : A → B) → ((x : A) → f x ≡ g x) → (xs : List A) → map f xs ≡ map g xs
+pub map_same : {A B : Type 0} (f g : A → B) → ((x : A) → f x ≡ g x) → (xs : List A) → map f xs ≡ map g xs
 map_same f g each [] = refl
 map_same {A} {B} f g each (x ∷ xs) = ap₂ (λ (y : B) (ys : List B). y ∷ ys) (each x) (map_same f g each xs)
 
@@ -98,17 +98,17 @@ cons_same : (job : Option Written) (capped jobs : List Written) → capped ≡ m
 cons_same None capped jobs is = is
 cons_same (Some job) capped jobs is = ap (λ (more : List Written). with_capped_work job ∷ more) is
 
-jobs_same : (units : Units) (judged : List Judged) → capped_jobs units judged ≡ map with_capped_work (filter_map (written_of units) judged)
+pub jobs_same : (units : Units) (judged : List Judged) → capped_jobs units judged ≡ map with_capped_work (filter_map (written_of units) judged)
 jobs_same units [] = refl
 jobs_same units (one ∷ judged) =
     cons_same (written_of units one) (capped_jobs units judged) (filter_map (written_of units) judged) (jobs_same units judged)
 
-runs_same : (place : ℕ) (jobs : List Written) →
+pub runs_same : (place : ℕ) (jobs : List Written) →
     flat_map placed_runs (enumerate_from place (map with_capped_work jobs)) ≡ flat_map placed_runs (enumerate_from place jobs)
 runs_same place [] = refl
 runs_same place (job ∷ jobs) = ap (λ (more : List Placed). placed_runs (place, job) ++ more) (runs_same (place + 1) jobs)
 
-abbrev built : Units → List (List Judged) → List Judged → List Written → List Placed → Settled
+abbrev pub built : Units → List (List Judged) → List Judged → List Written → List Placed → Settled
 built units by_task judged jobs runs =
     record { units = units; by_task = by_task; judged = judged; document = record { jobs = jobs; runs = runs } }
 

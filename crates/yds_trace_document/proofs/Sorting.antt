@@ -1,5 +1,5 @@
 -- A stable sort puts a list in order: there is one list that rises and keeps equal keys as they stand.
-use Rattle.yds_model.proofs.Common.{◌≡◌, ℕ, suc, ◌<◌, ◌≤◌, ◌==◌, ◌&&◌, Bool, true, false, not, cond, List, [], ◌∷◌, map, length, get_or, filter, ◌∙◌, refl, sym, ap, ap₂, inl, inr, arith, nat_le, nat_tests, cases_order, cond_both, leb-true, leb-false, eqb-true, eq-eqb, is_lt, nat_cmp, IsNonDecreasingBy, IsStableByKey}
+use Rattle.yds_model.proofs.Common.{◌≡◌, ℕ, suc, ◌<◌, ◌≤◌, ◌==◌, ◌&&◌, Bool, true, false, not, cond, List, [], ◌∷◌, map, length, get_or, filter, ◌∙◌, refl, sym, ap, ap₂, inl, inr, arith, nat_le, nat_tests, cases_order, cond_both, le-leb, leb-true, leb-false, eqb-true, eq-eqb, is_lt, nat_cmp, IsNonDecreasingBy, IsStableByKey}
 use Rattle.yds_trace.specs.Document.{put_in, in_order}
 
 -- each key is at least this
@@ -16,7 +16,7 @@ same key k x = k == key x
 
 -- # What is put in
 
-lower : {A : Type 0} (key : A → ℕ) (low less : ℕ) (xs : List A) → less ≤ low → FromLow key low xs → FromLow key less xs
+pub lower : {A : Type 0} (key : A → ℕ) (low less : ℕ) (xs : List A) → less ≤ low → FromLow key low xs → FromLow key less xs
 lower key low less [] below all = tt
 lower key low less (x ∷ xs) below all = (omega (arith, all.0), lower key low less xs below all.1)
 
@@ -151,3 +151,61 @@ pub in_order_map : {A B : Type 0} (f : A → B) (key : B → ℕ) (xs : List A) 
 in_order_map f key [] = refl
 in_order_map {A} {B} f key (x ∷ xs) =
     ap (put_in key (f x)) (in_order_map f key xs) ∙ put_in_map f key x (in_order (λ y. key (f y)) xs)
+
+-- # What a filter leaves stays in order
+
+put_before : {A : Type 0} (key : A → ℕ) (x : A) (xs : List A) → FromLow key (key x) xs → put_in key x xs ≡ x ∷ xs
+put_before key x [] low = refl
+put_before {A} key x (y ∷ ys) low =
+    ap (λ (b : Bool). cond b (x ∷ y ∷ ys) (y ∷ put_in key x ys)) (le-leb (key x) (key y) low.0)
+
+filter_low : {A : Type 0} (key : A → ℕ) (p : A → Bool) (low : ℕ) (xs : List A) → FromLow key low xs → FromLow key low (filter p xs)
+filter_low key p low [] all = tt
+filter_low {A} key p low (x ∷ xs) all =
+    cond_both (p x) (x ∷ filter p xs) (filter p xs) (FromLow key low) (λ held. (all.0, filter_low key p low xs all.1)) (λ denied. filter_low key p low xs all.1)
+
+-- an element that is kept is put in among those that are kept
+abbrev put_kept : {A : Type 0} → (A → ℕ) → Bool → A → List A → List A
+put_kept key kept x xs = cond kept (put_in key x xs) xs
+
+kept_front : {A : Type 0} (key : A → ℕ) (b c : Bool) (x y : A) (ys : List A) → key x ≤ key y → FromLow key (key y) ys →
+    cond b (x ∷ cond c (y ∷ ys) ys) (cond c (y ∷ ys) ys) ≡ put_kept key b x (cond c (y ∷ ys) ys)
+kept_front {A} key true true x y ys below low = sym (put_before key x (y ∷ ys) (below, lower key (key y) (key x) ys below low))
+kept_front {A} key true false x y ys below low = sym (put_before key x ys (lower key (key y) (key x) ys below low))
+kept_front key false c x y ys below low = refl
+
+kept_behind : {A : Type 0} (key : A → ℕ) (b c : Bool) (x y : A) (ys put : List A) → nat_le (key x) (key y) ≡ false → put ≡ put_kept key b x ys →
+    cond c (y ∷ put) put ≡ put_kept key b x (cond c (y ∷ ys) ys)
+kept_behind {A} key true true x y ys put above is =
+    ap (λ (l : List A). y ∷ l) is ∙ ap (λ (first : Bool). cond first (x ∷ y ∷ ys) (y ∷ put_in key x ys)) (sym above)
+kept_behind key true false x y ys put above is = is
+kept_behind {A} key false true x y ys put above is = ap (λ (l : List A). y ∷ l) is
+kept_behind key false false x y ys put above is = is
+
+filter_put : {A : Type 0} (key : A → ℕ) (p : A → Bool) (x : A) (xs : List A) → Rises key xs →
+    filter p (put_in key x xs) ≡ put_kept key (p x) x (filter p xs)
+filter_put key p x [] rising = refl
+filter_put {A} key p x (y ∷ ys) rising =
+    cond_both (nat_le (key x) (key y)) (x ∷ y ∷ ys) (y ∷ put_in key x ys) (λ (zs : List A). filter p zs ≡ put_kept key (p x) x (filter p (y ∷ ys)))
+    (λ held. kept_front key (p x) (p y) x y (filter p ys) (leb-true (key x) (key y) held) (filter_low key p (key y) ys rising.0))
+    (λ denied. kept_behind key (p x) (p y) x y (filter p ys) (filter p (put_in key x ys)) denied (filter_put key p x ys rising.1))
+
+kept_order : {A : Type 0} (key : A → ℕ) (b : Bool) (x : A) (xs : List A) → put_kept key b x (in_order key xs) ≡ in_order key (cond b (x ∷ xs) xs)
+kept_order key true x xs = refl
+kept_order key false x xs = refl
+
+pub filter_in_order : {A : Type 0} (key : A → ℕ) (p : A → Bool) (xs : List A) → filter p (in_order key xs) ≡ in_order key (filter p xs)
+filter_in_order key p [] = refl
+filter_in_order {A} key p (x ∷ xs) =
+    filter_put key p x (in_order key xs) (in_order_rises key xs)
+    ∙ ap (put_kept key (p x) x) (filter_in_order key p xs)
+    ∙ kept_order key (p x) x (filter p xs)
+
+pub rises_in_order : {A : Type 0} (key : A → ℕ) (xs : List A) → Rises key (in_order key xs)
+rises_in_order key xs = in_order_rises key xs
+
+pub rises_filter : {A : Type 0} (key : A → ℕ) (p : A → Bool) (xs : List A) → Rises key xs → Rises key (filter p xs)
+rises_filter key p [] rising = tt
+rises_filter {A} key p (x ∷ xs) rising =
+    cond_both (p x) (x ∷ filter p xs) (filter p xs) (Rises key) (λ held. (filter_low key p (key x) xs rising.0, rises_filter key p xs rising.1))
+    (λ denied. rises_filter key p xs rising.1)

@@ -1,5 +1,5 @@
 -- What one step of a loop adds.
-use Rattle.yds_model.proofs.Common.{◌≡◌, ℕ, suc, ◌+◌, ◌-◌, ◌<◌, List, [], ◌∷◌, ◌++◌, map, reverse, length, get_or, take, ◌∙◌, refl, sym, ap, ap₂, arith, Option, Some, None, option_to_list, enumerate_from, flat_map, flat_map-append, append-nil, map-append, map_more, length-map, filter_map-append}
+use Rattle.yds_model.proofs.Common.{◌≡◌, ℕ, suc, ◌+◌, ◌-◌, ◌<◌, List, [], ◌∷◌, ◌++◌, map, reverse, length, get_or, take, take_more, ◌∙◌, refl, sym, ap, ap₂, arith, Option, Some, None, option_to_list, enumerate_from, flat_map, flat_map-append, append-nil, map-append, map_more, length-map, filter_map-append}
 use Rattle.std.proofs.lemmas.List.{reverse-reverse, length-take-le}
 use Rattle.std.specs.Prelude.{Vec, Bool}
 use Rattle.std.specs.List.{cons_option}
@@ -7,6 +7,7 @@ use Rattle.std.specs.declared.alloc.Global.{Global}
 use Rattle.yds_trace.specs.declared.job.Job.{Job as JobKept}
 use Rattle.yds_trace.specs.declared.job.Stretch.{Stretch}
 use Rattle.yds_trace.specs.declared.asked.Task.{Task as TaskKept}
+use Rattle.yds_trace.specs.declared.shown.ShownTask.{ShownTask}
 use Rattle.yds_trace.specs.Asked.{Task}
 use Rattle.yds_trace.specs.Jobs.{Job}
 use Rattle.yds_trace.specs.Ended.{in_order_of_begin}
@@ -16,7 +17,7 @@ use Rattle.yds_trace.specs.Document.{Judged, Written, Placed, placed_runs}
 use Rattle.yds_trace_document.specs.declared.run.Run.{Run as RunKept}
 use Rattle.yds_trace_document.specs.declared.judged.Judged.{Judged as JudgedKept}
 use Rattle.yds_trace_document.specs.declared.written.Written.{Written as WrittenKept}
-use Rattle.yds_trace_document.specs.Kept.{Within, placed_of, judged_at, judged_task, judged_tasks, capped_of, capped_jobs}
+use Rattle.yds_trace_document.specs.Kept.{Within, placed_of, judged_at, judged_task, judged_tasks, shown_task, shown_tasks, capped_of, capped_jobs}
 use Rattle.yds_trace_document.specs.Views.{runs_read, written_option, written_read, written_list, judged_read, judged_list}
 use Rattle.yds_trace_document.proofs.Lists.{enumerate_push}
 
@@ -25,27 +26,30 @@ use Rattle.yds_trace_document.proofs.Lists.{enumerate_push}
 length_taken : {A B : Type 0} (g : A → B) (xs : List A) (i : ℕ) → i < length xs → length (map g (take i xs)) ≡ i
 length_taken g xs i within = length-map (take i xs) g ∙ length-take-le i xs (omega arith)
 
-numbered_more : {A B : Type 0} (g : A → B) (xs : List A) (i : ℕ) (d : A) → i < length xs →
-    enumerate_from 0 (map g (take (i + 1) xs)) ≡ enumerate_from 0 (map g (take i xs)) ++ (i, g (get_or xs i d)) ∷ []
-numbered_more {A} {B} g xs i d within =
-    ap (enumerate_from 0) (map_more g xs i d within)
-    ∙ enumerate_push 0 (map g (take i xs)) (g (get_or xs i d))
-    ∙ ap (λ (n : ℕ). let pair : ℕ × B = (n, g (get_or xs i d)) in enumerate_from 0 (map g (take i xs)) ++ pair ∷ [])
-    (let e : 0 + length (map g (take i xs)) ≡ i = omega (arith, length_taken g xs i within) in e)
+numbered_more : {A B : Type 0} (g : A → B) (first : ℕ) (xs : List A) (i : ℕ) (d : A) → i < length xs →
+    enumerate_from first (map g (take (i + 1) xs)) ≡ enumerate_from first (map g (take i xs)) ++ (first + i, g (get_or xs i d)) ∷ []
+numbered_more {A} {B} g first xs i d within =
+    ap (enumerate_from first) (map_more g xs i d within)
+    ∙ enumerate_push first (map g (take i xs)) (g (get_or xs i d))
+    ∙ ap (λ (n : ℕ). let pair : ℕ × B = (n, g (get_or xs i d)) in enumerate_from first (map g (take i xs)) ++ pair ∷ [])
+    (let e : first + length (map g (take i xs)) ≡ first + i = omega (arith, length_taken g xs i within) in e)
 
-pub judged_more : (within : Within) (number : ℕ) (task : Task) (before : Bool) (jobs : List JobKept) (i : ℕ) (d : JobKept) → i < length jobs →
-    map (judged_at within number task before) (enumerate_from 0 (map job_read (take (i + 1) jobs)))
-    ≡ map (judged_at within number task before) (enumerate_from 0 (map job_read (take i jobs))) ++ judged_at within number task before (i, job_read (get_or jobs i d)) ∷ []
-judged_more within number task before jobs i d inside =
-    ap (map (judged_at within number task before)) (numbered_more job_read jobs i d inside)
-    ∙ map-append (judged_at within number task before) (enumerate_from 0 (map job_read (take i jobs))) ((i, job_read (get_or jobs i d)) ∷ [])
+pub judged_more : (within : Within) (number : ℕ) (task : Task) (before : Bool) (first : ℕ) (jobs : List JobKept) (i : ℕ) (d : JobKept) → i < length jobs →
+    map (judged_at within number task before) (enumerate_from first (map job_read (take (i + 1) jobs)))
+    ≡ map (judged_at within number task before) (enumerate_from first (map job_read (take i jobs)))
+    ++ judged_at within number task before (first + i, job_read (get_or jobs i d)) ∷ []
+judged_more within number task before first jobs i d inside =
+    ap (map (judged_at within number task before)) (numbered_more job_read first jobs i d inside)
+    ∙ map-append (judged_at within number task before) (enumerate_from first (map job_read (take i jobs))) ((first + i, job_read (get_or jobs i d)) ∷ [])
 
 pub placed_more : (jobs : List WrittenKept) (i : ℕ) (d : WrittenKept) → i < length jobs →
     flat_map placed_runs (enumerate_from 0 (written_list (take (i + 1) jobs)))
     ≡ flat_map placed_runs (enumerate_from 0 (written_list (take i jobs))) ++ placed_of i (written_read (get_or jobs i d)).runs
 placed_more jobs i d within =
-    ap (flat_map placed_runs) (numbered_more written_read jobs i d within)
-    ∙ flat_map-append placed_runs (enumerate_from 0 (written_list (take i jobs))) ((i, written_read (get_or jobs i d)) ∷ [])
+    ap (flat_map placed_runs) (numbered_more written_read 0 jobs i d within)
+    ∙ flat_map-append placed_runs (enumerate_from 0 (written_list (take i jobs))) ((0 + i, written_read (get_or jobs i d)) ∷ [])
+    ∙ ap (λ (n : ℕ). flat_map placed_runs (enumerate_from 0 (written_list (take i jobs))) ++ flat_map placed_runs ((n, written_read (get_or jobs i d)) ∷ []))
+    (let e : 0 + i ≡ i = omega arith in e)
     ∙ ap (λ (l : List Placed). flat_map placed_runs (enumerate_from 0 (written_list (take i jobs))) ++ l) (append-nil (placed_runs (i, written_read (get_or jobs i d))))
 
 -- # Tasks
@@ -73,6 +77,34 @@ tasks_more within tasks jobs i t j inside also =
     (length_taken task_read tasks i inside ∙ sym (length_taken in_order_of_begin jobs i also))
     ∙ ap (λ (m : ℕ). let one : List Judged = judged_task within m (task_read (get_or tasks i t)) (in_order_of_begin (get_or jobs i j)) in
     judged_tasks within 0 (map task_read (take i tasks)) (map in_order_of_begin (take i jobs)) ++ one ∷ [])
+    (let e : 0 + length (map task_read (take i tasks)) ≡ i = omega (arith, length_taken task_read tasks i inside) in e)
+
+-- # What is shown of tasks
+
+one_shown : (within : Within) (boundary n : ℕ) (tasks : List Task) (shown : List ShownTask) (task : Task) (one : ShownTask) → length tasks ≡ length shown →
+    shown_tasks within boundary n (tasks ++ task ∷ []) (shown ++ one ∷ [])
+    ≡ shown_tasks within boundary n tasks shown ++ shown_task within boundary (n + length tasks) task one ∷ []
+one_shown within boundary n [] [] task one same =
+    ap (λ (m : ℕ). let some : List Judged = shown_task within boundary m task one in some ∷ []) (let e : n ≡ n + 0 = omega arith in e)
+one_shown within boundary n [] (s ∷ shown) task one same = absurd (omega arith)
+one_shown within boundary n (t ∷ tasks) [] task one same = absurd (omega arith)
+one_shown within boundary n (t ∷ tasks) (s ∷ shown) task one same =
+    ap (λ (rest : List (List Judged)). shown_task within boundary n t s ∷ rest)
+    (one_shown within boundary (n + 1) tasks shown task one (omega arith)
+    ∙ ap (λ (m : ℕ). let some : List Judged = shown_task within boundary m task one in shown_tasks within boundary (n + 1) tasks shown ++ some ∷ [])
+    (let e : n + 1 + length tasks ≡ n + suc (length tasks) = omega arith in e))
+
+pub shown_more : (within : Within) (boundary : ℕ) (tasks : List TaskKept) (shown : List ShownTask) (i : ℕ) (t : TaskKept) (s : ShownTask) →
+    i < length tasks → i < length shown →
+    shown_tasks within boundary 0 (map task_read (take (i + 1) tasks)) (take (i + 1) shown)
+    ≡ shown_tasks within boundary 0 (map task_read (take i tasks)) (take i shown)
+    ++ shown_task within boundary i (task_read (get_or tasks i t)) (get_or shown i s) ∷ []
+shown_more within boundary tasks shown i t s inside also =
+    ap₂ (shown_tasks within boundary 0) (map_more task_read tasks i t inside) (take_more shown i s also)
+    ∙ one_shown within boundary 0 (map task_read (take i tasks)) (take i shown) (task_read (get_or tasks i t)) (get_or shown i s)
+    (length_taken task_read tasks i inside ∙ sym (length-take-le i shown (omega arith)))
+    ∙ ap (λ (m : ℕ). let one : List Judged = shown_task within boundary m (task_read (get_or tasks i t)) (get_or shown i s) in
+    shown_tasks within boundary 0 (map task_read (take i tasks)) (take i shown) ++ one ∷ [])
     (let e : 0 + length (map task_read (take i tasks)) ≡ i = omega (arith, length_taken task_read tasks i inside) in e)
 
 -- # Written jobs

@@ -1,14 +1,20 @@
 -- The definitions of a document by what is kept at a trace's end: its first and its last time stand in the place of its lines.
-use Rattle.std.specs.Prelude.{◌≡◌, ◌≤◌, ℕ, ◌+◌, List, [], ◌∷◌, map, min, length, not, Bool, false, ◌&&◌, nat_lt, nat_le, if◌then◌else◌, Option, Some, None, is_none, unwrap_or, Vec}
+use Rattle.std.specs.Prelude.{◌≡◌, ◌≤◌, ℕ, ◌+◌, List, [], ◌∷◌, map, filter, min, length, not, Bool, false, ◌&&◌, nat_lt, nat_le, if◌then◌else◌, Option, Some, None, is_none, unwrap_or, Vec}
 use Rattle.std.specs.List.{list_any, filter_map, flat_map, enumerate_from, All}
 use Rattle.std.specs.declared.alloc.Global.{Global}
+use Rattle.yds_kernel.specs.declared.limits.TheConstants.{MAX_U64}
 use Rattle.yds_trace.specs.declared.limits.TheConstants.{MAX_TIME, MAX_DEADLINE}
+use Rattle.yds_trace.specs.declared.asked.Asked.{Asked as AskedKept}
+use Rattle.yds_trace.specs.declared.shown.ShownTask.{ShownTask as ShownTaskKept}
+use Rattle.yds_trace.specs.declared.shown.Shown.{Shown as ShownKept}
 use Rattle.yds_trace.specs.declared.job.Job.{Job as JobKept}
 use Rattle.yds_trace.specs.declared.ended.Ended.{Ended as EndedKept}
 use Rattle.yds_trace.specs.declared.reason.Reason.{Reason}
 use Rattle.yds_trace.specs.declared.reason.Reason.TheVariants as reasons
 use Rattle.yds_trace.specs.Asked.{Task, Asked, is_after_from}
 use Rattle.yds_trace.specs.Jobs.{Job}
+use Rattle.yds_trace.specs.Views.{job_read}
+use Rattle.yds_trace.specs.Parts.{begins_from}
 use Rattle.yds_trace.specs.Late.{due, is_open, late_by}
 use Rattle.yds_trace.specs.WrittenTime.{Units, Run, before}
 use Rattle.yds_trace.specs.Document.{is_lost, is_elsewhere, is_of_unknown_speed, named, began_before, Judged, in_order, stands, least_of, least_begin, Written, written_of, Placed, all_runs}
@@ -24,6 +30,19 @@ pub record IsPlain (ended : EndedKept) : Type 0 where
   pub deadlines : All (λ task. task.deadline ≤ MAX_DEADLINE) ended.asked.tasks.items
   pub begins : HaveBegins ended.jobs.items
   pub of_each_task : length ended.jobs.items ≡ length ended.asked.tasks.items
+
+-- what a call needs to know of what is shown of a task: no begin is above its limit, and its jobs can be numbered
+pub record IsPlainTask (shown : ShownTaskKept) : Type 0 where
+  pub begins : All (λ job. job.begin ≤ MAX_TIME) shown.jobs.items
+  pub numbers : shown.forgotten + length shown.jobs.items ≤ MAX_U64
+
+-- and of all tasks
+pub record IsPlainShown (asked : AskedKept) (shown : ShownKept) : Type 0 where
+  pub has_unit : 1 ≤ asked.unit
+  pub has_speed_unit : 1 ≤ asked.khz
+  pub deadlines : All (λ task. task.deadline ≤ MAX_DEADLINE) asked.tasks.items
+  pub tasks : All IsPlainTask shown.tasks.items
+  pub of_each_task : length shown.tasks.items ≡ length asked.tasks.items
 
 -- # Jobs
 
@@ -73,14 +92,29 @@ judged_at within number task before numbered = record {
   reason = reason_at within (late_at within task numbered.1) numbered.1;
 }
 
+-- a task's jobs behind so many first ones; `before` says whether the first of all began before the trace
+abbrev pub judged_jobs : Within → ℕ → Task → Bool → ℕ → List Job → List Judged
+judged_jobs within number task before first jobs = map (judged_at within number task before) (enumerate_from first jobs)
+
 abbrev pub judged_task : Within → ℕ → Task → List Job → List Judged
-judged_task within number task jobs = map (judged_at within number task (began_before jobs)) (enumerate_from 0 jobs)
+judged_task within number task jobs = judged_jobs within number task (began_before jobs) 0 jobs
 
 -- these tasks' jobs, from this number on
 abbrev pub judged_tasks : Within → ℕ → List Task → List (List Job) → List (List Judged)
 judged_tasks within number [] jobs = []
 judged_tasks within number (task ∷ tasks) [] = []
 judged_tasks within number (task ∷ tasks) (jobs ∷ more) = judged_task within number task jobs ∷ judged_tasks within (number + 1) tasks more
+
+-- Of what is shown of a task: its jobs that begin at the boundary or later.
+abbrev pub shown_task : Within → ℕ → ℕ → Task → ShownTaskKept → List Judged
+shown_task within boundary number task shown =
+    filter (begins_from boundary) (judged_jobs within number task shown.before shown.forgotten (map job_read shown.jobs.items))
+
+abbrev pub shown_tasks : Within → ℕ → ℕ → List Task → List ShownTaskKept → List (List Judged)
+shown_tasks within boundary number [] shown = []
+shown_tasks within boundary number (task ∷ tasks) [] = []
+shown_tasks within boundary number (task ∷ tasks) (one ∷ shown) =
+    shown_task within boundary number task one ∷ shown_tasks within boundary (number + 1) tasks shown
 
 abbrev pub begin_of : Judged → ℕ
 begin_of judged = judged.job.begin
@@ -114,17 +148,19 @@ capped_of units judged = capped_option (written_of units judged)
 abbrev pub capped_jobs : Units → List Judged → List Written
 capped_jobs units judged = filter_map (capped_of units) judged
 
+-- what is kept of these jobs in these units: of each task, and in order of begin
+abbrev pub capped_in : Units → List (List Judged) → List Judged → Settled
+capped_in units by_task judged = record {
+  units = units;
+  by_task = by_task;
+  judged = judged;
+  document = record { jobs = capped_jobs units judged; runs = all_runs (capped_jobs units judged) };
+}
+
 -- what is kept of these judged jobs
 abbrev pub settled_at : Asked → ℕ → List (List Judged) → Settled
-settled_at asked first by_task = record {
-  units = units_at asked first (in_order begin_of (together by_task));
-  by_task = by_task;
-  judged = in_order begin_of (together by_task);
-  document = record {
-    jobs = capped_jobs (units_at asked first (in_order begin_of (together by_task))) (in_order begin_of (together by_task));
-    runs = all_runs (capped_jobs (units_at asked first (in_order begin_of (together by_task))) (in_order begin_of (together by_task)));
-  };
-}
+settled_at asked first by_task =
+    capped_in (units_at asked first (in_order begin_of (together by_task))) by_task (in_order begin_of (together by_task))
 
 abbrev pub within_of : Asked → ℕ → Within
 within_of asked last = record { processor = asked.processor; from = asked.from; to = asked.to; last = last }

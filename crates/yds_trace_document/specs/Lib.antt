@@ -1,5 +1,6 @@
 pub mod Settled
 pub mod Part
+pub mod PartKept
 pub mod Limits
 pub mod Kept
 pub mod Views

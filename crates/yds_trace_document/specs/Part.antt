@@ -1,5 +1,5 @@
 -- What is settled of the jobs of a part: as that of a document, with times of its own.
-use Rattle.std.specs.Prelude.{ℕ, ◌+◌, ◌-◌, ◌*◌, ◌/◌, List, [], ◌∷◌, filter, length, Bool, ◌==◌, ◌&&◌, nat_lt, if◌then◌else◌, Option, Some, None, unwrap_or}
+use Rattle.std.specs.Prelude.{ℕ, ◌+◌, ◌-◌, ◌*◌, ◌/◌, List, [], ◌∷◌, filter, length, Bool, ◌==◌, ◌&&◌, nat_lt, if◌then◌else◌, Option, None, unwrap_or}
 use Rattle.std.specs.List.{filter_map}
 use Rattle.yds_kernel.specs.Event.{Said}
 use Rattle.yds_trace.specs.Asked.{Task, Asked}
@@ -20,14 +20,14 @@ whole_zero asked past = unwrap_or asked.from (first_time 0 past)
 
 -- so many units before the first job of a part: they are taken off each of its times
 abbrev pub shift_from : ℕ → ℕ → List Judged → ℕ
-shift_from zero unit [] = 0
-shift_from zero unit (judged ∷ jobs) = (judged.job.begin - zero) / unit
+shift_from origin unit [] = 0
+shift_from origin unit (judged ∷ jobs) = (judged.job.begin - origin) / unit
 
 abbrev pub shift_of : Asked → List Said → List Judged → ℕ
 shift_of asked past part = shift_from (whole_zero asked past) asked.unit part
 
 abbrev pub shifted : ℕ → Asked → ℕ → Units
-shifted zero asked shift = record { zero = zero + shift * asked.unit; time = asked.unit; speed = asked.khz }
+shifted origin asked shift = record { zero = origin + shift * asked.unit; time = asked.unit; speed = asked.khz }
 
 abbrev pub part_units : Asked → List Said → List Judged → Units
 part_units asked past part = shifted (whole_zero asked past) asked (shift_of asked past part)

@@ -1,6 +1,7 @@
 //! What becomes of a job.
 ghost use Rattle.std.specs.Prelude.{◌≡◌, ◌≤◌, ◌+◌, IfOk, map, length, nat_le, nat_lt};
 ghost use Rattle.std.specs.List.{All, list_any};
+ghost use Rattle.yds_kernel.specs.declared.limits.TheConstants.{MAX_U64};
 ghost use Rattle.yds_trace.specs.declared.limits.TheConstants.{MAX_TIME, MAX_DEADLINE};
 ghost use Rattle.yds_trace.specs.Asked as words;
 ghost use Rattle.yds_trace.specs.Late as spec;
@@ -183,7 +184,7 @@ fn judge<'a>(
     number: usize,
     task: &'a Task,
     before: bool,
-    place: usize,
+    place: u64,
     job: &'a Job,
 ) -> Judged<'a>
     requires begin { job.now.begin ≤ MAX_TIME }
@@ -197,7 +198,7 @@ fn judge<'a>(
         name: Name {
             label: task.label.as_slice(),
             before,
-            number: place as u64,
+            number: place,
         },
         job,
         due,
@@ -216,7 +217,7 @@ fn began_before(jobs: &[Job]) -> bool
     }
 }
 
-/// What becomes of the jobs of a task.
+/// What becomes of all jobs of a task.
 pub(crate) fn judge_task<'a>(
     alloc: Global,
     within: Within,
@@ -228,10 +229,27 @@ pub(crate) fn judge_task<'a>(
     requires deadline { task.now.deadline ≤ MAX_DEADLINE }
     ensures { IfOk result (λ judged. judged_list judged.items ≡ kept.judged_task (within_read within) number (task_read task.entry.now) (map job_read jobs.entry.now)) }
 {
-    let before = began_before(jobs);
+    judge_jobs(alloc, within, number, task, began_before(jobs), 0, jobs)
+}
+
+/// What becomes of a task's jobs behind so many first ones. `before` says whether the first of all began before the trace.
+pub(crate) fn judge_jobs<'a>(
+    alloc: Global,
+    within: Within,
+    number: usize,
+    task: &'a Task,
+    before: bool,
+    first: u64,
+    jobs: &'a [Job],
+) -> Result<Vec<Judged<'a>>, Memory>
+    requires begins { All (λ job. job.begin ≤ MAX_TIME) jobs.now }
+    requires numbers { first + length jobs.now ≤ MAX_U64 }
+    requires deadline { task.now.deadline ≤ MAX_DEADLINE }
+    ensures { IfOk result (λ judged. judged_list judged.items ≡ kept.judged_jobs (within_read within) number (task_read task.entry.now) before first (map job_read jobs.entry.now)) }
+{
     let mut judged = Vec::with_capacity(alloc, jobs.len())?;
     for (place, job) in jobs.iter().enumerate() {
-        judged.push(judge(within, number, task, before, place, job))?;
+        judged.push(judge(within, number, task, before, first + place as u64, job))?;
     }
     Ok(judged)
 }

@@ -3,6 +3,7 @@ ghost use Rattle.std.specs.Prelude.{◌≡◌, position};
 ghost use Rattle.std.specs.List.{list_any};
 ghost use Rattle.yds_trace.specs.Document as document;
 ghost use Rattle.yds_trace_document.specs.Limits as spec;
+ghost use Rattle.yds_trace_document.specs.Part as part;
 ghost use Rattle.yds_trace_document.specs.Views.{units_read, run_read, judged_read, judged_list, written_read, written_list, settled_read};
 
 use crate::fault::DocumentFault;
@@ -12,7 +13,7 @@ use crate::settlement::Settled;
 use crate::units::Units;
 use crate::written::Written;
 use yds_model::limits::{MAX_JOBS, MAX_RUN_SPEED, MAX_SLOTS, MAX_TIME, MAX_WORK};
-use yds_trace::{Reason, Stretch};
+use yds_trace::{Cut, Reason, Stretch};
 
 /// The first cause for which what is settled isn't written as a document, if there is one. With `strict` no job may be missed.
 /// It takes no memory.
@@ -33,6 +34,21 @@ pub fn limit_fault(strict: bool, settled: &Settled<'_>) -> Option<DocumentFault>
     }
     if settled.jobs.is_empty() {
         return Some(DocumentFault::NoJob);
+    }
+    if strict {
+        missed_fault(&settled.judged)
+    } else {
+        None
+    }
+}
+
+/// The first cause for which what is settled of a part isn't written behind the parts of this cut. The last one may be without a
+/// job where there are others. It takes no memory.
+pub fn part_limit_fault(strict: bool, cut: Cut, settled: &Settled<'_>) -> Option<DocumentFault>
+    ensures { result ≡ part.part_limit_fault strict cut (settled_read settled.now) }
+{
+    if cut.parts == 0 || !settled.jobs.is_empty() {
+        return limit_fault(strict, settled);
     }
     if strict {
         missed_fault(&settled.judged)

@@ -1,10 +1,10 @@
-//! What a call needs to know of what is known at a trace's end.
+//! What a call needs to know of what is known at a trace's end, or behind some of its lines.
 ghost use Rattle.std.specs.Prelude.{◌≤◌, ◌↔◌, IsTrue};
 ghost use Rattle.std.specs.List.{All};
 ghost use Rattle.yds_trace.specs.declared.limits.TheConstants.{MAX_TIME, MAX_DEADLINE};
-ghost use Rattle.yds_trace_document.specs.Kept.{IsPlain, HaveBegins};
+ghost use Rattle.yds_trace_document.specs.Kept.{IsPlain, HaveBegins, IsPlainTask, IsPlainShown};
 
-use yds_trace::{Ended, Job, MAX_DEADLINE, MAX_TIME, Task};
+use yds_trace::{Asked, Ended, Job, MAX_DEADLINE, MAX_TIME, Shown, ShownTask, Task};
 
 /// Whether the units are at least 1, no deadline and no begin is above its limit, and each task has its list of jobs.
 pub fn is_plain(ended: &Ended) -> bool
@@ -33,4 +33,27 @@ fn begin_in_time(jobs: &[Job]) -> bool
     ensures { IsTrue result ↔ All (λ job. job.begin ≤ MAX_TIME) jobs.now }
 {
     jobs.iter().all(|job| job.begin <= MAX_TIME)
+}
+
+/// The same of what is shown; and the numbers of the jobs fit 64 bits.
+pub fn is_plain_shown(asked: &Asked, shown: &Shown) -> bool
+    ensures { IsTrue result ↔ IsPlainShown asked.now shown.now }
+{
+    asked.unit >= 1
+        && asked.khz >= 1
+        && shown.tasks.len() == asked.tasks.len()
+        && have_deadlines(&asked.tasks)
+        && are_plain(&shown.tasks)
+}
+
+fn are_plain(tasks: &[ShownTask]) -> bool
+    ensures { IsTrue result ↔ All IsPlainTask tasks.now }
+{
+    tasks.iter().all(|task| is_plain_task(task))
+}
+
+fn is_plain_task(task: &ShownTask) -> bool
+    ensures { IsTrue result ↔ IsPlainTask task.now }
+{
+    begin_in_time(&task.jobs) && task.jobs.len() as u64 <= u64::MAX - task.forgotten
 }

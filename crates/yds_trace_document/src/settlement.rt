@@ -63,6 +63,18 @@ fn settled_from<'a>(
 {
     let judged = in_order_of_begins(alloc, &by_task)?;
     let units = units_of(asked, first, &judged);
+    settled_in(alloc, units, by_task, judged)
+}
+
+/// What is written of these jobs in these units.
+pub(crate) fn settled_in<'a>(
+    alloc: Global,
+    units: Units,
+    by_task: Vec<Vec<Judged<'a>>>,
+    judged: Vec<Judged<'a>>,
+) -> Result<Settled<'a>, Memory>
+    ensures { IfOk result (λ settled. settled_read settled ≡ kept.capped_in (units_read units) (judged_lists by_task.entry.items) (judged_list judged.entry.items)) }
+{
     let jobs = written_jobs(alloc, units, &judged)?;
     let runs = placed_in_order(alloc, &jobs)?;
     Ok(Settled {
@@ -105,7 +117,7 @@ fn all_tasks<'a>(alloc: Global, by_task: &[Vec<Judged<'a>>]) -> Result<Vec<Judge
 }
 
 /// The jobs of all tasks in order of begin.
-fn in_order_of_begins<'a>(
+pub(crate) fn in_order_of_begins<'a>(
     alloc: Global,
     by_task: &[Vec<Judged<'a>>],
 ) -> Result<Vec<Judged<'a>>, Memory>

@@ -1,0 +1,47 @@
+-- What is settled of the waiting jobs of each task is what the definitions say of a part.
+use Rattle.yds_model.proofs.Common.{◌≡◌, ℕ, List, ◌∙◌, ap, ap₂, Option, unwrap_or, filter_map}
+use Rattle.yds_kernel.specs.Event.{Said}
+use Rattle.yds_trace.specs.declared.cut.Cut.{Cut}
+use Rattle.yds_trace.specs.Asked.{Asked}
+use Rattle.yds_trace.specs.Past.{first_time}
+use Rattle.yds_trace.specs.WrittenTime.{Units}
+use Rattle.yds_trace.specs.Document.{Judged, in_order, written_of, Placed, all_runs}
+use Rattle.yds_trace.specs.Parts.{part_until}
+use Rattle.yds_trace_document.specs.Settled.{Settled, with_capped_works}
+use Rattle.yds_trace_document.specs.Kept.{capped_in, begin_of, together}
+use Rattle.yds_trace_document.specs.Part.{whole_zero, shift_from, shift_of, shifted, part_by_task, settled_in, part_of}
+use Rattle.yds_trace_document.proofs.Same.{jobs_same, runs_same, built}
+use Rattle.yds_trace_document.proofs.Waits.{part_in_order}
+
+capped_same : (units : Units) (by_task : List (List Judged)) (judged : List Judged) →
+    capped_in units by_task judged ≡ with_capped_works (settled_in units by_task judged)
+capped_same units by_task judged =
+    ap₂ (built units by_task judged) (jobs_same units judged)
+    (ap all_runs (jobs_same units judged)
+    ∙ ap (in_order (λ (placed : Placed). placed.run.from)) (runs_same 0 (filter_map (written_of units) judged)))
+
+pub in_line : (asked : Asked) (past : List Said) (cut : Cut) (until : Option ℕ) (by_task : List (List Judged)) →
+    by_task ≡ part_by_task asked past cut until 0 asked.tasks → in_order begin_of (together by_task) ≡ part_until asked past cut until
+in_line asked past cut until by_task are = ap (λ (l : List (List Judged)). in_order begin_of (together l)) are ∙ part_in_order asked past cut until
+
+zero_same : (asked : Asked) (past : List Said) (first : ℕ) → first ≡ first_time 0 past → unwrap_or asked.from first ≡ whole_zero asked past
+zero_same asked past first is = ap (unwrap_or asked.from) is
+
+pub shift_same : (asked : Asked) (past : List Said) (cut : Cut) (until : Option ℕ) (first : ℕ) (judged : List Judged) → first ≡ first_time 0 past →
+    judged ≡ part_until asked past cut until →
+    shift_from (unwrap_or asked.from first) asked.unit judged ≡ shift_of asked past (part_until asked past cut until)
+shift_same asked past cut until first judged is are =
+    ap₂ (λ (origin : ℕ) (part : List Judged). shift_from origin asked.unit part) (zero_same asked past first is) are
+
+abbrev made_of : Asked → List (List Judged) → List Judged → ℕ → ℕ → Settled
+made_of asked by_task judged origin shift = with_capped_works (settled_in (shifted origin asked shift) by_task judged)
+
+pub part_same : (asked : Asked) (past : List Said) (cut : Cut) (until : Option ℕ) (first shift : ℕ) (by_task : List (List Judged)) (judged : List Judged) →
+    first ≡ first_time 0 past → by_task ≡ part_by_task asked past cut until 0 asked.tasks → judged ≡ part_until asked past cut until →
+    shift ≡ shift_from (unwrap_or asked.from first) asked.unit judged →
+    capped_in (shifted (unwrap_or asked.from first) asked shift) by_task judged ≡ with_capped_works (part_of asked past cut until)
+part_same asked past cut until first shift by_task judged is lists are so =
+    capped_same (shifted (unwrap_or asked.from first) asked shift) by_task judged
+    ∙ ap₂ (λ (l : List (List Judged)) (part : List Judged). made_of asked l part (unwrap_or asked.from first) shift) lists are
+    ∙ ap₂ (made_of asked (part_by_task asked past cut until 0 asked.tasks) (part_until asked past cut until)) (zero_same asked past first is)
+    (so ∙ shift_same asked past cut until first judged is are)
