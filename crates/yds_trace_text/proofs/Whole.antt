@@ -2,13 +2,15 @@
 use Rattle.yds_model.proofs.Common.{◌≡◌, ◌∙◌, ℕ, Bool, Result, Ok, Err, sym, subst, None}
 use Rattle.std.specs.Prelude.{Vec}
 use Rattle.std.specs.declared.alloc.Global.{Global}
+use Rattle.yds_trace.specs.declared.cut.Cut.{Cut}
 use Rattle.yds_trace.specs.Asked.{Asked}
 use Rattle.yds_trace_document.specs.Settled.{Settled, with_capped_works}
 use Rattle.yds_trace_document.specs.Limits.{limit_fault}
-use Rattle.yds_trace_document.proofs.Caps.{limits_same, within_caps}
+use Rattle.yds_trace_document.specs.Part.{part_limit_fault}
+use Rattle.yds_trace_document.proofs.Caps.{limits_same, within_caps, part_limits_same, part_within_caps}
 use Rattle.yds_trace_text.specs.declared.fault.NoText.{NoText}
 use Rattle.yds_trace_text.specs.declared.fault.NoText.TheVariants as faults
-use Rattle.yds_trace_text.specs.Writing.{IsTextOf, IsTooLong, Gives}
+use Rattle.yds_trace_text.specs.Writing.{IsTextOf, IsTooLong, Gives, IsPartText, IsPartTooLong, GivesPart}
 
 uncapped : (strict : Bool) (settled : Settled) → limit_fault strict (with_capped_works settled) ≡ None → with_capped_works settled ≡ settled
 uncapped strict settled none = within_caps strict settled (sym (limits_same strict settled) ∙ none)
@@ -21,3 +23,18 @@ gives_same strict asked settled (Err (faults.Limit fault)) given = sym (limits_s
 gives_same strict asked settled (Err faults.TooLong) given =
     subst (λ (made : Settled). IsTooLong strict asked made) (uncapped strict settled given.without_fault) given
 gives_same strict asked settled (Err faults.Memory) given = tt
+
+-- # Parts
+
+part_uncapped : (strict : Bool) (cut : Cut) (settled : Settled) → part_limit_fault strict cut (with_capped_works settled) ≡ None →
+    with_capped_works settled ≡ settled
+part_uncapped strict cut settled none = part_within_caps strict cut settled (sym (part_limits_same strict cut settled) ∙ none)
+
+pub part_gives_same : (strict : Bool) (asked : Asked) (cut : Cut) (last : Bool) (shift : ℕ) (settled : Settled) (result : Result (Vec ℕ Global) NoText) →
+    GivesPart strict asked cut last shift (with_capped_works settled) result → GivesPart strict asked cut last shift settled result
+part_gives_same strict asked cut last shift settled (Ok text) given =
+    subst (λ (made : Settled). IsPartText strict asked cut last shift made text.items) (part_uncapped strict cut settled given.without_fault) given
+part_gives_same strict asked cut last shift settled (Err (faults.Limit fault)) given = sym (part_limits_same strict cut settled) ∙ given
+part_gives_same strict asked cut last shift settled (Err faults.TooLong) given =
+    subst (λ (made : Settled). IsPartTooLong strict asked cut last shift made) (part_uncapped strict cut settled given.without_fault) given
+part_gives_same strict asked cut last shift settled (Err faults.Memory) given = tt

@@ -1,9 +1,9 @@
 -- The text of a part: its first line says which part it is, and what follows is the text of a document.
-use Rattle.std.specs.Prelude.{ℕ, ◌+◌, List, [], ◌∷◌, ◌++◌, length, max, min, codes, decimal, Bool, nat_lt, if◌then◌else◌, Option, None, is_none}
+use Rattle.std.specs.Prelude.{ℕ, ◌+◌, List, [], ◌∷◌, ◌++◌, length, max, codes, decimal, Bool, nat_lt, if◌then◌else◌, Option, Some, None, is_none, unwrap_or}
 use Rattle.yds_kernel.specs.Parts.{capped}
 use Rattle.yds_kernel.specs.Event.{Said}
 use Rattle.yds_trace.specs.Asked.{Asked}
-use Rattle.yds_trace.specs.Document.{Written}
+use Rattle.yds_trace.specs.Document.{least_of, Written}
 use Rattle.yds_trace.specs.declared.cut.Cut.{Cut}
 use Rattle.yds_trace.specs.Parts.{part_until}
 use Rattle.yds_trace_document.specs.Settled.{Settled}
@@ -11,10 +11,12 @@ use Rattle.yds_trace_document.specs.Part.{shift_of, part_of}
 use Rattle.yds_trace_text.specs.Text.{comment, settled_text}
 
 -- the first release and the last deadline of jobs; 0 where there is none
+abbrev pub least_release : List Written → Option ℕ
+least_release [] = None
+least_release (job ∷ jobs) = Some (least_of (least_release jobs) job.release)
+
 abbrev pub first_release : List Written → ℕ
-first_release [] = 0
-first_release (job ∷ []) = job.release
-first_release (job ∷ next ∷ jobs) = min job.release (first_release (next ∷ jobs))
+first_release jobs = unwrap_or (least_release jobs) 0
 
 abbrev pub last_deadline : List Written → ℕ
 last_deadline [] = 0

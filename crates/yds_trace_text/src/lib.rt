@@ -1,4 +1,4 @@
-//! The text of a trace's document: jobs, runs, and comments that tell what the document hasn't.
+//! The text of a trace's document, or of one of its parts: jobs, runs, and comments that tell what the document hasn't.
 //!
 //! It stands on `yds_trace_document`, which settles what becomes of the jobs, and on `yds_model` for the lines of documents. It
 //! carries the promise that what is written is the text that the definitions in `specs/` say, byte for byte, or that it is said
@@ -14,6 +14,7 @@ mod late;
 mod laws;
 mod left_out;
 mod numbers;
+mod part;
 mod rows;
 mod short;
 mod woken;
@@ -22,6 +23,7 @@ mod wrong_unit;
 
 pub use fault::{NoText, TextFault};
 pub use laws::every_job_has_its_place;
+pub use part::part_text;
 pub use writing::{document_text, text};
 
 #[cfg(test)]

@@ -1,9 +1,9 @@
 //! What no clause says: that the text of some jobs is the one that was written by hand, and that each allocation may fail.
-use crate::{NoText, document_text};
+use crate::{NoText, document_text, part_text};
 use std::alloc::{AllocError, Global};
 use std::test::Fail;
-use yds_trace::{Asked, End, Ended, Job, Stretch, Task, Which};
-use yds_trace_document::{DocumentFault, is_plain};
+use yds_trace::{Asked, Cut, End, Ended, Job, Shown, ShownTask, Stretch, Task, Which};
+use yds_trace_document::{DocumentFault, is_plain, is_plain_shown, judge_waiting, settle_part};
 
 /// The begin of the first job, in nanoseconds.
 const BEGIN: u64 = 5_123_400_623_456;
@@ -28,6 +28,19 @@ run t.1 200 320 100
 # 4 jobs written, 1 left out, 1 late without its runs
 ";
 
+/// The text of the last part, which has the last two of these jobs.
+const PART: &[u8] = b"# part 2: jobs 4 to 4, from 800 to 900, shift 600, windows open, the last
+# CPU 0 of a kernel trace; time 0 is 5123.406623455 s
+# time unit 10 us, speed unit 10000 kHz, work unit 100 cycles
+job t.4 200 300 0
+ticks 1
+# late by less than a unit of time: t.4, 0.000001 ms after its deadline
+# begins: t.4 200
+# left out: t.3 (ran on another processor)
+# 1 stretch within one unit of time, 0.000001 ms together, is in no run
+# 1 job written, 1 left out
+";
+
 /// A stretch at 1,000,000 kHz from a time to another one, both counted from `BEGIN`.
 fn stretch(processor: u64, from: u32, to: u32) -> Stretch {
     Stretch {
@@ -50,8 +63,8 @@ fn job(from: u32, to: u32, stretches: Vec<Stretch>) -> Job {
     }
 }
 
-/// What is known at the end of a trace with these jobs of the task `t`, each due 1 ms after its begin.
-fn ended(alloc: Global, jobs: Vec<Job>) -> Result<Ended, AllocError> {
+/// What is asked: the jobs of the task `t`, each due 1 ms after its begin.
+fn asked(alloc: Global) -> Result<Asked, AllocError> {
     let task = Task {
         label: Vec::from_slice(alloc, b"t")?,
         thread: Which::Numbered(7),
@@ -60,21 +73,26 @@ fn ended(alloc: Global, jobs: Vec<Job>) -> Result<Ended, AllocError> {
     };
     let mut tasks = Vec::new(alloc);
     tasks.push(task)?;
+    Ok(Asked {
+        tasks,
+        processor: 0,
+        unit: 10_000,
+        khz: 10_000,
+        start: None,
+        from: None,
+        to: None,
+        begin_at_run: false,
+        cut_losses: false,
+        in_parts: false,
+    })
+}
+
+/// What is known at the end of a trace with these jobs of the task.
+fn ended(alloc: Global, jobs: Vec<Job>) -> Result<Ended, AllocError> {
     let mut by_task = Vec::new(alloc);
     by_task.push(jobs)?;
     Ok(Ended {
-        asked: Asked {
-            tasks,
-            processor: 0,
-            unit: 10_000,
-            khz: 10_000,
-            start: None,
-            from: None,
-            to: None,
-            begin_at_run: false,
-            cut_losses: false,
-            in_parts: false,
-        },
+        asked: asked(alloc)?,
         jobs: by_task,
         first: BEGIN - 1,
         last: BEGIN + 20_000_000,
@@ -139,6 +157,71 @@ fn a_trace_without_a_job_has_no_text(rt: HostRuntime) -> Result<(), Fail> {
         assert!(rt; fault == NoText::Limit(DocumentFault::NoJob) || fault == NoText::Memory);
     } else {
         assert!(rt; false, "a document without a job is feasible");
+    }
+    Ok(())
+}
+
+/// What is shown of the last three of these jobs, of which the first begins before the cut.
+fn shown(alloc: Global) -> Result<Shown, AllocError> {
+    let mut jobs = jobs(alloc)?;
+    jobs.remove(0);
+    jobs.remove(0);
+    let mut tasks = Vec::new(alloc);
+    tasks.push(ShownTask {
+        forgotten: 2,
+        before: false,
+        jobs,
+        last_begin: BEGIN + 8_000_000,
+    })?;
+    Ok(Shown {
+        tasks,
+        first: BEGIN - 1,
+        last: BEGIN + 20_000_000,
+    })
+}
+
+/// The text of the second part, which ends at this time, or is the last one.
+fn part(
+    alloc: Global,
+    asked: &Asked,
+    shown: &Shown,
+    until: Option<u64>,
+) -> Result<Vec<u8>, NoText> {
+    let cut = Cut {
+        boundary: BEGIN + 5_000_000,
+        decided: BEGIN + 5_900_000,
+        parts: 1,
+        jobs: 3,
+        due: BEGIN + 5_200_000,
+    };
+    if !is_plain_shown(asked, shown) {
+        return Err(NoText::TooLong);
+    }
+    let waiting = judge_waiting(alloc, asked, shown, cut.boundary)?;
+    let part = settle_part(alloc, asked, shown.first, waiting, until)?;
+    part_text(alloc, asked, false, cut, until, &part)
+}
+
+#[test]
+fn the_text_of_a_part_is_the_one_written_by_hand(rt: HostRuntime) -> Result<(), Fail> {
+    let alloc = rt.alloc();
+    let words = asked(alloc)?;
+    let known = shown(alloc)?;
+    match part(alloc, &words, &known, None) {
+        Ok(text) => assert_eq!(rt; text.as_slice(), PART),
+        Err(fault) => assert_eq!(rt; fault, NoText::Memory),
+    }
+    Ok(())
+}
+
+#[test]
+fn a_part_ends_before_the_job_at_its_end(rt: HostRuntime) -> Result<(), Fail> {
+    let alloc = rt.alloc();
+    let words = asked(alloc)?;
+    let known = shown(alloc)?;
+    match part(alloc, &words, &known, Some(BEGIN + 8_000_000)) {
+        Ok(text) => assert!(rt; text.ends_with(b"# 0 jobs written, 1 left out\n")),
+        Err(fault) => assert_eq!(rt; fault, NoText::Memory),
     }
     Ok(())
 }

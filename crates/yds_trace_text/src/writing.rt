@@ -77,11 +77,23 @@ fn whole_text(alloc: Global, asked: &Asked, settled: &Settled<'_>) -> Result<Vec
     ensures { IfOk result (λ text. text.items ≡ spec.settled_text (asked_read asked.now) (settled_read settled.now)) }
 {
     let mut text = Vec::new(alloc);
-    put_head(alloc, asked.processor, settled.units, &mut text)?;
-    put_units(alloc, settled.units, &mut text)?;
-    put_document(alloc, settled, &mut text)?;
-    put_comments(alloc, &asked.tasks, settled, &mut text)?;
+    put_settled(alloc, asked, settled, &mut text)?;
     Ok(text)
+}
+
+/// Puts the text of what is settled behind the others.
+pub(crate) fn put_settled(
+    alloc: Global,
+    asked: &Asked,
+    settled: &Settled<'_>,
+    text: &mut Vec<u8>,
+) -> Result<(), Memory>
+    ensures { OnOk result (text.new.items ≡ text.old.items ++ spec.settled_text (asked_read asked.now) (settled_read settled.now)) }
+{
+    put_head(alloc, asked.processor, settled.units, text)?;
+    put_units(alloc, settled.units, text)?;
+    put_document(alloc, settled, text)?;
+    put_comments(alloc, &asked.tasks, settled, text)
 }
 
 /// The lines of the jobs and of the runs.
