@@ -47,7 +47,14 @@ LATER = [
     "yds_callers",
 ]
 MOST_OF_CRATE = 8
-MOST_OF = {"yds_run": 12, "yds_admit": 12, "yds_document": 12, "yds_trace": 12}
+MOST_OF = {
+    "yds_run": 12,
+    "yds_admit": 12,
+    "yds_document": 12,
+    "yds_trace": 12,
+    "yds_trace_document": 12,
+    "yds_trace_text": 12,
+}
 NEEDED = [
     ("yds_plan", "plan"),
     ("yds_round", "round"),
