@@ -113,13 +113,19 @@ fn jobs(alloc: Global) -> Result<Vec<Job>, AllocError> {
     );
     late.wake_ups = 2;
     jobs.push(late)?;
+    put_last_jobs(alloc, &mut jobs)?;
+    Ok(jobs)
+}
+
+/// The last three of them.
+fn put_last_jobs(alloc: Global, jobs: &mut Vec<Job>) -> Result<(), AllocError> {
     let moved = stretch(1, 4_000_000, 5_500_000);
     jobs.push(job(4_000_000, 5_500_000, vec![in alloc; moved]?))?;
     let moved = stretch(1, 6_000_000, 6_100_000);
     jobs.push(job(6_000_000, 6_100_000, vec![in alloc; moved]?))?;
     let tiny = stretch(0, 8_000_000, 8_000_001);
     jobs.push(job(8_000_000, 9_000_001, vec![in alloc; tiny]?))?;
-    Ok(jobs)
+    Ok(())
 }
 
 #[test]
@@ -161,11 +167,10 @@ fn a_trace_without_a_job_has_no_text(rt: HostRuntime) -> Result<(), Fail> {
     Ok(())
 }
 
-/// What is shown of the last three of these jobs, of which the first begins before the cut.
+/// What is shown of the last three jobs, of which the first begins before the cut.
 fn shown(alloc: Global) -> Result<Shown, AllocError> {
-    let mut jobs = jobs(alloc)?;
-    jobs.remove(0);
-    jobs.remove(0);
+    let mut jobs = Vec::new(alloc);
+    put_last_jobs(alloc, &mut jobs)?;
     let mut tasks = Vec::new(alloc);
     tasks.push(ShownTask {
         forgotten: 2,
