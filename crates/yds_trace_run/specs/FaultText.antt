@@ -37,6 +37,7 @@ cause_text causes.TooLong = codes "more than 250000 lines tell of the tasks; cho
 cause_text causes.NoLine = codes "no line of a kernel's trace; write the trace as text, by trace-cmd report or perf script"
 cause_text (causes.Unseen number) = codes "no line names task " ++ decimal (number + 1) ++ codes " of --tasks; write its name as the trace has it"
 cause_text causes.NoWakeUp = codes "no wake-up of a task; record sched_waking too, or let jobs begin at their first run by --begin run"
+cause_text causes.PartWritten = codes "it changes jobs of a part that was written; choose --from and --to around it"
 
 -- # Documents
 

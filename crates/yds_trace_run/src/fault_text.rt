@@ -127,6 +127,9 @@ fn push_cause(cause: Cause, line: &mut ArrayString<LINE_BYTES>)
         Cause::NoWakeUp => line.push_str(
             "no wake-up of a task; record sched_waking too, or let jobs begin at their first run by --begin run",
         ),
+        Cause::PartWritten => line.push_str(
+            "it changes jobs of a part that was written; choose --from and --to around it",
+        ),
     }
 }
 
