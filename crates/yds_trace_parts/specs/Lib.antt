@@ -1,4 +1,0 @@
-pub mod Told
-pub mod Telling
-pub mod Driving
-pub mod Place
