@@ -38,6 +38,7 @@ asked = record {
   to = None;
   begin_at_run = false;
   cut_losses = false;
+  in_parts = false;
 }
 
 abbrev just_this : Document
