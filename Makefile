@@ -7,7 +7,7 @@
 #   make test       the gate: every proof, test, refused edit and stored run, and the checks that checks/gate.py lists
 #   make tools-check    the tests of the commands that need Python's own library alone; the gate has them, too
 #   make tools-test     their other tests, which need matplotlib, mypy, pytest and others: what isn't there is left out, and named
-#   make check      the built program answers every example and stored row byte for byte, within seconds
+#   make check      the built programs answer every example and stored row byte for byte, within seconds
 #   make recipes    every recipe on its sample, with the built program
 #   make faults     refuses the built programs memory, reads and writes in turn, and random bytes, and breaks their streams
 #   make fuzz       draws DOCUMENTS documents near the grammar from SEED, and holds the built program's answers against what they promise;
@@ -118,8 +118,9 @@ tools-check:
 tools-test:
 	@python3 checks/second.py
 
-check: $(BINARY)
+check: $(BINARY) $(TRACER)
 	@sh examples/check.sh ../$(BINARY)
+	@sh examples/check-traces.sh ../$(TRACER)
 
 recipes: $(BINARY) $(TRACER)
 	@sh recipes/test.sh
