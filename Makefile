@@ -7,12 +7,18 @@
 #   make test       the gate: every proof, test, refused edit and stored run, and the checks that checks/gate.py lists
 #   make tools-check    the tests of the commands that need Python's own library alone; the gate has them, too
 #   make tools-test     their other tests, which need matplotlib, mypy, pytest and others: what isn't there is left out, and named
-#   make check      the built program answers every example and stored row byte for byte, within seconds
+#   make check      the built programs answer every example and stored row byte for byte, within seconds
 #   make recipes    every recipe on its sample, with the built program
-#   make faults     refuses the built program memory, reads and writes in turn, and random bytes, and breaks its streams
-#   make fuzz       draws DOCUMENTS documents near the grammar from SEED, and holds the built program's answers against what they promise
+#   make faults     refuses the built programs memory, reads and writes in turn, and random bytes, and breaks their streams
+#   make fuzz       draws DOCUMENTS documents near the grammar from SEED, and holds the built program's answers against what they promise;
+#                   and breaks TRACES drawn traces: of none yds_trace may say a yes that it doesn't say of the unbroken one
+#   make traces     draws TRACES traces from SEED, and holds the whole text of the built yds_trace against a second reading of each
+#   make planted    plants mistakes in yds_trace, one at a time, unproved, and says which the drawn traces find; some twenty minutes of a processor
+#   make record     records some seconds of this machine's kernel, and holds yds_trace against the second reading; needs root and a tracefs,
+#                   and ends with status 77 where the machine doesn't allow it
 #   make costly     times the built program on the documents that cost most
 #   make bench      times it as documents grow, and beside a plain program of the textbook's method
+#   make bench-trace    times yds_trace as traces grow, beside grep, from files and from pipes
 #   make bench-library  how often a second the library answers from C and from Python, beside processes of the program
 #   make library    builds the C library, build/libyds.a and build/libyds.so
 #   make library-test   the library answers every stored row, and DOCUMENTS drawn documents (20,000), as the program does; refused memory, threads, examples;
@@ -50,13 +56,14 @@ DOCUMENT ?= examples/three-jobs.txt
 COMMAND ?= plan
 SEED ?= 1
 DOCUMENTS ?= 100000
+TRACES ?= 1000
 # A variable that is exported before it is given a value is empty.
 export PREFIX DESTDIR LIBDIR INSTALLED DOCUMENT EXAMPLE
 
 LIBRARY := build/libyds.so
 LINKER_CACHE = test -n "$$DESTDIR" || ldconfig 2>/dev/null || echo "ldconfig, run by root, lets programs find libyds.so.1 there"
 
-.PHONY: all help run try trace test tools-check tools-test check recipes faults fuzz costly bench bench-library library library-test wheel sdist install install-program install-tools install-pages install-library uninstall uninstall-program uninstall-tools uninstall-pages uninstall-library map deb dist check-build record-build packages-test clean tool
+.PHONY: all help run try trace test tools-check tools-test check recipes faults fuzz traces planted record costly bench bench-trace bench-library library library-test wheel sdist install install-program install-tools install-pages install-library uninstall uninstall-program uninstall-tools uninstall-pages uninstall-library map deb dist check-build record-build packages-test clean tool
 
 all: $(BINARY) $(TRACER) build/proved
 
@@ -111,27 +118,41 @@ tools-check:
 tools-test:
 	@python3 checks/second.py
 
-check: $(BINARY)
+check: $(BINARY) $(TRACER)
 	@sh examples/check.sh ../$(BINARY)
+	@sh examples/check-traces.sh ../$(TRACER)
 
 recipes: $(BINARY) $(TRACER)
 	@sh recipes/test.sh
 
-faults: $(BINARY)
+faults: $(BINARY) $(TRACER)
 	@CC=$(CC) sh robustness/faults.sh
 
 build/fuzz: robustness/fuzz.c
 	@mkdir -p build
 	@$(CC) -std=gnu11 -O2 -Wall -o $@ $<
 
-fuzz: $(BINARY) build/fuzz
+fuzz: $(BINARY) $(TRACER) build/fuzz
 	@cd build && ./fuzz ./$(PROGRAM) ../examples/rows $(SEED) $(DOCUMENTS)
+	@python3 robustness/broken.py $(SEED) $(TRACES) $(TRACER) $(BINARY)
+
+traces: $(TRACER)
+	@python3 robustness/trace.py $(SEED) $(TRACES) $(TRACER)
+
+planted: tool
+	@python3 robustness/planted.py
+
+record: $(TRACER)
+	@python3 robustness/record.py $(TRACER)
 
 costly: $(BINARY)
 	@CC=$(CC) sh robustness/costly.sh
 
 bench: $(BINARY)
 	@CC=$(CC) CXX=$(CXX) sh bench/bench.sh
+
+bench-trace: $(TRACER)
+	@sh bench/trace.sh
 
 # The archive is made with the shared object. What they stand on is proved with the program, and their own crate as they are built.
 $(LIBRARY): $(SOURCES) library/build.sh library/yds.map | $(BINARY)

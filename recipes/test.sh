@@ -326,13 +326,21 @@ tool_in() { (cd "$1" && shift && tool "$@"); }
 recipe_in() { (cd "$1" && shift && recipe "$@"); }
 
 test_page() {
-	if want mandoc; then same "the manual page" 0 - mandoc -T lint -W warning "$here/../docs/yds_cli.1"; fi
+	if want mandoc; then
+		for name in yds_cli yds_trace; do same "the manual page of $name" 0 - mandoc -T lint -W warning "$here/../docs/$name.1"; done
+	fi
 	if want bash; then
 		for try in "c@check curve compare" "compare @--grid" "audit -@--points" "report @--json" "oa --grid 10@100 1000 1000000"; do
 			asked=${try%@*}
 			got=$(bash -c 'source "$1"; COMP_WORDS=(yds_cli $2); case $2 in *" ") COMP_WORDS+=("") ;; esac
 				COMP_CWORD=$((${#COMP_WORDS[@]} - 1)); _yds_cli; echo "${COMPREPLY[*]}"' bash "$here/../completions/yds_cli.bash" "$asked")
 			if [ "$got" = "${try#*@}" ]; then pass; else fail "completion of '$asked': $got"; fi
+		done
+		for try in "--t@--tasks --to" "--begin @run" "--tasks a:1 --l@--lost" "--lost = c@cut" "--tasks @" "--cpu 3 --h@--help"; do
+			asked=${try%@*}
+			got=$(bash -c 'source "$1"; COMP_WORDS=(yds_trace $2); case $2 in *" ") COMP_WORDS+=("") ;; esac
+				COMP_CWORD=$((${#COMP_WORDS[@]} - 1)); _yds_trace; echo "${COMPREPLY[*]}"' bash "$here/../completions/yds_trace.bash" "$asked")
+			if [ "$got" = "${try#*@}" ]; then pass; else fail "completion of yds_trace '$asked': $got"; fi
 		done
 	fi
 }

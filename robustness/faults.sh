@@ -1,16 +1,20 @@
 #!/bin/sh
-# faults.sh: refuses the built program memory, reads and writes in turn, and random bytes, breaks its standard streams, and looks at how
-# it ends.
+# faults.sh: refuses the built programs memory, reads and writes in turn, and random bytes, breaks their standard streams, and looks at
+# how they end.
 #
-#   sh robustness/faults.sh [PART ..]      parts: memory reads writes random streams; all without one
+#   sh robustness/faults.sh [PART ..]      parts: memory reads writes random streams, of yds_cli; trace-memory trace-reads trace-writes
+#                                          trace-streams, of yds_trace; all without one
 #
-# Environment: YDS (the program; build/yds_cli-dynamic beside this folder, of the same object file as build/yds_cli: only a dynamic
-# program can be broken so), CC (cc). It needs a C compiler and glibc: preload.c stands between the program and the C library. The last
+# Environment: YDS, YDS_TRACE (the programs; build/yds_cli-dynamic and build/yds_trace-dynamic beside this folder, of the same object
+# files as build/yds_cli and build/yds_trace: only a dynamic program can be broken so), CC (cc). It needs a C compiler and glibc: preload.c stands between the program and the C library. The last
 # line is 'N passed, M failed', with a pass for each run; the exit status is 1 where M isn't 0.
 
 here=$(cd "$(dirname "$0")" && pwd)
 YDS=${YDS:-$here/../build/yds_cli-dynamic}
 case $YDS in /*) ;; *) YDS=$(pwd)/$YDS ;; esac
+YDS_TRACE=${YDS_TRACE:-$here/../build/yds_trace-dynamic}
+case $YDS_TRACE in /*) ;; *) YDS_TRACE=$(pwd)/$YDS_TRACE ;; esac
+program=$YDS
 CC=${CC:-cc}
 LC_ALL=C
 export LC_ALL
@@ -89,7 +93,7 @@ with() {
 # faulty SETTING ..: runs the words over the document with these settings of preload.c, and sets $got and the counts.
 faulty() {
 	# shellcheck disable=SC2086
-	env LD_PRELOAD="$work/preload.so" FAULT_COUNTS="$work/counts" "$@" "$YDS" $words <"$document" >"$work/out" 2>"$work/err"
+	env LD_PRELOAD="$work/preload.so" FAULT_COUNTS="$work/counts" "$@" "$program" $words <"$document" >"$work/out" 2>"$work/err"
 	got=$?
 	read -r allocations reads writes <"$work/counts"
 }
@@ -212,12 +216,172 @@ test_streams() {
 	stream "too little memory for a long input" 6 "" 'ulimit -v 8000; head -c 8000000 /dev/zero | "$YDS" plan >"$out"'
 }
 
-[ -x "$YDS" ] || { echo "faults.sh: $YDS isn't there; make builds it" >&2; exit 1; }
+# yds_trace. What it writes for each status but 0 and 5 ends with the line 'failed': else an empty text, which is a document
+# without jobs, would be feasible.
+no_memory="# out of memory; ask for fewer tasks, or choose a shorter time by --from and --to
+failed"
+no_memory_yet="# out of memory
+failed"
+no_input="# the input couldn't be read to its end; give it anew
+failed"
+
+# traced WORDS TRACE: the same as row, of a trace, with the answer that the program gives where nothing is refused.
+traced() {
+	is_large=0
+	words=$1
+	name="yds_trace $1 of ${2##*/}"
+	document=$2
+	want=$work/want
+	# shellcheck disable=SC2086
+	"$YDS_TRACE" $words <"$document" >"$want"
+	status=$?
+}
+make_traces() {
+	cp "$here/../crates/yds_trace_cli/stdin" "$work/trace"
+	head -n 12 "$work/trace" >"$work/short"
+	sed '5s/.*/CPU:0 [3 EVENTS DROPPED]/' "$work/short" >"$work/lost"
+	sed '7s/==>.*/==>/' "$work/short" >"$work/torn"
+	: >"$work/nothing"
+	awk 'BEGIN {
+		print "who-5 [000] d..2. 0.500000: cpu_frequency: state=1000000 cpu_id=0"
+		for (i = 1; i <= 3000; i++) {
+			printf "who-5 [000] d..2. %d.000000: sched_waking: comm=decode pid=10 prio=98 target_cpu=000\n", i
+			printf "who-5 [000] d..2. %d.000100: sched_switch: prev_comm=swapper/0 prev_pid=0 prev_prio=120 prev_state=R ==> next_comm=decode next_pid=10 next_prio=98\n", i
+			printf "who-5 [000] d..2. %d.000900: sched_switch: prev_comm=decode prev_pid=10 prev_prio=98 prev_state=S ==> next_comm=swapper/0 next_pid=0 next_prio=120\n", i
+		}
+	}' >"$work/long"
+}
+# with_traces FUNCTION: calls it for a document, faults of the words, of a line, of its form and of the whole, texts of words alone, and
+# for a document that takes more memory and more than one read and write.
+with_traces() {
+	program=$YDS_TRACE
+	traced "--tasks decode:20,audio:10" "$work/short"
+	$1
+	traced "--tasks decode:20,audio:10" "$work/lost"
+	$1
+	traced "--tasks decode:20,audio:10 --lost cut --begin run" "$work/lost"
+	$1
+	traced "--tasks decode:20,audio:10" "$work/torn"
+	$1
+	traced "--tasks decode:20" "$work/nothing"
+	$1
+	traced "--tasks decode" "$work/short"
+	$1
+	traced --help "$work/short"
+	is_large=1
+	$1
+	traced --version "$work/short"
+	$1
+	traced "--tasks decode:20,audio:10" "$work/trace"
+	is_large=1
+	$1
+	traced "--tasks decode:20" "$work/long"
+	is_large=1
+	$1
+	program=$YDS
+}
+# ended STATUS TEXT: with this status and this text alone.
+ended() { [ $got = "$1" ] && [ "$(cat "$work/out")" = "$2" ] && [ ! -s "$work/err" ]; }
+# One that refuses its trace reads on to the end of it, and a read that fails there changes nothing.
+refused_already() { [ "$status" = 3 ] && whole; }
+
+refuse_trace_memory() {
+	for setting in FAULT_ALLOCATION FAULT_MEMORY_FROM; do
+		number=1
+		while
+			faulty $setting=$number
+			[ "$allocations" -ge $number ]
+		do
+			if ended 6 "$no_memory" || ended 6 "$no_memory_yet" || whole; then pass; else fail "$name: $setting=$number (status $got)"; fi
+			number=$((number + 1 + (is_large ? number / 20 : 0)))
+		done
+		if whole; then pass; else fail "$name: with all its memory (status $got)"; fi
+	done
+}
+refuse_trace_reads() {
+	for most in 0 $([ $is_large = 1 ] || echo 1) 7; do
+		for error in 5 4; do # EIO, EINTR
+			number=1
+			while
+				faulty FAULT_READ=$number FAULT_READ_MOST=$most FAULT_ERROR=$error
+				[ "$reads" -ge $number ]
+			do
+				if ended 4 "$no_input" || refused_already; then pass; else fail "$name: read $number of at most $most bytes, error $error (status $got)"; fi
+				number=$((number + 1 + (most ? number / 20 + (is_large ? 9999 : 0) : 0)))
+			done
+			if whole; then pass; else fail "$name: reads of at most $most bytes (status $got)"; fi
+		done
+	done
+}
+test_trace_memory() { with_traces refuse_trace_memory; }
+test_trace_reads() { with_traces refuse_trace_reads; }
+test_trace_writes() { with_traces refuse_writes; }
+
+# trace_stream NAME STATUS OUTPUT COMMAND: as stream, of yds_trace.
+trace_stream() {
+	YDS_TRACE=$YDS_TRACE trace=$work/short long=$work/long stream "yds_trace: $1" "$2" "$3" "$4"
+}
+test_trace_streams() {
+	export YDS_TRACE
+	trace=$work/short long=$work/long
+	export trace long
+	read_fault="$no_input
+"
+	short=$("$YDS_TRACE" --tasks decode:20,audio:10 <"$work/short")"
+"
+	no_line="# line 1: no line of a kernel's trace; write the trace as text, by trace-cmd report or perf script
+failed
+"
+	not_text="# a word isn't text; write the words in UTF-8
+failed
+"
+	trace_stream "input closed" 4 "$read_fault" '"$YDS_TRACE" --tasks decode:20 <&- >"$out"'
+	trace_stream "input closed, words with a mistake" 2 "# --nonsense: no such word; --help lists them
+failed
+" '"$YDS_TRACE" --nonsense <&- >"$out"'
+	trace_stream "a directory as input" 4 "$read_fault" '"$YDS_TRACE" --tasks decode:20 <"$work" >"$out"'
+	trace_stream "input that is open for writing alone" 4 "$read_fault" '"$YDS_TRACE" --tasks decode:20 0>"$work/sink" >"$out"'
+	trace_stream "output closed" 5 "" '"$YDS_TRACE" --tasks decode:20,audio:10 <"$trace" >&-'
+	trace_stream "output closed, --help" 5 "" '"$YDS_TRACE" --help <"$trace" >&-'
+	trace_stream "output that is open for reading alone" 5 "" '"$YDS_TRACE" --tasks decode:20,audio:10 <"$trace" 1<"$trace"'
+	trace_stream "input and output closed" 5 "" '"$YDS_TRACE" --tasks decode:20,audio:10 <&- >&-'
+	trace_stream "errors closed" 0 "$short" '"$YDS_TRACE" --tasks decode:20,audio:10 <"$trace" >"$out" 2>&-'
+	trace_stream "a full device" 5 "" '"$YDS_TRACE" --tasks decode:20,audio:10 <"$trace" >/dev/full'
+	trace_stream "a full device, a long answer" 5 "" '"$YDS_TRACE" --tasks decode:20 <"$long" >/dev/full'
+	trace_stream "a file at its greatest size" 5 "" 'trap "" XFSZ; ulimit -f 1; "$YDS_TRACE" --tasks decode:20 <"$long" >"$work/small"'
+	trace_stream "a pipe whose reader leaves" 5 "" '{ sleep 0.2; "$YDS_TRACE" --help; echo $? >"$work/status"; } | :; exit "$(cat "$work/status")"'
+	trace_stream "a pipe whose reader leaves, a long answer" 5 "" '{ "$YDS_TRACE" --tasks decode:20 <"$long"; echo $? >"$work/status"; } | head -c 1 >/dev/null; exit "$(cat "$work/status")"'
+	trace_stream "a writer that isn't stopped by a fault" 3 "whole" '{ "$YDS_TRACE" --tasks nobody:20 >/dev/null; echo $? >"$work/status"; } <<END
+$(cat "$long")
+END
+printf whole >"$out"; exit "$(cat "$work/status")"'
+	trace_stream "a line of 100 MB in little memory" 3 "$no_line" 'ulimit -v 40000; head -c 100000000 /dev/zero | "$YDS_TRACE" --tasks decode:20 >"$out"'
+	trace_stream "10,000,000 empty lines in little memory" 3 "# line 10000000: ${no_line#*: }" 'ulimit -v 40000; yes "" | head -n 10000000 | "$YDS_TRACE" --tasks decode:20 >"$out"'
+	trace_stream "a word that isn't text" 7 "$not_text" '"$YDS_TRACE" "$(printf "\\377")" <"$trace" >"$out"'
+	trace_stream "a second word that isn't text" 7 "$not_text" '"$YDS_TRACE" --tasks "$(printf "a\\200")" <"$trace" >"$out"'
+	trace_stream "a word of 100,000 letters" 2 "# $(head -c 64 /dev/zero | tr '\0' a): no such word; --help lists them
+failed
+" '"$YDS_TRACE" "$(head -c 100000 /dev/zero | tr "\\0" a)" <"$trace" >"$out"'
+	trace_stream "an input in pieces of one byte" 0 "$short" 'dd bs=1 status=none <"$trace" | "$YDS_TRACE" --tasks decode:20,audio:10 >"$out"'
+	trace_stream "a stack of 64 KB" 0 "" 'ulimit -s 64; "$YDS_TRACE" --tasks decode:20 <"$long" >"$work/small"'
+	trace_stream "too little memory for a long document" 6 "$no_memory
+" 'ulimit -v 4000; "$YDS_TRACE" --tasks decode:20 <"$long" >"$out"'
+}
+
+parts=${*:-memory reads writes random streams trace-memory trace-reads trace-writes trace-streams}
+for part in $parts; do
+	case $part in
+	trace-*) needed=$YDS_TRACE ;;
+	*) needed=$YDS ;;
+	esac
+	[ -x "$needed" ] || { echo "faults.sh: $needed isn't there; make builds it" >&2; exit 1; }
+done
 "$CC" -O2 -Wall -shared -fPIC -o "$work/preload.so" "$here/preload.c" || exit 1
-make_large
-for part in ${*:-memory reads writes random streams}; do
+[ ! -x "$YDS" ] || make_large
+make_traces
+for part in $parts; do
 	before=$passed
-	test_$part
+	test_$(echo "$part" | tr - _)
 	echo "$part: $((passed - before)) passed"
 done
 echo "$passed passed, $failed failed"

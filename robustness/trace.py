@@ -1,20 +1,23 @@
 """trace.py: draws small traces of a kernel, and holds the whole text that yds_trace writes against a second reading.
 
     python3 robustness/trace.py [SEED] [TRACES] [PROGRAM]
+    python3 robustness/trace.py one SEED NUMBER [PROGRAM]     the trace of this number alone, with both texts
 
-It draws TRACES traces (1,000) and words for each: five formats; threads that sleep, are preempted, wait, starve and move
-among processors, with odd names; changes of speed at the stamp of a switch; fronts that are cut off, lost events, lines
-out of order, lines and words with a mistake; `--from` and `--to`, deadlines that are missed by a nanosecond. The second
-reading is below. It keeps the whole trace in memory, looks back in it for each thing that it wants to know, and writes
-the whole text with its status. What a line says it takes from lines.py. It shares no code with the crates.
+It draws TRACES traces (1,000) by drawn.py, each with words, and with words that have a mistake: five formats; threads
+that sleep, are preempted, wait, starve and move among processors, with odd names; changes of speed at the stamp of a
+switch; fronts that are cut off, lost events, missing switches, each fault of a line, of its form, of a whole trace and
+of a document; `--from` and `--to`; deadlines that are missed by a nanosecond. The second reading is below. It keeps the
+whole trace in memory, looks back in it for each thing that it wants to know, and writes the whole text with its status.
+What a line says it takes from lines.py. It shares no code with the crates; the texts of `--help` and `--version` alone
+it takes from their source.
 
 PROGRAM is the program that was built (build/yds_trace, where there is one). Without it a small program over the crate
-`yds_trace_run` does the same on each trace, and `rt try` builds it, unproved. The last line but one tells how many traces
-had each thing. The status is 1 where a text or a status differs.
+`yds_trace_run` does the same on each trace, and `rt try` builds it, unproved. Before the last line it tells how many
+traces had each thing. The status is 1 where a text or a status differs, and also where of 10,000 traces or more fewer
+than 200 had a thing of WANTED.
 """
 
 import os
-import random
 import re
 import shutil
 import subprocess
@@ -23,8 +26,9 @@ import tempfile
 from collections import Counter
 from dataclasses import dataclass, field
 from pathlib import Path
-from typing import Dict, Iterator, List, NamedTuple, Optional, Tuple
+from typing import Dict, Iterator, List, NamedTuple, Optional, Set, Tuple
 
+from drawn import Drawn, drawn, mistaken
 from lines import reading
 
 MOST_TIME = 2**63 - 1
@@ -79,11 +83,15 @@ class Asked:
 
 
 class Wrong(Exception):
-    """Why there is no document: the comment, and the status."""
+    """Why there is no document: the comment, the status, and what kind of fault it is."""
 
-    def __init__(self, text: str, status: int) -> None:
+    def __init__(self, text: str, status: int, kind: str) -> None:
         super().__init__(text)
-        self.text, self.status = text, status
+        self.text, self.status, self.kind = text, status, kind
+
+
+class Asks(Exception):
+    """The words ask for a text of the program's own."""
 
 
 HELPS = {
@@ -117,7 +125,7 @@ FLAGS = ("--strict", "--help", "--version")
 def word_fault(word: str, reason: str, place: Optional[int] = None) -> Wrong:
     """That a word can't be taken."""
     shown = "".join(byte if " " <= byte <= "~" else "?" for byte in word[:64])
-    return Wrong(f"{shown}{'' if place is None else f', task {place}'}: {HELPS[reason]}", 2)
+    return Wrong(f"{shown}{'' if place is None else f', task {place}'}: {HELPS[reason]}", 2, f"word: {reason}")
 
 
 def whole(word: str, text: str, least: int, most: int) -> int:
@@ -224,10 +232,21 @@ def settings(words: List[str]) -> List[Tuple[str, str]]:
     return found
 
 
+def own_text(name: str) -> str:
+    """What the program writes for `--help` or `--version`, by its source."""
+    source = Path("crates/yds_trace_words/src/texts.rt").read_text(encoding="utf-8")
+    mark = re.search(r'const %s: &\[u8\] = b"(?:\\\n)?(.*?)";' % name[2:].upper(), source, re.S)
+    assert mark is not None
+    return mark[1].replace("\\n", "\n")
+
+
 def asked_by(words: List[str]) -> Asked:
     """What the words ask of a trace."""
     found = settings(words)
     names = [name for name, _ in found]
+    for name in ("--help", "--version"):
+        if name in names:
+            raise Asks(own_text(name))
     for at, name in enumerate(names):
         if name in names[at + 1 :]:
             raise word_fault(name, "twice")
@@ -326,9 +345,10 @@ CAUSES = {
 }
 
 
-def line_fault(number: int, cause: str) -> Wrong:
-    """That a line can't stand behind those before it."""
-    return Wrong(f"line {number}: {CAUSES.get(cause, cause)}", 3)
+def line_fault(number: int, cause: str, where: str = "line") -> Wrong:
+    """That a line can't stand behind those before it, or the whole trace at its last line."""
+    kind = cause if cause in CAUSES else "a task unseen"
+    return Wrong(f"line {number}: {CAUSES.get(cause, cause)}", 3, f"{where}: {kind}")
 
 
 # # Looking back. Each takes the lines before some place.
@@ -475,22 +495,22 @@ def read_lines(trace: bytes, asked: Asked) -> List[Line]:
         said = reading(text[:-1] if text.endswith(b"\r") else text, ended or number < len(texts))
         if said.startswith(b"fault"):
             _, column, reason = said.decode().split(" ")
-            raise Wrong(f"line {number}, column {column}: {FORMS[reason]}", 3)
+            raise Wrong(f"line {number}, column {column}: {FORMS[reason]}", 3, f"form: {reason}")
         cause = cause_of(line_of(said), lines, asked)
         if cause is not None:
             raise line_fault(number, cause)
         lines.append(line_of(said))
     if not any(is_stamped(line) for line in lines):
-        raise line_fault(len(lines), "none")
+        raise line_fault(len(lines), "none", "whole")
     if not asked.cut and just_lost(lines, asked):
-        raise line_fault(len(lines), "lost")
+        raise line_fault(len(lines), "lost", "whole")
     for number in range(len(asked.tasks)):
         if pid_of(number, lines, asked) is None:
             cause = f"no line names task {number + 1} of --tasks; write its name as the trace has it"
-            raise line_fault(len(lines), cause)
+            raise line_fault(len(lines), cause, "whole")
     woken = any(line.kind == "wake" and asked.task_of(line.threads[0]) is not None for line in lines)
     if not asked.at_run and not woken:
-        raise line_fault(len(lines), "unwoken")
+        raise line_fault(len(lines), "unwoken", "whole")
     return lines
 
 
@@ -518,6 +538,7 @@ class Job:
     ran: List[Stretch] = field(default_factory=list)
     wakes: int = 0
     missing: bool = False
+    again: int = 0
 
 
 class Follower:
@@ -544,6 +565,7 @@ class Follower:
         if last is not None and time - last.begin < self.apart:
             if last.known:
                 last.state = "open"
+                last.again += 1
             else:
                 self.begin(time, False)
         else:
@@ -777,25 +799,25 @@ class Document:
         runs = {one.name: one.runs for one, _, _, _ in self.rows if not one.reason}
         for place, (one, _, due, _) in enumerate(self.rows, 1):
             if due > MOST_UNITS or any(end > MOST_UNITS for _, end, _ in runs.get(one.name, [])):
-                raise Wrong(f"written job {place}: its times are above 1000000000 units; choose a greater unit by --us, or a later --from", 3)
+                raise Wrong(f"written job {place}: its times are above 1000000000 units; choose a greater unit by --us, or a later --from", 3, "document: times")
         for place, (one, _, _, work) in enumerate(self.rows, 1):
             if work > MOST_WORK:
-                raise Wrong(f"written job {place}: its work is above 1000000; choose greater units by --us and --khz", 3)
+                raise Wrong(f"written job {place}: its work is above 1000000; choose greater units by --us and --khz", 3, "document: work")
         for place, one in enumerate(self.judged, 1):
             if not one.reason and any(self.is_coarse(ran) for ran in one.job.ran):
                 raise Wrong(f"found job {place}: it ran at a speed that is 0, or off by more than a twentieth in its unit;"
-                            " choose a smaller unit by --khz", 3)
+                            " choose a smaller unit by --khz", 3, "document: coarse speed")
         for place, one in enumerate(self.judged, 1):
             if not one.reason and any(self.is_in_run(ran) and self.speed(ran.khz or 0) > MOST_SPEED for ran in one.job.ran):
-                raise Wrong(f"found job {place}: it ran at a speed above 1000000 units; choose a greater unit by --khz", 3)
+                raise Wrong(f"found job {place}: it ran at a speed above 1000000 units; choose a greater unit by --khz", 3, "document: great speed")
         if not self.rows:
             raise Wrong("no job can be written, and a document without jobs is feasible; choose another processor by --cpu,"
-                        " or a longer time by --from and --to", 3)
+                        " or a longer time by --from and --to", 3, "document: no job")
         for place, one in enumerate(self.judged, 1):
             missed = bool(one.reason) and (one.late is not None or one.reason not in ("before from", "after to"))
             if self.asked.strict and missed:
                 raise Wrong(f"found job {place}: it doesn't stand as it is, and --strict is given; leave that out,"
-                            " or choose --from and --to around the job", 3)
+                            " or choose --from and --to around the job", 3, "document: strict")
 
     def is_in_run(self, ran: Stretch) -> bool:
         """Whether a stretch is in a run."""
@@ -912,237 +934,176 @@ class Document:
                        f" begins, {milliseconds(mean)} ms: is it in another unit?")
 
 
-def told(words: List[str], trace: bytes) -> Tuple[str, int]:
-    """The text and the status of a run of the program."""
+class Told(NamedTuple):
+    """What is written, the status, the kind of fault, if it is one, and the document, if it is one."""
+
+    text: str
+    status: int
+    kind: str = ""
+    document: Optional[Document] = None
+
+
+def told(words: List[str], trace: bytes) -> Told:
+    """A run of the program."""
     try:
         asked = asked_by(words)
-        return Document(read_lines(trace, asked), asked).text(), 0
+        document = Document(read_lines(trace, asked), asked)
+        return Told(document.text(), 0, "", document)
+    except Asks as asks:
+        return Told(str(asks), 0, "a text of its own")
     except Wrong as wrong:
-        return f"# {wrong.text}\nfailed\n", wrong.status
+        return Told(f"# {wrong.text}\nfailed\n", wrong.status, wrong.kind)
 
 
-# # Drawn traces
+# # What was in the traces
 
-NAMES = [b"decode", b"audio", b"Web Content", b"a [001] 5.1: print:", b"x ==> y", b"kworker/0:1", b"k=v,w", b"n:12 [9]", b"back\\slash"]
-OTHERS = [b"other", b"<...>", b"x next_pid=7 next_prio=1"]
-FORMATS = ("kernel", "short", "raw", "perf", "perfetto")
-
-
-class Drawing:
-    """A machine that runs threads by chance, and writes its trace in one of five formats."""
-
-    def __init__(self, draw: random.Random) -> None:
-        self.draw = draw
-        self.form = draw.choice(FORMATS)
-        self.processors = draw.choice([1, 2, 2, 3])
-        self.listed = draw.sample(NAMES, draw.choice([1, 2, 3]))
-        self.threads = self.listed + OTHERS
-        self.state = {name: "sleeps" for name in self.threads}
-        self.on: Dict[int, bytes] = {}
-        self.time = draw.randrange(10**9)
-        self.lines: List[bytes] = []
-        self.woken: Dict[bytes, int] = {}
-        self.spans: Dict[bytes, List[int]] = {name: [] for name in self.listed}
-        self.lost = False
-
-    def pid(self, name: bytes) -> int:
-        """A thread's number."""
-        return 10 + self.threads.index(name) if name in self.threads else 0
-
-    def write(self, processor: int, event: bytes, text: bytes) -> None:
-        """A line."""
-        time = b"%d.%09d" % (100 + self.time // 10**9, self.time % 10**9)
-        heads = {
-            "kernel": b"%16s-%-7d [%03d] d..2. %s: " % (b"who", 5, processor, time),
-            "perf": b"%16s %5d [%03d] %s: %s" % (b"who", 5, processor, time, b"power:" if event == b"cpu_frequency:" else b"sched:"),
-            "perfetto": b"%s-%d (-----) [%03d] d..3 %s: " % (b"who", 5, processor, time),
-        }
-        plain = b"%16s-%-5d [%03d]  %s: " % (b"who", 5, processor, time)
-        self.lines.append(heads.get(self.form, plain) + event + b" " + text)
-
-    def tell_switch(self, processor: int, before: bytes, state: bytes, after: bytes) -> None:
-        """A switch."""
-        one, two = self.pid(before), self.pid(after)
-        if self.form == "short":
-            text = b"%s:%d [120] %s ==> %s:%d [98]" % (before, one, state, after, two)
-        else:
-            arrow = b"" if self.form == "raw" else b" ==>"
-            text = b"prev_comm=%s prev_pid=%d prev_prio=120 prev_state=%s%s next_comm=%s next_pid=%d next_prio=98" % (
-                before, one, state, arrow, after, two)
-        self.write(processor, b"sched_switch:", text)
-
-    def switch(self, processor: int) -> None:
-        """A processor goes from one thread to another."""
-        before = self.on.pop(processor, b"")
-        ready = [name for name in self.threads if self.state[name] == "ready"]
-        after = self.draw.choice(ready) if ready and (not before or self.draw.random() < 0.8) else b""
-        if not before and not after:
-            return
-        sleeps = not after or self.draw.random() < 0.6
-        state = self.draw.choice([b"S", b"S", b"S", b"I", b"X", b"1"] if sleeps else [b"R", b"R+", b"D", b"S+"]) if before else b"R"
-        if before:
-            self.state[before] = "sleeps" if sleeps else "ready"
-            if sleeps and before in self.woken:
-                self.spans[before].append(self.time - self.woken.pop(before))
-        if after:
-            self.state[after], self.on[processor] = "runs", after
-        idle = b"swapper/%d" % processor
-        self.tell_switch(processor, before or idle, state, after or idle)
-
-    def speed(self, processor: int) -> None:
-        """A processor's speed changes."""
-        khz = self.draw.choice([600_000, 652_800, 1_000_000, 2_000_000])
-        self.write(self.draw.randrange(self.processors), b"cpu_frequency:", b"state=%d cpu_id=%d" % (khz, processor))
-
-    def wake(self, name: bytes, processor: int) -> None:
-        """A thread is woken."""
-        event = self.draw.choice([b"sched_waking:", b"sched_wakeup:", b"sched_wakeup_new:"])
-        pid = self.pid(name)
-        short = b"%s:%d [120] CPU:%03d" % (name, pid, processor)
-        text = short if self.form == "short" else b"comm=%s pid=%d prio=120 target_cpu=%03d" % (name, pid, processor)
-        self.write(self.draw.randrange(self.processors), event, text)
-        if name in self.listed:
-            self.woken.setdefault(name, self.time)
-
-    def step(self) -> None:
-        """Something happens."""
-        self.time += self.draw.choice([0, 0, 1, 700, 9_000, 40_000, 900_000, 4_000_000, 9_000_000])
-        processor, drawn = self.draw.randrange(self.processors), self.draw.random()
-        sleeping = [name for name in self.threads if self.state[name] == "sleeps"]
-        if drawn < 0.3 and sleeping:
-            name = self.draw.choice(sleeping)
-            self.state[name] = "ready"
-            self.wake(name, processor)
-        elif drawn < 0.33:
-            self.wake(self.draw.choice(self.threads), processor)
-        elif drawn < 0.39:
-            self.speed(processor)
-        elif drawn < 0.42:
-            marker = b"note [000] d..2. 100.002: sched_switch: prev_comm=decode prev_pid=10 prev_prio=1 prev_state=S ==> next_comm=x next_pid=9 next_prio=1"
-            event = self.draw.choice([b"tracing_mark_write:", b"irq_handler_entry:", b"print:"])
-            self.write(processor, event, marker)
-        else:
-            self.switch(processor)
-
-    def trace(self) -> bytes:
-        """The lines, perhaps without a front or one of them, with lost events, or with a mistake."""
-        for processor in range(self.processors if self.draw.random() < 0.8 else 0):
-            self.speed(processor)
-        for _ in range(self.draw.randrange(15, 90)):
-            self.step()
-        lines = self.lines[self.draw.choice([0, 0, 0, 1, 3, 9]) :] or self.lines
-        if self.draw.random() < 0.15:
-            del lines[self.draw.randrange(len(lines))]
-        if self.draw.random() < 0.3:
-            processor, self.lost = self.draw.randrange(self.processors), True
-            told_so = [b"CPU:%d [3 EVENTS DROPPED]", b"##### CPU %d buffer started ####", b"CPU:%d [LOST EVENTS]"]
-            lines.insert(self.draw.randrange(len(lines) + 1), self.draw.choice(told_so) % processor)
-        if self.draw.random() < 0.1:
-            self.spoil(lines)
-        end = b"" if self.draw.random() < 0.1 else b"\n"
-        return self.draw.choice([b"\n", b"\n", b"\r\n"]).join(lines) + end
-
-    def spoil(self, lines: List[bytes]) -> None:
-        """A mistake in a line."""
-        at = self.draw.randrange(len(lines))
-        line, drawn = lines[at], self.draw.randrange(6)
-        if drawn == 0:
-            lines[at] = line[: self.draw.randrange(len(line) + 1)]
-        elif drawn == 1:
-            lines.append(lines.pop(at))
-        elif drawn == 2:
-            lines[at] = line.replace(b" S ", b" Q ").replace(b"prev_state=S", b"prev_state=Q")
-        elif drawn == 3:
-            lines[at] = line.replace(b"[00", b"[9000", 1)
-        elif drawn == 4:
-            lines[at] = re.sub(rb"(pid=|:)1([0-9])", rb"\g<1>77\2", line, count=1)
-        else:
-            place = self.draw.randrange(len(line))
-            lines[at] = line[:place] + bytes([self.draw.choice(b" :=.[]\r\x00\xff0R")]) + line[place + 1 :]
+# Each is in at least 200 of 10,000 traces. A fault `document: great speed` can't be: a job with such a run has more work
+# than a job may have, which is told before. Nor can the faults of size, which limits.py tries.
+REASONS = ["before from", "events lost", "a switch is missing", "its begin isn't in the trace", "ran on another processor", "frequency not known"]
+WANTED = [
+    *(f"format {form}" for form in ("kernel", "short", "raw", "perf", "perfetto")),
+    *(f"option {word}" for word in VALUES + FLAGS), "option APART", "a task by its number", "a value behind an equals sign",
+    *(f"form: {reason}" for reason in FORMS),
+    *(f"line: {cause}" for cause in CAUSES if cause not in ("none", "unwoken")),
+    *(f"whole: {cause}" for cause in ("none", "lost", "a task unseen", "unwoken")),
+    *(f"document: {cause}" for cause in ("times", "work", "coarse speed", "no job", "strict")),
+    *(f"word: {reason}" for reason in HELPS),
+    *(f"late: {reason}" for reason in REASONS), *(f"left out: {reason}" for reason in REASONS + ["not ended", "after to"]),
+    "a job as it is", "a job that moves, in time", "a job that moves, late", "a job that starves", "an overrun", "a job that is preempted",
+    "a job that goes on after a sleep", "a job with several wake-ups", "late by nothing", "late by 1 ns", "late by less than a unit",
+    "ends at its deadline", "a change of speed in a job", "a change of speed at the stamp of a switch", "equal stamps", "a wake-up and a switch of one stamp",
+    "lines end by CR LF", "no line feed at the end", "a marker that looks like a switch", "a wake-up of a new thread", "a wait for a disk", "a thread ends",
+    "comment late", "comment late, without its runs", "comment late in a run", "comment late by less", "comment not ended", "comment begins", "comment ends",
+    "comment left out", "comment stretch", "comment wake", "comment the deadline of", "comment APART of",
+]
+LEAST, OF = 200, 10_000
 
 
-def escaped(name: bytes) -> str:
-    """A name as `--tasks` takes it."""
-    return re.sub("([,:=])", r"\\\1", name.decode())
+def in_words(words: List[str]) -> Iterator[str]:
+    """What is in words."""
+    for word in words:
+        name = word.partition("=")[0]
+        if name in VALUES + FLAGS:
+            yield f"option {name}"
+        if name in VALUES and "=" in word:
+            yield "a value behind an equals sign"
+    listed = next((word for word in words if re.search(r":[0-9.]+(,|$)", word)), "")
+    if re.search(r":[0-9.]+:[0-9.]+(,|$)", listed):
+        yield "option APART"
+    if re.search(r"(^|[,=])[0-9]+=", listed):
+        yield "a task by its number"
 
 
-def decimal_text(time: int, places: int) -> str:
-    """A decimal that is so many parts."""
-    text = f"{time // 10**places}.{time % 10**places:0{places}d}"
-    return text.rstrip("0").rstrip(".")
+def in_trace(trace: bytes) -> Iterator[str]:
+    """What is in a trace's text."""
+    lines = trace.split(b"\n")
+    stamps = [re.search(rb" ([0-9]+\.[0-9]+): (\S*)(?= )", line) for line in lines]
+    told_at = [(mark[1], mark[2].replace(b"sched:", b"").replace(b"power:", b"")) for mark in stamps if mark]
+    pairs = [{one[1], two[1]} for one, two in zip(told_at, told_at[1:]) if one[0] == two[0]]
+    if pairs:
+        yield "equal stamps"
+    if {b"sched_switch:", b"cpu_frequency:"} in pairs:
+        yield "a change of speed at the stamp of a switch"
+    if any(b"sched_switch:" in pair and any(name.startswith(b"sched_wak") for name in pair) for pair in pairs):
+        yield "a wake-up and a switch of one stamp"
+    if trace and not trace.endswith(b"\n"):
+        yield "no line feed at the end"
+    signs = {
+        "lines end by CR LF": rb"\r\n", "a marker that looks like a switch": rb"note \[000\]", "a wake-up of a new thread": rb"wakeup_new",
+        "a wait for a disk": rb"(prev_state=|\] )D ", "a thread ends": rb"(prev_state=|\] )X ",
+    }
+    yield from (name for name, sign in signs.items() if re.search(sign, trace))
 
 
-def drawn_words(draw: random.Random, drawing: Drawing) -> List[str]:
-    """Words for a drawn trace, perhaps with a mistake."""
-    listed: List[str] = []
-    for place, name in enumerate(drawing.listed):
-        spans = drawing.spans[name]
-        near = draw.choice(spans) + draw.choice([-10_000, -1, 0, 0, 1, 9_999, 10_000]) if spans and draw.random() < 0.5 else 0
-        deadline = decimal_text(max(near, 0) or draw.choice([1, 3, 10, 20, 400]) * 10**6, 6)
-        apart = draw.choice(["", "", ":2", ":0.5"])
-        is_label = re.fullmatch(b"[!-~]{1,53}", name) is not None
-        if is_label and draw.random() < 0.7:
-            listed.append(f"{escaped(name)}:{deadline}{apart}")
-        else:
-            listed.append(f"{drawing.pid(name)}=t{place}:{deadline}{apart}")
-    words = ["--tasks", ",".join(listed)]
-    words += draw.choice([[], ["--cpu", "0"], ["--cpu=1"], ["--cpu", "2"]]) if drawing.processors > 1 else []
-    words += draw.choice([[]] * 4 + [["--us", "1"], ["--us=1000"], ["--khz", "1"], ["--khz=100000"]])
-    words += draw.choice([[], [], ["--start", "1000000"]])
-    times = [100 * 10**9 + drawing.time - draw.randrange(10**8), 100 * 10**9 + draw.randrange(drawing.time + 1)]
-    if draw.random() < 0.25:
-        words += ["--from", decimal_text(min(times), 9)]
-    if draw.random() < 0.25:
-        words += ["--to", decimal_text(max(times) + draw.choice([0, 1, 10**7]), 9)]
-    words += draw.choice([[]] * 3 + [["--begin", "run"]])
-    words += ["--lost", "cut"] if drawing.lost and draw.random() < 0.8 else []
-    words += draw.choice([[]] * 11 + [["--strict"]])
-    if draw.random() < 0.08:
-        at = draw.randrange(len(words))
-        mistakes = [["--nonsense"], ["--cpu=x"], ["--us", "0"], ["--tasks"], ["--from=1.1234567890"], ["--strict=yes"], [words[at]] * 2,
-                    ["--to", "0"], ["--lost", "all"], ["--begin=wake"], ["--khz=01"], ["--start", "0"], ["wo\nrd"], ["--tasks", "a:1,a:2"]]
-        words[at:at] = draw.choice(mistakes)
-    return words
+def in_job(one: Judged, unit: int) -> Iterator[str]:
+    """What a job shows."""
+    ran, late, ended = one.job.ran, one.late, one.job.state == "ended"
+    if one.reason:
+        yield f"{'left out' if late is None else 'late'}: {one.reason}"
+    else:
+        yield "a job as it is"
+    if len({stretch.processor for stretch in ran}) > 1:
+        yield "a job that moves, in time" if late is None else "a job that moves, late"
+    pairs = list(zip(ran, ran[1:]))
+    signs = {
+        "a job that starves": late is not None and not ran and one.job.known,
+        "an overrun": late is not None and ended,
+        "a job that is preempted": any(before.end < behind.begin for before, behind in pairs),
+        "a job that goes on after a sleep": one.job.again > 0,
+        "a job with several wake-ups": one.job.wakes > 0,
+        "late by nothing": late == 0,
+        "late by 1 ns": late == 1,
+        "late by less than a unit": late is not None and 0 < late < unit,
+        "ends at its deadline": ended and one.job.at == one.due and one.job.known,
+        "a change of speed in a job": any(before.end == behind.begin and before.khz != behind.khz for before, behind in pairs),
+    }
+    yield from (name for name, holds in signs.items() if holds)
+
+
+def in_text(text: str) -> Iterator[str]:
+    """Which comments a document has."""
+    kinds = "late, without its runs|late by less|late in a run|late|not ended|begins|ends|left out|[0-9]+ stretch|[0-9]+ wake|the deadline of|APART of"
+    for mark in re.finditer(f"^# ({kinds})", text, re.M):
+        yield "comment " + re.sub("[0-9]+ ", "", mark[1])
+
+
+def things(words: List[str], trace: bytes, said: Told) -> Set[str]:
+    """What is in a trace, its words and what is said of it."""
+    found = {f"status {said.status}", *in_words(words), *in_trace(trace)}
+    if said.kind:
+        found.add(said.kind)
+    if said.document is not None:
+        found.update(in_text(said.text))
+        for one in said.document.judged:
+            found.update(in_job(one, said.document.asked.unit))
+    return found
 
 
 # # Comparing
 
-DRIVER = '''//! Runs yds_trace on the trace in standard input, whose first line has the words, parted by tabs, and writes the status behind the text.
+DRIVER = '''//! Runs yds_trace on each trace in standard input, and writes the text and the status of each, one behind the other.
+//! Of each there are a line with the words, with a tab behind each, a line with the length of the trace, and the trace.
 #![tactic(auto)]
 
-use std::io::{Read, Write};
+use std::io::{BufWriter, Read, Write};
 use yds_port::{SteadySource, StdSink};
 use yds_trace_run::run;
 
 fn main(rt: HostRuntime) -> Result<(), anyhow::Error> {
     let mut input = Vec::new(rt.alloc());
     rt.stdin().read_to_end(&mut input)?;
-    let mut words = Vec::new(rt.alloc());
-    let mut word = String::new(rt.alloc());
-    let mut trace = Vec::new(rt.alloc());
-    let mut behind = false;
-    for byte in &input {
-        if behind {
-            trace.push(*byte)?;
-        } else if *byte == b'\\n' {
-            behind = true;
-        } else if *byte == b'\\t' {
-            words.push(word)?;
-            word = String::new(rt.alloc());
-        } else if byte.is_ascii() {
-            word.push(if *byte == 1 { '\\n' } else { char::from(*byte) })?;
+    let mut out = BufWriter::with_capacity(rt.alloc(), 65_536, rt.stdout())?;
+    let mut at = 0;
+    while at < input.len() {
+        let mut words = Vec::new(rt.alloc());
+        let mut word = String::new(rt.alloc());
+        while input[at] != b'\\n' {
+            if input[at] == b'\\t' {
+                words.push(word)?;
+                word = String::new(rt.alloc());
+            } else {
+                word.push(if input[at] == 1 { '\\n' } else { char::from(input[at]) })?;
+            }
+            at += 1;
         }
+        at += 1;
+        let mut length = 0;
+        while input[at] != b'\\n' {
+            length = 10 * length + (input[at] - b'0') as usize;
+            at += 1;
+        }
+        at += 1;
+        let mut source = SteadySource::new(Vec::from_slice(rt.alloc(), &input[at..at + length])?);
+        at += length;
+        let mut text = Vec::new(rt.alloc());
+        let status = {
+            let mut sink = StdSink::new(&mut text);
+            run(rt.alloc(), &words, &mut source, &mut sink)
+        };
+        out.write_all(&text)?;
+        out.write_all(format!(in rt.alloc(); "status {}\\n", status.code())?.as_bytes())?;
     }
-    words.push(word)?;
-    let mut source = SteadySource::new(trace);
-    let mut text = Vec::new(rt.alloc());
-    let status = {
-        let mut sink = StdSink::new(&mut text);
-        run(rt.alloc(), &words, &mut source, &mut sink)
-    };
-    let mut out = rt.stdout();
-    out.write_all(&text)?;
-    out.write_all(format!(in rt.alloc(); "status {}\\n", status.code())?.as_bytes())?;
+    out.flush()?;
     Ok(())
 }
 '''
@@ -1157,62 +1118,98 @@ class Case(NamedTuple):
     status: int
 
 
-def drawn_case(draw: random.Random, counts: "Counter[str]") -> Case:
-    """A case; what is in it is counted."""
-    drawing = Drawing(draw)
-    trace = drawing.trace()
-    words = drawn_words(draw, drawing)
-    text, status = told(words, trace)
-    counts[f"format {drawing.form}"] += 1
-    counts[f"status {status}"] += 1
-    for word in words:
-        name = word.partition("=")[0]
-        if name in VALUES + FLAGS:
-            counts[f"word {name}"] += 1
-    stamps = re.findall(rb" ([0-9]+\.[0-9]+): ", trace)
-    counts["equal stamps"] += int(len(stamps) != len(set(stamps)))
-    counts["lost events"] += int(re.search(rb"EVENTS|buffer started", trace) is not None)
-    for line in text.splitlines():
-        kind = re.match(r"# (late, without its runs|late by less|late in a run|late|not ended|begins|ends|left out|[0-9]+ stretch|[0-9]+ wake)", line)
-        if kind is not None:
-            counts["comment " + re.sub("[0-9]+ ", "", kind[1])] += 1
-        reason = re.search(r"\(([^)]*)\)", line) if line.startswith(("# late", "# left")) else None
-        if reason is not None:
-            counts["reason " + reason[1]] += 1
-    if status:
-        counts["fault: " + re.sub("^[^:]*: ", "", text.splitlines()[0]).partition(";")[0]] += 1
-    return Case(words, trace, text, status)
+def case_of(words: List[str], trace: bytes) -> Case:
+    """A case, with what the second reading says."""
+    said = told(words, trace)
+    return Case(words, trace, said.text, said.status)
+
+
+def drawn_cases(seed: int, number: int, counts: "Counter[str]") -> List[Case]:
+    """The trace of this number with its words, and with words that have a mistake. What is in it is counted."""
+    it = drawn(seed, number)
+    said = told(it.words, it.trace)
+    wrong = mistaken(seed, number, it.words)
+    wrong_said = told(wrong, it.trace)
+    found = things(it.words, it.trace, said) | {f"format {it.form}"}
+    if wrong_said.status == 2 or wrong_said.kind:
+        found |= {*in_words(wrong), *([wrong_said.kind] if wrong_said.status in (0, 2) else [])}
+    counts.update(found)
+    return [Case(it.words, it.trace, said.text, said.status), Case(wrong, it.trace, wrong_said.text, wrong_said.status)]
+
+
+def lay_out(top: Path) -> Path:
+    """Puts the crates that the small program stands on, and itself, into a folder of their own. Gives its crate's folder."""
+    graph: Dict[str, List[str]] = {}
+    for line in Path("crates.txt").read_text(encoding="utf-8").splitlines():
+        head, colon, rest = line.partition("#")[0].partition(":")
+        if colon:
+            graph[head.split()[0]] = rest.split()
+    needed, left = set(), ["yds_trace_run"]
+    while left:
+        crate = left.pop()
+        if crate in graph and crate not in needed:
+            needed.add(crate)
+            left += graph[crate]
+            shutil.copytree(Path("crates") / crate, top / "crates" / crate, ignore=shutil.ignore_patterns("out", "must-fail"))
+    listed = [f"{crate}: {' '.join(graph[crate])}" for crate in needed]
+    listed.append("trace_said: yds_port yds_trace_run anyhow")
+    (top / "crates.txt").write_text("\n".join(listed) + "\n", encoding="utf-8")
+    source = top / "crates" / "trace_said" / "src"
+    source.mkdir(parents=True)
+    (source / "main.rt").write_text(DRIVER, encoding="utf-8")
+    return source.parent
+
+
+# So many cases are a run of the small program: `rt` takes half a second for each run, and at most 1 MiB of its output.
+BUNDLE = 300
+
+
+def bundles(cases: List[Case]) -> List[List[Case]]:
+    """The cases, so many at a time, of which the text isn't longer than `rt` takes."""
+    return [cases[at : at + BUNDLE] for at in range(0, len(cases), BUNDLE)]
+
+
+def write_bundle(cases: List[Case], file: Path) -> None:
+    """Writes cases as the small program reads them."""
+    with file.open("wb") as out:
+        for case in cases:
+            words = "".join(word.replace("\n", "\x01") + "\t" for word in case.words).encode()
+            out.write(words + b"\n%d\n" % len(case.trace) + case.trace)
+
+
+def answers_of(cases: List[Case]) -> List[str]:
+    """What the small program is to write of each case."""
+    return [f"{case.text}status {case.status}\n" for case in cases]
+
+
+def try_laid_out(crate: Path, cases: List[Case]) -> "Tuple[List[int], str]":
+    """Builds the small program unproved, and runs it on the cases. Gives the places of those with another answer, and what `rt` wrote."""
+    with tempfile.TemporaryDirectory() as folder:
+        parts = bundles(cases)
+        for number, part in enumerate(parts):
+            write_bundle(part, Path(folder) / f"{number:04d}")
+        # The compiled program alone: the other way in which `rt` runs a program goes step by step, and takes seconds a case.
+        words = ["rt", "try", "--steps", "1", "--seconds", "300", "--cases", folder]
+        done = subprocess.run(words, cwd=crate, check=False, stdout=subprocess.PIPE, stderr=subprocess.PIPE, text=True, errors="replace")
+    told = re.split(r"^== ([0-9]{4})\n", done.stdout, flags=re.M)
+    texts = {int(number): text for number, text in zip(told[1::2], told[2::2])}
+    wrong: List[int] = []
+    for number, part in enumerate(parts):
+        written = re.findall(r"(?:.*\n)*?status [0-9]+\n", texts.get(number, ""))
+        wanted = answers_of(part)
+        wrong += [number * BUNDLE + at for at, text in enumerate(wanted) if at >= len(written) or written[at] != text]
+    return wrong, done.stdout + done.stderr
 
 
 def try_cases(cases: List[Case]) -> int:
-    """Builds the small program unproved, and runs it on each case. Gives 0 where all is the same."""
+    """Runs the small program, unproved, on each case. Gives 0 where all is the same."""
     with tempfile.TemporaryDirectory() as folder:
-        top = Path(folder)
-        graph: Dict[str, List[str]] = {}
-        for line in Path("crates.txt").read_text(encoding="utf-8").splitlines():
-            head, colon, rest = line.partition("#")[0].partition(":")
-            if colon:
-                graph[head.split()[0]] = rest.split()
-        needed, left = set(), ["yds_trace_run"]
-        while left:
-            crate = left.pop()
-            if crate in graph and crate not in needed:
-                needed.add(crate)
-                left += graph[crate]
-                shutil.copytree(Path("crates") / crate, top / "crates" / crate, ignore=shutil.ignore_patterns("out", "must-fail"))
-        listed = [f"{crate}: {' '.join(graph[crate])}" for crate in needed]
-        listed.append("trace_said: yds_port yds_trace_run anyhow")
-        (top / "crates.txt").write_text("\n".join(listed) + "\n", encoding="utf-8")
-        source = top / "crates" / "trace_said" / "src"
-        source.mkdir(parents=True)
-        (source / "main.rt").write_text(DRIVER, encoding="utf-8")
-        files = top / "cases"
-        files.mkdir()
-        for number, case in enumerate(cases):
-            head = "\t".join(word.replace("\n", "\x01") for word in case.words).encode()
-            (files / f"{number}").write_bytes(head + b"\n" + case.trace)
-            (files / f"{number}.stdout").write_bytes(case.text.encode() + b"status %d\n" % case.status)
-        return subprocess.run(["rt", "try", "--cases", str(files)], cwd=source.parent, check=False).returncode
+        wrong, said = try_laid_out(lay_out(Path(folder)), cases)
+    for at in wrong[:5]:
+        show(cases[at], b"another text")
+    if len(wrong) == len(cases):
+        print(said[-3000:])
+    return int(bool(wrong))
 
 
 def run_case(program: str, case: Case) -> bool:
@@ -1220,25 +1217,61 @@ def run_case(program: str, case: Case) -> bool:
     done = subprocess.run([program, *case.words], input=case.trace, capture_output=True, check=False)
     same = (done.stdout, done.returncode) == (case.text.encode(), case.status)
     if not same:
-        sys.stdout.flush()
-        sys.stdout.buffer.write(b"\n".join([repr(case.words).encode(), case.trace, b"-- the program", done.stdout,
-                                            b"-- the second reading", case.text.encode(), b"--\n"]))
+        show(case, done.stdout)
+    return same
+
+
+def show(case: Case, written: bytes) -> None:
+    """Both texts of a case."""
+    sys.stdout.flush()
+    sys.stdout.buffer.write(b"\n".join([repr(case.words).encode(), case.trace, b"-- the program", written,
+                                        b"-- the second reading", case.text.encode(), b"--\n"]))
+    sys.stdout.flush()
+
+
+def show_one(words: List[str]) -> int:
+    """One trace alone, with both texts."""
+    for case in drawn_cases(int(words[0]), int(words[1]), Counter()):
+        done = subprocess.run([words[2], *case.words], input=case.trace, capture_output=True, check=False) if len(words) > 2 else None
+        show(case, done.stdout if done else b"")
+    return 0
+
+
+def too_few(counts: "Counter[str]", many: int) -> List[str]:
+    """What was in too few traces, where there were enough of them to tell."""
+    return [name for name in WANTED if counts[name] < LEAST] if many >= OF else []
+
+
+def all_same(seed: int, many: int, program: str, counts: "Counter[str]") -> bool:
+    """Whether the built program says the same of all traces. It tells the numbers of those of which it doesn't."""
+    same = True
+    for number in range(many):
+        if not all([run_case(program, case) for case in drawn_cases(seed, number, counts)]):
+            print(f"the readings of trace {number} of seed {seed} differ")
+            same = False
     return same
 
 
 def main(words: List[str]) -> int:
     """Draws the traces, reads them twice, and tells what was in them."""
-    draw = random.Random(int(words[0]) if words else 1)
+    if words[:1] == ["one"]:
+        return show_one(words[1:])
+    seed = int(words[0]) if words else 1
     many = int(words[1]) if len(words) > 1 else 1_000
     counts: "Counter[str]" = Counter()
-    cases = [drawn_case(draw, counts) for _ in range(many)]
-    same = all([run_case(words[2], case) for case in cases]) if len(words) > 2 else try_cases(cases) == 0
-    print(", ".join(f"{count} {word}" for word, count in sorted(counts.items()) if count))
-    print("the readings agree" if same else "the readings differ")
-    return 0 if same else 1
+    if len(words) > 2:
+        same = all_same(seed, many, words[2], counts)
+    else:
+        same = try_cases([case for number in range(many) for case in drawn_cases(seed, number, counts)]) == 0
+    print(", ".join(f"{count} {word}" for word, count in sorted(counts.items())))
+    few = too_few(counts, many)
+    if few:
+        print(f"too few: {', '.join(f'{counts[name]} {name}' for name in few)}")
+    print(f"{many} traces of seed {seed}: {'the readings agree' if same else 'the readings differ'}")
+    return 0 if same and not few else 1
 
 
 if __name__ == "__main__":
-    here = [os.path.abspath(word) if place == 2 else word for place, word in enumerate(sys.argv[1:])]
+    here = [os.path.abspath(word) if word.endswith("yds_trace") else word for word in sys.argv[1:]]
     os.chdir(Path(__file__).resolve().parent.parent)
     sys.exit(main(here))

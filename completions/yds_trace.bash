@@ -1,0 +1,19 @@
+# Completion for bash of yds_trace: its words, the values that a word may have, and files behind a redirection.
+_yds_trace() {
+	local word=${COMP_WORDS[COMP_CWORD]} before=${COMP_WORDS[COMP_CWORD - 1]} words=
+	# A word and its value may be one, with an equals sign between them, which bash takes for a word of its own.
+	[[ $word != = ]] || word=
+	[[ $before != = ]] || before=${COMP_WORDS[COMP_CWORD - 2]}
+	case $before in
+	--cpu) words="0 1 2 3" ;;
+	--us) words="1 10 100 1000" ;;
+	--khz) words="1000 10000 100000" ;;
+	--begin) words=run ;;
+	--lost) words=cut ;;
+	--tasks | --start | --from | --to) ;;
+	--help | --version) ;;
+	*) words="--tasks --cpu --us --khz --start --from --to --begin --lost --strict --help --version" ;;
+	esac
+	COMPREPLY=($(compgen -W "$words" -- "$word"))
+}
+complete -o default -F _yds_trace yds_trace

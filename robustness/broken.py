@@ -1,0 +1,125 @@
+"""broken.py: breaks drawn traces of a kernel, and looks that yds_trace never says yes of what it said no of.
+
+    python3 robustness/broken.py [SEED] [TRACES] [YDS_TRACE] [YDS_CLI]
+
+It draws TRACES traces (1,000) by drawn.py, in five formats, many with late jobs. Of each, bytes of one or two lines are
+replaced by bytes that no trace has there, or a line feed is lost, three times. A yes is a document that `yds_cli audit`
+finds feasible and of which no job is left out. What is held:
+
+- a broken trace has a yes only where the unbroken one has. So a line that can't be read never hides a late job without a
+  word. (Bytes that turn one number or name into another make another trace, which no reader can tell.)
+- what is written is what the second reading of trace.py says of the broken bytes, with its status.
+- a status that isn't 0 comes with the line `failed`, and `yds_cli audit` refuses what was written.
+
+YDS_TRACE and YDS_CLI are the built programs (build/yds_trace and build/yds_cli). The last line is 'N passed, M failed';
+the exit status is 1 where M isn't 0.
+"""
+
+import os
+import random
+import subprocess
+import sys
+from collections import Counter
+from pathlib import Path
+from typing import List, Tuple
+
+from drawn import plain
+from trace import told
+
+GARBAGE = b"\x00\x01\x07\x1b\x7f\x80\xff~^"
+BREAKS = 3
+
+
+def garbled(draw: random.Random, lines: List[bytes]) -> List[bytes]:
+    """One or two lines in which bytes are replaced by others that stand nowhere in a trace."""
+    lines = list(lines)
+    for _ in range(draw.choice([1, 1, 2])):
+        at = draw.randrange(len(lines))
+        line = bytearray(lines[at])
+        begin = draw.randrange(len(line))
+        for place in range(begin, min(len(line), begin + draw.choice([1, 1, 2, 5, 40, 400]))):
+            line[place] = draw.choice(GARBAGE)
+        lines[at] = bytes(line)
+    return lines
+
+
+def merged(draw: random.Random, lines: List[bytes]) -> List[bytes]:
+    """Two lines without the line feed between them."""
+    at = draw.randrange(len(lines) - 1)
+    return lines[:at] + [lines[at] + lines[at + 1]] + lines[at + 2 :]
+
+
+def broken(draw: random.Random, trace: bytes) -> bytes:
+    """A broken trace."""
+    lines = trace.split(b"\n")[:-1]
+    way = draw.choice([garbled, garbled, garbled, merged])
+    return b"\n".join(way(draw, lines)) + b"\n"
+
+
+class Programs:
+    """The two programs."""
+
+    def __init__(self, tracer: str, program: str) -> None:
+        self.tracer, self.program = tracer, program
+
+    def read(self, words: List[str], trace: bytes) -> Tuple[bytes, int]:
+        """What yds_trace writes, and its status."""
+        done = subprocess.run([self.tracer, *words], input=trace, capture_output=True, check=False)
+        return done.stdout, done.returncode
+
+    def audit(self, document: bytes) -> bytes:
+        """What `yds_cli audit` says of it."""
+        return subprocess.run([self.program, "audit"], input=document, capture_output=True, check=False).stdout
+
+    def is_yes(self, written: bytes, status: int) -> bool:
+        """Whether it is a document that is feasible, and no job is left out of it."""
+        return status == 0 and b"\n# left out:" not in written and self.audit(written) == b"feasible\n"
+
+
+def fault_of(programs: Programs, words: List[str], trace: bytes, was_yes: bool) -> str:
+    """What isn't as it should be with the answer to a broken trace; nothing where all is."""
+    written, status = programs.read(words, trace)
+    said = told(words, trace)
+    if (written, status) != (said.text.encode(), said.status):
+        return "the second reading differs"
+    if status and not written.endswith(b"\nfailed\n"):
+        return "a status without the line 'failed'"
+    if status and not programs.audit(written).startswith(b"refused"):
+        return "a fault that yds_cli takes for a document"
+    if not was_yes and programs.is_yes(written, status):
+        return "a yes that the unbroken trace doesn't have"
+    return ""
+
+
+def main(words: List[str]) -> int:
+    """Breaks the traces. Gives the exit status."""
+    seed = int(words[0]) if words else 1
+    many = int(words[1]) if len(words) > 1 else 1_000
+    programs = Programs(words[2] if len(words) > 2 else "build/yds_trace", words[3] if len(words) > 3 else "build/yds_cli")
+    counts: "Counter[str]" = Counter()
+    passed = failed = 0
+    for number in range(many):
+        it = plain(seed, number)
+        draw = random.Random(f"broken {seed} {number}")
+        written, status = programs.read(it.words, it.trace)
+        was_yes = programs.is_yes(written, status)
+        counts[f"format {it.form}"] += 1
+        counts["unbroken with a yes" if was_yes else "unbroken without one"] += 1
+        for _ in range(BREAKS):
+            trace = broken(draw, it.trace)
+            fault = fault_of(programs, it.words, trace, was_yes)
+            counts[f"broken, status {told(it.words, trace).status}"] += 1
+            passed, failed = passed + int(not fault), failed + int(bool(fault))
+            if fault:
+                print(f"FAILED: {fault}: trace {number} of seed {seed}, words {it.words!r}")
+                sys.stdout.flush()
+                sys.stdout.buffer.write(b"-- unbroken\n" + it.trace + b"-- broken\n" + trace + b"--\n")
+    print(", ".join(f"{count} {word}" for word, count in sorted(counts.items())))
+    print(f"{passed} passed, {failed} failed")
+    return int(failed > 0)
+
+
+if __name__ == "__main__":
+    here = [os.path.abspath(word) if place > 1 else word for place, word in enumerate(sys.argv[1:])]
+    os.chdir(Path(__file__).resolve().parent.parent)
+    sys.exit(main(here))
