@@ -639,6 +639,8 @@ class Follower:
     def lose(self, since: int) -> None:
         """Events were lost."""
         for job in self.jobs:
+            if job.state == "unseen" and job is not self.jobs[-1] and job.at <= since:
+                continue
             if job.state in ("unseen", "lost"):
                 job.state, job.at = "lost", min(job.at, since)
             elif job.state == "open" or job.at > since:
