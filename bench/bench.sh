@@ -62,7 +62,7 @@ done
 cat <<TEXT
 
 From 500 to 4,000 jobs (audit and check of what plan writes, round and compare on ten operating points and works of at most 4,000, admit
-under a top speed of 100): the exponent of the growth is 1 where the time grows as the number of jobs, and 2 where it grows as its square
+under a top speed of 100): the exponent is 1 where twice the jobs take twice the time, and 2 where they take four times as long
 words                    kind        500 jobs 4,000 jobs  exponent
 TEXT
 for words in plan audit check round report "report --json" curve "avr --grid 1000" "oa --grid 1000" "compare --grid 1000" "admit 100"; do

@@ -156,7 +156,7 @@ pages_of_man() {
 		for name in $names; do
 			man --warnings "$name" >/dev/null 2>page || { echo "no page of $name"; exit 1; }
 			[ ! -s page ] || { echo "$name:"; cat page; exit 1; }
-			lexgrog "$(man --where "$name")" | sed "s/^[^-]* - //" >>lines
+			lexgrog "$(man --where "$name")" | sed "s/^.*: .[^ ]* - //" >>lines
 		done
 		sort lines | uniq -d | grep . && { echo "one description of two commands"; exit 1; }
 		[ "$1" != /usr/bin ] || whatis $names >/dev/null || exit 1

@@ -83,6 +83,29 @@ class WithoutProgramAndLibrary(unittest.TestCase):
                 if out is not None:
                     self.assertEqual(done.stdout, out)
 
+    def test_on_another_processor(self) -> None:
+        """setarch tells a process that it runs on another processor of the family; a script may ask another machine."""
+        setarch = shutil.which("setarch")
+        if setarch is None or os.uname().machine != "x86_64":
+            self.skipTest("setarch isn't here, or this is no x86_64")
+        words = [setarch, "i686", sys.executable, str(START), "yds-misses", "governor.txt"]
+        done = subprocess.run(words, cwd=self.folder, env=self.environment, capture_output=True, check=False)
+        self.assertEqual(
+            (done.returncode, done.stdout, done.stderr.decode()),
+            (
+                *(1, b""),
+                "yds-misses: this needs an answer, and neither the program yds_cli nor the library is here: there are "
+                "none for a processor i686, only for x86_64; let YDS name a script that runs yds_cli on such a machine, "
+                "with the same words and standard input\n",
+            ),
+        )
+        script = self.folder / "asks"
+        script.write_text("#!/bin/sh\necho feasible\n")
+        script.chmod(0o755)
+        environment = {**self.environment, "YDS": str(script)}
+        done = subprocess.run(words, cwd=self.folder, env=environment, capture_output=True, check=False)
+        self.assertEqual((done.returncode, done.stdout), (0, b"feasible\n"))
+
     def test_help_and_version(self) -> None:
         self.assertEqual(self.run_("yds-points", "--help").returncode, 0)
         told = self.run_("yds-points", "--version").stdout.decode().splitlines()

@@ -106,7 +106,7 @@ def _by_pool(
                 following += len(ready)
                 yield from ready
     except BrokenProcessPool as broken:
-        raise BrokenProcessPool(f"a process was ended by others, or wanted too much memory ({broken})") from broken
+        raise BrokenProcessPool(f"a process was ended by others, or took too much memory ({broken})") from broken
     finally:
         for future in running:
             future.cancel()

@@ -41,12 +41,15 @@ def of_environment() -> Answer:
     except ImportError:
         found = shutil.which("yds_cli")
         if found is None:
-            raise ImportError(MISSING) from None
+            raise ImportError(missing(os.uname().machine)) from None
         return of_program(found)
 
 
-MISSING = (
-    "this needs an answer, and neither the program yds_cli nor the library is here: install the package yds-cli or "
-    "libyds1, or the wheel, or let YDS name the file yds_cli, or YDS_LIBRARY the file libyds.so.1"
-)
-"""What is told where nothing answers. What only moves text works without either."""
+def missing(machine: str) -> str:
+    """What is told where nothing answers, on a processor of this name. What only moves text works without either."""
+    told = "this needs an answer, and neither the program yds_cli nor the library is here: "
+    if machine != "x86_64":
+        told += f"there are none for a processor {machine}, only for x86_64; let YDS name a script that runs yds_cli on "
+        return told + "such a machine, with the same words and standard input"
+    told += "install the package yds-cli or libyds1, or the wheel, or let YDS name the file yds_cli, or YDS_LIBRARY "
+    return told + "the file libyds.so.1"

@@ -79,7 +79,7 @@ def whole(parts: Sequence[Text], answers: Sequence[Text], grid: Optional[int] = 
 
     Where windows are open, audit and yds-energy are the same. Of compare a line `plan at-least X` is left, and one of
     Average Rate: the least energy, and that of the policy, are at least X. That of the policy is known only where its
-    run of all jobs rounds nowhere, for which grid, compare's, is wanted. Comments say so. PartsError is raised where a part has no answer, or the answers make none of the whole.
+    run of all jobs rounds nowhere, for which grid, compare's, is needed. Comments say so. PartsError is raised where a part has no answer, or the answers make none of the whole.
 
     >>> parts = [part.text for part in cut([b"job a 0 4 8\\n", b"job b 2 6 4\\n", b"slot b 2 4 4\\n"], jobs=1)]
     >>> told = whole(parts, [b"work a given 0 wanted 8\\n", b"feasible\\n"])

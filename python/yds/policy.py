@@ -53,14 +53,14 @@ class Pending(NamedTuple):
     deadline: int
     work: int
     left: Any
-    """What of its work is left, above 0: a float, the nearest to the exact number; a Fraction where those are wanted."""
+    """What of its work is left, above 0: a float, the nearest to the exact number; a Fraction where those are asked for."""
 
 
 class Moment(NamedTuple):
     """What a policy knows when it is asked for a speed."""
 
     now: Any
-    """The time: a float, or a Fraction where those are wanted."""
+    """The time: a float, or a Fraction where those are asked for."""
     pending: Sequence[Pending]
     """The jobs that wait, in the order in which they run: the earliest deadline first. There is one at least."""
     released: Sequence[Job]

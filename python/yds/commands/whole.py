@@ -23,7 +23,7 @@ DIR/part-00001.txt. Output: what the program would answer to the long document.
 
 Answers of audit and yds-energy can be put together wherever the parts were cut, and those of plan, round, avr, oa,
 check and report where no window is open at a cut. Where windows are open, the lines of compare become lower bounds:
-of the least energy, and of Average Rate's where its run of all jobs rounds nowhere, for which --grid is wanted.
+of the least energy, and of Average Rate's where its run of all jobs rounds nowhere, for which --grid is needed.
 
     yds-whole --bounds --spent energies.txt parts/part-*.txt
 
