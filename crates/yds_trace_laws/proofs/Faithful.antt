@@ -1,6 +1,6 @@
 -- Each job and each run of a trace's document is one that the trace shows, and no run of a job that stands as it is is missing.
-use Rattle.yds_model.proofs.Common.{◌≡◌, ◌∙◌, ℕ, zero, suc, ◌+◌, ◌<◌, ◌≤◌, ◌⊎◌, inl, inr, ◌==◌, ◌&&◌, List, [], ◌∷◌, ◌++◌, map, length, flat_map, reverse, Bool, true, false, not, nat_lt, if◌then◌else◌, Option, Some, None, is_some, is_none, refl, sym, ap, subst, arith, get_or, All, All-from_recursion, recursion_from_All, All-contains_itself, Contains, list_any, or_parts, and_parts, eqb-true, lt-ltb, cases_lt}
-use Rattle.std.specs.List.{AllByRecursion, filter_map, cons_option, enumerate_from}
+use Rattle.yds_model.proofs.Common.{◌≡◌, ℕ, zero, suc, ◌+◌, ◌<◌, ◌≤◌, inl, inr, ◌==◌, ◌&&◌, List, [], ◌∷◌, map, flat_map, reverse, Bool, true, false, not, nat_lt, if◌then◌else◌, Option, Some, None, is_some, is_none, refl, sym, subst, arith, get_or, All, All-from_recursion, recursion_from_All, All-contains_itself, Contains, list_any, or_parts, eqb-true, lt-ltb, cases_lt}
+use Rattle.std.specs.List.{AllByRecursion, enumerate_from}
 use Rattle.yds_kernel.specs.Event.{Said}
 use Rattle.yds_trace.specs.declared.job.Stretch.{Stretch}
 use Rattle.yds_trace.specs.declared.reason.Reason.{Reason}
@@ -8,9 +8,9 @@ use Rattle.yds_trace.specs.declared.reason.Reason.TheVariants as reasons
 use Rattle.yds_trace.specs.Asked.{Task, Asked, IsAsked, task_at, is_after_from}
 use Rattle.yds_trace.specs.Late.{last_asked, is_open, lateness}
 use Rattle.yds_trace.specs.Jobs.{Job}
-use Rattle.yds_trace.specs.WrittenTime.{Units, Run, written_time, run_of, runs_of}
+use Rattle.yds_trace.specs.WrittenTime.{Units, Run, run_of}
 use Rattle.yds_trace.specs.Document.{is_lost, reaches_to, is_elsewhere, is_of_unknown_speed, reason_of, Judged, judged, all_judged, stands, units_of, Written, with_runs, without_runs, written_runs, written_of, written_jobs, Placed, placed_runs, all_runs, document_of}
-use Rattle.yds_trace_laws.specs.Faithful.{IsAt, IsRounded, IsShown, IsStanding, IsTraced, IsTracedJob, IsWithinRun, HasRun, HasItsRuns, IsFaithful}
+use Rattle.yds_trace_laws.specs.Faithful.{IsAt, IsShown, IsStanding, IsTraced, IsTracedJob, HasRun, HasItsRuns}
 use Rattle.yds_trace_laws.specs.Laws.{DocumentsAreFaithful}
 use Rattle.yds_trace_laws.proofs.Ordered.{in_order-all, in_order-all_back, append-all, append-all_left, append-all_right, filter_map-all}
 use Rattle.yds_trace_laws.proofs.Placing.{found, place}

@@ -7,3 +7,4 @@ pub mod Seen
 pub mod Begins
 pub mod Runs
 pub mod Faithful
+pub mod Sharing
