@@ -8,3 +8,4 @@ pub mod Begins
 pub mod Runs
 pub mod Faithful
 pub mod Sharing
+pub mod Units

@@ -1,4 +1,4 @@
-ghost use Rattle.yds_trace_laws.specs.Laws.{BeginsAreInTime, DocumentsAreFaithful, EndsAreKept, FeasibleMeansInTime, FrontsAreInfeasible, LatenessIsKept, OrderIsKept, TasksHaveOwnTime, WorkNeedsASlot};
+ghost use Rattle.yds_trace_laws.specs.Laws.{BeginsAreInTime, DocumentsAreFaithful, EndsAreKept, FeasibleMeansInTime, FrontsAreInfeasible, LatenessIsKept, OrderIsKept, RunsHaveOwnUnits, TasksHaveOwnTime, WorkNeedsASlot};
 
 /// A written time keeps order.
 pub fn order_is_kept()
@@ -43,4 +43,9 @@ pub fn documents_are_faithful()
 /// No two tasks have a processor at the same time.
 pub fn tasks_have_own_time()
     ensures { TasksHaveOwnTime }
+{}
+
+/// No unit of time is in runs of two tasks.
+pub fn runs_have_own_units()
+    ensures { RunsHaveOwnUnits }
 {}
