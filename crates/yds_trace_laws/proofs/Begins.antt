@@ -1,23 +1,22 @@
 -- Each job of a trace without a fault begins by the greatest time that a trace may have.
-use Rattle.yds_model.proofs.Common.{◌≡◌, ◌∙◌, ℕ, ◌+◌, ◌<◌, ◌≤◌, ◌&&◌, ◌==◌, List, [], ◌∷◌, map, reverse, length, Bool, true, false, not, nat_lt, if◌then◌else◌, Option, Some, None, is_none, refl, sym, ap, arith, reverse-append, subst, All, All-from_recursion}
+use Rattle.yds_model.proofs.Common.{◌≡◌, ℕ, ◌+◌, ◌≤◌, ◌&&◌, ◌==◌, List, [], ◌∷◌, map, reverse, length, Bool, true, false, not, nat_lt, if◌then◌else◌, Option, Some, None, is_none, refl, sym, reverse-append, subst, All, All-from_recursion}
 use Rattle.std.proofs.lemmas.Bool.{ltb-false}
 use Rattle.std.specs.Bool.{⊤}
 use Rattle.std.specs.List.{AllByRecursion}
 use Rattle.yds_kernel.specs.declared.state.State.{State}
 use Rattle.yds_kernel.specs.declared.state.State.TheVariants as states
 use Rattle.yds_kernel.specs.Parts.{or_else}
-use Rattle.yds_kernel.specs.Event.{Thread, Happening, Switch, WakeUp, Speed, Loss, Marker, Other, Event, Said, Stamped, Lost, Nothing}
+use Rattle.yds_kernel.specs.Event.{Happening, Switch, WakeUp, Speed, Loss, Marker, Other, Event, Said, Stamped, Lost, Nothing}
 use Rattle.yds_trace.specs.declared.limits.TheConstants.{MAX_TIME}
 use Rattle.yds_trace.specs.declared.fault.Cause.{Cause}
 use Rattle.yds_trace.specs.declared.fault.Cause.TheVariants as causes
 use Rattle.yds_trace.specs.declared.job.End.{End}
 use Rattle.yds_trace.specs.declared.job.End.TheVariants as ends
-use Rattle.yds_trace.specs.declared.job.Stretch.{Stretch}
 use Rattle.yds_trace.specs.declared.job.Standing.{Standing}
 use Rattle.yds_trace.specs.declared.job.Leaving.{Leaving}
 use Rattle.yds_trace.specs.Asked.{Asked, task_at, is_of}
-use Rattle.yds_trace.specs.Past.{is_loss, whole_since, counts, is_first_switch, stayed, counted, up_to_time, up_to, speed_after}
-use Rattle.yds_trace.specs.Jobs.{Job, Known, began, reopened, woken_after, counted as counted_job, woken_jobs, awake_jobs, running_jobs, changed_last, ended, missing, ran, left_unseen, vanished, stands_on, passed_by, comes, has_no_switch, begun_by, begun_at_most, stretch_of, left_from, left_in, leaves, wakes_up, speeds, lost_earlier, lost_jobs, loses, leaving_at, left_if, came_if, after_switch, after_event, known_after}
+use Rattle.yds_trace.specs.Past.{is_loss, whole_since, counts, is_first_switch, stayed, up_to_time, up_to, speed_after}
+use Rattle.yds_trace.specs.Jobs.{Job, Known, began, reopened, woken_after, counted as counted_job, woken_jobs, awake_jobs, running_jobs, changed_last, ended, missing, ran, left_unseen, vanished, stands_on, passed_by, comes, has_no_switch, begun_by, begun_at_most, stretch_of, left_from, left_in, leaves, wakes_up, lost_earlier, lost_jobs, leaving_at, left_if, after_switch, after_event, known_after}
 use Rattle.yds_trace.specs.Faults.{first_fault, numbered, said_fault, stamped_fault, behind_fault, place_fault, processors_fault, length_fault}
 use Rattle.yds_trace.specs.Late.{last_asked}
 use Rattle.yds_trace.specs.Document.{closed, jobs_of}
@@ -221,11 +220,11 @@ known_early asked number (Nothing ∷ past) times = known_early asked number pas
 
 -- # A trace without a fault
 
-or_none : {A : Type 0} (a b : Option A) → or_else a b ≡ None → (a ≡ None) × (b ≡ None)
+pub or_none : {A : Type 0} (a b : Option A) → or_else a b ≡ None → (a ≡ None) × (b ≡ None)
 or_none None b none = (refl, none)
 or_none (Some x) b none = cc
 
-numbered_none : (number : ℕ) (cause : Option Cause) → numbered number cause ≡ None → cause ≡ None
+pub numbered_none : (number : ℕ) (cause : Option Cause) → numbered number cause ≡ None → cause ≡ None
 numbered_none number None none = refl
 numbered_none number (Some cause) none = cc
 

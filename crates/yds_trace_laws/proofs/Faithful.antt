@@ -1,6 +1,6 @@
 -- Each job and each run of a trace's document is one that the trace shows, and no run of a job that stands as it is is missing.
-use Rattle.yds_model.proofs.Common.{◌≡◌, ◌∙◌, ℕ, zero, suc, ◌+◌, ◌<◌, ◌≤◌, ◌⊎◌, inl, inr, ◌==◌, ◌&&◌, List, [], ◌∷◌, ◌++◌, map, length, flat_map, reverse, Bool, true, false, not, nat_lt, if◌then◌else◌, Option, Some, None, is_some, is_none, refl, sym, ap, subst, arith, get_or, All, All-from_recursion, recursion_from_All, All-contains_itself, Contains, list_any, or_parts, and_parts, eqb-true, lt-ltb, cases_lt}
-use Rattle.std.specs.List.{AllByRecursion, filter_map, cons_option, enumerate_from}
+use Rattle.yds_model.proofs.Common.{◌≡◌, ℕ, zero, suc, ◌+◌, ◌<◌, ◌≤◌, inl, inr, ◌==◌, ◌&&◌, List, [], ◌∷◌, map, flat_map, reverse, Bool, true, false, not, nat_lt, if◌then◌else◌, Option, Some, None, is_some, is_none, refl, sym, subst, arith, get_or, All, All-from_recursion, recursion_from_All, All-contains_itself, Contains, list_any, or_parts, eqb-true, lt-ltb, cases_lt}
+use Rattle.std.specs.List.{AllByRecursion, enumerate_from}
 use Rattle.yds_kernel.specs.Event.{Said}
 use Rattle.yds_trace.specs.declared.job.Stretch.{Stretch}
 use Rattle.yds_trace.specs.declared.reason.Reason.{Reason}
@@ -8,9 +8,9 @@ use Rattle.yds_trace.specs.declared.reason.Reason.TheVariants as reasons
 use Rattle.yds_trace.specs.Asked.{Task, Asked, IsAsked, task_at, is_after_from}
 use Rattle.yds_trace.specs.Late.{last_asked, is_open, lateness}
 use Rattle.yds_trace.specs.Jobs.{Job}
-use Rattle.yds_trace.specs.WrittenTime.{Units, Run, written_time, run_of, runs_of}
+use Rattle.yds_trace.specs.WrittenTime.{Units, Run, run_of}
 use Rattle.yds_trace.specs.Document.{is_lost, reaches_to, is_elsewhere, is_of_unknown_speed, reason_of, Judged, judged, all_judged, stands, units_of, Written, with_runs, without_runs, written_runs, written_of, written_jobs, Placed, placed_runs, all_runs, document_of}
-use Rattle.yds_trace_laws.specs.Faithful.{IsAt, IsRounded, IsShown, IsStanding, IsTraced, IsTracedJob, IsWithinRun, HasRun, HasItsRuns, IsFaithful}
+use Rattle.yds_trace_laws.specs.Faithful.{IsAt, IsShown, IsStanding, IsTraced, IsTracedJob, HasRun, HasItsRuns}
 use Rattle.yds_trace_laws.specs.Laws.{DocumentsAreFaithful}
 use Rattle.yds_trace_laws.proofs.Ordered.{in_order-all, in_order-all_back, append-all, append-all_left, append-all_right, filter_map-all}
 use Rattle.yds_trace_laws.proofs.Placing.{found, place}
@@ -21,9 +21,9 @@ use Rattle.yds_trace_laws.proofs.Runs.{all_weaker, reverse-all, reverse-all_back
 -- # A job that stands as it is
 
 -- its stretches are on the processor, and their speeds are known
-record IsWhole (asked : Asked) (one : Judged) : Type 0 where
-  none_elsewhere : stands one ≡ true → list_any (is_elsewhere asked.processor) one.job.stretches ≡ false
-  none_unknown : stands one ≡ true → list_any is_of_unknown_speed one.job.stretches ≡ false
+pub record IsWhole (asked : Asked) (one : Judged) : Type 0 where
+  pub none_elsewhere : stands one ≡ true → list_any (is_elsewhere asked.processor) one.job.stretches ≡ false
+  pub none_unknown : stands one ≡ true → list_any is_of_unknown_speed one.job.stretches ≡ false
 
 none_left : (first second third fourth fifth moved unknown : Bool) (one two three four five six seven : Reason)
     → is_none (if first then Some one else (if second then Some two else (if third then Some three else (if fourth then Some four
@@ -52,7 +52,7 @@ whole_is asked past number before numbered = record {
   none_unknown = λ whole. (whole_job asked past (task_at asked number) numbered.1 whole).1;
 }
 
-same_processor : (b : Bool) → not b ≡ false → b ≡ true
+pub same_processor : (b : Bool) → not b ≡ false → b ≡ true
 same_processor true same = refl
 same_processor false same = cc
 
@@ -154,10 +154,10 @@ at_all P [] n x at all = absurd at
 at_all P (y ∷ ys) zero x at all = subst P at all.0
 at_all P (y ∷ ys) (suc n) x at all = at_all P ys n x at all.1
 
-contained : {A : Type 0} (P : A → Type 0) (xs : List A) (x : A) → Contains xs x → All P xs → P x
+pub contained : {A : Type 0} (P : A → Type 0) (xs : List A) (x : A) → Contains xs x → All P xs → P x
 contained P xs x has all = subst P has.2 (all has.0 x has.1)
 
-all_whole : (asked : Asked) (past : List Said) → All (IsWhole asked) (all_judged asked past)
+pub all_whole : (asked : Asked) (past : List Said) → All (IsWhole asked) (all_judged asked past)
 all_whole asked past = All-from_recursion (IsWhole asked) (all_judged asked past) (each_judged (IsWhole asked) asked past (whole_is asked past))
 
 runs_of_job : (asked : Asked) (past : List Said) → IsAsked asked → (n : ℕ) (job : Written) → IsAt (written_jobs asked past) n job → AllByRecursion (λ run. IsTraced asked past (place n run)) job.runs

@@ -1,13 +1,12 @@
 -- What is so of each job that is judged: its lateness is that of its end, and where it stands as it is it isn't due before time 0.
-use Rattle.yds_model.proofs.Common.{◌≡◌, ℕ, zero, suc, ◌+◌, ◌<◌, ◌≤◌, List, [], ◌∷◌, ◌++◌, map, min, length, Bool, true, false, not, if◌then◌else◌, Option, Some, None, is_none, refl, arith, inl, inr, cases_Bool, leb-true, recursion_from_All, All-from_recursion, All}
+use Rattle.yds_model.proofs.Common.{◌≡◌, ℕ, zero, suc, ◌+◌, ◌<◌, ◌≤◌, List, [], ◌∷◌, length, Bool, true, false, not, if◌then◌else◌, Option, Some, None, is_none, refl, arith, leb-true, All-from_recursion, All}
 use Rattle.std.specs.List.{AllByRecursion, slice_index_or, enumerate_from}
 use Rattle.yds_kernel.specs.Event.{Said}
 use Rattle.yds_trace.specs.declared.reason.Reason.{Reason}
-use Rattle.yds_trace.specs.Asked.{Task, Asked, task_at, is_after_from}
+use Rattle.yds_trace.specs.Asked.{Task, Asked, is_after_from}
 use Rattle.yds_trace.specs.Jobs.{Job}
 use Rattle.yds_trace.specs.Late.{last_asked, late_by}
-use Rattle.yds_trace.specs.WrittenTime.{Units}
-use Rattle.yds_trace.specs.Document.{Judged, reason_of, began_before, jobs_of, judged, judged_of, judged_from, all_judged, stands, least_of, least_begin, time_zero, units_of}
+use Rattle.yds_trace.specs.Document.{Judged, began_before, jobs_of, judged, judged_of, judged_from, all_judged, stands, least_of, least_begin, units_of}
 use Rattle.yds_trace_laws.proofs.Ordered.{append-all, map-all, in_order-all}
 
 -- what each judged job is

@@ -7,3 +7,5 @@ pub mod Seen
 pub mod Begins
 pub mod Runs
 pub mod Faithful
+pub mod Sharing
+pub mod Units

@@ -1,5 +1,5 @@
 -- The runs of a job among those of all jobs.
-use Rattle.yds_model.proofs.Common.{◌≡◌, ℕ, zero, suc, ◌+◌, ◌<◌, ◌≤◌, ◌==◌, List, [], ◌∷◌, ◌++◌, ◌∙◌, map, length, flat_map, Bool, true, false, if◌then◌else◌, Option, Some, None, refl, sym, ap, subst, arith, sum_by, sum_by-cons, sum_by-append, ne_eqb, eq-eqb, get_or}
+use Rattle.yds_model.proofs.Common.{◌≡◌, ℕ, zero, suc, ◌+◌, ◌<◌, ◌≤◌, ◌==◌, List, [], ◌∷◌, ◌∙◌, map, length, flat_map, Bool, true, false, if◌then◌else◌, Option, Some, None, refl, sym, ap, subst, arith, sum_by, sum_by-cons, sum_by-append, ne_eqb, eq-eqb}
 use Rattle.std.specs.List.{AllByRecursion, enumerate_from, filter_map, cons_option, slice_index_or}
 use Rattle.yds_trace.specs.WrittenTime.{Run, work_of_run, work_of_runs}
 use Rattle.yds_trace.specs.Document.{Written, Placed, placed_runs}

@@ -1,5 +1,5 @@
 -- The runs of stretches: each is some of them, and each stretch that ends in a later unit of time is in one.
-use Rattle.yds_model.proofs.Common.{◌≡◌, ℕ, ◌+◌, ◌<◌, ◌≤◌, ◌⊎◌, inl, inr, ◌==◌, ◌&&◌, List, [], ◌∷◌, ◌++◌, reverse, Bool, true, false, nat_lt, if◌then◌else◌, refl, sym, ap, ap₂, subst, ◌∙◌, arith, and_parts, cond_both, eqb-true, ltb-true, ltb-false, reverse-append}
+use Rattle.yds_model.proofs.Common.{◌≡◌, ℕ, ◌<◌, ◌⊎◌, inl, inr, ◌==◌, ◌&&◌, List, [], ◌∷◌, ◌++◌, reverse, true, nat_lt, refl, sym, ap₂, subst, ◌∙◌, arith, and_parts, cond_both, eqb-true, ltb-true, ltb-false, reverse-append}
 use Rattle.std.specs.List.{AllByRecursion}
 use Rattle.yds_trace.specs.declared.job.Stretch.{Stretch}
 use Rattle.yds_trace.specs.WrittenTime.{Units, Run, run_of, before, runs_of}

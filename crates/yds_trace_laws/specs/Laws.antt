@@ -12,6 +12,7 @@ use Rattle.yds_trace.specs.WrittenTime.{Units, written_time, runs_of, work_of_ru
 use Rattle.yds_trace.specs.Document.{Written, Placed, all_runs, all_judged, jobs_of, document_of}
 use Rattle.yds_trace_laws.specs.AsSlots.{jobs_read, slots_read}
 use Rattle.yds_trace_laws.specs.Faithful.{IsFaithful}
+use Rattle.yds_trace_laws.specs.Sharing.{HaveOwnTime, HaveOwnUnits}
 
 -- # Written times
 
@@ -65,3 +66,14 @@ FeasibleMeansInTime = (asked : Asked) (past : List Said) → IsAsked asked →
 -- Each job and each run of a trace's document is one that the trace shows, and each run that it shows of a job that stands as it is is there.
 abbrev pub DocumentsAreFaithful : Type 0
 DocumentsAreFaithful = (asked : Asked) (past : List Said) → IsAsked asked → IsFaithful asked past
+
+-- # Processors
+
+-- No two tasks of a trace without a fault have a processor at the same time.
+abbrev pub TasksHaveOwnTime : Type 0
+TasksHaveOwnTime = (asked : Asked) (past : List Said) → first_fault asked past ≡ None → (number other : ℕ) → number ≢ other → HaveOwnTime asked past number other
+
+-- Nor do their runs, as they are written.
+abbrev pub RunsHaveOwnUnits : Type 0
+RunsHaveOwnUnits = (asked : Asked) (past : List Said) → IsAsked asked → first_fault asked past ≡ None →
+    All (λ one. All (HaveOwnUnits asked past one) (all_judged asked past)) (all_judged asked past)

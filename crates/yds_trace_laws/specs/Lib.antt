@@ -1,3 +1,4 @@
 pub mod AsSlots
 pub mod Faithful
 pub mod Laws
+pub mod Sharing

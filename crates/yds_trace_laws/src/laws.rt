@@ -1,4 +1,4 @@
-ghost use Rattle.yds_trace_laws.specs.Laws.{BeginsAreInTime, DocumentsAreFaithful, EndsAreKept, FeasibleMeansInTime, FrontsAreInfeasible, LatenessIsKept, OrderIsKept, WorkNeedsASlot};
+ghost use Rattle.yds_trace_laws.specs.Laws.{BeginsAreInTime, DocumentsAreFaithful, EndsAreKept, FeasibleMeansInTime, FrontsAreInfeasible, LatenessIsKept, OrderIsKept, RunsHaveOwnUnits, TasksHaveOwnTime, WorkNeedsASlot};
 
 /// A written time keeps order.
 pub fn order_is_kept()
@@ -38,4 +38,14 @@ pub fn fronts_are_infeasible()
 /// No job and no run of a trace's document is invented, and no run is missing.
 pub fn documents_are_faithful()
     ensures { DocumentsAreFaithful }
+{}
+
+/// No two tasks have a processor at the same time.
+pub fn tasks_have_own_time()
+    ensures { TasksHaveOwnTime }
+{}
+
+/// No unit of time is in runs of two tasks.
+pub fn runs_have_own_units()
+    ensures { RunsHaveOwnUnits }
 {}

@@ -1,0 +1,767 @@
+-- No two tasks have a processor at the same time: each stretch begins when all of the others there have ended.
+use Rattle.yds_model.proofs.Common.{◌≡◌, ◌≢◌, ◌∙◌, ℕ, ◌+◌, ◌<◌, ◌≤◌, inl, inr, ◌&&◌, ◌==◌, List, [], ◌∷◌, map, reverse, length, Bool, true, false, not, nat_lt, nat_le, if◌then◌else◌, Option, Some, None, is_none, refl, sym, ap, arith, subst, cases_Bool, and_parts, eqb-true, eq-eqb, true≢false, ltb-false, leb-true, leb-false, le-leb, All, All-from_recursion}
+use Rattle.std.specs.List.{AllByRecursion}
+use Rattle.yds_kernel.specs.declared.state.State.{State}
+use Rattle.yds_kernel.specs.declared.state.State.TheVariants as states
+use Rattle.yds_kernel.specs.declared.loss.Since.TheVariants as since
+use Rattle.yds_kernel.specs.Event.{Thread, Happening, Switch, WakeUp, Speed, Loss, Marker, Other, Event, Said, Stamped, Lost, Nothing}
+use Rattle.yds_trace.specs.declared.job.End.{End}
+use Rattle.yds_trace.specs.declared.job.End.TheVariants as ends
+use Rattle.yds_trace.specs.declared.job.Stretch.{Stretch}
+use Rattle.yds_trace.specs.declared.job.Standing.{Standing}
+use Rattle.yds_trace.specs.declared.job.Leaving.{Leaving}
+use Rattle.yds_trace.specs.Asked.{Asked, task_at, task_of, is_number, is_of, is_before_to}
+use Rattle.yds_trace.specs.declared.fault.Cause.{Cause}
+use Rattle.yds_trace.specs.declared.fault.Cause.TheVariants as causes
+use Rattle.yds_trace.specs.Past.{last_time, is_loss, is_switch, whole_since, has_switched, lost_since, counts, is_first_switch, stayed, up_to_time, up_to, speed_after}
+use Rattle.yds_trace.specs.Faults.{first_fault, numbered, said_fault, stamped_fault, behind_fault, place_fault, length_fault, threads_fault, event_fault, stayed_fault, happening_fault, is_torn}
+use Rattle.yds_trace.specs.Late.{last_asked}
+use Rattle.yds_trace.specs.Document.{closed}
+use Rattle.yds_trace.specs.Jobs.{Job, Known, began, reopened, woken_after, counted as counted_job, woken_jobs, awake_jobs, running_jobs, changed_last, ended, missing, ran, left_unseen, vanished, stands_on, comes, has_no_switch, begun_by, begun_at_most, stretch_of, left_from, left_in, wakes_up, speeds, lost_earlier, lost_jobs, loses, leaving_at, left_if, after_switch, after_event, known_after}
+use Rattle.yds_trace_laws.specs.Sharing.{AreApart, EachStretch}
+use Rattle.yds_trace_laws.specs.Laws.{TasksHaveOwnTime}
+use Rattle.yds_trace_laws.proofs.Begins.{or_none, numbered_none}
+use Rattle.yds_trace_laws.proofs.Runs.{all_weaker, reverse-all}
+
+-- # Each stretch of some jobs
+
+abbrev pub Ran : (Stretch → Type 0) → List Job → Type 0
+Ran P jobs = AllByRecursion (λ job. AllByRecursion P job.stretches) jobs
+
+if_ran : (P : Stretch → Type 0) (b : Bool) (jobs others : List Job) → Ran P jobs → Ran P others → Ran P (if b then jobs else others)
+if_ran P true jobs others all other = all
+if_ran P false jobs others all other = other
+
+if_known : (P : Stretch → Type 0) (b : Bool) (known other : Known) → Ran P known.jobs → Ran P other.jobs → Ran P (if b then known else other).jobs
+if_known P true known other all others = all
+if_known P false known other all others = others
+
+by_end : (P : Stretch → Type 0) (end : End) (whole : List Job) (ended : ℕ → List Job) (unseen : ℕ → Bool → List Job) (lost : ℕ → List Job) →
+    Ran P whole → ((time : ℕ) → Ran P (ended time)) → ((time : ℕ) (goes_on : Bool) → Ran P (unseen time goes_on)) → ((time : ℕ) → Ran P (lost time)) →
+    Ran P (elim end [ ends.Open ↦ whole | ends.Ended time ↦ ended time | ends.Unseen time goes_on ↦ unseen time goes_on | ends.Lost time ↦ lost time ])
+by_end P ends.Open whole ended unseen lost a b c d = a
+by_end P (ends.Ended time) whole ended unseen lost a b c d = b time
+by_end P (ends.Unseen time goes_on) whole ended unseen lost a b c d = c time goes_on
+by_end P (ends.Lost time) whole ended unseen lost a b c d = d time
+
+-- a job that is changed, but not its stretches
+changed_ran : (P : Stretch → Type 0) (change : Job → Job) → ((job : Job) → AllByRecursion P job.stretches → AllByRecursion P (change job).stretches) → (jobs : List Job) →
+    Ran P jobs → Ran P (changed_last change jobs)
+changed_ran P change keeps [] all = tt
+changed_ran P change keeps (job ∷ jobs) all = (keeps job all.0, all.1)
+
+-- one stretch more
+more_ran : (P : Stretch → Type 0) (stretch : Stretch) (jobs : List Job) → P stretch → Ran P jobs → Ran P (changed_last (ran stretch) jobs)
+more_ran P stretch jobs has all = changed_ran P (ran stretch) (λ job rest. (has, rest)) jobs all
+
+woken_after_ran : (P : Stretch → Type 0) (apart time : ℕ) (job : Job) (jobs : List Job) → Ran P (job ∷ jobs) → Ran P (woken_after apart time job jobs)
+woken_after_ran P apart time job jobs all =
+    if_ran P (not (nat_lt time (job.begin + apart))) (began time true (job ∷ jobs))
+    (if job.begin_known then reopened job ∷ jobs else began time false (job ∷ jobs)) (tt, all)
+    (if_ran P job.begin_known (reopened job ∷ jobs) (began time false (job ∷ jobs)) all (tt, all))
+
+again_ran : (P : Stretch → Type 0) (again : Bool) (job : Job) → AllByRecursion P job.stretches → AllByRecursion P (counted_job again job).stretches
+again_ran P true job all = all
+again_ran P false job all = all
+
+woken_ran : (P : Stretch → Type 0) (apart time : ℕ) (again : Bool) (jobs : List Job) → Ran P jobs → Ran P (woken_jobs apart time again jobs)
+woken_ran P apart time again [] all = (tt, tt)
+woken_ran P apart time again (job ∷ jobs) all =
+    by_end P job.end (counted_job again job ∷ jobs) (λ end. woken_after apart time job jobs) (λ last goes_on. began time true (job ∷ jobs)) (λ last. began time true (job ∷ jobs))
+    (again_ran P again job all.0, all.1) (λ end. woken_after_ran P apart time job jobs all) (λ last goes_on. (tt, all)) (λ last. (tt, all))
+
+awake_ran : (P : Stretch → Type 0) (time : ℕ) (jobs : List Job) → Ran P jobs → Ran P (awake_jobs time jobs)
+awake_ran P time [] all = (tt, tt)
+awake_ran P time (job ∷ jobs) all =
+    by_end P job.end (job ∷ jobs) (λ end. began time false (job ∷ jobs)) (λ last goes_on. if goes_on then reopened job ∷ jobs else began time false (job ∷ jobs))
+    (λ last. began time false (job ∷ jobs)) all (λ end. (tt, all))
+    (λ last goes_on. if_ran P goes_on (reopened job ∷ jobs) (began time false (job ∷ jobs)) all (tt, all)) (λ last. (tt, all))
+
+running_ran : (P : Stretch → Type 0) (apart time : ℕ) (jobs : List Job) → Ran P jobs → Ran P (running_jobs apart time jobs)
+running_ran P apart time [] all = (tt, tt)
+running_ran P apart time (job ∷ jobs) all =
+    by_end P job.end (job ∷ jobs) (λ end. woken_after apart time job jobs) (λ last goes_on. began time false (job ∷ jobs)) (λ last. began time false (job ∷ jobs))
+    all (λ end. woken_after_ran P apart time job jobs all) (λ last goes_on. (tt, all)) (λ last. (tt, all))
+
+begun_ran : (P : Stretch → Type 0) (time : ℕ) (jobs : List Job) → Ran P jobs → Ran P (begun_by time jobs)
+begun_ran P time [] all = (tt, tt)
+begun_ran P time (job ∷ jobs) all =
+    by_end P job.end (begun_at_most time job ∷ jobs) (λ end. began time false (job ∷ jobs)) (λ last goes_on. began time false (job ∷ jobs)) (λ last. began time false (job ∷ jobs))
+    all (λ end. (tt, all)) (λ last goes_on. (tt, all)) (λ last. (tt, all))
+
+vanished_on : (P : Stretch → Type 0) (wakes : Bool) (on : Option Standing) (known : Known) → Ran P known.jobs →
+    (let after : Known = elim on [
+      | None ↦ known
+      | Some standing ↦ record {
+        jobs = changed_last (left_unseen standing.came (wakes && not known.woken)) known.jobs;
+        on = None;
+        woken = known.woken;
+      }
+    ] in Ran P after.jobs)
+vanished_on P wakes None known all = all
+vanished_on P wakes (Some standing) known all = changed_ran P (left_unseen standing.came (wakes && not known.woken)) (λ job is. is) known.jobs all
+
+vanished_ran : (P : Stretch → Type 0) (wakes : Bool) (known : Known) → Ran P known.jobs → Ran P (vanished wakes known).jobs
+vanished_ran P wakes known all = vanished_on P wakes known.on known all
+
+comes_ran : (P : Stretch → Type 0) (apart : ℕ) (wakes : Bool) (processor time : ℕ) (known : Known) → Ran P known.jobs → Ran P (comes apart wakes processor time known).jobs
+comes_ran P apart wakes processor time known all =
+    let before : Ran P (vanished wakes known).jobs = vanished_ran P wakes known all in
+    if_ran P wakes (awake_jobs time (vanished wakes known).jobs) (running_jobs apart time (vanished wakes known).jobs)
+    (awake_ran P time (vanished wakes known).jobs before) (running_ran P apart time (vanished wakes known).jobs before)
+
+left_in_ran : (P : Stretch → Type 0) (wakes : Bool) (state : State) (time : ℕ) (jobs : List Job) → Ran P jobs → Ran P (left_in wakes state time jobs)
+left_in_ran P wakes states.GoesOn time jobs all = all
+left_in_ran P wakes states.Sleeps time jobs all = changed_ran P (ended time) (λ job is. is) jobs all
+left_in_ran P wakes states.Unknown time jobs all = changed_ran P (left_unseen time wakes) (λ job is. is) jobs all
+
+earlier_ran : (P : Stretch → Type 0) (time : ℕ) (jobs : List Job) → Ran P jobs → Ran P (map (lost_earlier time) jobs)
+earlier_ran P time [] all = tt
+earlier_ran P time (job ∷ jobs) all = (all.0, earlier_ran P time jobs all.1)
+
+lost_ran : (P : Stretch → Type 0) (time : ℕ) (jobs : List Job) → Ran P jobs → Ran P (lost_jobs time jobs)
+lost_ran P time [] all = tt
+lost_ran P time (job ∷ jobs) all = (all.0, earlier_ran P time jobs all.1)
+
+-- # A stretch more
+
+-- When a thread leaves a processor: it came there, or nobody switched there before.
+pub data IsLeft (known : Known) (leaving : Leaving) (stretch : Stretch) : Type 0 where
+  Came : (standing : Standing) (on : known.on ≡ Some standing) (there : standing.processor ≡ leaving.processor) (is : stretch ≡ stretch_of leaving standing.since) → IsLeft known leaving stretch
+  Unseen : (first : leaving.has_switched ≡ false) (is : stretch ≡ stretch_of leaving leaving.whole_since) → IsLeft known leaving stretch
+
+here_ran : (P : Stretch → Type 0) (leaving : Leaving) (on : Option Standing) (jobs : List Job) → Ran P jobs →
+    ((standing : Standing) → on ≡ Some standing → P (stretch_of leaving standing.since)) →
+    Ran P (elim on [ None ↦ jobs | Some standing ↦ changed_last (ran (stretch_of leaving standing.since)) jobs ])
+here_ran P leaving None jobs all new = all
+here_ran P leaving (Some standing) jobs all new = more_ran P (stretch_of leaving standing.since) jobs (new standing refl) all
+
+stands_there : (processor : ℕ) (on : Option Standing) (standing : Standing) → on ≡ Some standing → stands_on processor on ≡ true → standing.processor ≡ processor
+stands_there processor None standing is so = cc
+stands_there processor (Some other) standing is so =
+    let same : other ≡ standing = cc in ap (λ (one : Standing). one.processor) (sym same) ∙ eqb-true other.processor processor so
+
+not_false : (b : Bool) → not b ≡ true → b ≡ false
+not_false true so = cc
+not_false false so = refl
+
+left_from_ran : (P : Stretch → Type 0) (wakes : Bool) (leaving : Leaving) (known : Known) → Ran P known.jobs →
+    ((stretch : Stretch) → IsLeft known leaving stretch → P stretch) → Ran P (left_from wakes leaving known)
+left_from_ran P wakes leaving known all new = first (stands_on leaving.processor known.on) refl
+  where
+    here : List Job
+    here = elim known.on [ None ↦ known.jobs | Some standing ↦ changed_last (ran (stretch_of leaving standing.since)) known.jobs ]
+
+    unseen : List Job
+    unseen = changed_last (ran (stretch_of leaving leaving.whole_since)) (begun_by leaving.whole_since known.jobs)
+
+    gone : List Job
+    gone = changed_last missing (awake_jobs leaving.time (vanished wakes known).jobs)
+
+    second : (b : Bool) → (is_none known.on && not leaving.has_switched && has_no_switch known.jobs) ≡ b → Ran P (if b then unseen else gone)
+    second true is =
+        let parts = and_parts (is_none known.on && not leaving.has_switched) (has_no_switch known.jobs) is in
+        let two = and_parts (is_none known.on) (not leaving.has_switched) parts.0 in
+        more_ran P (stretch_of leaving leaving.whole_since) (begun_by leaving.whole_since known.jobs)
+        (new (stretch_of leaving leaving.whole_since) (Unseen (not_false leaving.has_switched two.1) refl)) (begun_ran P leaving.whole_since known.jobs all)
+    second false is = changed_ran P missing (λ job is. is) (awake_jobs leaving.time (vanished wakes known).jobs) (awake_ran P leaving.time (vanished wakes known).jobs (vanished_ran P wakes known all))
+
+    first : (b : Bool) → stands_on leaving.processor known.on ≡ b →
+        Ran P (if b then here else (if is_none known.on && not leaving.has_switched && has_no_switch known.jobs then unseen else gone))
+    first true is =
+        here_ran P leaving known.on known.jobs all
+        (λ standing on. new (stretch_of leaving standing.since) (Came standing on (stands_there leaving.processor known.on standing on is) refl))
+    first false is = second (is_none known.on && not leaving.has_switched && has_no_switch known.jobs) refl
+
+switch_ran : (P : Stretch → Type 0) (apart : ℕ) (wakes left came : Bool) (state : State) (leaving : Leaving) (known : Known) → Ran P known.jobs →
+    (left ≡ true → (stretch : Stretch) → IsLeft known leaving stretch → P stretch) → Ran P (after_switch apart wakes left came state leaving known).jobs
+switch_ran P apart wakes left came state leaving known all new =
+    let gone : Ran P (left_if wakes left state leaving known).jobs = by left new in
+    if_known P came (comes apart wakes leaving.processor leaving.time (left_if wakes left state leaving known)) (left_if wakes left state leaving known)
+    (comes_ran P apart wakes leaving.processor leaving.time (left_if wakes left state leaving known) gone) gone
+  where
+    by : (b : Bool) → (b ≡ true → (stretch : Stretch) → IsLeft known leaving stretch → P stretch) → Ran P (left_if wakes b state leaving known).jobs
+    by true new = left_in_ran P wakes state leaving.time (left_from wakes leaving known) (left_from_ran P wakes leaving known all (new refl))
+    by false new = if_known P (stands_on leaving.processor known.on) (vanished wakes known) known (vanished_ran P wakes known all) all
+
+-- the stretch that a change of speed ends
+abbrev before_change : ℕ → ℕ → Option ℕ → Standing → Stretch
+before_change processor time khz standing = record { processor = processor; from = standing.since; to = time; khz = khz }
+
+speeds_ran : (P : Stretch → Type 0) (processor time : ℕ) (khz : Option ℕ) (known : Known) → Ran P known.jobs →
+    ((standing : Standing) → known.on ≡ Some standing → standing.processor ≡ processor → P (before_change processor time khz standing)) → Ran P (speeds processor time khz known).jobs
+speeds_ran P processor time khz known all new = by known.on new
+  where
+    by : (on : Option Standing) → ((standing : Standing) → on ≡ Some standing → standing.processor ≡ processor → P (before_change processor time khz standing)) →
+        (let after : Known = elim on [
+          | None ↦ known
+          | Some standing ↦ if standing.processor == processor then record {
+            jobs = changed_last (ran (record { processor = processor; from = standing.since; to = time; khz = khz })) known.jobs;
+            on = Some (record standing { since = time });
+            woken = known.woken;
+          } else known
+        ] in Ran P after.jobs)
+    by None new = all
+    by (Some standing) new = inner (standing.processor == processor) refl
+      where
+        inner : (b : Bool) → (standing.processor == processor) ≡ b → (let after : Known = if b then record {
+          jobs = changed_last (ran (record { processor = processor; from = standing.since; to = time; khz = khz })) known.jobs;
+          on = Some (record standing { since = time });
+          woken = known.woken;
+        } else known in Ran P after.jobs)
+        inner true is = more_ran P (before_change processor time khz standing) known.jobs (new standing refl (eqb-true standing.processor processor is)) all
+        inner false is = all
+
+-- # Where a thread runs
+
+-- It runs on after an event where it ran before it, or it came just then.
+pub data IsOn (before : Option Standing) (processor time : ℕ) (fresh : Type 0) (standing : Standing) : Type 0 where
+  Still : (on : before ≡ Some standing) (elsewhere : standing.processor ≢ processor) → IsOn before processor time fresh standing
+  Fresh : (how : fresh) (there : standing.processor ≡ processor) (now : standing.since ≡ time) → IsOn before processor time fresh standing
+
+vanished_off : (wakes : Bool) (known : Known) (standing : Standing) → (vanished wakes known).on ≡ Some standing → ⊥
+vanished_off wakes known standing is = by known.on refl is
+  where
+    by : (on : Option Standing) → known.on ≡ on → (let after : Known = elim on [
+      | None ↦ known
+      | Some standing ↦ record {
+        jobs = changed_last (left_unseen standing.came (wakes && not known.woken)) known.jobs;
+        on = None;
+        woken = known.woken;
+      }
+    ] in after.on) ≡ Some standing → ⊥
+    by None off some = let both : None ≡ Some standing = sym off ∙ some in cc both
+    by (Some other) off some = cc some
+
+elsewhere_on : (processor : ℕ) (on : Option Standing) (standing : Standing) → on ≡ Some standing → stands_on processor on ≡ false → standing.processor ≢ processor
+elsewhere_on processor None standing is off same = cc is
+elsewhere_on processor (Some other) standing is off same =
+    let one : other ≡ standing = cc is in
+    let here : (other.processor == processor) ≡ true = eq-eqb other.processor processor (ap (λ (s : Standing). s.processor) one ∙ same) in
+    true≢false (sym here ∙ off)
+
+switch_on : (apart : ℕ) (wakes left came : Bool) (state : State) (leaving : Leaving) (known : Known) (standing : Standing) →
+    (after_switch apart wakes left came state leaving known).on ≡ Some standing → IsOn known.on leaving.processor leaving.time (came ≡ true) standing
+switch_on apart wakes left true state leaving known standing is =
+    let same : record { processor = leaving.processor; came = leaving.time; since = leaving.time } ≡ standing = cc is in
+    Fresh refl (ap (λ (s : Standing). s.processor) (sym same)) (ap (λ (s : Standing). s.since) (sym same))
+switch_on apart wakes true false state leaving known standing is = absurd (cc is)
+switch_on apart wakes false false state leaving known standing is = by (stands_on leaving.processor known.on) refl is
+  where
+    by : (b : Bool) → stands_on leaving.processor known.on ≡ b → (let after : Known = if b then vanished wakes known else known in after.on) ≡ Some standing →
+        IsOn known.on leaving.processor leaving.time (false ≡ true) standing
+    by true there some = absurd (vanished_off wakes known standing some)
+    by false there some = Still some (elsewhere_on leaving.processor known.on standing some there)
+
+speeds_on : (processor time : ℕ) (khz : Option ℕ) (known : Known) (standing : Standing) → (speeds processor time khz known).on ≡ Some standing →
+    IsOn known.on processor time ((before : Standing) × (known.on ≡ Some before) × (before.processor ≡ processor)) standing
+speeds_on processor time khz known standing is = by known.on refl is
+  where
+    by : (on : Option Standing) → known.on ≡ on → (let after : Known = elim on [
+      | None ↦ known
+      | Some standing ↦ if standing.processor == processor then record {
+        jobs = changed_last (ran (record { processor = processor; from = standing.since; to = time; khz = khz })) known.jobs;
+        on = Some (record standing { since = time });
+        woken = known.woken;
+      } else known
+    ] in after.on) ≡ Some standing → IsOn known.on processor time ((before : Standing) × (known.on ≡ Some before) × (before.processor ≡ processor)) standing
+    by None off some = let both : None ≡ Some standing = sym off ∙ some in cc both
+    by (Some before) on some = inner (before.processor == processor) refl some
+      where
+        inner : (b : Bool) → (before.processor == processor) ≡ b → (let after : Known = if b then record {
+          jobs = changed_last (ran (record { processor = processor; from = before.since; to = time; khz = khz })) known.jobs;
+          on = Some (record before { since = time });
+          woken = known.woken;
+        } else known in after.on) ≡ Some standing → IsOn known.on processor time ((before : Standing) × (known.on ≡ Some before) × (before.processor ≡ processor)) standing
+        inner true there given =
+            let same : record before { since = time } ≡ standing = cc given in
+            Fresh (before, on, eqb-true before.processor processor there) (ap (λ (s : Standing). s.processor) (sym same) ∙ eqb-true before.processor processor there)
+            (ap (λ (s : Standing). s.since) (sym same))
+        inner false there given =
+            let same : before ≡ standing = (let both : Some before ≡ Some standing = sym on ∙ given in cc both) in
+            Still given (λ here.
+            let now : (before.processor == processor) ≡ true = eq-eqb before.processor processor (ap (λ (s : Standing). s.processor) same ∙ here) in true≢false (sym now ∙ there))
+
+-- # What is shared
+
+weaker_stretches : (P Q : Stretch → Type 0) → ((x : Stretch) → P x → Q x) → (jobs : List Job) → Ran P jobs → Ran Q jobs
+weaker_stretches P Q each jobs all =
+    all_weaker (λ (job : Job). AllByRecursion P job.stretches) (λ (job : Job). AllByRecursion Q job.stretches) (λ job own. all_weaker P Q each job.stretches own) jobs all
+
+each_stretch : {A : Type 0} (P : A → Stretch → Type 0) (stretches : List Stretch) → ((x : A) → AllByRecursion (P x) stretches) → AllByRecursion (λ s. (x : A) → P x s) stretches
+each_stretch P [] all = tt
+each_stretch P (stretch ∷ stretches) all = (λ x. (all x).0, each_stretch P stretches (λ x. (all x).1))
+
+for_each : {A : Type 0} (P : A → Stretch → Type 0) (jobs : List Job) → ((x : A) → Ran (P x) jobs) → Ran (λ s. (x : A) → P x s) jobs
+for_each P [] all = tt
+for_each P (job ∷ jobs) all = (each_stretch P job.stretches (λ x. (all x).0), for_each P jobs (λ x. (all x).1))
+
+both_stretches : (P Q : Stretch → Type 0) (stretches : List Stretch) → AllByRecursion P stretches → AllByRecursion Q stretches → AllByRecursion (λ s. P s × Q s) stretches
+both_stretches P Q [] first second = tt
+both_stretches P Q (stretch ∷ stretches) first second = ((first.0, second.0), both_stretches P Q stretches first.1 second.1)
+
+both_ran : (P Q : Stretch → Type 0) (jobs : List Job) → Ran P jobs → Ran Q jobs → Ran (λ s. P s × Q s) jobs
+both_ran P Q [] first second = tt
+both_ran P Q (job ∷ jobs) first second = (both_stretches P Q job.stretches first.0 second.0, both_ran P Q jobs first.1 second.1)
+
+-- on this processor it ends by this time
+abbrev EndsBy : ℕ → ℕ → Stretch → Type 0
+EndsBy processor time stretch = stretch.processor ≡ processor → stretch.to ≤ time
+
+-- What holds of all tasks after some lines: `seen` tells which processors have switched since the last loss, `whole` since when nothing is lost at a
+-- time, and `By` that a time isn't before these lines.
+record Shares (known : ℕ → Known) (seen : ℕ → Bool) (whole : ℕ → ℕ) (By : ℕ → Type 0) : Type 0 where
+  apart : (n m : ℕ) → n ≢ m → Ran (λ s. Ran (AreApart s) (known m).jobs) (known n).jobs
+  ended : (n m : ℕ) (standing : Standing) → (known n).on ≡ Some standing → Ran (EndsBy standing.processor standing.since) (known m).jobs
+  alone : (n m : ℕ) (standing other : Standing) → (known n).on ≡ Some standing → (known m).on ≡ Some other → standing.processor ≡ other.processor → n ≡ m
+  switched : (n : ℕ) (standing : Standing) → (known n).on ≡ Some standing → seen standing.processor ≡ true
+  unseen : (processor : ℕ) → seen processor ≡ false → (m time : ℕ) → By time → Ran (EndsBy processor (whole time)) (known m).jobs
+  past : (m time : ℕ) → By time → Ran (λ s. s.to ≤ time) (known m).jobs
+
+-- An event at a processor: `New` are the stretches that end there, and `Comes` says who comes there, or goes on there.
+step : (known after : ℕ → Known) (seen now_seen : ℕ → Bool) (whole now_whole : ℕ → ℕ) (By now_By : ℕ → Type 0) (processor time : ℕ)
+    (New : ℕ → Stretch → Type 0) (Comes : ℕ → Type 0) → Shares known seen whole By → By time →
+    ((q : ℕ) → seen q ≡ true → now_seen q ≡ true) → ((t : ℕ) → now_whole t ≡ whole time) → ((t : ℕ) → now_By t → time ≤ t) →
+    ((n : ℕ) (P : Stretch → Type 0) → Ran P (known n).jobs → ((x : Stretch) → New n x → P x) → Ran P (after n).jobs) →
+    ((n : ℕ) (standing : Standing) → (after n).on ≡ Some standing → IsOn (known n).on processor time (Comes n) standing) →
+    ((n : ℕ) (x : Stretch) → New n x → (x.processor ≡ processor) × (x.to ≡ time)) →
+    ((n : ℕ) (x : Stretch) → New n x → (m : ℕ) → Ran (EndsBy processor x.from) (known m).jobs) →
+    ((n m : ℕ) (x y : Stretch) → New n x → New m y → n ≡ m) → ((n m : ℕ) → Comes n → Comes m → n ≡ m) →
+    ((n : ℕ) (x : Stretch) → New n x → now_seen processor ≡ true) → ((n : ℕ) → Comes n → now_seen processor ≡ true) →
+    Shares after now_seen now_whole now_By
+step known after seen now_seen whole now_whole By now_By processor time New Comes old times still_seen since later jobs on ends before one_new one_comes new_seen comes_seen = record {
+  apart = λ n m other.
+      weaker_stretches (λ s. Ran (AreApart s) (known m).jobs × ((y : Stretch) → New m y → AreApart s y)) (λ s. Ran (AreApart s) (after m).jobs)
+      (λ s both. jobs m (AreApart s) both.0 both.1) (after n).jobs
+      (jobs n (λ s. Ran (AreApart s) (known m).jobs × ((y : Stretch) → New m y → AreApart s y)) (both_apart n m other)
+      (λ x new. (
+        weaker_stretches (EndsBy processor x.from) (AreApart x) (λ t ended same. inr (ended (sym same ∙ (ends n x new).0))) (known m).jobs (before n x new m),
+        λ y also. absurd (other (one_new n m x y new also)),
+      )));
+  ended = λ n m standing is. ended_by n m standing (on n standing is);
+  alone = λ n m standing other is also same. alone_there n m standing other same (on n standing is) (on m other also);
+  switched = λ n standing is. switched_there n standing (on n standing is);
+  unseen = λ q none m t by.
+      subst (λ (w : ℕ). Ran (EndsBy q w) (after m).jobs) (sym (since t))
+      (jobs m (EndsBy q (whole time)) (old.unseen q (never q none) m time times)
+      (λ y new here. absurd (true≢false (sym (new_seen m y new) ∙ ap now_seen (sym (ends m y new).0 ∙ here) ∙ none))));
+  past = λ m t by.
+      jobs m (λ s. s.to ≤ t) (weaker_stretches (λ s. s.to ≤ time) (λ s. s.to ≤ t) (λ s ended. omega (arith, ended, later t by)) (known m).jobs (old.past m time times))
+      (λ y new. omega (arith, (ends m y new).1, later t by));
+}
+  where
+    never : (q : ℕ) → now_seen q ≡ false → seen q ≡ false
+    never q none = elim (cases_Bool (seen q)) [ inl before ↦ absurd (true≢false (sym (still_seen q before) ∙ none)) | inr off ↦ off ]
+
+    ended_by : (n m : ℕ) (standing : Standing) → IsOn (known n).on processor time (Comes n) standing → Ran (EndsBy standing.processor standing.since) (after m).jobs
+    ended_by n m standing (Still was elsewhere) =
+        jobs m (EndsBy standing.processor standing.since) (old.ended n m standing was) (λ y new here. absurd (elsewhere (sym here ∙ (ends m y new).0)))
+    ended_by n m standing (Fresh how there now) =
+        jobs m (EndsBy standing.processor standing.since)
+        (weaker_stretches (λ s. s.to ≤ time) (EndsBy standing.processor standing.since) (λ s ended here. omega (arith, ended, now)) (known m).jobs (old.past m time times))
+        (λ y new here. omega (arith, (ends m y new).1, now))
+
+    alone_there : (n m : ℕ) (standing other : Standing) → standing.processor ≡ other.processor → IsOn (known n).on processor time (Comes n) standing →
+        IsOn (known m).on processor time (Comes m) other → n ≡ m
+    alone_there n m standing other same (Still was elsewhere) (Still also elsewhere_too) = old.alone n m standing other was also same
+    alone_there n m standing other same (Still was elsewhere) (Fresh how there now) = absurd (elsewhere (same ∙ there))
+    alone_there n m standing other same (Fresh how there now) (Still also elsewhere) = absurd (elsewhere (sym same ∙ there))
+    alone_there n m standing other same (Fresh how there now) (Fresh how_too there_too now_too) = one_comes n m how how_too
+
+    switched_there : (n : ℕ) (standing : Standing) → IsOn (known n).on processor time (Comes n) standing → now_seen standing.processor ≡ true
+    switched_there n standing (Still was elsewhere) = still_seen standing.processor (old.switched n standing was)
+    switched_there n standing (Fresh how there now) = ap now_seen there ∙ comes_seen n how
+
+    both_apart : (n m : ℕ) → n ≢ m → Ran (λ s. Ran (AreApart s) (known m).jobs × ((y : Stretch) → New m y → AreApart s y)) (known n).jobs
+    both_apart n m other =
+        both_ran (λ s. Ran (AreApart s) (known m).jobs) (λ s. (y : Stretch) → New m y → AreApart s y) (known n).jobs (old.apart n m other)
+        (for_each (λ (y : Stretch) s. New m y → AreApart s y) (known n).jobs (λ y.
+        for_each (λ (new : New m y) s. AreApart s y) (known n).jobs (λ new.
+        weaker_stretches (EndsBy processor y.from) (λ s. AreApart s y) (λ s ended same. inl (ended (same ∙ (ends m y new).0))) (known n).jobs (before m y new n))))
+
+-- A line that tells of no stretch, and of nobody who comes.
+quiet : (known after : ℕ → Known) (seen : ℕ → Bool) (whole now_whole : ℕ → ℕ) (By now_By : ℕ → Type 0) (time : ℕ) → Shares known seen whole By → By time →
+    ((t : ℕ) → now_whole t ≡ whole time) → ((t : ℕ) → now_By t → time ≤ t) →
+    ((n : ℕ) (P : Stretch → Type 0) → Ran P (known n).jobs → Ran P (after n).jobs) → ((n : ℕ) → (after n).on ≡ (known n).on) →
+    Shares after seen now_whole now_By
+quiet known after seen whole now_whole By now_By time old times since later jobs on = record {
+  apart = λ n m other.
+      weaker_stretches (λ s. Ran (AreApart s) (known m).jobs) (λ s. Ran (AreApart s) (after m).jobs) (λ s all. jobs m (AreApart s) all) (after n).jobs
+      (jobs n (λ s. Ran (AreApart s) (known m).jobs) (old.apart n m other));
+  ended = λ n m standing is. jobs m (EndsBy standing.processor standing.since) (old.ended n m standing (sym (on n) ∙ is));
+  alone = λ n m standing other is also same. old.alone n m standing other (sym (on n) ∙ is) (sym (on m) ∙ also) same;
+  switched = λ n standing is. old.switched n standing (sym (on n) ∙ is);
+  unseen = λ q none m t by. subst (λ (w : ℕ). Ran (EndsBy q w) (after m).jobs) (sym (since t)) (jobs m (EndsBy q (whole time)) (old.unseen q none m time times));
+  past = λ m t by.
+      jobs m (λ s. s.to ≤ t) (weaker_stretches (λ s. s.to ≤ time) (λ s. s.to ≤ t) (λ s ended. omega (arith, ended, later t by)) (known m).jobs (old.past m time times));
+}
+
+-- A loss: nobody is anywhere, and nothing is known before it.
+lose : (known : ℕ → Known) (seen : ℕ → Bool) (whole : ℕ → ℕ) (By now_By : ℕ → Type 0) (since : ℕ) → Shares known seen whole By → ((t : ℕ) → now_By t → By t) →
+    Shares (λ n. loses since (known n)) (λ q. false) (λ t. t) now_By
+lose known seen whole By now_By since old weaker = record {
+  apart = λ n m other.
+      lost_ran (λ s. Ran (AreApart s) (lost_jobs since (known m).jobs)) since (known n).jobs
+      (weaker_stretches (λ s. Ran (AreApart s) (known m).jobs) (λ s. Ran (AreApart s) (lost_jobs since (known m).jobs)) (λ s all. lost_ran (AreApart s) since (known m).jobs all)
+      (known n).jobs (old.apart n m other));
+  ended = λ n m standing is. absurd (cc is);
+  alone = λ n m standing other is also same. absurd (cc is);
+  switched = λ n standing is. absurd (cc is);
+  unseen = λ q none m t by.
+      lost_ran (EndsBy q t) since (known m).jobs (weaker_stretches (λ s. s.to ≤ t) (EndsBy q t) (λ s ended here. ended) (known m).jobs (old.past m t (weaker t by)));
+  past = λ m t by. lost_ran (λ s. s.to ≤ t) since (known m).jobs (old.past m t (weaker t by));
+}
+
+-- # Lines
+
+-- no line of these is later than this time, lost events aside
+abbrev pub AreBy : ℕ → List Said → Type 0
+AreBy time [] = Unit {0}
+AreBy time (Stamped event ∷ past) = (is_loss event.happening ≡ false → event.time ≤ time) × AreBy time past
+AreBy time (Lost processor reach ∷ past) = AreBy time past
+AreBy time (Nothing ∷ past) = AreBy time past
+
+-- the lines are in order of time
+abbrev pub AreInOrder : List Said → Type 0
+AreInOrder [] = Unit {0}
+AreInOrder (Stamped event ∷ past) = (is_loss event.happening ≡ false → AreBy event.time past) × AreInOrder past
+AreInOrder (Lost processor reach ∷ past) = AreInOrder past
+AreInOrder (Nothing ∷ past) = AreInOrder past
+
+same_number : (n m : ℕ) (number : Option ℕ) → is_number n number ≡ true → is_number m number ≡ true → n ≡ m
+same_number n m None first second = cc
+same_number n m (Some other) first second = sym (eqb-true other n first) ∙ eqb-true other m second
+
+abbrev seen_after : ℕ → List Said → Happening → ℕ → Bool
+seen_after processor past happening q =
+    if is_loss happening then false
+    else (if is_switch happening then (if processor == q then true else has_switched q past) else has_switched q past)
+
+-- what one event is
+abbrev AfterIt : Asked → List Said → Event → Happening → Type 0
+AfterIt asked past event happening =
+    Shares (λ n. known_after asked n past) (λ q. has_switched q past) (λ t. whole_since t past) (λ t. AreBy t past) →
+    (is_loss happening ≡ false → AreBy event.time past) →
+    Shares (λ n. after_event asked n past event happening (known_after asked n past)) (seen_after event.processor past happening)
+    (λ t. if is_loss happening then t else whole_since event.time past) (λ t. (is_loss happening ≡ false → event.time ≤ t) × AreBy t past)
+
+switched_now : (b : Bool) (before : Bool) → before ≡ true → (if b then true else before) ≡ true
+switched_now true before is = refl
+switched_now false before is = is
+
+it_switched : (processor : ℕ) (before : Bool) → (if processor == processor then true else before) ≡ true
+it_switched processor before = rw (eq-eqb processor processor refl) refl
+
+-- a task's stretch that ends at a switch
+abbrev NewAtSwitch : Asked → List Said → Event → Thread → ℕ → Stretch → Type 0
+NewAtSwitch asked past event previous n x = (is_of asked n previous ≡ true) × IsLeft (known_after asked n past) (leaving_at asked past event) x
+
+left_at : (known : Known) (leaving : Leaving) (x : Stretch) → IsLeft known leaving x → (x.processor ≡ leaving.processor) × (x.to ≡ leaving.time)
+left_at known leaving x (Came standing on there is) = (ap (λ (s : Stretch). s.processor) is, ap (λ (s : Stretch). s.to) is)
+left_at known leaving x (Unseen first is) = (ap (λ (s : Stretch). s.processor) is, ap (λ (s : Stretch). s.to) is)
+
+switched : (asked : Asked) (past : List Said) (event : Event) (previous : Thread) (state : State) (next : Thread) → AfterIt asked past event (Switch previous state next)
+switched asked past event previous state next old order =
+    step (λ n. known_after asked n past) (λ n. after_event asked n past event (Switch previous state next) (known_after asked n past)) (λ q. has_switched q past)
+    (seen_after event.processor past (Switch previous state next)) (λ t. whole_since t past) (λ t. whole_since event.time past) (λ t. AreBy t past)
+    (λ t. (false ≡ false → event.time ≤ t) × AreBy t past) event.processor event.time (NewAtSwitch asked past event previous) (λ n. is_of asked n next ≡ true) old (order refl)
+    (λ q is. switched_now (event.processor == q) (has_switched q past) is) (λ t. refl) (λ t by. by.0 refl)
+    (λ n P all new.
+    switch_ran P (task_at asked n).apart (not asked.begin_at_run) (is_of asked n previous) (is_of asked n next) state (leaving_at asked past event) (known_after asked n past) all
+    (λ mine x left. new x (mine, left)))
+    (λ n standing is. switch_on (task_at asked n).apart (not asked.begin_at_run) (is_of asked n previous) (is_of asked n next) state (leaving_at asked past event) (known_after asked n past) standing is)
+    (λ n x new. left_at (known_after asked n past) (leaving_at asked past event) x new.1)
+    (λ n x new m. ended_before n x new.1 m)
+    (λ n m x y new also. same_number n m (task_of asked.tasks previous) new.0 also.0)
+    (λ n m comes also. same_number n m (task_of asked.tasks next) comes also)
+    (λ n x new. it_switched event.processor (has_switched event.processor past))
+    (λ n comes. it_switched event.processor (has_switched event.processor past))
+  where
+    ended_before : (n : ℕ) (x : Stretch) → IsLeft (known_after asked n past) (leaving_at asked past event) x → (m : ℕ) → Ran (EndsBy event.processor x.from) (known_after asked m past).jobs
+    ended_before n x (Came standing on there is) m =
+        weaker_stretches (EndsBy standing.processor standing.since) (EndsBy event.processor x.from)
+        (λ s ended here. let from : x.from ≡ standing.since = ap (λ (s : Stretch). s.from) is in omega (arith, from, ended (here ∙ sym there))) (known_after asked m past).jobs (old.ended n m standing on)
+    ended_before n x (Unseen first is) m =
+        weaker_stretches (EndsBy event.processor (whole_since event.time past)) (EndsBy event.processor x.from)
+        (λ s ended here. let from : x.from ≡ whole_since event.time past = ap (λ (s : Stretch). s.from) is in omega (arith, from, ended here)) (known_after asked m past).jobs
+        (old.unseen event.processor first m event.time (order refl))
+
+-- a task's stretch that ends where its processor's speed changes
+record IsCut (known : Known) (processor time : ℕ) (khz : Option ℕ) (x : Stretch) : Type 0 where
+  standing : Standing
+  on : known.on ≡ Some standing
+  there : standing.processor ≡ processor
+  is : x ≡ before_change processor time khz standing
+
+changed : (asked : Asked) (past : List Said) (event : Event) (processor khz : ℕ) → AfterIt asked past event (Speed processor khz)
+changed asked past event processor khz old order =
+    let told : Option ℕ = speed_after asked.start processor past in
+    let Goes : ℕ → Type 0 = λ n. (before : Standing) × ((known_after asked n past).on ≡ Some before) × (before.processor ≡ processor) in
+    step (λ n. known_after asked n past) (λ n. after_event asked n past event (Speed processor khz) (known_after asked n past)) (λ q. has_switched q past)
+    (λ q. has_switched q past) (λ t. whole_since t past) (λ t. whole_since event.time past) (λ t. AreBy t past)
+    (λ t. (false ≡ false → event.time ≤ t) × AreBy t past) processor event.time (λ n x. IsCut (known_after asked n past) processor event.time told x) Goes old (order refl)
+    (λ q is. is) (λ t. refl) (λ t by. by.0 refl)
+    (λ n P all new.
+    speeds_ran P processor event.time told (known_after asked n past) all
+    (λ standing on there. new (before_change processor event.time told standing) (record { standing = standing; on = on; there = there; is = refl })))
+    (λ n standing is. speeds_on processor event.time told (known_after asked n past) standing is)
+    (λ n x new. (ap (λ (s : Stretch). s.processor) new.is, ap (λ (s : Stretch). s.to) new.is))
+    (λ n x new m.
+    weaker_stretches (EndsBy new.standing.processor new.standing.since) (EndsBy processor x.from)
+    (λ s ended here. let from : x.from ≡ new.standing.since = ap (λ (s : Stretch). s.from) new.is in omega (arith, from, ended (here ∙ sym new.there))) (known_after asked m past).jobs
+    (old.ended n m new.standing new.on))
+    (λ n m x y new also. old.alone n m new.standing also.standing new.on also.on (new.there ∙ sym also.there))
+    (λ n m goes also. old.alone n m goes.0 also.0 goes.1 also.1 (goes.2 ∙ sym also.2))
+    (λ n x new. ap (λ (q : ℕ). has_switched q past) (sym new.there) ∙ old.switched n new.standing new.on)
+    (λ n goes. ap (λ (q : ℕ). has_switched q past) (sym goes.2) ∙ old.switched n goes.0 goes.1)
+
+woken_known : (P : Stretch → Type 0) (b : Bool) (apart time : ℕ) (known : Known) → Ran P known.jobs → Ran P (if b then wakes_up apart time known else known).jobs
+woken_known P true apart time known all = woken_ran P apart time known.woken known.jobs all
+woken_known P false apart time known all = all
+
+woken_on : (b : Bool) (apart time : ℕ) (known : Known) → (if b then wakes_up apart time known else known).on ≡ known.on
+woken_on true apart time known = refl
+woken_on false apart time known = refl
+
+after : (asked : Asked) (past : List Said) (event : Event) (happening : Happening) → AfterIt asked past event happening
+after asked past event (Switch previous state next) = switched asked past event previous state next
+after asked past event (Speed processor khz) = changed asked past event processor khz
+after asked past event (WakeUp thread) = λ old order.
+    quiet (λ n. known_after asked n past) (λ n. after_event asked n past event (WakeUp thread) (known_after asked n past)) (λ q. has_switched q past) (λ t. whole_since t past)
+    (λ t. whole_since event.time past) (λ t. AreBy t past) (λ t. (false ≡ false → event.time ≤ t) × AreBy t past) event.time old (order refl) (λ t. refl) (λ t by. by.0 refl)
+    (λ n P all. woken_known P (is_of asked n thread && not asked.begin_at_run) (task_at asked n).apart event.time (known_after asked n past) all)
+    (λ n. woken_on (is_of asked n thread && not asked.begin_at_run) (task_at asked n).apart event.time (known_after asked n past))
+after asked past event Marker = λ old order.
+    quiet (λ n. known_after asked n past) (λ n. known_after asked n past) (λ q. has_switched q past) (λ t. whole_since t past) (λ t. whole_since event.time past) (λ t. AreBy t past)
+    (λ t. (false ≡ false → event.time ≤ t) × AreBy t past) event.time old (order refl) (λ t. refl) (λ t by. by.0 refl) (λ n P all. all) (λ n. refl)
+after asked past event Other = λ old order.
+    quiet (λ n. known_after asked n past) (λ n. known_after asked n past) (λ q. has_switched q past) (λ t. whole_since t past) (λ t. whole_since event.time past) (λ t. AreBy t past)
+    (λ t. (false ≡ false → event.time ≤ t) × AreBy t past) event.time old (order refl) (λ t. refl) (λ t by. by.0 refl) (λ n P all. all) (λ n. refl)
+after asked past event Loss = λ old order.
+    lose (λ n. known_after asked n past) (λ q. has_switched q past) (λ t. whole_since t past) (λ t. AreBy t past) (λ t. (true ≡ false → event.time ≤ t) × AreBy t past)
+    (lost_since event.processor since.ItsLastLine past) old (λ t by. by.1)
+
+-- so it is after all lines that are in order
+shares : (asked : Asked) (past : List Said) → AreInOrder past →
+    Shares (λ n. known_after asked n past) (λ q. has_switched q past) (λ t. whole_since t past) (λ t. AreBy t past)
+shares asked [] order = record {
+  apart = λ n m other. tt;
+  ended = λ n m standing is. tt;
+  alone = λ n m standing other is also same. absurd (cc is);
+  switched = λ n standing is. absurd (cc is);
+  unseen = λ q none m t by. tt;
+  past = λ m t by. tt;
+}
+shares asked (Stamped event ∷ past) order = after asked past event event.happening (shares asked past order.1) order.0
+shares asked (Lost processor reach ∷ past) order =
+    lose (λ n. known_after asked n past) (λ q. has_switched q past) (λ t. whole_since t past) (λ t. AreBy t past) (λ t. AreBy t past)
+    (lost_since processor reach past) (shares asked past order) (λ t by. by)
+shares asked (Nothing ∷ past) order = shares asked past order
+
+-- # The lines that count are in order
+
+-- no line that isn't after `to` goes back
+abbrev GoesOn : Option ℕ → List Said → Type 0
+GoesOn to [] = Unit {0}
+GoesOn to (Stamped event ∷ past) = (is_before_to to event.time ≡ true → last_time past ≤ event.time) × GoesOn to past
+GoesOn to (Lost processor reach ∷ past) = GoesOn to past
+GoesOn to (Nothing ∷ past) = GoesOn to past
+
+not_back : (b : Bool) (time last : ℕ) (o : Option Cause) → nat_lt time last ≡ b → (if b then Some causes.TimeGoesBack else o) ≡ None → last ≤ time
+not_back true time last o is none = cc
+not_back false time last o is none = ltb-false time last is
+
+stamp_goes_on : (asked : Asked) (past : List Said) (event : Event) → said_fault asked past (Stamped event) ≡ None → is_before_to asked.to event.time ≡ true → last_time past ≤ event.time
+stamp_goes_on asked past event none before =
+    let stamped = or_none (stamped_fault asked past event) (length_fault asked (Stamped event ∷ past)) none in
+    let placed = or_none (place_fault event) (behind_fault asked past event) stamped.0 in
+    let behind = or_none (threads_fault asked past event) (if is_torn asked past event then Some causes.EventsLost else None) placed.1 in
+    let at : event_fault asked past event ≡ None =
+    subst (λ (b : Bool). (if b then event_fault asked past event else stayed_fault asked past event) ≡ None) before behind.0 in
+    not_back (nat_lt event.time (last_time past)) event.time (last_time past) (happening_fault asked (up_to asked.to past) event.happening) refl at
+
+lines_go_on : (asked : Asked) (past : List Said) → first_fault asked past ≡ None → GoesOn asked.to past
+lines_go_on asked [] none = tt
+lines_go_on asked (Stamped event ∷ past) none =
+    let parts = or_none (first_fault asked past) (numbered (length past + 1) (said_fault asked past (Stamped event))) none in
+    (stamp_goes_on asked past event (numbered_none (length past + 1) (said_fault asked past (Stamped event)) parts.1), lines_go_on asked past parts.0)
+lines_go_on asked (Lost processor reach ∷ past) none =
+    lines_go_on asked past (or_none (first_fault asked past) (numbered (length past + 1) (said_fault asked past (Lost processor reach))) none).0
+lines_go_on asked (Nothing ∷ past) none =
+    lines_go_on asked past (or_none (first_fault asked past) (numbered (length past + 1) (said_fault asked past Nothing)) none).0
+
+-- ---- without `to`
+
+all_by : (past : List Said) (time : ℕ) → GoesOn None past → last_time past ≤ time → AreBy time past
+all_by [] time goes last = tt
+all_by (Stamped event ∷ past) time goes last = (λ loss. last, all_by past time goes.1 (omega (arith, last, goes.0 refl)))
+all_by (Lost processor reach ∷ past) time goes last = all_by past time goes last
+all_by (Nothing ∷ past) time goes last = all_by past time goes last
+
+all_in_order : (past : List Said) → GoesOn None past → AreInOrder past
+all_in_order [] goes = tt
+all_in_order (Stamped event ∷ past) goes = (λ loss. all_by past event.time goes.1 (goes.0 refl), all_in_order past goes.1)
+all_in_order (Lost processor reach ∷ past) goes = all_in_order past goes
+all_in_order (Nothing ∷ past) goes = all_in_order past goes
+
+-- ---- up to `to`
+
+if_by : (time : ℕ) (b : Bool) (past other : List Said) → (b ≡ true → AreBy time past) → (b ≡ false → AreBy time other) → AreBy time (if b then past else other)
+if_by time true past other first second = first refl
+if_by time false past other first second = second refl
+
+if_in_order : (b : Bool) (past other : List Said) → (b ≡ true → AreInOrder past) → (b ≡ false → AreInOrder other) → AreInOrder (if b then past else other)
+if_in_order true past other first second = first refl
+if_in_order false past other first second = second refl
+
+-- one that counts, and tells of no loss, isn't after `to`
+counts_by : (to : ℕ) (event : Event) (past : List Said) → counts to event past ≡ true → is_loss event.happening ≡ false → event.time ≤ to
+counts_by to event past is loss =
+    leb-true event.time to (subst (λ (b : Bool). (if b then nat_lt (lost_since event.processor since.ItsLastLine past) to else nat_le event.time to) ≡ true) loss is)
+
+-- a switch that doesn't count is after `to`
+later_switch : (to : ℕ) (event : Event) (past counting : List Said) → counts to event past ≡ false → is_first_switch event counting ≡ true → to < event.time
+later_switch to event past counting is first =
+    let loss : is_loss event.happening ≡ false = no_loss event.happening (and_parts (is_switch event.happening) (not (has_switched event.processor counting)) first).0 in
+    leb-false event.time to (subst (λ (b : Bool). (if b then nat_lt (lost_since event.processor since.ItsLastLine past) to else nat_le event.time to) ≡ false) loss is)
+  where
+    no_loss : (happening : Happening) → is_switch happening ≡ true → is_loss happening ≡ false
+    no_loss (Switch previous state next) switch = refl
+    no_loss (WakeUp thread) switch = cc
+    no_loss (Speed processor khz) switch = cc
+    no_loss Loss switch = cc
+    no_loss Marker switch = cc
+    no_loss Other switch = cc
+
+stayed_by : (to processor time : ℕ) (happening : Happening) (counting : List Said) → to ≤ time → AreBy time counting → AreBy time (stayed to processor happening ∷ counting)
+stayed_by to processor time (Switch previous state next) counting within by = (λ loss. within, by)
+stayed_by to processor time (WakeUp thread) counting within by = by
+stayed_by to processor time (Speed other khz) counting within by = by
+stayed_by to processor time Loss counting within by = by
+stayed_by to processor time Marker counting within by = by
+stayed_by to processor time Other counting within by = by
+
+-- none that counts is after `to`
+up_to_by : (to : ℕ) (past : List Said) → AreBy to (up_to_time to past)
+up_to_by to [] = tt
+up_to_by to (Stamped event ∷ past) =
+    let rest : AreBy to (up_to_time to past) = up_to_by to past in
+    if_by to (counts to event past) (Stamped event ∷ up_to_time to past)
+    (if is_first_switch event (up_to_time to past) then stayed to event.processor event.happening ∷ up_to_time to past else up_to_time to past)
+    (λ is. (λ loss. counts_by to event past is loss, rest))
+    (λ is. if_by to (is_first_switch event (up_to_time to past)) (stayed to event.processor event.happening ∷ up_to_time to past) (up_to_time to past)
+    (λ first. stayed_by to event.processor to event.happening (up_to_time to past) (omega arith) rest) (λ first. rest))
+up_to_by to (Lost processor reach ∷ past) =
+    let rest : AreBy to (up_to_time to past) = up_to_by to past in
+    if_by to (nat_lt (lost_since processor reach past) to) (Lost processor reach ∷ up_to_time to past) (up_to_time to past) (λ is. rest) (λ is. rest)
+up_to_by to (Nothing ∷ past) = up_to_by to past
+
+-- Where the last line comes by a time that isn't after `to`, so do all that count.
+counted_by : (to time : ℕ) (past : List Said) → GoesOn (Some to) past → time ≤ to → last_time past ≤ time → AreBy time (up_to_time to past)
+counted_by to time [] goes within last = tt
+counted_by to time (Stamped event ∷ past) goes within last =
+    let rest : AreBy time (up_to_time to past) = counted_by to time past goes.1 within (omega (arith, last, goes.0 (le-leb event.time to (omega (arith, last, within))))) in
+    if_by time (counts to event past) (Stamped event ∷ up_to_time to past)
+    (if is_first_switch event (up_to_time to past) then stayed to event.processor event.happening ∷ up_to_time to past else up_to_time to past)
+    (λ is. (λ loss. last, rest))
+    (λ is. if_by time (is_first_switch event (up_to_time to past)) (stayed to event.processor event.happening ∷ up_to_time to past) (up_to_time to past)
+    (λ first. absurd (omega (arith, last, within, later_switch to event past (up_to_time to past) is first))) (λ first. rest))
+counted_by to time (Lost processor reach ∷ past) goes within last =
+    let rest : AreBy time (up_to_time to past) = counted_by to time past goes within last in
+    if_by time (nat_lt (lost_since processor reach past) to) (Lost processor reach ∷ up_to_time to past) (up_to_time to past) (λ is. rest) (λ is. rest)
+counted_by to time (Nothing ∷ past) goes within last = counted_by to time past goes within last
+
+stayed_in_order : (to processor : ℕ) (happening : Happening) (counting : List Said) → AreBy to counting → AreInOrder counting → AreInOrder (stayed to processor happening ∷ counting)
+stayed_in_order to processor (Switch previous state next) counting by order = (λ loss. by, order)
+stayed_in_order to processor (WakeUp thread) counting by order = order
+stayed_in_order to processor (Speed other khz) counting by order = order
+stayed_in_order to processor Loss counting by order = order
+stayed_in_order to processor Marker counting by order = order
+stayed_in_order to processor Other counting by order = order
+
+up_to_in_order : (to : ℕ) (past : List Said) → GoesOn (Some to) past → AreInOrder (up_to_time to past)
+up_to_in_order to [] goes = tt
+up_to_in_order to (Stamped event ∷ past) goes =
+    let rest : AreInOrder (up_to_time to past) = up_to_in_order to past goes.1 in
+    if_in_order (counts to event past) (Stamped event ∷ up_to_time to past)
+    (if is_first_switch event (up_to_time to past) then stayed to event.processor event.happening ∷ up_to_time to past else up_to_time to past)
+    (λ is. (
+      λ loss.
+          let within : event.time ≤ to = counts_by to event past is loss in
+          counted_by to event.time past goes.1 within (goes.0 (le-leb event.time to within)),
+      rest,
+    ))
+    (λ is. if_in_order (is_first_switch event (up_to_time to past)) (stayed to event.processor event.happening ∷ up_to_time to past) (up_to_time to past)
+    (λ first. stayed_in_order to event.processor event.happening (up_to_time to past) (up_to_by to past) rest) (λ first. rest))
+up_to_in_order to (Lost processor reach ∷ past) goes =
+    let rest : AreInOrder (up_to_time to past) = up_to_in_order to past goes in
+    if_in_order (nat_lt (lost_since processor reach past) to) (Lost processor reach ∷ up_to_time to past) (up_to_time to past) (λ is. rest) (λ is. rest)
+up_to_in_order to (Nothing ∷ past) goes = up_to_in_order to past goes
+
+counting_in_order : (to : Option ℕ) (past : List Said) → GoesOn to past → AreInOrder (up_to to past)
+counting_in_order None past goes = all_in_order past goes
+counting_in_order (Some to) past goes = up_to_in_order to past goes
+
+-- # At the end
+
+-- the stretch of who still has its processor then
+abbrev closing : Asked → List Said → Standing → Stretch
+closing asked past standing = record {
+  processor = standing.processor;
+  from = standing.since;
+  to = last_asked asked past;
+  khz = speed_after asked.start standing.processor (up_to asked.to past);
+}
+
+closed_ran : (P : Stretch → Type 0) (asked : Asked) (past : List Said) (known : Known) → Ran P known.jobs →
+    ((standing : Standing) → known.on ≡ Some standing → P (closing asked past standing)) → Ran P (closed asked past known)
+closed_ran P asked past known all new = by known.on new
+  where
+    by : (on : Option Standing) → ((standing : Standing) → on ≡ Some standing → P (closing asked past standing)) → Ran P (elim on [
+      | None ↦ known.jobs
+      | Some standing ↦ changed_last (ran (record {
+        processor = standing.processor;
+        from = standing.since;
+        to = last_asked asked past;
+        khz = speed_after asked.start standing.processor (up_to asked.to past);
+      })) known.jobs
+    ])
+    by None new = all
+    by (Some standing) new = more_ran P (closing asked past standing) known.jobs (new standing refl) all
+
+-- what the stretches of one task are to those of another
+closed_apart : (asked : Asked) (past : List Said) (n m : ℕ) → first_fault asked past ≡ None → n ≢ m →
+    Ran (λ s. Ran (AreApart s) (closed asked past (known_after asked m (up_to asked.to past)))) (closed asked past (known_after asked n (up_to asked.to past)))
+closed_apart asked past n m none other =
+    let counting : List Said = up_to asked.to past in
+    let known : ℕ → Known = λ k. known_after asked k counting in
+    let old = shares asked counting (counting_in_order asked.to past (lines_go_on asked past none)) in
+    weaker_stretches (λ s. Ran (AreApart s) (known m).jobs × ((standing : Standing) → (known m).on ≡ Some standing → AreApart s (closing asked past standing)))
+    (λ s. Ran (AreApart s) (closed asked past (known m))) (λ s both. closed_ran (AreApart s) asked past (known m) both.0 both.1) (closed asked past (known n))
+    (closed_ran (λ s. Ran (AreApart s) (known m).jobs × ((standing : Standing) → (known m).on ≡ Some standing → AreApart s (closing asked past standing))) asked past (known n)
+    (both_ran (λ s. Ran (AreApart s) (known m).jobs) (λ s. (standing : Standing) → (known m).on ≡ Some standing → AreApart s (closing asked past standing)) (known n).jobs
+    (old.apart n m other)
+    (for_each (λ (standing : Standing) s. (known m).on ≡ Some standing → AreApart s (closing asked past standing)) (known n).jobs (λ standing.
+    for_each (λ (on : (known m).on ≡ Some standing) s. AreApart s (closing asked past standing)) (known n).jobs (λ on.
+    weaker_stretches (EndsBy standing.processor standing.since) (λ s. AreApart s (closing asked past standing)) (λ s ended same. inl (ended same)) (known n).jobs
+    (old.ended m n standing on)))))
+    (λ standing on. (
+      weaker_stretches (EndsBy standing.processor standing.since) (AreApart (closing asked past standing)) (λ t ended same. inr (ended (sym same))) (known m).jobs
+          (old.ended n m standing on),
+      λ also on_too same. absurd (other (old.alone n m standing also on on_too same)),
+    )))
+
+each_of_them : (P : Stretch → Type 0) (jobs : List Job) → Ran P jobs → EachStretch P (reverse jobs)
+each_of_them P jobs all =
+    All-from_recursion (λ (job : Job). All P job.stretches) (reverse jobs)
+    (reverse-all (λ (job : Job). All P job.stretches) jobs
+    (all_weaker (λ (job : Job). AllByRecursion P job.stretches) (λ (job : Job). All P job.stretches) (λ job own. All-from_recursion P job.stretches own) jobs all))
+
+-- the law
+pub tasks_have_own_time : TasksHaveOwnTime
+tasks_have_own_time asked past none n m other =
+    let theirs : List Job = closed asked past (known_after asked m (up_to asked.to past)) in
+    let mine : List Job = closed asked past (known_after asked n (up_to asked.to past)) in
+    each_of_them (λ s. EachStretch (AreApart s) (reverse theirs)) mine
+    (weaker_stretches (λ s. Ran (AreApart s) theirs) (λ s. EachStretch (AreApart s) (reverse theirs)) (λ s all. each_of_them (AreApart s) theirs all) mine
+    (closed_apart asked past n m none other))
