@@ -52,7 +52,7 @@ Tag: py3-none-{platform}
 def shared_object(path: Path) -> bytes:
     """The bytes of the shared object, which has to run where the platform's name says."""
     data = path.read_bytes()
-    needed = max((int(a), int(b)) for a, b in re.findall(rb"GLIBC_(\d+)\.(\d+)", data))
+    needed = max(((int(a), int(b)) for a, b in re.findall(rb"GLIBC_(\d+)\.(\d+)", data)), default=(0, 0))
     if needed > MOST_GLIBC:
         sys.exit(
             f"wheel.py: {path} needs glibc {needed[0]}.{needed[1]}, and {PLATFORM} has {MOST_GLIBC[0]}.{MOST_GLIBC[1]}"
