@@ -1,5 +1,5 @@
 -- What feasibility says of a trace's document: at the scale 1, where a slot is just its run.
-use Rattle.yds_model.proofs.Common.{◌≡◌, ℕ, ◌+◌, ◌*◌, ◌<◌, ◌≤◌, ◌==◌, List, [], ◌∷◌, ◌∙◌, map, length, if◌then◌else◌, refl, sym, ap, arith, All, sum_by, sum_by-cons, recursion_from_All, All-map, one-dvd, Job, job_at, of_whole, WrittenSlot, WholeSlot, IsScale, IsDivided, slots_at, slot_at_scale, work_given}
+use Rattle.yds_model.proofs.Common.{◌≡◌, ℕ, ◌+◌, ◌*◌, ◌<◌, ◌==◌, List, [], ◌∷◌, ◌∙◌, length, if◌then◌else◌, refl, sym, ap, arith, sum_by, sum_by-cons, recursion_from_All, All-map, one-dvd, Job, job_at, WholeSlot, IsScale, IsDivided, slots_at, slot_at_scale, work_given}
 use Rattle.std.specs.List.{AllByRecursion}
 use Rattle.yds_model.specs.Feasible.{IsInWindow, IsFeasibleAt, IsFeasible}
 use Rattle.yds_trace.specs.WrittenTime.{work_of_run}

@@ -1,14 +1,14 @@
 -- A job that is late by a unit or more makes the document infeasible; so do work without a slot, and a front that misses a run.
-use Rattle.yds_model.proofs.Common.{◌≡◌, ◌∙◌, ◌≢◌, ℕ, zero, suc, ◌+◌, ◌-◌, ◌*◌, ◌<◌, ◌≤◌, ◌==◌, ◌&&◌, ◌||◌, List, [], ◌∷◌, map, length, take, drop, reverse, Bool, true, false, nat_lt, nat_le, if◌then◌else◌, Option, Some, None, is_some, is_none, refl, sym, ap, subst, arith, inl, inr, cases_Bool, cases_lt, or_parts, lt-ltb, leb-false, All, All-head, All-tail, get_or, sum_by, sum_by-cons, sum_by-take-drop, drop-cons, add-one, ne_eqb, recursion_from_All, All-from_recursion, Job, job_at, WrittenSlot, WholeSlot, work_given}
-use Rattle.std.specs.List.{AllByRecursion, filter_map, flat_map, enumerate_from, slice_index_or}
+use Rattle.yds_model.proofs.Common.{◌≡◌, ◌∙◌, ◌≢◌, ℕ, zero, suc, ◌+◌, ◌-◌, ◌<◌, ◌≤◌, ◌==◌, ◌&&◌, ◌||◌, List, [], ◌∷◌, map, length, take, drop, Bool, true, false, nat_lt, nat_le, if◌then◌else◌, Option, Some, None, is_some, refl, sym, ap, subst, arith, inl, inr, cases_Bool, cases_lt, or_parts, lt-ltb, leb-false, All, sum_by, sum_by-cons, sum_by-take-drop, drop-cons, ne_eqb, recursion_from_All, All-from_recursion, Job, job_at}
+use Rattle.std.specs.List.{AllByRecursion, flat_map, enumerate_from, slice_index_or}
 use Rattle.yds_kernel.specs.Event.{Said}
 use Rattle.yds_model.specs.Feasible.{IsFeasible}
 use Rattle.yds_trace.specs.declared.job.End.{End}
 use Rattle.yds_trace.specs.declared.job.End.TheVariants as ends
 use Rattle.yds_trace.specs.Asked.{Asked, IsAsked}
-use Rattle.yds_trace.specs.Late.{last_asked, is_judged, shown_until, is_open, late_by}
+use Rattle.yds_trace.specs.Late.{last_asked, is_judged, is_open, late_by}
 use Rattle.yds_trace.specs.WrittenTime.{Units, Run, written_time, work_of_run, work_of_runs, runs_end}
-use Rattle.yds_trace.specs.Document.{Judged, Written, Placed, stands, written_end, written_runs, is_hidden, owed, with_runs, without_runs, written_of, written_jobs, all_judged, all_runs, units_of, document_of, placed_runs}
+use Rattle.yds_trace.specs.Document.{Judged, Written, Placed, stands, written_end, written_runs, is_hidden, with_runs, without_runs, written_of, written_jobs, all_judged, all_runs, units_of, document_of, placed_runs}
 use Rattle.yds_trace_laws.specs.AsSlots.{job_read, jobs_read, slots_read}
 use Rattle.yds_trace_laws.specs.Laws.{FeasibleMeansInTime, WorkNeedsASlot, FrontsAreInfeasible}
 use Rattle.yds_model.proofs.Horizon.{part_own}

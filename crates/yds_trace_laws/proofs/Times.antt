@@ -1,5 +1,5 @@
 -- Written times keep order, ends and lateness.
-use Rattle.yds_model.proofs.Common.{◌≡◌, ℕ, ◌+◌, ◌-◌, ◌*◌, ◌/◌, ◌<◌, ◌≤◌, ◌==◌, ◌&&◌, List, [], ◌∷◌, Bool, true, false, nat_lt, if◌then◌else◌, arith, All, recursion_from_All, All-from_recursion, le-div_iff_mul-le, div-mul-le_self, cases_lt}
+use Rattle.yds_model.proofs.Common.{ℕ, ◌+◌, ◌-◌, ◌/◌, ◌<◌, ◌≤◌, ◌==◌, ◌&&◌, List, [], ◌∷◌, nat_lt, arith, recursion_from_All, All-from_recursion, le-div_iff_mul-le, div-mul-le_self}
 use Rattle.std.specs.List.{AllByRecursion}
 use Rattle.yds_trace.specs.declared.job.Stretch.{Stretch}
 use Rattle.yds_trace.specs.WrittenTime.{Units, Run, written_time, run_of, before, runs_of}
