@@ -10,12 +10,11 @@ returns-in-Ok-take-clause-taken c = λ asked past at. record {
 }
 
 pub returns-in-Err-Fault-clause-refused : goal.returns-in-Err-Fault-clause-refused
-returns-in-Err-Fault-clause-refused c = λ asked past at.
-    (
-      c.number-number.ensures,
-      record {
-        line = said_read c.in-Ok.said;
-        says = c.in-Ok.ensures;
-        fault = rw c.in-Err-Fault.field-0-is at (c.in-Err-Fault.ensures.refused asked past 0 at);
-      },
-    )
+returns-in-Err-Fault-clause-refused c = λ asked past at. (
+  c.number-number.ensures,
+  record {
+    line = said_read c.in-Ok.said;
+    says = c.in-Ok.ensures;
+    fault = rw c.in-Err-Fault.field-0-is at (c.in-Err-Fault.ensures.refused asked past 0 at);
+  },
+)
