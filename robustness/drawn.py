@@ -660,29 +660,39 @@ def torn_end(it: Drawing) -> None:
 
 def long_times(it: Drawing) -> None:
     """Times above the greatest of a document."""
+    list_only(it, [b"decode", b"audio"])
+    it.processors = 1
+    it.home = {name: 0 for name in it.threads}
     usual(it, 0.1)
+    it.options.pop("--cpu", None)
     it.options["--us"] = "1"
     it.options.pop("--strict", None)
     it.options.pop("--khz", None)
     for wish in it.wishes:
-        wish.deadline = it.draw.choice([1_000_000, 1_000_001, 5_000_000]) * MILLISECOND
+        wish.deadline = it.draw.choice([1_000_001, 1_000_001, 5_000_000]) * MILLISECOND
 
 
 def much_work(it: Drawing) -> None:
     """A work above the greatest."""
+    list_only(it, [b"decode", b"audio"])
+    it.processors = 1
     it.home = {name: 0 for name in it.threads}
     usual(it, 0.1)
     it.options.pop("--strict", None)
+    it.options.pop("--cpu", None)
     it.options.update({"--us": "1", "--khz": it.draw.choice(["1", "100"])})
 
 
 def coarse_speed(it: Drawing) -> None:
     """A speed that is 0, or off by more than a twentieth, in its unit."""
+    list_only(it, [b"decode", b"audio"])
+    it.processors = 1
     it.home = {name: 0 for name in it.threads}
     usual(it, 0.1)
     it.options.pop("--strict", None)
-    it.options.pop("--us", None)
-    it.options.update({"--khz": it.draw.choice(["4000000", "5000000", "1500000", "4100000"])})
+    for name in ("--us", "--cpu"):
+        it.options.pop(name, None)
+    it.options["--khz"] = it.draw.choice(["4000000", "5000000", "1500000", "4100000"])
 
 
 def no_job(it: Drawing) -> None:
