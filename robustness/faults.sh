@@ -315,7 +315,14 @@ refuse_trace_reads() {
 }
 test_trace_memory() { with_traces refuse_trace_memory; }
 test_trace_reads() { with_traces refuse_trace_reads; }
-test_trace_writes() { with_traces refuse_writes; }
+# A write of more bytes than main's buffer has isn't tried again where a signal interrupts it: that ends with 5, as the manual says.
+whole_or_front() { whole || { [ "$(wc -c <"$want")" -gt 65536 ] && front_or_all; }; }
+refuse_trace_writes() {
+	refuse_each_write front FAULT_WRITES_FROM
+	refuse_each_write front_or_all FAULT_WRITE
+	refuse_each_write whole_or_front FAULT_WRITE FAULT_ERROR=4
+}
+test_trace_writes() { with_traces refuse_trace_writes; }
 
 # trace_stream NAME STATUS OUTPUT COMMAND: as stream, of yds_trace.
 trace_stream() {
