@@ -16,7 +16,7 @@ use yds_port::{Source, Taken};
 use yds_trace::{Asked, Ended, Pass, Refused};
 
 /// How many bytes one read of `drain` asks for.
-const DRAIN_PIECE: usize = 65_536;
+const DRAIN_PIECE: usize = 4_096;
 
 /// What is known at the trace's end, or why its reading ended before that. After a fault the source is still read to its end, so
 /// that whoever writes into it isn't stopped.
