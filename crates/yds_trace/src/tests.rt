@@ -265,6 +265,7 @@ fn what_is_written_is_forgotten(rt: HostRuntime) -> Result<(), Fail> {
     let whole = pass.shown(alloc)?;
     assert_eq!(rt; whole.first, 10_000);
     assert_eq!(rt; whole.last, 215_000);
+    assert_eq!(rt; whole.tasks.len(), 1);
     let task = &whole.tasks[0];
     assert_eq!(rt; task.forgotten, 0);
     assert_eq!(rt; task.jobs.len(), 3);
@@ -276,6 +277,7 @@ fn what_is_written_is_forgotten(rt: HostRuntime) -> Result<(), Fail> {
     };
     assert_eq!(rt; pass.kept(), one);
     let rest = pass.shown(alloc)?;
+    assert_eq!(rt; rest.tasks.len(), 1);
     let task = &rest.tasks[0];
     assert_eq!(rt; task.forgotten, 2);
     assert!(rt; !task.before);
@@ -290,8 +292,10 @@ fn what_is_written_is_forgotten(rt: HostRuntime) -> Result<(), Fail> {
     assert_eq!(rt; pass.kept(), one);
     pass.take(alloc, leaves(1, 230_000, State::Sleeps))?;
     let ended = pass.shown(alloc)?;
+    assert_eq!(rt; ended.tasks.len(), 1);
     let task = &ended.tasks[0];
     assert_eq!(rt; task.forgotten, 2);
+    assert_eq!(rt; task.jobs.len(), 1);
     let job = &task.jobs[0];
     assert_eq!(rt; job.end, End::Ended(230_000));
     Ok(())
@@ -312,6 +316,7 @@ fn the_first_job_of_all_is_remembered(rt: HostRuntime) -> Result<(), Fail> {
     pass.forget(110_000);
     pass.forget(200_000);
     let shown = pass.shown(alloc)?;
+    assert_eq!(rt; shown.tasks.len(), 1);
     let task = &shown.tasks[0];
     assert_eq!(rt; task.forgotten, 2);
     assert!(rt; task.before);
@@ -363,6 +368,7 @@ fn an_unseen_end_stays_behind_another_job(rt: HostRuntime) -> Result<(), Fail> {
         lost(1),
     ];
     let ended = ended(alloc, asked, &lines)?;
+    assert_eq!(rt; ended.jobs.len(), 1);
     let jobs = &ended.jobs[0];
     assert_eq!(rt; jobs.len(), 2);
     let (first, second) = (&jobs[0], &jobs[1]);
