@@ -31,7 +31,7 @@ use Rattle.yds_trace_parts.proofs.Growing.{Begins, begins_on, one_begins, lines_
 
 -- # A trace behind some lines
 
-ahead_past : (past : List Said) (trace : Trace) → past_of (ahead past trace) ≡ reverse trace.said ++ past
+pub ahead_past : (past : List Said) (trace : Trace) → past_of (ahead past trace) ≡ reverse trace.said ++ past
 ahead_past [] trace = sym (append-nil (reverse trace.said))
 ahead_past (said ∷ past) trace =
     ahead_past past (record { said = said ∷ trace.said; fault = trace.fault })
@@ -42,7 +42,7 @@ ahead_fault : (past : List Said) (trace : Trace) → (ahead past trace).fault �
 ahead_fault [] trace = refl
 ahead_fault (said ∷ past) trace = ahead_fault past (record { said = said ∷ trace.said; fault = trace.fault })
 
-agrees_on : (input : Option (List ℕ)) (past : List Said) (count : ℕ) (line : Said) (before now : Option (List ℕ)) → Agrees input past count before
+pub agrees_on : (input : Option (List ℕ)) (past : List Said) (count : ℕ) (line : Said) (before now : Option (List ℕ)) → Agrees input past count before
     → Gives (count + 1) (Ok line) before now → Agrees input (line ∷ past) (count + 1) now
 agrees_on None past count line before now agrees gives = tt
 agrees_on (Some bytes) past count line None now agrees gives = absurd agrees
@@ -68,11 +68,11 @@ pub record IsFront (bytes : List ℕ) (past : List Said) : Type 0 where
   pub behind : List Said
   pub front : past_of (trace_of bytes) ≡ behind ++ past
 
-front_of : (bytes : List ℕ) (past : List Said) (rest : Trace) → trace_of bytes ≡ ahead past rest → IsFront bytes past
+pub front_of : (bytes : List ℕ) (past : List Said) (rest : Trace) → trace_of bytes ≡ ahead past rest → IsFront bytes past
 front_of bytes past rest is = record { behind = reverse rest.said; front = ap past_of is ∙ ahead_past past rest }
 
 -- what is told of these lines is the begin of what is told of the trace
-begins_told : (asked : Asked) (strict : Bool) (bytes : List ℕ) (past : List Said) → IsFront bytes past →
+pub begins_told : (asked : Asked) (strict : Bool) (bytes : List ℕ) (past : List Said) → IsFront bytes past →
     Begins (told_after asked strict past).text (told_of asked strict (trace_of bytes)).text
 begins_told asked strict bytes past front =
     begins_on (told_after asked strict past).text (told_after asked strict (past_of (trace_of bytes))).text (told_of asked strict (trace_of bytes)).text
@@ -89,7 +89,7 @@ halts_told asked strict bytes past found front is =
 
 -- # Some lines
 
-some_written : (asked : Asked) (strict : Bool) (bytes : List ℕ) (past : List Said) (telling : Telling) (old now : Option (List ℕ)) → IsFront bytes past → IsTelling asked strict past telling →
+pub some_written : (asked : Asked) (strict : Bool) (bytes : List ℕ) (past : List Said) (telling : Telling) (old now : Option (List ℕ)) → IsFront bytes past → IsTelling asked strict past telling →
     Appends old now (told_after asked strict past).text → WritesSome asked strict bytes old now
 some_written asked strict bytes past telling old now front stands appended =
     record { past = past; behind = front.behind; front = front.front; goes_on = stands.goes_on; appended = appended }

@@ -4,3 +4,4 @@ pub mod Steps
 pub mod Ahead
 pub mod Parting
 pub mod Taking
+pub mod Driven

@@ -1,5 +1,5 @@
 -- What the code finds of a part is what the definitions say of it.
-use Rattle.yds_model.proofs.Common.{◌≡◌, ◌<◌, ◌≤◌, ◌%◌, ◌==◌, ◌≢◌, ℕ, List, length, Bool, true, false, not, ◌&&◌, ◌||◌, nat_lt, nat_le, Option, Some, None, Result, Ok, Err, if◌then◌else◌, refl, sym, ap, subst, ◌∙◌, arith, nat_tests, leb-true, le-leb}
+use Rattle.yds_model.proofs.Common.{◌≡◌, ◌<◌, ◌≤◌, ◌+◌, ℕ, List, length, count_by, Bool, true, false, not, ◌&&◌, ◌||◌, nat_lt, nat_le, Option, Some, None, Result, Ok, Err, if◌then◌else◌, refl, sym, ap, subst, ◌∙◌, arith, nat_tests, leb-true, le-leb}
 use Rattle.std.specs.Prelude.{Vec}
 use Rattle.std.specs.declared.alloc.Global.{Global}
 use Rattle.yds_model.specs.declared.limits.TheConstants.{MAX_INPUT}
@@ -11,15 +11,22 @@ use Rattle.yds_trace.specs.declared.kept.Kept.{Kept}
 use Rattle.yds_trace.specs.declared.limits.TheConstants.{PART_JOBS, PART_STRETCHES}
 use Rattle.yds_trace.specs.Asked.{Asked}
 use Rattle.yds_trace.specs.Kept.{IsEnough}
-use Rattle.yds_trace.specs.Parts.{waiting, is_much, is_too_much, is_due, may_write, place_among, place_of, stretches_of}
+use Rattle.yds_trace.specs.Document.{Judged}
+use Rattle.yds_trace.specs.Past.{last_time}
+use Rattle.yds_trace.specs.Parts.{waiting, is_much, is_too_much, is_due, is_written, may_write, place_among, place_of, stretches_of, greatest_due, with_part}
 use Rattle.yds_trace_document.specs.declared.fault.DocumentFault.{DocumentFault}
+use Rattle.yds_trace_document.specs.declared.part.Part.{Part as PartKept}
 use Rattle.yds_trace_document.specs.Part.{part_of, part_limit_fault}
+use Rattle.yds_trace_document.specs.PartKept.{IsPart}
+use Rattle.yds_trace_document.specs.Settled.{Settled}
+use Rattle.yds_trace_document.specs.Views.{judged_list}
 use Rattle.yds_trace_text.specs.declared.fault.NoText.{NoText}
 use Rattle.yds_trace_text.specs.declared.fault.NoText.TheVariants as texts
 use Rattle.yds_trace_text.specs.PartText.{part_text}
 use Rattle.yds_trace_text.specs.Writing.{WritesPart}
 use Rattle.yds_trace_parts.specs.Told.{Halt, AtLine, OfText, next_number, of_document, of_text, part_halt, no_place, open_longest, waiting_halt}
-use Rattle.yds_trace_parts.specs.Telling.{halt_of_text, IsHaltFor, IsText, Looks, MakesPart, place_halt}
+use Rattle.yds_trace_parts.specs.declared.part.Whole.{Whole}
+use Rattle.yds_trace_parts.specs.Telling.{halt_of_text, IsHaltFor, IsText, IsWhole, Looks, MakesPart, place_halt}
 use Rattle.yds_trace_parts.proofs.Steps.{little_waits}
 
 -- # Choices
@@ -168,3 +175,25 @@ text_halts asked strict past cut until texts.TooLong is =
     ap (λ (fault : Option DocumentFault). or_else (of_document (next_number cut) fault) (of_text (next_number cut) (part_text asked past cut until))) is.without_fault
     ∙ ap (λ (long : Bool). if long then Some (OfText (next_number cut)) else None) (long_test MAX_INPUT (length (part_text asked past cut until)) is.long)
 text_halts asked strict past cut until texts.Memory is = tt
+
+-- # A whole part
+
+pub whole_is : (asked : Asked) (strict : Bool) (past : List Said) (cut : Cut) (time : ℕ) (whole : Whole) (part : PartKept) (jobs : List Judged) →
+    IsText asked strict past cut (Some time) whole.text.items → whole.cut ≡ with_part past time jobs cut → jobs ≡ judged_list part.settled.judged.items →
+    IsPart asked past cut (Some time) part → IsWhole asked strict past cut time whole
+whole_is asked strict past cut time whole part jobs text made same is = record {
+  fits = text.fits;
+  text = text.says;
+  cut_is = made ∙ ap (λ (one : List Judged). with_part past time one cut) (same ∙ ap (λ (settled : Settled). settled.judged) is.settled);
+}
+
+pub capped_twice : (a b : ℕ) → capped (a + capped b) ≡ capped (a + b)
+capped_twice a b = grind (arith, nat_le, leb-true, le-leb)
+
+pub cut_is : (past : List Said) (cut made : Cut) (time last : ℕ) (jobs : List Judged) → last ≡ last_time past →
+    made ≡ record { boundary = time; decided = last; parts = next_number cut; jobs = capped (cut.jobs + capped (count_by is_written jobs)); due = greatest_due cut.due jobs } →
+    made ≡ with_part past time jobs cut
+cut_is past cut made time last jobs when is =
+    is ∙ ap (λ (count : ℕ). record { boundary = time; decided = last; parts = next_number cut; jobs = count; due = greatest_due cut.due jobs })
+    (capped_twice cut.jobs (count_by is_written jobs))
+    ∙ ap (λ (one : ℕ). record { boundary = time; decided = one; parts = next_number cut; jobs = capped (cut.jobs + count_by is_written jobs); due = greatest_due cut.due jobs }) when

@@ -230,6 +230,7 @@ fn next_number(cut: Cut) -> u64
 }
 
 /// With a part more, which ends at this time and has these jobs; the trace's last time is `last`.
+#[tactic(auto, using(crate::proofs::Parting::capped_twice))]
 fn cut_with(cut: Cut, time: u64, last: u64, part: &[Judged<'_>]) -> Cut
     ensures { (past : List trace.Said) → last ≡ last_time past → result ≡ parts.with_part past time (judged_list part.now) cut }
 {
