@@ -1,5 +1,0 @@
-pub mod Told
-pub mod Place
-pub mod Telling
-pub mod Saying
-pub mod Driving
