@@ -36,7 +36,7 @@ MISTAKES = [
     Mistake("new_threads_not_woken", "yds_kernel/src/kind.rt", (
         ('        || name == b"sched_wakeup_new:".as_slice()\n', ""),)),
     Mistake("a_fraction_without_its_places", "yds_kernel/src/find.rt", (
-        ("value_of(fraction) * 10_u64.pow(9 - fraction.len() as u32)", "value_of(fraction)"),)),
+        ("        6 => parts * 1_000,", "        6 => parts,"),)),
     Mistake("a_last_line_cut_short_passed_over", "yds_kernel/src/read.rt", (
         ("bytes.len() <= MAX_LINE && ends_in_stamp(bytes)", "bytes.is_empty() && ends_in_stamp(bytes)"),)),
     Mistake("a_late_buffer_taken_for_a_gap", "yds_kernel/src/read.rt", (
