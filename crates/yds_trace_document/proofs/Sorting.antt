@@ -137,7 +137,7 @@ stably_sorted key xs ys rising stable =
 
 -- # Order is kept by a view
 
-map_cond : {A B : Type 0} (f : A → B) (b : Bool) (xs ys : List A) → map f (cond b xs ys) ≡ cond b (map f xs) (map f ys)
+pub map_cond : {A B : Type 0} (f : A → B) (b : Bool) (xs ys : List A) → map f (cond b xs ys) ≡ cond b (map f xs) (map f ys)
 map_cond f true xs ys = refl
 map_cond f false xs ys = refl
 

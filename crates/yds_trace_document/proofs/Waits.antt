@@ -18,7 +18,7 @@ use Rattle.std.specs.declared.alloc.Global.{Global}
 use Rattle.yds_trace_document.specs.declared.judged.Judged.{Judged as JudgedKept}
 use Rattle.yds_trace_document.specs.Views.{judged_lists}
 use Rattle.yds_trace_document.proofs.Same.{map_same, one_same}
-use Rattle.yds_trace_document.proofs.Sorting.{Rises, filter_in_order, rises_in_order, rises_filter}
+use Rattle.yds_trace_document.proofs.Sorting.{Rises, map_cond, filter_in_order, rises_in_order, rises_filter}
 
 -- # Filters
 
@@ -34,10 +34,6 @@ cond_filter q false c x xs ys is same = same
 pub filter_both : {A : Type 0} (p q : A → Bool) (xs : List A) → filter (λ x. p x && q x) xs ≡ filter q (filter p xs)
 filter_both p q [] = refl
 filter_both p q (x ∷ xs) = cond_filter q (p x) (q x) x (filter p xs) (filter (λ y. p y && q y) xs) refl (filter_both p q xs)
-
-map_cond : {A B : Type 0} (f : A → B) (b : Bool) (xs ys : List A) → map f (cond b xs ys) ≡ cond b (map f xs) (map f ys)
-map_cond f true xs ys = refl
-map_cond f false xs ys = refl
 
 pub filter_of_map : {A B : Type 0} (p : B → Bool) (f : A → B) (xs : List A) → map f (filter (λ x. p (f x)) xs) ≡ filter p (map f xs)
 filter_of_map p f [] = refl

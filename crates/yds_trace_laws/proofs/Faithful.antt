@@ -12,6 +12,7 @@ use Rattle.yds_trace.specs.WrittenTime.{Units, Run, run_of}
 use Rattle.yds_trace.specs.Document.{is_lost, reaches_to, is_elsewhere, is_of_unknown_speed, reason_of, Judged, judged, all_judged, stands, units_of, Written, with_runs, without_runs, written_runs, written_of, written_jobs, Placed, placed_runs, all_runs, document_of}
 use Rattle.yds_trace_laws.specs.Faithful.{IsAt, IsShown, IsStanding, IsTraced, IsTracedJob, HasRun, HasItsRuns}
 use Rattle.yds_trace_laws.specs.Laws.{DocumentsAreFaithful}
+use Rattle.yds_trace_laws.proofs.Seen.{stands_written}
 use Rattle.yds_trace_laws.proofs.Ordered.{in_order-all, in_order-all_back, append-all, append-all_left, append-all_right, filter_map-all}
 use Rattle.yds_trace_laws.proofs.Placing.{found, place}
 use Rattle.yds_trace_laws.proofs.Times.{order_is_kept}
@@ -194,9 +195,6 @@ no_run_invented asked past fit =
     (λ run is. let number : n ≡ 0 + n = omega arith in subst (λ (m : ℕ). IsTraced asked past (place m run)) number is) job.runs (runs_of_job asked past fit n job at)))
 
 -- # No run is missing
-
-stands_written : (units : Units) (one : Judged) → stands one ≡ true → written_of units one ≡ Some (with_runs units one)
-stands_written units one whole = rw whole refl
 
 -- the run that has a stretch, as it is placed
 placed_run : (asked : Asked) (past : List Said) (one : Judged) (n : ℕ) (stretch : Stretch) (runs : List Run) → IsStanding asked past n one →

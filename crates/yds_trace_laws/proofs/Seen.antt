@@ -69,7 +69,8 @@ last_in_time jobs n job at feasible =
 
 -- # What is written of a job
 
-stands_written : (units : Units) (one : Judged) → stands one ≡ true → written_of units one ≡ Some (with_runs units one)
+-- One that stands is written with its runs.
+pub stands_written : (units : Units) (one : Judged) → stands one ≡ true → written_of units one ≡ Some (with_runs units one)
 stands_written units one whole = rw whole
 
 late_written : (units : Units) (one : Judged) (by : ℕ) → stands one ≡ false → one.late ≡ Some by → written_of units one ≡ Some (without_runs units one)
