@@ -1,0 +1,289 @@
+-- What the telling of some lines shows of the source and of the sink, step by step.
+use Rattle.yds_model.proofs.Common.{◌≡◌, ℕ, ◌+◌, ◌≤◌, ◌^◌, ◌⊎◌, inl, inr, List, [], ◌∷◌, ◌++◌, length, reverse, Bool, true, Option, Some, None, Result, Ok, Err, refl, sym, ap, subst, ◌∙◌, arith, append_assoc, append-nil, Appends, length-append, length-reverse}
+use Rattle.std.specs.Prelude.{⊤, IfSome, IfOk, Vec}
+use Rattle.std.specs.Result.{IfErr}
+use Rattle.std.specs.declared.alloc.Global.{Global}
+use Rattle.std.specs.Io.KnownBytes.{IsAtEnd}
+use Rattle.std.proofs.KnownBytes.{Appends-nil, Appends-trans}
+use Rattle.yds_model.specs.Fields.{Spot, Fault}
+use Rattle.yds_port.specs.Sink.{AppendsFront}
+use Rattle.yds_kernel.specs.declared.fault.Reason.{Reason}
+use Rattle.yds_kernel.specs.Parts.{or_else}
+use Rattle.yds_kernel.specs.Event.{Said}
+use Rattle.yds_kernel.specs.Text.{Trace, no_line, then_says, trace_of, trace_from}
+use Rattle.yds_kernel.specs.Views.{spot_read}
+use Rattle.yds_kernel_text.specs.declared.limits.TheConstants.{ROOM}
+use Rattle.yds_kernel_text.specs.Reading.{Reading, said_by, unread}
+use Rattle.yds_kernel_text.specs.Advancing.{Gives, Counts, GivesLine}
+use Rattle.yds_trace.specs.declared.cut.Cut.{Cut}
+use Rattle.yds_trace.specs.Asked.{Asked}
+use Rattle.yds_trace.specs.Faults.{whole_fault}
+use Rattle.yds_trace.specs.Parts.{cut_after}
+use Rattle.yds_trace_reading.specs.LineFault.{past_of}
+use Rattle.yds_trace_reading.specs.Ahead.{ahead, Agrees}
+use Rattle.yds_trace_reading.specs.Reading.{IsTooLong}
+use Rattle.yds_trace_reading.proofs.Passing.{counts_on}
+use Rattle.yds_trace_parts.specs.declared.halt.Halt.{Halt as HaltKept}
+use Rattle.yds_trace_parts.specs.declared.halt.Halt.TheVariants as kept
+use Rattle.yds_trace_parts.specs.declared.telling.Telling.{Telling}
+use Rattle.yds_trace_parts.specs.Told.{Halt, InForm, Told, at_line, part_halt, told_after, told_of}
+use Rattle.yds_trace_parts.specs.Telling.{halt_read, IsHaltFor, IsTelling, Adds, bytes_of, IsLast}
+use Rattle.yds_trace_parts.specs.Saying.{IsSaid, IsAdded, IsHalted, IsNotSaid}
+use Rattle.yds_trace_parts.specs.Driving.{WritesSome, WritesTold, Writes}
+use Rattle.yds_trace_parts.proofs.Growing.{Begins}
+use Rattle.yds_trace_parts.proofs.Ahead.{IsBehind, IsFront, ahead_past, agrees_on, front_of, begins_told, some_written, line_halts, form_halts, end_halts, all_told}
+
+-- # Before the first line
+
+agrees_first : (left : Option (List ℕ)) → Agrees left [] 0 (unread (record { left = []; text = []; ended = true; number = 0; taken = 0 }) left)
+agrees_first None = tt
+agrees_first (Some bytes) = refl
+
+counts_first : (left : Option (List ℕ)) → Counts left left 0 0
+counts_first None = tt
+counts_first (Some bytes) = refl
+
+pub at_begin : (asked : Asked) (strict : Bool) (left : Option (List ℕ)) (telling : Telling) (reading : Reading) (written : Option (List ℕ)) →
+    reading ≡ record { left = []; text = []; ended = true; number = 0; taken = 0 } → IsTelling asked strict [] telling →
+    IsBehind asked strict left telling reading left 0 written written
+at_begin asked strict left telling reading written is stands = record {
+  past = [];
+  stands = stands;
+  many = refl;
+  number = ap (λ (r : Reading). r.number) is;
+  agrees = subst (λ (r : Reading). Agrees left [] 0 (unread r left)) (sym is) (agrees_first left);
+  counts = subst (λ (r : Reading). Counts left left 0 r.taken) (sym is) (counts_first left);
+  appended = Appends-nil written;
+}
+
+-- nothing was read or written
+pub nothing_written : (asked : Asked) (strict : Bool) (input : Option (List ℕ)) (written : Option (List ℕ)) →
+    IfSome input (λ bytes. Writes asked strict bytes (Err kept.Memory) written written)
+nothing_written asked strict None written = tt
+nothing_written asked strict (Some bytes) written = record {
+  past = [];
+  behind = past_of (trace_of bytes);
+  front = sym (append-nil (past_of (trace_of bytes)));
+  goes_on = refl;
+  appended = Appends-nil written;
+}
+
+-- # A line more
+
+same_line : (said : Result Said (Spot Reason)) (a b : Said) → said ≡ Ok a → said ≡ Ok b → a ≡ b
+same_line said a b first second = cc
+
+-- what it adds, where it says this
+added_by : (asked : Asked) (strict : Bool) (past : List Said) (said : Result Said (Spot Reason)) (line : Said) (piece : Option (Vec ℕ Global)) → said ≡ Ok line →
+    IsAdded asked strict past said piece → Adds asked strict past (line ∷ past) piece
+added_by asked strict past said line piece says added =
+    subst (λ (one : Said). Adds asked strict past (one ∷ past) piece) (same_line said added.line line added.says says) added.adds
+
+pub one_more : (asked : Asked) (strict : Bool) (input : Option (List ℕ)) (telling next : Telling) (old new : Reading) (before left : Option (List ℕ))
+    (count faults_before faults_now : ℕ) (written mid now : Option (List ℕ)) (piece : Option (Vec ℕ Global)) →
+    (known : IsBehind asked strict input telling old before count written mid) → GivesLine old new before left faults_before faults_now →
+    Counts before left old.taken new.taken → IsSaid asked strict known.past (said_by new) next → IsAdded asked strict known.past (said_by new) piece →
+    Appends mid now (bytes_of piece) → IsBehind asked strict input next new left (count + 1) written now
+one_more asked strict input telling next old new before left count faults_before faults_now written mid now piece known gives counts said added put =
+    let number : new.number ≡ count + 1 = omega (arith, gives.next, known.number) in
+    record {
+      past = said.line ∷ known.past;
+      stands = said.stands;
+      many = omega (arith, known.many);
+      number = number;
+      agrees = agrees_on input known.past count said.line (unread old before) (unread new left) known.agrees
+          (subst (λ (one : Result Said (Spot Reason)). Gives (count + 1) one (unread old before) (unread new left)) said.says
+          (subst (λ (n : ℕ). Gives n (said_by new) (unread old before) (unread new left)) number gives.says));
+      counts = counts_on input before left old.taken new.taken known.counts counts;
+      appended = subst (Appends written now) (sym (added_by asked strict known.past (said_by new) said.line piece said.says added))
+          (Appends-trans written mid now (told_after asked strict known.past).text (bytes_of piece) known.appended put);
+    }
+
+-- # A line that isn't taken
+
+front_some : (bytes : List ℕ) (past : List Said) (count : ℕ) (rest : Option (List ℕ)) → Agrees (Some bytes) past count rest → IsFront bytes past
+front_some bytes past count None agrees = absurd agrees
+front_some bytes past count (Some rest) agrees = front_of bytes past (trace_from (count + 1) rest) agrees
+
+other_halted : (asked : Asked) (strict : Bool) (bytes : List ℕ) (past : List Said) (count : ℕ) (telling : Telling) (said : Result Said (Spot Reason))
+    (rest now : Option (List ℕ)) (halt : HaltKept) (old new : Option (List ℕ)) → IsTelling asked strict past telling → Agrees (Some bytes) past count rest →
+    Gives (count + 1) said rest now → IsHalted asked strict past said halt → Appends old new (told_after asked strict past).text →
+    Writes asked strict bytes (Err halt) old new
+other_halted asked strict bytes past count telling said rest now halt old new stands agrees gives why appended =
+    line_halts asked strict bytes past why.line telling halt old new
+    (front_some bytes (why.line ∷ past) (count + 1) now (agrees_on (Some bytes) past count why.line rest now agrees
+    (subst (λ (one : Result Said (Spot Reason)). Gives (count + 1) one rest now) why.says gives)))
+    (front_some bytes past count rest agrees) stands why.halts appended
+
+halted_by : (asked : Asked) (strict : Bool) (bytes : List ℕ) (past : List Said) (count : ℕ) (telling : Telling) (said : Result Said (Spot Reason))
+    (rest now : Option (List ℕ)) (halt : HaltKept) (old new : Option (List ℕ)) → IsTelling asked strict past telling → Agrees (Some bytes) past count rest →
+    Gives (count + 1) said rest now → IsNotSaid asked strict past (count + 1) said halt → Appends old new (told_after asked strict past).text →
+    Writes asked strict bytes (Err halt) old new
+halted_by asked strict bytes past count telling said None now (kept.InForm at fault) old new stands agrees gives why appended = absurd agrees
+halted_by asked strict bytes past count telling said (Some rest) None (kept.InForm at fault) old new stands agrees gives why appended = absurd gives
+halted_by asked strict bytes past count telling said (Some rest) (Some more) (kept.InForm at fault) old new stands agrees gives why appended =
+    form_halts asked strict bytes past (count + 1) (spot_read fault) old new (kept.InForm at fault)
+    (ap (λ (n : ℕ). Some (InForm (record { line = n; column = fault.column; reason = fault.reason }))) why.0)
+    (agrees ∙ ap (ahead past) (gives ∙ ap (λ (one : Result Said (Spot Reason)). then_says (count + 1) one (trace_from (count + 1 + 1) more)) why.1))
+    stands.goes_on appended
+halted_by asked strict bytes past count telling said rest now kept.Memory old new stands agrees gives why appended =
+    other_halted asked strict bytes past count telling said rest now kept.Memory old new stands agrees gives why appended
+halted_by asked strict bytes past count telling said rest now kept.Endless old new stands agrees gives why appended =
+    other_halted asked strict bytes past count telling said rest now kept.Endless old new stands agrees gives why appended
+halted_by asked strict bytes past count telling said rest now kept.ReadFault old new stands agrees gives why appended =
+    other_halted asked strict bytes past count telling said rest now kept.ReadFault old new stands agrees gives why appended
+halted_by asked strict bytes past count telling said rest now kept.WriteFault old new stands agrees gives why appended =
+    other_halted asked strict bytes past count telling said rest now kept.WriteFault old new stands agrees gives why appended
+halted_by asked strict bytes past count telling said rest now (kept.AtLine at cause) old new stands agrees gives why appended =
+    other_halted asked strict bytes past count telling said rest now (kept.AtLine at cause) old new stands agrees gives why appended
+halted_by asked strict bytes past count telling said rest now (kept.Limit part fault) old new stands agrees gives why appended =
+    other_halted asked strict bytes past count telling said rest now (kept.Limit part fault) old new stands agrees gives why appended
+halted_by asked strict bytes past count telling said rest now (kept.TooLong part) old new stands agrees gives why appended =
+    other_halted asked strict bytes past count telling said rest now (kept.TooLong part) old new stands agrees gives why appended
+halted_by asked strict bytes past count telling said rest now (kept.NoPlace name begin late) old new stands agrees gives why appended =
+    other_halted asked strict bytes past count telling said rest now (kept.NoPlace name begin late) old new stands agrees gives why appended
+
+pub not_taken : (asked : Asked) (strict : Bool) (input : Option (List ℕ)) (telling : Telling) (old new : Reading) (before left : Option (List ℕ))
+    (count faults_before faults_now : ℕ) (written now : Option (List ℕ)) (halt : HaltKept) → (known : IsBehind asked strict input telling old before count written now) →
+    GivesLine old new before left faults_before faults_now → IsNotSaid asked strict known.past new.number (said_by new) halt →
+    IfSome input (λ bytes. Writes asked strict bytes (Err halt) written now)
+not_taken asked strict None telling old new before left count faults_before faults_now written now halt known gives why = tt
+not_taken asked strict (Some bytes) telling old new before left count faults_before faults_now written now halt known gives why =
+    let number : new.number ≡ count + 1 = omega (arith, gives.next, known.number) in
+    halted_by asked strict bytes known.past count telling (said_by new) (unread old before) (unread new left) halt written now known.stands known.agrees
+    (subst (λ (n : ℕ). Gives n (said_by new) (unread old before) (unread new left)) number gives.says)
+    (subst (λ (n : ℕ). IsNotSaid asked strict known.past n (said_by new) halt) number why) known.appended
+
+-- # A write that failed
+
+front_after : (front back : List ℕ) (a b c : Option (List ℕ)) → Appends a b front → AppendsFront back b c → AppendsFront (front ++ back) a c
+front_after front back a b c first rest = record {
+  front = front ++ rest.front;
+  rest = rest.rest;
+  is_front = ap (λ l. front ++ l) rest.is_front ∙ sym (append_assoc front rest.front rest.rest);
+  appended = Appends-trans a b c front rest.front first rest.appended;
+}
+
+front_longer : (front back : List ℕ) (a b : Option (List ℕ)) → AppendsFront front a b → AppendsFront (front ++ back) a b
+front_longer front back a b part = record {
+  front = part.front;
+  rest = part.rest ++ back;
+  is_front = ap (λ l. l ++ back) part.is_front ∙ append_assoc part.front part.rest back;
+  appended = part.appended;
+}
+
+pub piece_cut : (asked : Asked) (strict : Bool) (input : Option (List ℕ)) (telling : Telling) (old new : Reading) (before left : Option (List ℕ))
+    (count faults_before faults_now : ℕ) (written mid now : Option (List ℕ)) (piece : Option (Vec ℕ Global)) →
+    (known : IsBehind asked strict input telling old before count written mid) → GivesLine old new before left faults_before faults_now →
+    IsAdded asked strict known.past (said_by new) piece → AppendsFront (bytes_of piece) mid now →
+    IfSome input (λ bytes. Writes asked strict bytes (Err kept.WriteFault) written now)
+piece_cut asked strict None telling old new before left count faults_before faults_now written mid now piece known gives added part = tt
+piece_cut asked strict (Some bytes) telling old new before left count faults_before faults_now written mid now piece known gives added part =
+    let number : new.number ≡ count + 1 = omega (arith, gives.next, known.number) in
+    let front : IsFront bytes (added.line ∷ known.past) = front_some bytes (added.line ∷ known.past) (count + 1) (unread new left)
+    (agrees_on (Some bytes) known.past count added.line (unread old before) (unread new left) known.agrees
+    (subst (λ (one : Result Said (Spot Reason)). Gives (count + 1) one (unread old before) (unread new left)) added.says
+    (subst (λ (n : ℕ). Gives n (said_by new) (unread old before) (unread new left)) number gives.says))) in
+    let begins = begins_told asked strict bytes (added.line ∷ known.past) front in
+    subst (λ (text : List ℕ). AppendsFront text written now) (sym begins.is)
+    (front_longer (told_after asked strict (added.line ∷ known.past)).text begins.more written now
+    (subst (λ (text : List ℕ). AppendsFront text written now) (sym added.adds)
+    (front_after (told_after asked strict known.past).text (bytes_of piece) written mid now known.appended part)))
+
+-- # The end
+
+whole_trace : (bytes : List ℕ) (past : List Said) (count : ℕ) (rest : Option (List ℕ)) → Agrees (Some bytes) past count rest → IsAtEnd rest → trace_of bytes ≡ ahead past no_line
+whole_trace bytes past count None agrees over = absurd agrees
+whole_trace bytes past count (Some rest) agrees over = agrees ∙ ap (λ (none : List ℕ). ahead past (trace_from (count + 1) none)) over
+
+pub end_not_told : (asked : Asked) (strict : Bool) (input : Option (List ℕ)) (telling : Telling) (old : Reading) (before : Option (List ℕ)) (count : ℕ)
+    (written now : Option (List ℕ)) (halt : HaltKept) → (known : IsBehind asked strict input telling old before count written now) → IsAtEnd (unread old before) →
+    IsHaltFor (or_else (at_line count (whole_fault asked known.past)) (part_halt asked strict known.past telling.cut None)) halt →
+    IfSome input (λ bytes. Writes asked strict bytes (Err halt) written now)
+end_not_told asked strict None telling old before count written now halt known over why = tt
+end_not_told asked strict (Some bytes) telling old before count written now halt known over why =
+    end_halts asked strict bytes known.past telling halt written now (whole_trace bytes known.past count (unread old before) known.agrees over)
+    (front_some bytes known.past count (unread old before) known.agrees) known.stands
+    (subst (λ (cut : Cut). IsHaltFor (or_else (at_line (length known.past) (whole_fault asked known.past)) (part_halt asked strict known.past cut None)) halt)
+    known.stands.same_cut
+    (subst (λ (n : ℕ). IsHaltFor (or_else (at_line n (whole_fault asked known.past)) (part_halt asked strict known.past telling.cut None)) halt) (sym known.many) why))
+    known.appended
+
+-- the texts of all parts, with that of the last one
+told_all : (asked : Asked) (strict : Bool) (bytes : List ℕ) (telling : Telling) (old : Reading) (before : Option (List ℕ)) (count : ℕ)
+    (written now : Option (List ℕ)) (text : List ℕ) → (known : IsBehind asked strict (Some bytes) telling old before count written now) → IsAtEnd (unread old before) →
+    whole_fault asked known.past ≡ None → IsLast asked strict known.past telling.cut text →
+    told_of asked strict (trace_of bytes) ≡ record { text = (told_after asked strict known.past).text ++ text; halt = None }
+told_all asked strict bytes telling old before count written now text known over sound last =
+    all_told asked strict bytes known.past text (whole_trace bytes known.past count (unread old before) known.agrees over) known.stands.goes_on sound
+    (subst (λ (cut : Cut). IsLast asked strict known.past cut text) known.stands.same_cut last)
+
+pub end_told : (asked : Asked) (strict : Bool) (input : Option (List ℕ)) (telling : Telling) (old : Reading) (before : Option (List ℕ)) (count : ℕ)
+    (written mid now : Option (List ℕ)) (text : List ℕ) → (known : IsBehind asked strict input telling old before count written mid) → IsAtEnd (unread old before) →
+    whole_fault asked known.past ≡ None → IsLast asked strict known.past telling.cut text → Appends mid now text →
+    IfSome input (λ bytes. Writes asked strict bytes (Ok tt) written now)
+end_told asked strict None telling old before count written mid now text known over sound last put = tt
+end_told asked strict (Some bytes) telling old before count written mid now text known over sound last put =
+    let all = told_all asked strict bytes telling old before count written mid text known over sound last in
+    record {
+      told = ap (λ (told : Told). told.halt) all;
+      appended = subst (Appends written now) (sym (ap (λ (told : Told). told.text) all))
+          (Appends-trans written mid now (told_after asked strict known.past).text text known.appended put);
+    }
+
+pub end_cut : (asked : Asked) (strict : Bool) (input : Option (List ℕ)) (telling : Telling) (old : Reading) (before : Option (List ℕ)) (count : ℕ)
+    (written mid now : Option (List ℕ)) (text : List ℕ) → (known : IsBehind asked strict input telling old before count written mid) → IsAtEnd (unread old before) →
+    whole_fault asked known.past ≡ None → IsLast asked strict known.past telling.cut text → AppendsFront text mid now →
+    IfSome input (λ bytes. Writes asked strict bytes (Err kept.WriteFault) written now)
+end_cut asked strict None telling old before count written mid now text known over sound last part = tt
+end_cut asked strict (Some bytes) telling old before count written mid now text known over sound last part =
+    subst (λ (whole : List ℕ). AppendsFront whole written now)
+    (sym (ap (λ (told : Told). told.text) (told_all asked strict bytes telling old before count written mid text known over sound last)))
+    (front_after (told_after asked strict known.past).text text written mid now known.appended part)
+
+-- # What isn't of the trace
+
+-- a read failed
+pub read_failed : (asked : Asked) (strict : Bool) (input : Option (List ℕ)) (telling : Telling) (old : Reading) (before : Option (List ℕ)) (count : ℕ)
+    (written now : Option (List ℕ)) → IsBehind asked strict input telling old before count written now →
+    IfSome input (λ bytes. Writes asked strict bytes (Err kept.ReadFault) written now)
+read_failed asked strict None telling old before count written now known = tt
+read_failed asked strict (Some bytes) telling old before count written now known =
+    some_written asked strict bytes known.past telling written now (front_some bytes known.past count (unread old before) known.agrees) known.stands known.appended
+
+endless : (asked : Asked) (strict : Bool) (bytes : List ℕ) (telling : Telling) (old : Reading) (before : Option (List ℕ)) (count : ℕ)
+    (written now : Option (List ℕ)) → IsBehind asked strict (Some bytes) telling old before count written now → IsTooLong bytes →
+    Writes asked strict bytes (Err kept.Endless) written now
+endless asked strict bytes telling old before count written now known long =
+    (long, some_written asked strict bytes known.past telling written now (front_some bytes known.past count (unread old before) known.agrees) known.stands known.appended)
+
+many_bytes : (bytes : List ℕ) (left : Option (List ℕ)) (taken : ℕ) → Counts (Some bytes) left 0 taken → 2 ^ 64 ≤ taken + ROOM → IsTooLong bytes
+many_bytes bytes None taken counts many = absurd counts
+many_bytes bytes (Some rest) taken counts many = inl (omega (arith, counts, many))
+
+pub too_many_bytes : (asked : Asked) (strict : Bool) (input : Option (List ℕ)) (telling : Telling) (old : Reading) (before left : Option (List ℕ)) (count taken : ℕ)
+    (written now : Option (List ℕ)) → IsBehind asked strict input telling old before count written now → Counts before left old.taken taken → 2 ^ 64 ≤ taken + ROOM →
+    IfSome input (λ bytes. Writes asked strict bytes (Err kept.Endless) written now)
+too_many_bytes asked strict None telling old before left count taken written now known counts many = tt
+too_many_bytes asked strict (Some bytes) telling old before left count taken written now known counts many =
+    endless asked strict bytes telling old before count written now known
+    (many_bytes bytes left taken (counts_on (Some bytes) before left old.taken taken known.counts counts) many)
+
+said_by_past : (past : List Said) (trace : Trace) → length past ≤ length (ahead past trace).said
+said_by_past past trace =
+    let all : length (past_of (ahead past trace)) ≡ length (reverse trace.said ++ past) = ap length (ahead_past past trace) in
+    omega (arith, all, length-reverse (ahead past trace).said, length-append (reverse trace.said) past)
+
+many_lines : (bytes : List ℕ) (past : List Said) (count : ℕ) (rest : Option (List ℕ)) → Agrees (Some bytes) past count rest → length past ≡ count → 2 ^ 64 ≤ count + 1 → IsTooLong bytes
+many_lines bytes past count None agrees many all = absurd agrees
+many_lines bytes past count (Some rest) agrees many all =
+    let lines : length (trace_of bytes).said ≡ length (ahead past (trace_from (count + 1) rest)).said = ap (λ (trace : Trace). length trace.said) agrees in
+    inr (omega (arith, lines, many, all, said_by_past past (trace_from (count + 1) rest)))
+
+pub too_many_lines : (asked : Asked) (strict : Bool) (input : Option (List ℕ)) (telling : Telling) (old : Reading) (before : Option (List ℕ)) (count : ℕ)
+    (written now : Option (List ℕ)) → IsBehind asked strict input telling old before count written now → 2 ^ 64 ≤ count + 1 →
+    IfSome input (λ bytes. Writes asked strict bytes (Err kept.Endless) written now)
+too_many_lines asked strict None telling old before count written now known all = tt
+too_many_lines asked strict (Some bytes) telling old before count written now known all =
+    endless asked strict bytes telling old before count written now known
+    (many_lines bytes known.past count (unread old before) known.agrees known.many all)

@@ -1,0 +1,34 @@
+-- What becomes of the bytes of a source that is told in parts.
+use Rattle.std.specs.Prelude.{◌≡◌, ℕ, List, ◌++◌, Bool, Option, Some, None, Result, Ok, Err}
+use Rattle.std.specs.Io.KnownBytes.{Appends}
+use Rattle.yds_port.specs.Sink.{AppendsFront}
+use Rattle.yds_kernel.specs.Event.{Said}
+use Rattle.yds_kernel.specs.Text.{trace_of}
+use Rattle.yds_trace.specs.Asked.{Asked}
+use Rattle.yds_trace_reading.specs.LineFault.{past_of}
+use Rattle.yds_trace_reading.specs.Reading.{IsTooLong}
+use Rattle.yds_trace_parts.specs.declared.halt.Halt.{Halt as HaltKept}
+use Rattle.yds_trace_parts.specs.declared.halt.Halt.TheVariants as kept
+use Rattle.yds_trace_parts.specs.Told.{Told, told_after, told_of}
+use Rattle.yds_trace_parts.specs.Telling.{halt_read}
+
+-- Some of the trace's lines, from the first on, were taken, and their parts were written.
+pub record WritesSome (asked : Asked) (strict : Bool) (input : List ℕ) (old new : Option (List ℕ)) : Type 0 where
+  pub past : List Said
+  pub behind : List Said
+  pub front : past_of (trace_of input) ≡ behind ++ past
+  pub goes_on : (told_after asked strict past).halt ≡ None
+  pub appended : Appends old new (told_after asked strict past).text
+
+-- all that is told of the trace, for which it halts here
+pub record WritesTold (asked : Asked) (strict : Bool) (input : List ℕ) (halt : Option HaltKept) (old new : Option (List ℕ)) : Type 0 where
+  pub told : (told_of asked strict (trace_of input)).halt ≡ (elim halt [ None ↦ None | Some reason ↦ halt_read reason ])
+  pub appended : Appends old new (told_of asked strict (trace_of input)).text
+
+abbrev pub Writes : Asked → Bool → List ℕ → Result (Unit {0}) HaltKept → Option (List ℕ) → Option (List ℕ) → Type 0
+Writes asked strict input (Ok done) old new = WritesTold asked strict input None old new
+Writes asked strict input (Err kept.Memory) old new = WritesSome asked strict input old new
+Writes asked strict input (Err kept.ReadFault) old new = WritesSome asked strict input old new
+Writes asked strict input (Err kept.Endless) old new = IsTooLong input × WritesSome asked strict input old new
+Writes asked strict input (Err kept.WriteFault) old new = AppendsFront (told_of asked strict (trace_of input)).text old new
+Writes asked strict input (Err halt) old new = WritesTold asked strict input (Some halt) old new

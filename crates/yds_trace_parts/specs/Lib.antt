@@ -1,0 +1,5 @@
+pub mod Told
+pub mod Place
+pub mod Telling
+pub mod Saying
+pub mod Driving
