@@ -6,7 +6,6 @@
 //! `specs/` say, and that the first reason is told for which a trace isn't told further.
 #![tactic(auto)]
 
-mod draining;
 mod driver;
 mod halt;
 mod part;
