@@ -9,9 +9,11 @@
 mod draining;
 mod driver;
 mod halt;
+mod limits;
 mod part;
 mod place;
 mod telling;
 
 pub use driver::tell_parts;
 pub use halt::Halt;
+pub use limits::MOST_LINES;
