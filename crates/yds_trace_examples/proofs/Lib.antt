@@ -3,3 +3,4 @@ mod JobExamples
 mod LateExamples
 mod DocumentExamples
 mod FaultExamples
+mod PartExamples

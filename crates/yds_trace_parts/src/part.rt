@@ -47,8 +47,8 @@ pub(crate) fn next_part(
         return Ok(None);
     }
     let shown = pass.shown(alloc)?;
-    let asked = pass.asked();
-    shown_part(alloc, asked, &shown, pass.may_write(), cut, strict, number)
+    let may_write = pass.may_write();
+    shown_part(alloc, pass.asked(), &shown, may_write, cut, strict, number)
 }
 
 /// Whether so little is kept that no part is to be written.
@@ -193,8 +193,24 @@ pub(crate) fn last_part(
         → IfErr result (IsHaltFor (part_halt asked strict past cut None)) }
 {
     let shown = pass.shown(alloc)?;
-    let asked = pass.asked();
-    let waiting = judge_waiting(alloc, asked, &shown, cut.boundary)?;
+    last_shown(alloc, pass.asked(), &shown, cut, strict)
+}
+
+/// The text of the last part of what is shown.
+fn last_shown(
+    alloc: Global,
+    asked: &Asked,
+    shown: &Shown,
+    cut: Cut,
+    strict: bool,
+) -> Result<Vec<u8>, Halt>
+    requires { kept.IsPlainShown asked.now shown.now }
+    ensures made { (past : List trace.Said) → IsShown (asked_read asked.now) past cut.boundary shown.now
+        → IfOk result (λ text. IsLast (asked_read asked.now) strict past cut text.items) }
+    ensures halts { (past : List trace.Said) → IsShown (asked_read asked.now) past cut.boundary shown.now
+        → IfErr result (IsHaltFor (part_halt (asked_read asked.now) strict past cut None)) }
+{
+    let waiting = judge_waiting(alloc, asked, shown, cut.boundary)?;
     let part = settle_part(alloc, asked, shown.first, waiting, None)?;
     text_of(alloc, asked, cut, strict, None, &part)
 }
