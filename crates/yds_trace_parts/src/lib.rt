@@ -8,9 +8,11 @@
 
 mod driver;
 mod halt;
+mod limits;
 mod part;
 mod place;
 mod telling;
 
 pub use driver::tell_parts;
 pub use halt::Halt;
+pub use limits::MOST_LINES;
