@@ -25,26 +25,28 @@ use Rattle.yds_trace_text.specs.declared.fault.NoText.TheVariants as texts
 use Rattle.yds_trace_text.specs.PartText.{part_text}
 use Rattle.yds_trace_text.specs.Writing.{WritesPart}
 use Rattle.yds_trace_parts.specs.Told.{Halt, AtLine, OfText, next_number, of_document, of_text, part_halt, no_place, open_longest, waiting_halt}
+use Rattle.yds_trace_parts.specs.declared.halt.Halt.{Halt as HaltKept}
+use Rattle.yds_trace_parts.specs.declared.halt.Halt.TheVariants as kept
 use Rattle.yds_trace_parts.specs.declared.part.Whole.{Whole}
-use Rattle.yds_trace_parts.specs.Telling.{halt_of_text, IsHaltFor, IsText, IsWhole, Looks, MakesPart, place_halt}
+use Rattle.yds_trace_parts.specs.Telling.{halt_of_text, IsHaltFor, IsText, IsWhole, IsNext, Looks, MakesPart, HaltsBehind, place_halt}
 use Rattle.yds_trace_parts.proofs.Steps.{little_waits}
 
 -- # Choices
 
 place_undue : (a b c : Bool) (place : Option ℕ) → a ≡ false → (if a && b && c then place else None) ≡ None
-place_undue false b c place no = refl
-place_undue true b c place no = cc
+place_undue false b c place held = refl
+place_undue true b c place held = cc
 
 place_without : (a b c : Bool) (place : Option ℕ) → b ≡ false → (if a && b && c then place else None) ≡ None
-place_without false b c place no = refl
-place_without true false c place no = refl
-place_without true true c place no = cc
+place_without false b c place held = refl
+place_without true false c place held = refl
+place_without true true c place held = cc
 
 place_unless : (a b c : Bool) (place : Option ℕ) → c ≡ false → (if a && b && c then place else None) ≡ None
-place_unless false b c place no = refl
-place_unless true false c place no = refl
-place_unless true true false place no = refl
-place_unless true true true place no = cc
+place_unless false b c place held = refl
+place_unless true false c place held = refl
+place_unless true true false place held = refl
+place_unless true true true place held = cc
 
 place_when : (a b c : Bool) (place : Option ℕ) → a ≡ true → b ≡ true → c ≡ true → (if a && b && c then place else None) ≡ place
 place_when true true true place x y z = refl
@@ -53,13 +55,13 @@ place_when true false c place x y z = cc
 place_when true true false place x y z = cc
 
 waits_undue : (due much : Bool) (halt : Option Halt) → due ≡ false → (if not (due && much) then None else halt) ≡ None
-waits_undue false much halt no = refl
-waits_undue true much halt no = cc
+waits_undue false much halt held = refl
+waits_undue true much halt held = cc
 
 waits_unless : (due much : Bool) (halt : Option Halt) → much ≡ false → (if not (due && much) then None else halt) ≡ None
-waits_unless false much halt no = refl
-waits_unless true false halt no = refl
-waits_unless true true halt no = cc
+waits_unless false much halt held = refl
+waits_unless true false halt held = refl
+waits_unless true true halt held = cc
 
 waits_when : (due much : Bool) (halt : Option Halt) → due ≡ true → much ≡ true → (if not (due && much) then None else halt) ≡ halt
 waits_when true true halt x y = refl
@@ -74,36 +76,36 @@ too_much asked past cut may = if may then no_place (open_longest asked past (wai
 
 -- it isn't looked for one behind these lines
 pub none_undue : (asked : Asked) (strict : Bool) (past : List Said) (cut : Cut) → is_due past ≡ false → MakesPart asked strict past cut None
-none_undue asked strict past cut no =
+none_undue asked strict past cut undue =
     (
-      place_undue (is_due past) (may_write asked past) (is_much (waiting asked past cut)) (place_among asked past (waiting asked past cut)) no,
-      waits_undue (is_due past) (is_too_much (waiting asked past cut)) (too_much asked past cut (may_write asked past)) no,
+      place_undue (is_due past) (may_write asked past) (is_much (waiting asked past cut)) (place_among asked past (waiting asked past cut)) undue,
+      waits_undue (is_due past) (is_too_much (waiting asked past cut)) (too_much asked past cut (may_write asked past)) undue,
     )
 
 -- not so much waits
 pub none_little : (asked : Asked) (strict : Bool) (past : List Said) (cut : Cut) → is_much (waiting asked past cut) ≡ false → MakesPart asked strict past cut None
-none_little asked strict past cut no =
+none_little asked strict past cut small =
     (
-      place_unless (is_due past) (may_write asked past) (is_much (waiting asked past cut)) (place_among asked past (waiting asked past cut)) no,
-      waits_unless (is_due past) (is_too_much (waiting asked past cut)) (too_much asked past cut (may_write asked past)) (little_waits (waiting asked past cut) no),
+      place_unless (is_due past) (may_write asked past) (is_much (waiting asked past cut)) (place_among asked past (waiting asked past cut)) small,
+      waits_unless (is_due past) (is_too_much (waiting asked past cut)) (too_much asked past cut (may_write asked past)) (little_waits (waiting asked past cut) small),
     )
 
 -- none may be written
 pub none_without : (asked : Asked) (strict : Bool) (past : List Said) (cut : Cut) → may_write asked past ≡ false → is_too_much (waiting asked past cut) ≡ false →
     MakesPart asked strict past cut None
-none_without asked strict past cut not no =
+none_without asked strict past cut barred few =
     (
-      place_without (is_due past) (may_write asked past) (is_much (waiting asked past cut)) (place_among asked past (waiting asked past cut)) not,
-      waits_unless (is_due past) (is_too_much (waiting asked past cut)) (too_much asked past cut (may_write asked past)) no,
+      place_without (is_due past) (may_write asked past) (is_much (waiting asked past cut)) (place_among asked past (waiting asked past cut)) barred,
+      waits_unless (is_due past) (is_too_much (waiting asked past cut)) (too_much asked past cut (may_write asked past)) few,
     )
 
 pub halts_without : (asked : Asked) (strict : Bool) (past : List Said) (cut : Cut) → may_write asked past ≡ false → is_due past ≡ true →
     is_too_much (waiting asked past cut) ≡ true → place_halt asked strict past cut (place_of asked past cut) ≡ Some (AtLine (length past) causes.NoWakeUp)
-halts_without asked strict past cut not due much =
+halts_without asked strict past cut barred due much =
     ap (place_halt asked strict past cut)
-    (place_without (is_due past) (may_write asked past) (is_much (waiting asked past cut)) (place_among asked past (waiting asked past cut)) not)
+    (place_without (is_due past) (may_write asked past) (is_much (waiting asked past cut)) (place_among asked past (waiting asked past cut)) barred)
     ∙ waits_when (is_due past) (is_too_much (waiting asked past cut)) (too_much asked past cut (may_write asked past)) due much
-    ∙ ap (too_much asked past cut) not
+    ∙ ap (too_much asked past cut) barred
 
 -- # A place
 
@@ -114,10 +116,10 @@ place_is asked past cut looks =
 -- there is none, and no more waits than may
 pub none_placed : (asked : Asked) (strict : Bool) (past : List Said) (cut : Cut) → Looks asked past cut → place_among asked past (waiting asked past cut) ≡ None →
     is_too_much (waiting asked past cut) ≡ false → MakesPart asked strict past cut None
-none_placed asked strict past cut looks none no =
+none_placed asked strict past cut looks none few =
     (
       place_is asked past cut looks ∙ none,
-      waits_unless (is_due past) (is_too_much (waiting asked past cut)) (too_much asked past cut (may_write asked past)) no,
+      waits_unless (is_due past) (is_too_much (waiting asked past cut)) (too_much asked past cut (may_write asked past)) few,
     )
 
 -- more does
@@ -132,6 +134,21 @@ pub halts_placed : (asked : Asked) (strict : Bool) (past : List Said) (cut : Cut
     place_halt asked strict past cut (place_of asked past cut) ≡ no_place (open_longest asked past (waiting asked past cut))
 halts_placed asked strict past cut looks none much =
     ap (place_halt asked strict past cut) (place_is asked past cut looks ∙ none) ∙ too_much_waits asked past cut looks much
+
+-- it is written
+pub placed_is : (asked : Asked) (strict : Bool) (past : List Said) (cut : Cut) (time : ℕ) (whole : Whole) → Looks asked past cut →
+    place_among asked past (waiting asked past cut) ≡ Some time → IsWhole asked strict past cut time whole → IsNext asked strict past cut whole
+placed_is asked strict past cut time whole looks found is = record {
+  time = time;
+  place = place_is asked past cut looks ∙ found;
+  is = is;
+}
+
+-- or isn't, for this reason
+pub placed_halts : (asked : Asked) (strict : Bool) (past : List Said) (cut : Cut) (time : ℕ) (halt : HaltKept) → Looks asked past cut →
+    place_among asked past (waiting asked past cut) ≡ Some time → IsHaltFor (part_halt asked strict past cut (Some time)) halt → HaltsBehind asked strict past cut halt
+placed_halts asked strict past cut time halt looks found is =
+    subst (λ (place : Option ℕ). IsHaltFor (place_halt asked strict past cut place) halt) (sym (place_is asked past cut looks ∙ found)) is
 
 -- # How much is kept
 
@@ -151,6 +168,10 @@ little asked past cut amount is jobs stretches =
     (capped_within _ _ (omega arith) (le_of _ _ _ is.jobs jobs)) (capped_within _ _ (omega arith) (le_of _ _ _ is.stretches stretches))
 
 -- # A text
+
+-- memory may be wanting at any time
+pub memory_halts : (found : Option Halt) (halt : HaltKept) → halt ≡ kept.Memory → IsHaltFor found halt
+memory_halts found halt is = subst (λ (one : HaltKept). IsHaltFor found one) (sym is) tt
 
 short_test : (a b : ℕ) → b ≤ a → nat_lt a b ≡ false
 short_test a b short = grind (arith, nat_tests)
