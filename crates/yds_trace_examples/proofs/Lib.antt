@@ -4,3 +4,4 @@ mod LateExamples
 mod DocumentExamples
 mod FaultExamples
 mod PartExamples
+mod ToldExamples
