@@ -1,5 +1,5 @@
 -- A line begins at most two jobs of a task: so there are at most twice as many jobs of it as lines.
-use Rattle.yds_model.proofs.Common.{ℕ, suc, ◌+◌, ◌*◌, ◌≤◌, ◌&&◌, ◌==◌, List, [], ◌∷◌, map, reverse, length, Bool, true, false, not, nat_lt, if◌then◌else◌, Option, Some, None, is_none, arith, length-map, length-reverse}
+use Rattle.yds_model.proofs.Common.{ℕ, suc, ◌+◌, ◌*◌, ◌≤◌, ◌&&◌, ◌==◌, List, [], ◌∷◌, map, length, Bool, true, false, not, nat_lt, if◌then◌else◌, Option, Some, None, is_none, arith, length-map, length-reverse}
 use Rattle.yds_kernel.specs.declared.state.State.{State}
 use Rattle.yds_kernel.specs.declared.state.State.TheVariants as states
 use Rattle.yds_kernel.specs.Event.{Happening, Switch, WakeUp, Speed, Loss, Marker, Other, Event, Said, Stamped, Lost, Nothing}
