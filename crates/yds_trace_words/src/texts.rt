@@ -29,6 +29,7 @@ thread is woken and ends where that leaves the processor to sleep.
   --to S         up to this time
   --begin run    jobs begin at their first run, and wake-ups aren't read
   --lost cut     goes on where events were lost, and leaves out the jobs that may have been open there
+  --parts        writes documents one behind the other, each as soon as it is whole, for a trace of any length
   --strict       fails where a job is left out for another reason than --from and --to
   --help         writes this
   --version      writes the version
