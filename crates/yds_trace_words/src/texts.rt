@@ -64,11 +64,11 @@ pub fn fault_line(fault: &WordFault<'_>) -> ArrayString<LINE_BYTES>
     line
 }
 
-/// The first bytes of a word, as a comment shows them.
-fn push_shown(word: &[u8], line: &mut ArrayString<LINE_BYTES>)
-    requires { array_string_len line.old ≤ 2 }
+/// The first 64 bytes of a word, as a comment shows them.
+pub fn push_shown(word: &[u8], line: &mut ArrayString<LINE_BYTES>)
+    requires { array_string_len line.old ≤ 100 }
     ensures shown { line.new.bytes ≡ line.old.bytes ++ spec.shown_word word.now }
-    ensures short { array_string_len line.new ≤ 66 }
+    ensures short { array_string_len line.new ≤ array_string_len line.old + 64 }
 {
     let front = &word[..word.len().min(64)];
     for byte in front {
