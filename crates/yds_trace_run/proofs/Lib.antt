@@ -2,3 +2,4 @@ pub mod Told
 pub mod Plain
 pub mod Worth
 pub mod Left
+pub mod Parted
