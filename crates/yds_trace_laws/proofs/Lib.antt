@@ -5,6 +5,7 @@ pub mod AsRead
 pub mod Judging
 pub mod Seen
 pub mod Begins
+pub mod Few
 pub mod Runs
 pub mod Faithful
 pub mod Sharing

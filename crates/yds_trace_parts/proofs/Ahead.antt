@@ -19,7 +19,7 @@ use Rattle.yds_trace.specs.Faults.{whole_fault}
 use Rattle.yds_trace.specs.Parts.{cut_after}
 use Rattle.yds_trace_reading.specs.LineFault.{past_of}
 use Rattle.yds_trace_reading.specs.Ahead.{ahead, Agrees}
-use Rattle.yds_trace_reading.proofs.Passing.{counts_on}
+use Rattle.yds_trace_reading.proofs.Passing.{ahead_past, ahead_fault, counts_on}
 use Rattle.yds_trace_text.specs.PartText.{part_text}
 use Rattle.yds_trace_parts.specs.declared.halt.Halt.{Halt as HaltKept}
 use Rattle.yds_trace_parts.specs.declared.halt.Halt.TheVariants as kept
@@ -28,26 +28,6 @@ use Rattle.yds_trace_parts.specs.Told.{Halt, InForm, Told, at_line, in_form, end
 use Rattle.yds_trace_parts.specs.Telling.{halt_read, IsHaltFor, IsTelling, Adds, bytes_of, IsLast}
 use Rattle.yds_trace_parts.specs.Driving.{WritesSome, WritesTold, Writes}
 use Rattle.yds_trace_parts.proofs.Growing.{Begins, begins_on, one_begins, lines_begin, end_begins, halted, end_halted, halting_text}
-
--- # A trace behind some lines
-
-pub ahead_past : (past : List Said) (trace : Trace) → past_of (ahead past trace) ≡ reverse trace.said ++ past
-ahead_past [] trace = sym (append-nil (reverse trace.said))
-ahead_past (said ∷ past) trace =
-    ahead_past past (record { said = said ∷ trace.said; fault = trace.fault })
-    ∙ ap (λ (front : List Said). front ++ past) (reverse-append (said ∷ []) trace.said)
-    ∙ append_assoc (reverse trace.said) (said ∷ []) past
-
-ahead_fault : (past : List Said) (trace : Trace) → (ahead past trace).fault ≡ trace.fault
-ahead_fault [] trace = refl
-ahead_fault (said ∷ past) trace = ahead_fault past (record { said = said ∷ trace.said; fault = trace.fault })
-
-pub agrees_on : (input : Option (List ℕ)) (past : List Said) (count : ℕ) (line : Said) (before now : Option (List ℕ)) → Agrees input past count before
-    → Gives (count + 1) (Ok line) before now → Agrees input (line ∷ past) (count + 1) now
-agrees_on None past count line before now agrees gives = tt
-agrees_on (Some bytes) past count line None now agrees gives = absurd agrees
-agrees_on (Some bytes) past count line (Some rest) None agrees gives = absurd gives
-agrees_on (Some bytes) past count line (Some rest) (Some more) agrees gives = agrees ∙ ap (ahead past) gives
 
 -- # What was read so far
 

@@ -22,26 +22,18 @@ use Rattle.yds_trace.specs.Parts.{cut_after}
 use Rattle.yds_trace_reading.specs.LineFault.{past_of}
 use Rattle.yds_trace_reading.specs.Ahead.{ahead, Agrees}
 use Rattle.yds_trace_reading.specs.Reading.{IsTooLong}
-use Rattle.yds_trace_reading.proofs.Passing.{counts_on}
+use Rattle.yds_trace_reading.proofs.Passing.{agrees_first, agrees_on, counts_first, counts_on, many_bytes, many_lines, whole_trace}
 use Rattle.yds_trace_parts.specs.declared.halt.Halt.{Halt as HaltKept}
 use Rattle.yds_trace_parts.specs.declared.halt.Halt.TheVariants as kept
 use Rattle.yds_trace_parts.specs.declared.telling.Telling.{Telling}
 use Rattle.yds_trace_parts.specs.Told.{Halt, InForm, Told, at_line, part_halt, told_after, told_of}
 use Rattle.yds_trace_parts.specs.Telling.{halt_read, IsHaltFor, IsTelling, Adds, bytes_of, IsLast}
-use Rattle.yds_trace_parts.specs.Saying.{IsSaid, IsAdded, IsHalted, IsNotSaid}
+use Rattle.yds_trace_parts.specs.Saying.{IsSaid, IsAdded, IsInForm, IsNotSaid}
 use Rattle.yds_trace_parts.specs.Driving.{WritesSome, WritesTold, Writes}
 use Rattle.yds_trace_parts.proofs.Growing.{Begins}
-use Rattle.yds_trace_parts.proofs.Ahead.{IsBehind, IsFront, ahead_past, agrees_on, front_of, begins_told, some_written, line_halts, form_halts, end_halts, all_told}
+use Rattle.yds_trace_parts.proofs.Ahead.{IsBehind, IsFront, front_of, begins_told, some_written, line_halts, form_halts, end_halts, all_told}
 
 -- # Before the first line
-
-agrees_first : (left : Option (List ℕ)) → Agrees left [] 0 (unread (record { left = []; text = []; ended = true; number = 0; taken = 0 }) left)
-agrees_first None = tt
-agrees_first (Some bytes) = refl
-
-counts_first : (left : Option (List ℕ)) → Counts left left 0 0
-counts_first None = tt
-counts_first (Some bytes) = refl
 
 pub at_begin : (asked : Asked) (strict : Bool) (left : Option (List ℕ)) (telling : Telling) (reading : Reading) (written : Option (List ℕ)) →
     reading ≡ record { left = []; text = []; ended = true; number = 0; taken = 0 } → IsTelling asked strict [] telling →
@@ -70,14 +62,34 @@ nothing_written asked strict (Some bytes) written = record {
 
 -- # A line more
 
-same_line : (said : Result Said (Spot Reason)) (a b : Said) → said ≡ Ok a → said ≡ Ok b → a ≡ b
-same_line said a b first second = cc
+more_by : (asked : Asked) (strict : Bool) (input : Option (List ℕ)) (telling next : Telling) (old new : Reading) (before left : Option (List ℕ))
+    (count : ℕ) (written mid now : Option (List ℕ)) (piece : Option (Vec ℕ Global)) (said : Result Said (Spot Reason)) →
+    (known : IsBehind asked strict input telling old before count written mid) → new.number ≡ count + 1 →
+    Gives (count + 1) said (unread old before) (unread new left) → Counts before left old.taken new.taken →
+    IsSaid asked strict known.past said next → IsAdded asked strict known.past said piece → Appends mid now (bytes_of piece) →
+    IsBehind asked strict input next new left (count + 1) written now
+more_by asked strict input telling next old new before left count written mid now piece (Err spot) known number gives counts said added put = absurd said
+more_by asked strict input telling next old new before left count written mid now piece (Ok line) known number gives counts said added put = record {
+  past = line ∷ known.past;
+  stands = said;
+  many = omega (arith, known.many);
+  number = number;
+  agrees = agrees_on input known.past count line (unread old before) (unread new left) known.agrees gives;
+  counts = counts_on input before left old.taken new.taken known.counts counts;
+  appended = subst (Appends written now) (sym added)
+      (Appends-trans written mid now (told_after asked strict known.past).text (bytes_of piece) known.appended put);
+}
 
--- what it adds, where it says this
-added_by : (asked : Asked) (strict : Bool) (past : List Said) (said : Result Said (Spot Reason)) (line : Said) (piece : Option (Vec ℕ Global)) → said ≡ Ok line →
-    IsAdded asked strict past said piece → Adds asked strict past (line ∷ past) piece
-added_by asked strict past said line piece says added =
-    subst (λ (one : Said). Adds asked strict past (one ∷ past) piece) (same_line said added.line line added.says says) added.adds
+-- what is known of the next line, by its number
+next_number : (telling : Telling) (asked : Asked) (strict : Bool) (input : Option (List ℕ)) (old new : Reading) (before left : Option (List ℕ))
+    (count faults_before faults_now : ℕ) (written now : Option (List ℕ)) → IsBehind asked strict input telling old before count written now →
+    GivesLine old new before left faults_before faults_now → new.number ≡ count + 1
+next_number telling asked strict input old new before left count faults_before faults_now written now known gives = omega (arith, gives.next, known.number)
+
+gives_next : (count : ℕ) (old new : Reading) (before left : Option (List ℕ)) → new.number ≡ count + 1 →
+    Gives new.number (said_by new) (unread old before) (unread new left) → Gives (count + 1) (said_by new) (unread old before) (unread new left)
+gives_next count old new before left number gives =
+    subst (λ (n : ℕ). Gives n (said_by new) (unread old before) (unread new left)) number gives
 
 pub one_more : (asked : Asked) (strict : Bool) (input : Option (List ℕ)) (telling next : Telling) (old new : Reading) (before left : Option (List ℕ))
     (count faults_before faults_now : ℕ) (written mid now : Option (List ℕ)) (piece : Option (Vec ℕ Global)) →
@@ -85,19 +97,9 @@ pub one_more : (asked : Asked) (strict : Bool) (input : Option (List ℕ)) (tell
     Counts before left old.taken new.taken → IsSaid asked strict known.past (said_by new) next → IsAdded asked strict known.past (said_by new) piece →
     Appends mid now (bytes_of piece) → IsBehind asked strict input next new left (count + 1) written now
 one_more asked strict input telling next old new before left count faults_before faults_now written mid now piece known gives counts said added put =
-    let number : new.number ≡ count + 1 = omega (arith, gives.next, known.number) in
-    record {
-      past = said.line ∷ known.past;
-      stands = said.stands;
-      many = omega (arith, known.many);
-      number = number;
-      agrees = agrees_on input known.past count said.line (unread old before) (unread new left) known.agrees
-          (subst (λ (one : Result Said (Spot Reason)). Gives (count + 1) one (unread old before) (unread new left)) said.says
-          (subst (λ (n : ℕ). Gives n (said_by new) (unread old before) (unread new left)) number gives.says));
-      counts = counts_on input before left old.taken new.taken known.counts counts;
-      appended = subst (Appends written now) (sym (added_by asked strict known.past (said_by new) said.line piece said.says added))
-          (Appends-trans written mid now (told_after asked strict known.past).text (bytes_of piece) known.appended put);
-    }
+    let number = next_number telling asked strict input old new before left count faults_before faults_now written mid known gives in
+    more_by asked strict input telling next old new before left count written mid now piece (said_by new) known number
+    (gives_next count old new before left number gives.says) counts said added put
 
 -- # A line that isn't taken
 
@@ -105,43 +107,38 @@ front_some : (bytes : List ℕ) (past : List Said) (count : ℕ) (rest : Option 
 front_some bytes past count None agrees = absurd agrees
 front_some bytes past count (Some rest) agrees = front_of bytes past (trace_from (count + 1) rest) agrees
 
-other_halted : (asked : Asked) (strict : Bool) (bytes : List ℕ) (past : List Said) (count : ℕ) (telling : Telling) (said : Result Said (Spot Reason))
-    (rest now : Option (List ℕ)) (halt : HaltKept) (old new : Option (List ℕ)) → IsTelling asked strict past telling → Agrees (Some bytes) past count rest →
-    Gives (count + 1) said rest now → IsHalted asked strict past said halt → Appends old new (told_after asked strict past).text →
+-- by its form
+formed_by : (asked : Asked) (strict : Bool) (bytes : List ℕ) (past : List Said) (count : ℕ) (spot : Spot Reason) (rest now : Option (List ℕ))
+    (halt : HaltKept) (old new : Option (List ℕ)) → (told_after asked strict past).halt ≡ None → Agrees (Some bytes) past count rest →
+    Gives (count + 1) (Err spot) rest now → IsInForm (count + 1) spot halt → Appends old new (told_after asked strict past).text →
     Writes asked strict bytes (Err halt) old new
-other_halted asked strict bytes past count telling said rest now halt old new stands agrees gives why appended =
-    line_halts asked strict bytes past why.line telling halt old new
-    (front_some bytes (why.line ∷ past) (count + 1) now (agrees_on (Some bytes) past count why.line rest now agrees
-    (subst (λ (one : Result Said (Spot Reason)). Gives (count + 1) one rest now) why.says gives)))
-    (front_some bytes past count rest agrees) stands why.halts appended
+formed_by asked strict bytes past count spot None now halt old new goes agrees gives why appended = absurd agrees
+formed_by asked strict bytes past count spot (Some rest) None halt old new goes agrees gives why appended = absurd gives
+formed_by asked strict bytes past count spot (Some rest) (Some more) (kept.InForm at fault) old new goes agrees gives why appended =
+    form_halts asked strict bytes past (count + 1) (spot_read fault) old new (kept.InForm at fault)
+    (ap (λ (n : ℕ). Some (InForm (record { line = n; column = fault.column; reason = fault.reason }))) why.0)
+    (agrees ∙ ap (ahead past) (gives ∙ ap (λ (one : Spot Reason). then_says (count + 1) (Err one) (trace_from (count + 1 + 1) more)) (sym why.1)))
+    goes appended
+formed_by asked strict bytes past count spot (Some rest) (Some more) (kept.AtLine at cause) old new goes agrees gives why appended = absurd why
+formed_by asked strict bytes past count spot (Some rest) (Some more) (kept.Limit part fault) old new goes agrees gives why appended = absurd why
+formed_by asked strict bytes past count spot (Some rest) (Some more) (kept.TooLong part) old new goes agrees gives why appended = absurd why
+formed_by asked strict bytes past count spot (Some rest) (Some more) (kept.NoPlace name begin late) old new goes agrees gives why appended = absurd why
+formed_by asked strict bytes past count spot (Some rest) (Some more) kept.Endless old new goes agrees gives why appended = absurd why
+formed_by asked strict bytes past count spot (Some rest) (Some more) kept.ReadFault old new goes agrees gives why appended = absurd why
+formed_by asked strict bytes past count spot (Some rest) (Some more) kept.WriteFault old new goes agrees gives why appended = absurd why
+formed_by asked strict bytes past count spot (Some rest) (Some more) kept.Memory old new goes agrees gives why appended = absurd why
 
+-- or by what it says
 halted_by : (asked : Asked) (strict : Bool) (bytes : List ℕ) (past : List Said) (count : ℕ) (telling : Telling) (said : Result Said (Spot Reason))
     (rest now : Option (List ℕ)) (halt : HaltKept) (old new : Option (List ℕ)) → IsTelling asked strict past telling → Agrees (Some bytes) past count rest →
     Gives (count + 1) said rest now → IsNotSaid asked strict past (count + 1) said halt → Appends old new (told_after asked strict past).text →
     Writes asked strict bytes (Err halt) old new
-halted_by asked strict bytes past count telling said None now (kept.InForm at fault) old new stands agrees gives why appended = absurd agrees
-halted_by asked strict bytes past count telling said (Some rest) None (kept.InForm at fault) old new stands agrees gives why appended = absurd gives
-halted_by asked strict bytes past count telling said (Some rest) (Some more) (kept.InForm at fault) old new stands agrees gives why appended =
-    form_halts asked strict bytes past (count + 1) (spot_read fault) old new (kept.InForm at fault)
-    (ap (λ (n : ℕ). Some (InForm (record { line = n; column = fault.column; reason = fault.reason }))) why.0)
-    (agrees ∙ ap (ahead past) (gives ∙ ap (λ (one : Result Said (Spot Reason)). then_says (count + 1) one (trace_from (count + 1 + 1) more)) why.1))
-    stands.goes_on appended
-halted_by asked strict bytes past count telling said rest now kept.Memory old new stands agrees gives why appended =
-    other_halted asked strict bytes past count telling said rest now kept.Memory old new stands agrees gives why appended
-halted_by asked strict bytes past count telling said rest now kept.Endless old new stands agrees gives why appended =
-    other_halted asked strict bytes past count telling said rest now kept.Endless old new stands agrees gives why appended
-halted_by asked strict bytes past count telling said rest now kept.ReadFault old new stands agrees gives why appended =
-    other_halted asked strict bytes past count telling said rest now kept.ReadFault old new stands agrees gives why appended
-halted_by asked strict bytes past count telling said rest now kept.WriteFault old new stands agrees gives why appended =
-    other_halted asked strict bytes past count telling said rest now kept.WriteFault old new stands agrees gives why appended
-halted_by asked strict bytes past count telling said rest now (kept.AtLine at cause) old new stands agrees gives why appended =
-    other_halted asked strict bytes past count telling said rest now (kept.AtLine at cause) old new stands agrees gives why appended
-halted_by asked strict bytes past count telling said rest now (kept.Limit part fault) old new stands agrees gives why appended =
-    other_halted asked strict bytes past count telling said rest now (kept.Limit part fault) old new stands agrees gives why appended
-halted_by asked strict bytes past count telling said rest now (kept.TooLong part) old new stands agrees gives why appended =
-    other_halted asked strict bytes past count telling said rest now (kept.TooLong part) old new stands agrees gives why appended
-halted_by asked strict bytes past count telling said rest now (kept.NoPlace name begin late) old new stands agrees gives why appended =
-    other_halted asked strict bytes past count telling said rest now (kept.NoPlace name begin late) old new stands agrees gives why appended
+halted_by asked strict bytes past count telling (Err spot) rest now halt old new stands agrees gives why appended =
+    formed_by asked strict bytes past count spot rest now halt old new stands.goes_on agrees gives why appended
+halted_by asked strict bytes past count telling (Ok line) rest now halt old new stands agrees gives why appended =
+    line_halts asked strict bytes past line telling halt old new
+    (front_some bytes (line ∷ past) (count + 1) now (agrees_on (Some bytes) past count line rest now agrees gives))
+    (front_some bytes past count rest agrees) stands why appended
 
 pub not_taken : (asked : Asked) (strict : Bool) (input : Option (List ℕ)) (telling : Telling) (old new : Reading) (before left : Option (List ℕ))
     (count faults_before faults_now : ℕ) (written now : Option (List ℕ)) (halt : HaltKept) → (known : IsBehind asked strict input telling old before count written now) →
@@ -149,9 +146,9 @@ pub not_taken : (asked : Asked) (strict : Bool) (input : Option (List ℕ)) (tel
     IfSome input (λ bytes. Writes asked strict bytes (Err halt) written now)
 not_taken asked strict None telling old new before left count faults_before faults_now written now halt known gives why = tt
 not_taken asked strict (Some bytes) telling old new before left count faults_before faults_now written now halt known gives why =
-    let number : new.number ≡ count + 1 = omega (arith, gives.next, known.number) in
+    let number = next_number telling asked strict (Some bytes) old new before left count faults_before faults_now written now known gives in
     halted_by asked strict bytes known.past count telling (said_by new) (unread old before) (unread new left) halt written now known.stands known.agrees
-    (subst (λ (n : ℕ). Gives n (said_by new) (unread old before) (unread new left)) number gives.says)
+    (gives_next count old new before left number gives.says)
     (subst (λ (n : ℕ). IsNotSaid asked strict known.past n (said_by new) halt) number why) known.appended
 
 -- # A write that failed
@@ -172,6 +169,20 @@ front_longer front back a b part = record {
   appended = part.appended;
 }
 
+cut_by : (asked : Asked) (strict : Bool) (bytes : List ℕ) (past : List Said) (count : ℕ) (said : Result Said (Spot Reason)) (rest left : Option (List ℕ))
+    (written mid now : Option (List ℕ)) (piece : Option (Vec ℕ Global)) → Agrees (Some bytes) past count rest → Gives (count + 1) said rest left →
+    Appends written mid (told_after asked strict past).text → IsAdded asked strict past said piece → AppendsFront (bytes_of piece) mid now →
+    Writes asked strict bytes (Err kept.WriteFault) written now
+cut_by asked strict bytes past count (Err spot) rest left written mid now piece agrees gives appended added part = absurd added
+cut_by asked strict bytes past count (Ok line) rest left written mid now piece agrees gives appended added part =
+    let begins : Begins (told_after asked strict (line ∷ past)).text (told_of asked strict (trace_of bytes)).text =
+    begins_told asked strict bytes (line ∷ past)
+    (front_some bytes (line ∷ past) (count + 1) left (agrees_on (Some bytes) past count line rest left agrees gives)) in
+    subst (λ (text : List ℕ). AppendsFront text written now) (sym begins.is)
+    (front_longer (told_after asked strict (line ∷ past)).text begins.more written now
+    (subst (λ (text : List ℕ). AppendsFront text written now) (sym added)
+    (front_after (told_after asked strict past).text (bytes_of piece) written mid now appended part)))
+
 pub piece_cut : (asked : Asked) (strict : Bool) (input : Option (List ℕ)) (telling : Telling) (old new : Reading) (before left : Option (List ℕ))
     (count faults_before faults_now : ℕ) (written mid now : Option (List ℕ)) (piece : Option (Vec ℕ Global)) →
     (known : IsBehind asked strict input telling old before count written mid) → GivesLine old new before left faults_before faults_now →
@@ -179,22 +190,12 @@ pub piece_cut : (asked : Asked) (strict : Bool) (input : Option (List ℕ)) (tel
     IfSome input (λ bytes. Writes asked strict bytes (Err kept.WriteFault) written now)
 piece_cut asked strict None telling old new before left count faults_before faults_now written mid now piece known gives added part = tt
 piece_cut asked strict (Some bytes) telling old new before left count faults_before faults_now written mid now piece known gives added part =
-    let number : new.number ≡ count + 1 = omega (arith, gives.next, known.number) in
-    let front : IsFront bytes (added.line ∷ known.past) = front_some bytes (added.line ∷ known.past) (count + 1) (unread new left)
-    (agrees_on (Some bytes) known.past count added.line (unread old before) (unread new left) known.agrees
-    (subst (λ (one : Result Said (Spot Reason)). Gives (count + 1) one (unread old before) (unread new left)) added.says
-    (subst (λ (n : ℕ). Gives n (said_by new) (unread old before) (unread new left)) number gives.says))) in
-    let begins = begins_told asked strict bytes (added.line ∷ known.past) front in
-    subst (λ (text : List ℕ). AppendsFront text written now) (sym begins.is)
-    (front_longer (told_after asked strict (added.line ∷ known.past)).text begins.more written now
-    (subst (λ (text : List ℕ). AppendsFront text written now) (sym added.adds)
-    (front_after (told_after asked strict known.past).text (bytes_of piece) written mid now known.appended part)))
+    cut_by asked strict bytes known.past count (said_by new) (unread old before) (unread new left) written mid now piece known.agrees
+    (gives_next count old new before left
+    (next_number telling asked strict (Some bytes) old new before left count faults_before faults_now written mid known gives) gives.says)
+    known.appended added part
 
 -- # The end
-
-whole_trace : (bytes : List ℕ) (past : List Said) (count : ℕ) (rest : Option (List ℕ)) → Agrees (Some bytes) past count rest → IsAtEnd rest → trace_of bytes ≡ ahead past no_line
-whole_trace bytes past count None agrees over = absurd agrees
-whole_trace bytes past count (Some rest) agrees over = agrees ∙ ap (λ (none : List ℕ). ahead past (trace_from (count + 1) none)) over
 
 pub end_not_told : (asked : Asked) (strict : Bool) (input : Option (List ℕ)) (telling : Telling) (old : Reading) (before : Option (List ℕ)) (count : ℕ)
     (written now : Option (List ℕ)) (halt : HaltKept) → (known : IsBehind asked strict input telling old before count written now) → IsAtEnd (unread old before) →
@@ -257,10 +258,6 @@ endless : (asked : Asked) (strict : Bool) (bytes : List ℕ) (telling : Telling)
 endless asked strict bytes telling old before count written now known long =
     (long, some_written asked strict bytes known.past telling written now (front_some bytes known.past count (unread old before) known.agrees) known.stands known.appended)
 
-many_bytes : (bytes : List ℕ) (left : Option (List ℕ)) (taken : ℕ) → Counts (Some bytes) left 0 taken → 2 ^ 64 ≤ taken + ROOM → IsTooLong bytes
-many_bytes bytes None taken counts many = absurd counts
-many_bytes bytes (Some rest) taken counts many = inl (omega (arith, counts, many))
-
 pub too_many_bytes : (asked : Asked) (strict : Bool) (input : Option (List ℕ)) (telling : Telling) (old : Reading) (before left : Option (List ℕ)) (count taken : ℕ)
     (written now : Option (List ℕ)) → IsBehind asked strict input telling old before count written now → Counts before left old.taken taken → 2 ^ 64 ≤ taken + ROOM →
     IfSome input (λ bytes. Writes asked strict bytes (Err kept.Endless) written now)
@@ -268,17 +265,6 @@ too_many_bytes asked strict None telling old before left count taken written now
 too_many_bytes asked strict (Some bytes) telling old before left count taken written now known counts many =
     endless asked strict bytes telling old before count written now known
     (many_bytes bytes left taken (counts_on (Some bytes) before left old.taken taken known.counts counts) many)
-
-said_by_past : (past : List Said) (trace : Trace) → length past ≤ length (ahead past trace).said
-said_by_past past trace =
-    let all : length (past_of (ahead past trace)) ≡ length (reverse trace.said ++ past) = ap length (ahead_past past trace) in
-    omega (arith, all, length-reverse (ahead past trace).said, length-append (reverse trace.said) past)
-
-many_lines : (bytes : List ℕ) (past : List Said) (count : ℕ) (rest : Option (List ℕ)) → Agrees (Some bytes) past count rest → length past ≡ count → 2 ^ 64 ≤ count + 1 → IsTooLong bytes
-many_lines bytes past count None agrees many all = absurd agrees
-many_lines bytes past count (Some rest) agrees many all =
-    let lines : length (trace_of bytes).said ≡ length (ahead past (trace_from (count + 1) rest)).said = ap (λ (trace : Trace). length trace.said) agrees in
-    inr (omega (arith, lines, many, all, said_by_past past (trace_from (count + 1) rest)))
 
 pub too_many_lines : (asked : Asked) (strict : Bool) (input : Option (List ℕ)) (telling : Telling) (old : Reading) (before : Option (List ℕ)) (count : ℕ)
     (written now : Option (List ℕ)) → IsBehind asked strict input telling old before count written now → 2 ^ 64 ≤ count + 1 →

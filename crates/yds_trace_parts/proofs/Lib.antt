@@ -5,3 +5,4 @@ pub mod Ahead
 pub mod Parting
 pub mod Taking
 pub mod Driven
+pub mod Plain

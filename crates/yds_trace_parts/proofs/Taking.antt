@@ -6,7 +6,7 @@ use Rattle.yds_trace.specs.declared.cut.Cut.{Cut}
 use Rattle.yds_trace.specs.declared.fault.Cause.{Cause}
 use Rattle.yds_trace.specs.Asked.{Asked}
 use Rattle.yds_trace.specs.Faults.{said_fault, whole_fault}
-use Rattle.yds_trace.specs.Kept.{IsAtBehind}
+use Rattle.yds_trace.specs.Kept.{IsAtBehind, told_to_forget}
 use Rattle.yds_trace.specs.Parts.{part_fault, cut_after}
 use Rattle.yds_trace_parts.specs.declared.halt.Halt.{Halt as HaltKept}
 use Rattle.yds_trace_parts.specs.declared.halt.Halt.TheVariants as kept
@@ -34,11 +34,12 @@ made_so asked strict past said telling whole is made =
 -- no part is written
 pub none_taken : (asked : Asked) (strict : Bool) (past : List Said) (said : Said) (telling now : Telling) → IsTelling asked strict past telling →
     or_else (said_fault asked past said) (part_fault asked past telling.cut said) ≡ None → IsAtBehind asked (said ∷ past) telling.cut.boundary now.pass →
-    now.cut ≡ telling.cut → now.strict ≡ telling.strict → MakesPart asked telling.strict (said ∷ past) telling.cut None → IsTelling asked strict (said ∷ past) now
-none_taken asked strict past said telling now is sound stands cut strictness made =
+    told_to_forget now.pass ≡ told_to_forget telling.pass → now.cut ≡ telling.cut → now.strict ≡ telling.strict → MakesPart asked telling.strict (said ∷ past) telling.cut None → IsTelling asked strict (said ∷ past) now
+none_taken asked strict past said telling now is sound stands forgets cut strictness made =
     let here : MakesPart asked strict (said ∷ past) (cut_after asked past) None = made_so asked strict past said telling None is made in
     record {
       stands = subst (λ (one : Cut). IsAtBehind asked (said ∷ past) one.boundary now.pass) (sym cut) stands;
+      forgets = forgets ∙ is.forgets ∙ ap (λ (one : Cut). one.boundary) (sym cut);
       same_cut = cut ∙ is.same_cut ∙ sym (same_cut asked past said here.0);
       same_strict = strictness ∙ is.same_strict;
       goes_on = ap (λ (told : Told). told.halt) (none_made asked strict past said is.goes_on (sound_so asked strict past said telling is sound) here.0 here.1);
@@ -55,12 +56,13 @@ none_adds asked strict past said telling is sound made =
 -- one is
 pub one_taken : (asked : Asked) (strict : Bool) (past : List Said) (said : Said) (telling now : Telling) (whole : Whole) → IsTelling asked strict past telling →
     or_else (said_fault asked past said) (part_fault asked past telling.cut said) ≡ None → IsAtBehind asked (said ∷ past) whole.cut.boundary now.pass →
-    now.cut ≡ whole.cut → now.strict ≡ telling.strict → MakesPart asked telling.strict (said ∷ past) telling.cut (Some whole) →
+    told_to_forget now.pass ≡ whole.cut.boundary → now.cut ≡ whole.cut → now.strict ≡ telling.strict → MakesPart asked telling.strict (said ∷ past) telling.cut (Some whole) →
     IsTelling asked strict (said ∷ past) now
-one_taken asked strict past said telling now whole is sound stands cut strictness made =
+one_taken asked strict past said telling now whole is sound stands forgets cut strictness made =
     let here : IsNext asked strict (said ∷ past) (cut_after asked past) whole = made_so asked strict past said telling (Some whole) is made in
     record {
       stands = subst (λ (one : Cut). IsAtBehind asked (said ∷ past) one.boundary now.pass) (sym cut) stands;
+      forgets = forgets ∙ ap (λ (one : Cut). one.boundary) (sym cut);
       same_cut = cut ∙ next_cut asked strict past said whole here;
       same_strict = strictness ∙ is.same_strict;
       goes_on = ap (λ (told : Told). told.halt) (one_made asked strict past said whole is.goes_on (sound_so asked strict past said telling is sound) here);

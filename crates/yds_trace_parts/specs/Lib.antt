@@ -1,5 +1,6 @@
 pub mod Told
 pub mod Place
 pub mod Telling
+pub mod Plain
 pub mod Saying
 pub mod Driving

@@ -4,7 +4,7 @@ use Rattle.std.specs.declared.alloc.Global.{Global}
 use Rattle.yds_kernel.specs.Event.{Said}
 use Rattle.yds_trace.specs.declared.cut.Cut.{Cut}
 use Rattle.yds_trace.specs.Asked.{Asked}
-use Rattle.yds_trace.specs.Kept.{IsAtBehind}
+use Rattle.yds_trace.specs.Kept.{IsAtBehind, told_to_forget}
 use Rattle.yds_trace.specs.Parts.{cut_at, cut_after, place_of, waiting, is_due, is_much, may_write}
 use Rattle.yds_trace_text.specs.declared.fault.NoText.{NoText}
 use Rattle.yds_trace_text.specs.declared.fault.NoText.TheVariants as texts
@@ -89,6 +89,8 @@ IsLast asked strict past cut text = IsText asked strict past cut None text
 -- What is kept stands for these lines, and nothing was refused.
 pub record IsTelling (asked : Asked) (strict : Bool) (past : List Said) (telling : Telling) : Type 0 where
   pub stands : IsAtBehind asked past telling.cut.boundary telling.pass
+  -- The pass was told to forget the jobs of the parts that are written.
+  pub forgets : told_to_forget telling.pass ≡ telling.cut.boundary
   pub same_cut : telling.cut ≡ cut_after asked past
   pub same_strict : telling.strict ≡ strict
   pub goes_on : (told_after asked strict past).halt ≡ None

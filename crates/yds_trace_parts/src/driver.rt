@@ -11,13 +11,13 @@ ghost use Rattle.yds_trace_parts.specs.Telling.{IsTelling, bytes_of};
 ghost use Rattle.yds_trace_parts.specs.Saying.{IsSaid, IsAdded, IsNotSaid};
 ghost use Rattle.yds_trace_parts.specs.Driving.{Writes};
 
-use crate::draining::drain;
 use crate::halt::Halt;
 use crate::telling::Telling;
 use std::alloc::Global;
 use yds_kernel_text::{Advance, TraceReader};
 use yds_port::{Sink, Source, WriteFault, write_all};
 use yds_trace::Asked;
+use yds_trace_reading::drain;
 
 /// Reads a trace in one pass and writes its parts, each as soon as it is whole. The sink isn't flushed. Where it ends before the
 /// trace does, the source is still read to its end, so that whoever writes into it isn't stopped; not so where a write failed.

@@ -6,12 +6,13 @@
 //! `specs/` say, and that the first reason is told for which a trace isn't told further.
 #![tactic(auto)]
 
-mod draining;
 mod driver;
 mod halt;
+mod limits;
 mod part;
 mod place;
 mod telling;
 
 pub use driver::tell_parts;
 pub use halt::Halt;
+pub use limits::MOST_LINES;

@@ -11,6 +11,7 @@ ghost use Rattle.yds_trace.specs.Views.{asked_read};
 ghost use Rattle.yds_trace_document.specs.Kept as kept;
 ghost use Rattle.yds_trace_document.specs.PartKept.{IsWaiting, IsPart};
 ghost use Rattle.yds_trace_document.specs.Views.{judged_read, judged_list};
+ghost use Rattle.yds_trace_parts.specs.Plain.{IsPlainPass};
 ghost use Rattle.yds_trace_parts.specs.Told.{part_halt, next_number};
 ghost use Rattle.yds_trace_parts.specs.Telling.{IsHaltFor, IsText, IsWhole, IsLast, Looks, MakesPart, HaltsBehind};
 
@@ -18,7 +19,7 @@ use crate::halt::Halt;
 use crate::place::{is_much, is_too_much, open_longest, place_among};
 use std::alloc::Global;
 use yds_trace::{Asked, Cause, Cut, Kept, LOOK_EVERY, PART_JOBS, PART_STRETCHES, Pass, Shown};
-use yds_trace_document::{Judged, Part, Waiting, is_plain_shown, judge_waiting, settle_part};
+use yds_trace_document::{Judged, Part, Waiting, judge_waiting, settle_part};
 use yds_trace_text::part_text;
 
 /// The text of a part, and what is written with it.
@@ -36,6 +37,7 @@ pub(crate) fn next_part(
     strict: bool,
     number: u64,
 ) -> Result<Option<Whole>, Halt>
+    requires { IsPlainPass cut.boundary pass.now }
     ensures made { (asked : asking.Asked) (past : List trace.Said) → IsAtBehind asked past cut.boundary pass.now → number ≡ length past
         → IfOk result (MakesPart asked strict past cut) }
     ensures halts { (asked : asking.Asked) (past : List trace.Said) → IsAtBehind asked past cut.boundary pass.now → number ≡ length past
@@ -45,11 +47,8 @@ pub(crate) fn next_part(
         return Ok(None);
     }
     let shown = pass.shown(alloc)?;
-    let asked = pass.asked();
-    if !is_plain_shown(asked, &shown) {
-        return Err(Halt::Memory);
-    }
-    shown_part(alloc, asked, &shown, pass.may_write(), cut, strict, number)
+    let may_write = pass.may_write();
+    shown_part(alloc, pass.asked(), &shown, may_write, cut, strict, number)
 }
 
 /// Whether so little is kept that no part is to be written.
@@ -187,17 +186,31 @@ pub(crate) fn last_part(
     cut: Cut,
     strict: bool,
 ) -> Result<Vec<u8>, Halt>
+    requires { IsPlainPass cut.boundary pass.now }
     ensures made { (asked : asking.Asked) (past : List trace.Said) → IsAtBehind asked past cut.boundary pass.now
         → IfOk result (λ text. IsLast asked strict past cut text.items) }
     ensures halts { (asked : asking.Asked) (past : List trace.Said) → IsAtBehind asked past cut.boundary pass.now
         → IfErr result (IsHaltFor (part_halt asked strict past cut None)) }
 {
     let shown = pass.shown(alloc)?;
-    let asked = pass.asked();
-    if !is_plain_shown(asked, &shown) {
-        return Err(Halt::Memory);
-    }
-    let waiting = judge_waiting(alloc, asked, &shown, cut.boundary)?;
+    last_shown(alloc, pass.asked(), &shown, cut, strict)
+}
+
+/// The text of the last part of what is shown.
+fn last_shown(
+    alloc: Global,
+    asked: &Asked,
+    shown: &Shown,
+    cut: Cut,
+    strict: bool,
+) -> Result<Vec<u8>, Halt>
+    requires { kept.IsPlainShown asked.now shown.now }
+    ensures made { (past : List trace.Said) → IsShown (asked_read asked.now) past cut.boundary shown.now
+        → IfOk result (λ text. IsLast (asked_read asked.now) strict past cut text.items) }
+    ensures halts { (past : List trace.Said) → IsShown (asked_read asked.now) past cut.boundary shown.now
+        → IfErr result (IsHaltFor (part_halt (asked_read asked.now) strict past cut None)) }
+{
+    let waiting = judge_waiting(alloc, asked, shown, cut.boundary)?;
     let part = settle_part(alloc, asked, shown.first, waiting, None)?;
     text_of(alloc, asked, cut, strict, None, &part)
 }

@@ -5,9 +5,8 @@ ghost use Rattle.yds_kernel.specs.Parts.{or_else};
 ghost use Rattle.yds_kernel.specs.Views.{said_read};
 ghost use Rattle.yds_trace.specs.Asked as asking;
 ghost use Rattle.yds_trace.specs.Faults.{said_fault, whole_fault};
-ghost use Rattle.yds_trace.specs.Kept.{IsAtBehind};
+ghost use Rattle.yds_trace.specs.Kept.{IsAtBehind, told_to_forget};
 ghost use Rattle.yds_trace.specs.Parts.{part_fault};
-ghost use Rattle.yds_trace.specs.Passing.{IsRefusedFor};
 ghost use Rattle.yds_trace.specs.Views.{asked_read};
 ghost use Rattle.yds_trace_parts.specs.Telling.{IsTelling, IsHaltFor, IsLast, Adds};
 ghost use Rattle.yds_trace_parts.specs.Told.{told_after, at_line, part_halt};
@@ -74,23 +73,11 @@ impl Telling {
         ensures halts { (asked : asking.Asked) (strict : Bool) (past : List trace.Said) → IsTelling asked strict past self.now → number ≡ length past
             → IfErr result (IsHaltFor (or_else (at_line number (whole_fault asked past)) (part_halt asked strict past self.now.cut None))) }
     {
-        match check_whole(&self.pass) {
+        match self.pass.check_whole() {
             Ok(()) => last_part(alloc, &self.pass, self.cut, self.strict),
-            Err(Refused::Fault(cause)) => Err(Halt::AtLine { number, cause }),
-            Err(Refused::Memory) => Err(Halt::Memory),
+            Err(cause) => Err(Halt::AtLine { number, cause }),
         }
     }
-}
-
-/// What the whole trace is refused for. It stands in for a method of `Pass`, which isn't there yet, and so only says that it
-/// can't tell.
-fn check_whole(_pass: &Pass) -> Result<(), Refused>
-    ensures sound { (asked : asking.Asked) (past : List trace.Said) (cut : Cut) → IsAtBehind asked past cut.boundary _pass.now
-        → OnOk result (whole_fault asked past ≡ None) }
-    ensures refused { (asked : asking.Asked) (past : List trace.Said) (cut : Cut) → IsAtBehind asked past cut.boundary _pass.now
-        → IfErr result (IsRefusedFor (whole_fault asked past)) }
-{
-    Err(Refused::Memory)
 }
 
 /// Takes what the line of this number says, behind the parts that were written.
@@ -107,6 +94,7 @@ fn take_line(
         → OnOk result (or_else (said_fault asked past (said_read said.entry)) (part_fault asked past cut (said_read said.entry)) ≡ None) }
     ensures halts { (asked : asking.Asked) (past : List trace.Said) → IsAtBehind asked past cut.boundary pass.old
         → IfErr result (IsHaltFor (at_line number (or_else (said_fault asked past (said_read said.entry)) (part_fault asked past cut (said_read said.entry))))) }
+    ensures forgets { OnOk result (told_to_forget pass.new ≡ told_to_forget pass.old) }
 {
     let changes = pass.check_parts(&said, cut);
     match pass.take(alloc, said) {

@@ -28,14 +28,14 @@ use Rattle.yds_trace_reading.specs.Reading.{IsEndOfSome, IsRead, IsTooLong, IsSt
 
 -- # A trace behind some lines
 
-ahead_past : (past : List Said) (trace : Trace) → past_of (ahead past trace) ≡ reverse trace.said ++ past
+pub ahead_past : (past : List Said) (trace : Trace) → past_of (ahead past trace) ≡ reverse trace.said ++ past
 ahead_past [] trace = sym (append-nil (reverse trace.said))
 ahead_past (said ∷ past) trace =
     ahead_past past (record { said = said ∷ trace.said; fault = trace.fault })
     ∙ ap (λ (front : List Said). front ++ past) (reverse-append (said ∷ []) trace.said)
     ∙ append_assoc (reverse trace.said) (said ∷ []) past
 
-ahead_fault : (past : List Said) (trace : Trace) → (ahead past trace).fault ≡ trace.fault
+pub ahead_fault : (past : List Said) (trace : Trace) → (ahead past trace).fault ≡ trace.fault
 ahead_fault [] trace = refl
 ahead_fault (said ∷ past) trace = ahead_fault past (record { said = said ∷ trace.said; fault = trace.fault })
 
@@ -62,7 +62,7 @@ counts_on (Some bytes) None now old new first second = absurd first
 counts_on (Some bytes) (Some rest) None old new first second = absurd second
 counts_on (Some bytes) (Some rest) (Some more) old new first second = omega (arith, first, second)
 
-agrees_on : (input : Option (List ℕ)) (past : List Said) (count : ℕ) (line : Said) (before now : Option (List ℕ)) → Agrees input past count before
+pub agrees_on : (input : Option (List ℕ)) (past : List Said) (count : ℕ) (line : Said) (before now : Option (List ℕ)) → Agrees input past count before
     → Gives (count + 1) (Ok line) before now → Agrees input (line ∷ past) (count + 1) now
 agrees_on None past count line before now agrees gives = tt
 agrees_on (Some bytes) past count line None now agrees gives = absurd agrees
@@ -144,7 +144,7 @@ not_taken asked (Some bytes) pass old new before left count faults_before faults
 
 -- # The end
 
-whole_trace : (bytes : List ℕ) (past : List Said) (count : ℕ) (rest : Option (List ℕ)) → Agrees (Some bytes) past count rest → IsAtEnd rest → trace_of bytes ≡ ahead past no_line
+pub whole_trace : (bytes : List ℕ) (past : List Said) (count : ℕ) (rest : Option (List ℕ)) → Agrees (Some bytes) past count rest → IsAtEnd rest → trace_of bytes ≡ ahead past no_line
 whole_trace bytes past count None agrees ended = absurd agrees
 whole_trace bytes past count (Some rest) agrees ended = agrees ∙ ap (λ (none : List ℕ). ahead past (trace_from (count + 1) none)) ended
 
@@ -199,7 +199,7 @@ stopped_whole asked (Some bytes) pass old before count (Err stopped) known over 
 
 -- # As much as can be counted
 
-many_bytes : (bytes : List ℕ) (left : Option (List ℕ)) (taken : ℕ) → Counts (Some bytes) left 0 taken → 2 ^ 64 ≤ taken + ROOM → IsTooLong bytes
+pub many_bytes : (bytes : List ℕ) (left : Option (List ℕ)) (taken : ℕ) → Counts (Some bytes) left 0 taken → 2 ^ 64 ≤ taken + ROOM → IsTooLong bytes
 many_bytes bytes None taken counts many = absurd counts
 many_bytes bytes (Some rest) taken counts many = inl (omega (arith, counts, many))
 
@@ -214,7 +214,7 @@ said_by_past past trace =
     let all : length (past_of (ahead past trace)) ≡ length (reverse trace.said ++ past) = ap length (ahead_past past trace) in
     omega (arith, all, length-reverse (ahead past trace).said, length-append (reverse trace.said) past)
 
-many_lines : (bytes : List ℕ) (past : List Said) (count : ℕ) (rest : Option (List ℕ)) → Agrees (Some bytes) past count rest → length past ≡ count → 2 ^ 64 ≤ count + 1 → IsTooLong bytes
+pub many_lines : (bytes : List ℕ) (past : List Said) (count : ℕ) (rest : Option (List ℕ)) → Agrees (Some bytes) past count rest → length past ≡ count → 2 ^ 64 ≤ count + 1 → IsTooLong bytes
 many_lines bytes past count None agrees many all = absurd agrees
 many_lines bytes past count (Some rest) agrees many all =
     let lines : length (trace_of bytes).said ≡ length (ahead past (trace_from (count + 1) rest)).said = ap (λ (trace : Trace). length trace.said) agrees in
@@ -227,11 +227,11 @@ too_many_lines asked (Some bytes) pass old before count known all = many_lines b
 
 -- # Before the first line
 
-agrees_first : (left : Option (List ℕ)) → Agrees left [] 0 (unread (record { left = []; text = []; ended = true; number = 0; taken = 0 }) left)
+pub agrees_first : (left : Option (List ℕ)) → Agrees left [] 0 (unread (record { left = []; text = []; ended = true; number = 0; taken = 0 }) left)
 agrees_first None = tt
 agrees_first (Some bytes) = refl
 
-counts_first : (left : Option (List ℕ)) → Counts left left 0 0
+pub counts_first : (left : Option (List ℕ)) → Counts left left 0 0
 counts_first None = tt
 counts_first (Some bytes) = refl
 

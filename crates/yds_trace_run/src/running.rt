@@ -148,7 +148,8 @@ fn run_in_parts<S: Source, K: Sink>(
     source: &mut S,
     sink: &mut K,
 ) -> Status
-    requires { asked.in_parts ≡ true }
+    requires fit { IsFit (asked_read asked) }
+    requires in_parts { asked.in_parts ≡ true }
     ensures source_later { S.faults source.old ≤ S.faults source.new }
     ensures read_fault { result ≡ Status.ReadFault → Rose (S.faults source.old) (S.faults source.new) }
     ensures no_fault_passed_over { result ≡ Status.Done → S.faults source.new ≡ S.faults source.old }
