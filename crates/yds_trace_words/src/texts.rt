@@ -1,5 +1,5 @@
 //! The texts that answer words alone.
-ghost use Rattle.std.specs.Prelude.{◌≡◌, ◌<◌, ◌≤◌, ◌++◌, length};
+ghost use Rattle.std.specs.Prelude.{◌≡◌, ◌<◌, ◌≤◌, ◌+◌, ◌++◌, length};
 ghost use Rattle.arrayvec.specs.ArrayString.{array_string_len};
 ghost use Rattle.yds_trace_words.specs.Texts as spec;
 ghost use Rattle.yds_trace_words.specs.Views.{fault_read};
