@@ -27,7 +27,8 @@ use Rattle.yds_trace_parts.specs.declared.telling.Telling.{Telling}
 use Rattle.yds_trace_parts.specs.Told.{Halt, InForm, Told, at_line, in_form, end_halt, part_halt, with_part, told_last, told_after, told_at_end, told_of}
 use Rattle.yds_trace_parts.specs.Telling.{halt_read, IsHaltFor, IsTelling, Adds, bytes_of, IsLast}
 use Rattle.yds_trace_parts.specs.Driving.{WritesSome, WritesTold, Writes}
-use Rattle.yds_trace_parts.proofs.Growing.{Begins, begins_on, one_begins, lines_begin, end_begins, halted, end_halted, halting_text}
+use Rattle.yds_trace_parts.specs.Laws.{Begins}
+use Rattle.yds_trace_parts.proofs.Growing.{begins_on, one_begins, lines_begin, end_begins, halted, end_halted, halting_text}
 
 -- # What was read so far
 

@@ -1,5 +1,5 @@
 -- What the telling of some lines shows of the source and of the sink, step by step.
-use Rattle.yds_model.proofs.Common.{◌≡◌, ℕ, ◌+◌, ◌≤◌, ◌^◌, ◌⊎◌, inl, inr, List, [], ◌∷◌, ◌++◌, length, reverse, Bool, true, Option, Some, None, Result, Ok, Err, refl, sym, ap, subst, ◌∙◌, arith, append_assoc, append-nil, Appends, length-append, length-reverse}
+use Rattle.yds_model.proofs.Common.{◌≡◌, ℕ, ◌+◌, ◌<◌, ◌≤◌, ◌^◌, ◌⊎◌, inl, inr, List, [], ◌∷◌, ◌++◌, length, reverse, Bool, true, Option, Some, None, Result, Ok, Err, refl, sym, ap, subst, ◌∙◌, arith, append_assoc, append-nil, Appends, length-append, length-reverse}
 use Rattle.std.specs.Prelude.{⊤, IfSome, IfOk, Vec}
 use Rattle.std.specs.Result.{IfErr}
 use Rattle.std.specs.declared.alloc.Global.{Global}
@@ -17,20 +17,22 @@ use Rattle.yds_kernel_text.specs.Reading.{Reading, said_by, unread}
 use Rattle.yds_kernel_text.specs.Advancing.{Gives, Counts, GivesLine}
 use Rattle.yds_trace.specs.declared.cut.Cut.{Cut}
 use Rattle.yds_trace.specs.Asked.{Asked}
-use Rattle.yds_trace.specs.Faults.{whole_fault}
-use Rattle.yds_trace.specs.Parts.{cut_after}
+use Rattle.yds_trace.specs.declared.fault.Cause.{Cause}
+use Rattle.yds_trace.specs.Faults.{first_fault, numbered, said_fault, whole_fault}
+use Rattle.yds_trace.specs.Parts.{cut_after, part_fault}
 use Rattle.yds_trace_reading.specs.LineFault.{past_of}
 use Rattle.yds_trace_reading.specs.Ahead.{ahead, Agrees}
-use Rattle.yds_trace_reading.specs.Reading.{IsTooLong}
-use Rattle.yds_trace_reading.proofs.Passing.{agrees_first, agrees_on, counts_first, counts_on, many_bytes, many_lines, whole_trace}
+use Rattle.yds_trace_reading.proofs.Passing.{agrees_first, agrees_on, counts_first, counts_on, taken_bytes, taken_lines, whole_trace}
 use Rattle.yds_trace_parts.specs.declared.halt.Halt.{Halt as HaltKept}
 use Rattle.yds_trace_parts.specs.declared.halt.Halt.TheVariants as kept
 use Rattle.yds_trace_parts.specs.declared.telling.Telling.{Telling}
-use Rattle.yds_trace_parts.specs.Told.{Halt, InForm, Told, at_line, part_halt, told_after, told_of}
+use Rattle.yds_trace_parts.specs.Told.{Halt, InForm, Told, at_line, line_halt, part_halt, told_with, told_next, told_after, told_of}
+use Rattle.yds_trace_parts.specs.declared.limits.TheConstants.{MOST_LINES}
+use Rattle.yds_trace_parts.specs.Plain.{IsGranted, IsOfSome, IsPlainPass, HasRoom}
 use Rattle.yds_trace_parts.specs.Telling.{halt_read, IsHaltFor, IsTelling, Adds, bytes_of, IsLast}
 use Rattle.yds_trace_parts.specs.Saying.{IsSaid, IsAdded, IsInForm, IsNotSaid}
-use Rattle.yds_trace_parts.specs.Driving.{WritesSome, WritesTold, Writes}
-use Rattle.yds_trace_parts.proofs.Growing.{Begins}
+use Rattle.yds_trace_parts.specs.Driving.{IsEndless, WritesSome, WritesTold, Writes}
+use Rattle.yds_trace_parts.specs.Laws.{Begins}
 use Rattle.yds_trace_parts.proofs.Ahead.{IsBehind, IsFront, front_of, begins_told, some_written, line_halts, form_halts, end_halts, all_told}
 
 -- # Before the first line
@@ -253,7 +255,7 @@ read_failed asked strict (Some bytes) telling old before count written now known
     some_written asked strict bytes known.past telling written now (front_some bytes known.past count (unread old before) known.agrees) known.stands known.appended
 
 endless : (asked : Asked) (strict : Bool) (bytes : List ℕ) (telling : Telling) (old : Reading) (before : Option (List ℕ)) (count : ℕ)
-    (written now : Option (List ℕ)) → IsBehind asked strict (Some bytes) telling old before count written now → IsTooLong bytes →
+    (written now : Option (List ℕ)) → IsBehind asked strict (Some bytes) telling old before count written now → IsEndless bytes →
     Writes asked strict bytes (Err kept.Endless) written now
 endless asked strict bytes telling old before count written now known long =
     (long, some_written asked strict bytes known.past telling written now (front_some bytes known.past count (unread old before) known.agrees) known.stands known.appended)
@@ -264,12 +266,60 @@ pub too_many_bytes : (asked : Asked) (strict : Bool) (input : Option (List ℕ))
 too_many_bytes asked strict None telling old before left count taken written now known counts many = tt
 too_many_bytes asked strict (Some bytes) telling old before left count taken written now known counts many =
     endless asked strict bytes telling old before count written now known
-    (many_bytes bytes left taken (counts_on (Some bytes) before left old.taken taken known.counts counts) many)
+    (inl (omega (arith, many, taken_bytes bytes left taken (counts_on (Some bytes) before left old.taken taken known.counts counts))))
 
 pub too_many_lines : (asked : Asked) (strict : Bool) (input : Option (List ℕ)) (telling : Telling) (old : Reading) (before : Option (List ℕ)) (count : ℕ)
-    (written now : Option (List ℕ)) → IsBehind asked strict input telling old before count written now → 2 ^ 64 ≤ count + 1 →
+    (written now : Option (List ℕ)) → IsBehind asked strict input telling old before count written now → MOST_LINES ≤ count →
     IfSome input (λ bytes. Writes asked strict bytes (Err kept.Endless) written now)
 too_many_lines asked strict None telling old before count written now known all = tt
 too_many_lines asked strict (Some bytes) telling old before count written now known all =
     endless asked strict bytes telling old before count written now known
-    (many_lines bytes known.past count (unread old before) known.agrees known.many all)
+    (inr (omega (arith, all, taken_lines bytes known.past count (unread old before) known.agrees known.many)))
+
+-- # What a part needs
+
+no_fault : (cause other : Option Cause) (number : ℕ) → at_line number (or_else cause other) ≡ None → cause ≡ None
+no_fault None other number is = refl
+no_fault (Some fault) other number is = cc
+
+line_goes : (asked : Asked) (strict : Bool) (past : List Said) (said : Said) (text : List ℕ) (halt : Option Halt) →
+    (told_with asked strict past said text halt).halt ≡ None → halt ≡ None
+line_goes asked strict past said text None goes = refl
+line_goes asked strict past said text (Some found) goes = cc
+
+-- both the lines before it and this one
+more_goes : (asked : Asked) (strict : Bool) (past : List Said) (said : Said) (text : List ℕ) (halt : Option Halt) →
+    (told_next asked strict past said (record { text = text; halt = halt })).halt ≡ None → (halt ≡ None) × (line_halt asked past said ≡ None)
+more_goes asked strict past said text None goes = (refl, line_goes asked strict past said text (line_halt asked past said) goes)
+more_goes asked strict past said text (Some found) goes = cc
+
+-- lines that were all taken have no fault
+pub sound_lines : (asked : Asked) (strict : Bool) (past : List Said) → (told_after asked strict past).halt ≡ None → first_fault asked past ≡ None
+sound_lines asked strict [] goes = refl
+sound_lines asked strict (said ∷ past) goes =
+    let both = more_goes asked strict past said (told_after asked strict past).text (told_after asked strict past).halt goes in
+    ap (λ (first : Option (ℕ × Cause)). or_else first (numbered (length past + 1) (said_fault asked past said))) (sound_lines asked strict past both.0)
+    ∙ ap (numbered (length past + 1)) (no_fault (said_fault asked past said) (part_fault asked past (cut_after asked past) said) (length past + 1) both.1)
+
+of_some : (asked : Asked) (strict : Bool) (past : List Said) (telling : Telling) (count : ℕ) → IsGranted asked → IsTelling asked strict past telling → length past ≡ count →
+    IsOfSome count telling.cut.boundary telling.pass
+of_some asked strict past telling count granted stands many = record {
+  asked = asked;
+  past = past;
+  granted = granted;
+  sound = sound_lines asked strict past stands.goes_on;
+  stands = stands.stands;
+  as_many = sym many;
+}
+
+pub room_behind : (asked : Asked) (strict : Bool) (input : Option (List ℕ)) (telling : Telling) (old : Reading) (before : Option (List ℕ)) (count : ℕ)
+    (written now : Option (List ℕ)) → IsGranted asked → IsBehind asked strict input telling old before count written now → count < MOST_LINES →
+    HasRoom telling.cut.boundary telling.pass
+room_behind asked strict input telling old before count written now granted known few =
+    record { number = count; of_some = of_some asked strict known.past telling count granted known.stands known.many; room = few }
+
+pub plain_behind : (asked : Asked) (strict : Bool) (input : Option (List ℕ)) (telling : Telling) (old : Reading) (before : Option (List ℕ)) (count : ℕ)
+    (written now : Option (List ℕ)) → IsGranted asked → IsBehind asked strict input telling old before count written now → count ≤ MOST_LINES →
+    IsPlainPass telling.cut.boundary telling.pass
+plain_behind asked strict input telling old before count written now granted known few =
+    record { number = count; of_some = of_some asked strict known.past telling count granted known.stands known.many; few = few }

@@ -10,12 +10,8 @@ use Rattle.yds_trace.specs.Asked.{Asked}
 use Rattle.yds_trace.specs.Faults.{whole_fault}
 use Rattle.yds_trace.specs.Parts.{cut_after, place_of}
 use Rattle.yds_trace_text.specs.PartText.{part_text}
+use Rattle.yds_trace_parts.specs.Laws.{Begins}
 use Rattle.yds_trace_parts.specs.Told.{Halt, Told, line_halt, part_halt, with_part, part_told, waiting_halt, told_behind, told_with, told_next, told_after, at_line, in_form, end_halt, told_last, told_at_end}
-
--- the first text, and more
-pub record Begins (front text : List ℕ) : Type 0 where
-  pub more : List ℕ
-  pub is : text ≡ front ++ more
 
 begins_so : (text : List ℕ) → Begins text text
 begins_so text = record { more = []; is = sym (append-nil text) }

@@ -22,7 +22,7 @@ use Rattle.yds_trace_laws.proofs.Few.{jobs_few}
 use Rattle.yds_trace_laws.proofs.Ordered.{All-map_back}
 use Rattle.yds_trace_document.specs.Kept.{IsPlainTask, IsPlainShown}
 use Rattle.yds_trace_parts.specs.declared.limits.TheConstants.{MOST_LINES}
-use Rattle.yds_trace_parts.specs.Plain.{IsGranted, IsOfSome, IsPlainPass}
+use Rattle.yds_trace_parts.specs.Plain.{IsGranted, IsOfSome, IsPlainPass, HasRoom}
 
 -- # What is shown
 
@@ -90,4 +90,19 @@ some_left number before boundary old new some stands = record {
   sound = some.sound;
   stands = stands some.asked some.past some.stands;
   as_many = some.as_many;
+}
+
+or_none : (first second : Option Cause) → or_else first second ≡ None → first ≡ None
+or_none None second is = refl
+or_none (Some cause) second is = cc
+
+-- Where it wasn't refused, a part can be looked for.
+pub room_taken : (boundary : ℕ) (old new : Pass) (said : Said) (other : Asked → List Said → Option Cause) → HasRoom boundary old →
+    ((asked : Asked) (past : List Said) → IsAtBehind asked past boundary old → or_else (said_fault asked past said) (other asked past) ≡ None) →
+    ((asked : Asked) (past : List Said) → IsAtBehind asked past boundary old → IsAtBehind asked (said ∷ past) boundary new) → IsPlainPass boundary new
+room_taken boundary old new said other room sound stands = record {
+  number = room.number + 1;
+  of_some = some_more room.number boundary old new said room.of_some
+      (λ asked past at. or_none (said_fault asked past said) (other asked past) (sound asked past at)) stands;
+  few = omega (arith, room.room);
 }

@@ -1,13 +1,14 @@
 -- A line more: what is told behind it, and where the last part ends.
-use Rattle.yds_model.proofs.Common.{◌≡◌, ℕ, ◌+◌, ◌<◌, ◌≤◌, List, [], ◌∷◌, ◌++◌, length, map, filter, cond, Bool, true, false, not, ◌&&◌, ◌||◌, nat_lt, nat_le, nat_tests, Option, Some, None, Result, Ok, Err, refl, sym, ap, ap₂, subst, ◌∙◌, arith, leb-true, ltb-true, lt-ltb, append-nil, if◌then◌else◌}
+use Rattle.yds_model.proofs.Common.{◌≡◌, ℕ, ◌+◌, ◌<◌, ◌≤◌, ◌%◌, ◌==◌, List, [], ◌∷◌, ◌++◌, length, map, filter, cond, Bool, true, false, not, ◌&&◌, ◌||◌, nat_lt, nat_le, nat_tests, Option, Some, None, Result, Ok, Err, refl, sym, ap, ap₂, subst, ◌∙◌, arith, leb-true, ltb-true, lt-ltb, mod-eq_of_lt, ne_eqb, append-nil, if◌then◌else◌}
 use Rattle.yds_kernel.specs.Event.{Said}
 use Rattle.yds_kernel.specs.Parts.{or_else}
 use Rattle.yds_trace.specs.declared.cut.Cut.{Cut}
 use Rattle.yds_trace.specs.declared.fault.Cause.{Cause}
+use Rattle.yds_trace.specs.declared.limits.TheConstants.{LOOK_EVERY}
 use Rattle.yds_trace.specs.Asked.{Asked}
 use Rattle.yds_trace.specs.Document.{Judged}
 use Rattle.yds_trace.specs.Faults.{said_fault}
-use Rattle.yds_trace.specs.Parts.{begin_of, begins_from, waiting, waiting_from, is_much, is_too_much, is_due, is_quiet, is_closed, may_write, last_where, place_among, place_of, part_fault, cut_at, cut_after, stretches_of}
+use Rattle.yds_trace.specs.Parts.{begin_of, begins_from, waiting, waiting_from, is_much, is_too_much, is_due, is_quiet, is_closed, may_write, last_where, place_among, place_of, part_fault, cut_at, cut_after, no_cut, stretches_of}
 use Rattle.yds_trace_text.specs.PartText.{part_text}
 use Rattle.yds_trace_parts.specs.declared.part.Whole.{Whole}
 use Rattle.yds_trace_parts.specs.Told.{Halt, Told, line_halt, part_halt, with_part, waiting_halt, told_behind, told_with, told_next, told_after, at_line}
@@ -92,6 +93,37 @@ pub next_cut : (asked : Asked) (strict : Bool) (past : List Said) (said : Said) 
     whole.cut ≡ cut_after asked (said ∷ past)
 next_cut asked strict past said whole next =
     next.is.cut_is ∙ ap (cut_at asked (said ∷ past) (cut_after asked past)) (sym next.place)
+
+-- where a place is found and the part passes no limit
+pub part_follows : (asked : Asked) (strict : Bool) (past : List Said) (said : Said) (time : ℕ) → (told_after asked strict past).halt ≡ None → line_halt asked past said ≡ None →
+    place_of asked (said ∷ past) (cut_after asked past) ≡ Some time → part_halt asked strict (said ∷ past) (cut_after asked past) (Some time) ≡ None →
+    told_after asked strict (said ∷ past)
+    ≡ record { text = (told_after asked strict past).text ++ part_text asked (said ∷ past) (cut_after asked past) (Some time); halt = None }
+part_follows asked strict past said time goes line place fits =
+    next_is asked strict past said goes
+    ∙ ap (λ (one : Option Halt). told_with asked strict past said (told_after asked strict past).text one) line
+    ∙ ap (λ (one : Option ℕ). told_behind asked strict (said ∷ past) (cut_after asked past) one (told_after asked strict past).text) place
+    ∙ ap (λ (one : Option Halt). with_part (told_after asked strict past).text one (part_text asked (said ∷ past) (cut_after asked past) (Some time))) fits
+
+-- # Few lines
+
+not_due : (past : List Said) → 1 ≤ length past → length past < LOOK_EVERY → is_due past ≡ false
+not_due past some few =
+    let same : length past % LOOK_EVERY ≡ length past = mod-eq_of_lt few in
+    ap (λ (n : ℕ). n == 0) same ∙ ne_eqb (length past) 0 (λ (none : length past ≡ 0). omega (arith, none, some))
+
+none_due : (b : Bool) (time : Option ℕ) → b ≡ false → (may much : Bool) → (if b && may && much then time else None) ≡ None
+none_due true time is may much = cc
+none_due false time is may much = refl
+
+-- behind them it isn't looked for a place
+pub few_lines : (asked : Asked) (past : List Said) → length past < LOOK_EVERY → cut_after asked past ≡ no_cut
+few_lines asked [] few = refl
+few_lines asked (said ∷ past) few =
+    same_cut asked past said
+    (none_due (is_due (said ∷ past)) (place_among asked (said ∷ past) (waiting asked (said ∷ past) (cut_after asked past)))
+    (not_due (said ∷ past) (omega arith) few) (may_write asked (said ∷ past)) (is_much (waiting asked (said ∷ past) (cut_after asked past))))
+    ∙ few_lines asked past (omega (arith, few))
 
 -- # A part ends behind those before it
 

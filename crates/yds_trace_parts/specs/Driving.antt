@@ -1,16 +1,21 @@
 -- What becomes of the bytes of a source that is told in parts.
-use Rattle.std.specs.Prelude.{◌≡◌, ℕ, List, ◌++◌, Bool, Option, Some, None, Result, Ok, Err}
+use Rattle.std.specs.Prelude.{◌≡◌, ℕ, ◌+◌, ◌^◌, ◌≤◌, ◌⊎◌, List, ◌++◌, length, Bool, Option, Some, None, Result, Ok, Err}
 use Rattle.std.specs.Io.KnownBytes.{Appends}
 use Rattle.yds_port.specs.Sink.{AppendsFront}
 use Rattle.yds_kernel.specs.Event.{Said}
 use Rattle.yds_kernel.specs.Text.{trace_of}
+use Rattle.yds_kernel_text.specs.declared.limits.TheConstants.{ROOM}
 use Rattle.yds_trace.specs.Asked.{Asked}
 use Rattle.yds_trace_reading.specs.LineFault.{past_of}
-use Rattle.yds_trace_reading.specs.Reading.{IsTooLong}
 use Rattle.yds_trace_parts.specs.declared.halt.Halt.{Halt as HaltKept}
 use Rattle.yds_trace_parts.specs.declared.halt.Halt.TheVariants as kept
+use Rattle.yds_trace_parts.specs.declared.limits.TheConstants.{MOST_LINES}
 use Rattle.yds_trace_parts.specs.Told.{Told, told_after, told_of}
 use Rattle.yds_trace_parts.specs.Telling.{halt_read}
+
+-- Its bytes are as many as 64 bits count, but for one buffer; or its lines are as many as are told.
+abbrev pub IsEndless : List ℕ → Type 0
+IsEndless input = (2 ^ 64 ≤ length input + ROOM) ⊎ (MOST_LINES ≤ length (trace_of input).said)
 
 -- Some of the trace's lines, from the first on, were taken, and their parts were written.
 pub record WritesSome (asked : Asked) (strict : Bool) (input : List ℕ) (old new : Option (List ℕ)) : Type 0 where
@@ -29,6 +34,6 @@ abbrev pub Writes : Asked → Bool → List ℕ → Result (Unit {0}) HaltKept �
 Writes asked strict input (Ok done) old new = WritesTold asked strict input None old new
 Writes asked strict input (Err kept.Memory) old new = WritesSome asked strict input old new
 Writes asked strict input (Err kept.ReadFault) old new = WritesSome asked strict input old new
-Writes asked strict input (Err kept.Endless) old new = IsTooLong input × WritesSome asked strict input old new
+Writes asked strict input (Err kept.Endless) old new = IsEndless input × WritesSome asked strict input old new
 Writes asked strict input (Err kept.WriteFault) old new = AppendsFront (told_of asked strict (trace_of input)).text old new
 Writes asked strict input (Err halt) old new = WritesTold asked strict input (Some halt) old new

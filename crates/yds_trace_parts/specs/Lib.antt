@@ -4,3 +4,4 @@ pub mod Telling
 pub mod Plain
 pub mod Saying
 pub mod Driving
+pub mod Laws

@@ -1,5 +1,5 @@
 -- What a part needs to know of what is kept: it stands for lines without a fault, and for no more than can be counted.
-use Rattle.std.specs.Prelude.{◌≡◌, ℕ, ◌≤◌, List, length, None}
+use Rattle.std.specs.Prelude.{◌≡◌, ℕ, ◌<◌, ◌≤◌, List, length, None}
 use Rattle.yds_kernel.specs.Event.{Said}
 use Rattle.yds_trace.specs.declared.pass.Pass.{Pass}
 use Rattle.yds_trace.specs.Asked.{Asked, IsAsked, IsWithin}
@@ -28,3 +28,9 @@ pub record IsPlainPass (boundary : ℕ) (pass : Pass) : Type 0 where
   pub number : ℕ
   pub of_some : IsOfSome number boundary pass
   pub few : number ≤ MOST_LINES
+
+-- And one more can.
+pub record HasRoom (boundary : ℕ) (pass : Pass) : Type 0 where
+  pub number : ℕ
+  pub of_some : IsOfSome number boundary pass
+  pub room : number < MOST_LINES

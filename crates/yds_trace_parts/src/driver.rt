@@ -7,11 +7,13 @@ ghost use Rattle.yds_trace.specs.Asked as asking;
 ghost use Rattle.yds_trace.specs.Views.{asked_read};
 ghost use Rattle.yds_trace_reading.specs.Reading.{IsRest, IsReadOut};
 ghost use Rattle.yds_port.specs.Sink.{Puts};
+ghost use Rattle.yds_trace_parts.specs.Plain.{HasRoom, IsGranted};
 ghost use Rattle.yds_trace_parts.specs.Telling.{IsTelling, bytes_of};
 ghost use Rattle.yds_trace_parts.specs.Saying.{IsSaid, IsAdded, IsNotSaid};
 ghost use Rattle.yds_trace_parts.specs.Driving.{Writes};
 
 use crate::halt::Halt;
+use crate::limits::MOST_LINES;
 use crate::telling::Telling;
 use std::alloc::Global;
 use yds_kernel_text::{Advance, TraceReader};
@@ -28,6 +30,7 @@ pub fn tell_parts<S: Source, K: Sink>(
     source: &mut S,
     sink: &mut K,
 ) -> Result<(), Halt>
+    requires { IsGranted (asked_read asked) }
     ensures source_later { S.faults source.old ≤ S.faults source.new }
     ensures sink_later { K.faults sink.old ≤ K.faults sink.new }
     ensures no_fault { OnOk result (S.faults source.new ≡ S.faults source.old) }
@@ -58,6 +61,7 @@ fn tell<S: Source, K: Sink>(
     source: &mut S,
     sink: &mut K,
 ) -> Result<(), Halt>
+    requires { IsGranted (asked_read asked) }
     ensures source_later { S.faults source.old ≤ S.faults source.new }
     ensures sink_later { K.faults sink.old ≤ K.faults sink.new }
     ensures no_fault { OnOk result (S.faults source.new ≡ S.faults source.old) }
@@ -72,7 +76,7 @@ fn tell<S: Source, K: Sink>(
 {
     let mut reader = TraceReader::new(alloc)?;
     let mut telling = Telling::new(alloc, asked, strict)?;
-    for lines in 0..u64::MAX {
+    for lines in 0..MOST_LINES {
         match reader.advance(source) {
             Advance::Line => {
                 let piece = take_line(alloc, &reader, &mut telling)?;
@@ -96,6 +100,7 @@ fn take_line(
     reader: &TraceReader,
     telling: &mut Telling,
 ) -> Result<Option<Vec<u8>>, Halt>
+    requires { HasRoom telling.old.cut.boundary telling.old.pass }
     ensures said { (asked : asking.Asked) (strict : Bool) (past : List trace.Said) → IsTelling asked strict past telling.old → reader.now.number ≡ length past + 1
         → OnOk result (IsSaid asked strict past (said_by reader.now) telling.new) }
     ensures adds { (asked : asking.Asked) (strict : Bool) (past : List trace.Said) → IsTelling asked strict past telling.old → reader.now.number ≡ length past + 1

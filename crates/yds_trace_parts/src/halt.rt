@@ -28,7 +28,7 @@ pub enum Halt {
         begin: u64,
         late: Option<u64>,
     },
-    /// The trace has as many bytes or lines as 64 bits count.
+    /// The trace has as many bytes as 64 bits count, or as many lines as are told.
     Endless,
     /// A read failed.
     ReadFault,

@@ -8,6 +8,7 @@
 
 mod driver;
 mod halt;
+mod laws;
 mod limits;
 mod part;
 mod place;
@@ -15,4 +16,7 @@ mod telling;
 
 pub use driver::tell_parts;
 pub use halt::Halt;
+pub use laws::{
+    few_lines_are_one_part, halts_stay, halts_write_nothing, parts_follow, told_grows,
+};
 pub use limits::MOST_LINES;

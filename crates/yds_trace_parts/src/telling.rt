@@ -8,6 +8,7 @@ ghost use Rattle.yds_trace.specs.Faults.{said_fault, whole_fault};
 ghost use Rattle.yds_trace.specs.Kept.{IsAtBehind, told_to_forget};
 ghost use Rattle.yds_trace.specs.Parts.{part_fault};
 ghost use Rattle.yds_trace.specs.Views.{asked_read};
+ghost use Rattle.yds_trace_parts.specs.Plain.{HasRoom, IsPlainPass};
 ghost use Rattle.yds_trace_parts.specs.Telling.{IsTelling, IsHaltFor, IsLast, Adds};
 ghost use Rattle.yds_trace_parts.specs.Told.{told_after, at_line, part_halt};
 
@@ -46,6 +47,7 @@ impl Telling {
         number: u64,
         said: Said<'_>,
     ) -> Result<Option<Vec<u8>>, Halt>
+        requires { HasRoom self.old.cut.boundary self.old.pass }
         ensures told { (asked : asking.Asked) (strict : Bool) (past : List trace.Said) → IsTelling asked strict past self.old → number ≡ length past + 1
             → OnOk result (IsTelling asked strict (said_read said.entry ∷ past) self.new) }
         ensures adds { (asked : asking.Asked) (strict : Bool) (past : List trace.Said) → IsTelling asked strict past self.old → number ≡ length past + 1
@@ -66,6 +68,7 @@ impl Telling {
 
     /// Ends behind the last line, which has this number. It gives the text of the last part.
     pub(crate) fn end(&self, alloc: Global, number: u64) -> Result<Vec<u8>, Halt>
+        requires { IsPlainPass self.now.cut.boundary self.now.pass }
         ensures told { (asked : asking.Asked) (strict : Bool) (past : List trace.Said) → IsTelling asked strict past self.now → number ≡ length past
             → IfOk result (λ text. IsLast asked strict past self.now.cut text.items) }
         ensures sound { (asked : asking.Asked) (strict : Bool) (past : List trace.Said) → IsTelling asked strict past self.now → number ≡ length past

@@ -199,31 +199,33 @@ stopped_whole asked (Some bytes) pass old before count (Err stopped) known over 
 
 -- # As much as can be counted
 
-pub many_bytes : (bytes : List ℕ) (left : Option (List ℕ)) (taken : ℕ) → Counts (Some bytes) left 0 taken → 2 ^ 64 ≤ taken + ROOM → IsTooLong bytes
-many_bytes bytes None taken counts many = absurd counts
-many_bytes bytes (Some rest) taken counts many = inl (omega (arith, counts, many))
+pub taken_bytes : (bytes : List ℕ) (left : Option (List ℕ)) (taken : ℕ) → Counts (Some bytes) left 0 taken → taken ≤ length bytes
+taken_bytes bytes None taken counts = absurd counts
+taken_bytes bytes (Some rest) taken counts = omega (arith, counts)
 
 pub too_many_bytes : (asked : Asked) (input : Option (List ℕ)) (pass : Pass) (old : Reading) (before left : Option (List ℕ)) (count taken : ℕ)
     → IsAhead asked input pass old before count → Counts before left old.taken taken → 2 ^ 64 ≤ taken + ROOM → IfSome input IsTooLong
 too_many_bytes asked None pass old before left count taken known counts many = tt
 too_many_bytes asked (Some bytes) pass old before left count taken known counts many =
-    many_bytes bytes left taken (counts_on (Some bytes) before left old.taken taken known.counts counts) many
+    inl (omega (arith, many, taken_bytes bytes left taken (counts_on (Some bytes) before left old.taken taken known.counts counts)))
 
 said_by_past : (past : List Said) (trace : Trace) → length past ≤ length (ahead past trace).said
 said_by_past past trace =
     let all : length (past_of (ahead past trace)) ≡ length (reverse trace.said ++ past) = ap length (ahead_past past trace) in
     omega (arith, all, length-reverse (ahead past trace).said, length-append (reverse trace.said) past)
 
-pub many_lines : (bytes : List ℕ) (past : List Said) (count : ℕ) (rest : Option (List ℕ)) → Agrees (Some bytes) past count rest → length past ≡ count → 2 ^ 64 ≤ count + 1 → IsTooLong bytes
-many_lines bytes past count None agrees many all = absurd agrees
-many_lines bytes past count (Some rest) agrees many all =
+pub taken_lines : (bytes : List ℕ) (past : List Said) (count : ℕ) (rest : Option (List ℕ)) → Agrees (Some bytes) past count rest → length past ≡ count
+    → count ≤ length (trace_of bytes).said
+taken_lines bytes past count None agrees many = absurd agrees
+taken_lines bytes past count (Some rest) agrees many =
     let lines : length (trace_of bytes).said ≡ length (ahead past (trace_from (count + 1) rest)).said = ap (λ (trace : Trace). length trace.said) agrees in
-    inr (omega (arith, lines, many, all, said_by_past past (trace_from (count + 1) rest)))
+    omega (arith, lines, many, said_by_past past (trace_from (count + 1) rest))
 
 pub too_many_lines : (asked : Asked) (input : Option (List ℕ)) (pass : Pass) (old : Reading) (before : Option (List ℕ)) (count : ℕ)
     → IsAhead asked input pass old before count → 2 ^ 64 ≤ count + 1 → IfSome input IsTooLong
 too_many_lines asked None pass old before count known all = tt
-too_many_lines asked (Some bytes) pass old before count known all = many_lines bytes known.past count (unread old before) known.agrees known.many all
+too_many_lines asked (Some bytes) pass old before count known all =
+    inr (omega (arith, all, taken_lines bytes known.past count (unread old before) known.agrees known.many))
 
 -- # Before the first line
 
