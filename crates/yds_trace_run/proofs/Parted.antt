@@ -15,7 +15,7 @@ use Rattle.yds_trace_parts.specs.Told.{Halt, InForm, AtLine, OfDocument, OfText,
 use Rattle.yds_trace_parts.specs.Driving.{WritesSome, WritesTold, Writes as WritesParts}
 use Rattle.yds_trace_words.specs.Request.{ReadTrace}
 use Rattle.yds_trace_run.specs.FaultText.{halt_text, too_long_text, memory_text, read_fault_text}
-use Rattle.yds_trace_run.specs.Answer.{IsTold, WasWritten, EndsWith}
+use Rattle.yds_trace_run.specs.Answer.{IsTold, IsUncounted, WasWritten, EndsWith}
 use Rattle.yds_trace_run.specs.Endings.{IsText, Outcome, Writes, IsDelivered, IsEnded, Leaves, TellsHalt, halted_text, halted_status}
 use Rattle.yds_trace_run.proofs.Left.{leaves_read_out, leaves_failed}
 
@@ -130,7 +130,7 @@ module _ (asked : Asked) (strict : Bool) (bytes : List ℕ) (in_parts : asked.in
     halted_so halts.Endless ended old mid new drives tells = record {
       text = (told_after asked strict drives.1.past).text ++ too_long_text;
       status = statuses.Refused;
-      is_text = inr (record { long = drives.0; refused = refl; ends = ends_so (written old) (written mid) too_long_text drives.1 });
+      is_text = inr (record { long = subst (λ (b : Bool). IsUncounted b bytes) (sym in_parts) drives.0; refused = refl; ends = ends_so (written old) (written mid) too_long_text drives.1 });
       outcome = outcome_more ended (told_after asked strict drives.1.past).text too_long_text statuses.Refused (written old) (written mid) (written new) (flushed new) drives.1.appended tells.outcome;
     }
     halted_so halts.ReadFault ended old mid new drives tells = record {

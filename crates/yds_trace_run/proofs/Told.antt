@@ -17,7 +17,7 @@ use Rattle.yds_trace_words.specs.Words.{WordFault}
 use Rattle.yds_trace_words.specs.Request.{Request, ShowHelp, ShowVersion, ReadTrace}
 use Rattle.yds_trace_run.specs.Fault.{TraceFault, OfLine, of_line, document_fault, fault_of}
 use Rattle.yds_trace_run.specs.FaultText.{fault_text, memory_text}
-use Rattle.yds_trace_run.specs.Answer.{IsTold, WasWritten, StandsBefore, EndsWith}
+use Rattle.yds_trace_run.specs.Answer.{IsTold, IsUncounted, WasWritten, StandsBefore, EndsWith}
 use Rattle.yds_trace_run.specs.Endings.{IsText, Writes, IsDelivered, Tells, IsTextOfLines, stopped_text, stopped_status}
 
 -- # Ends that aren't of the trace
@@ -59,7 +59,7 @@ stopped_is asked strict bytes (stops.InForm number fault) whole is =
     inl (in_one asked strict (trace_of bytes) (fault_text (OfLine line)) statuses.Refused whole (line_told asked strict bytes line is))
 stopped_is asked strict bytes (stops.AtLine number cause) whole is =
     inl (in_one asked strict (trace_of bytes) (fault_text (OfLine (AtLine number cause))) statuses.Refused whole (line_told asked strict bytes (AtLine number cause) is))
-stopped_is asked strict bytes stops.TooLong whole is = inr (record { long = is; refused = refl; ends = ends_alone (Ok (ReadTrace asked strict)) bytes (stopped_text stops.TooLong) })
+stopped_is asked strict bytes stops.TooLong whole is = inr (record { long = subst (λ (b : Bool). IsUncounted b bytes) (sym whole) is; refused = refl; ends = ends_alone (Ok (ReadTrace asked strict)) bytes (stopped_text stops.TooLong) })
 stopped_is asked strict bytes stops.ReadFault whole is = ends_alone (Ok (ReadTrace asked strict)) bytes (stopped_text stops.ReadFault)
 stopped_is asked strict bytes stops.Memory whole is = ends_alone (Ok (ReadTrace asked strict)) bytes (stopped_text stops.Memory)
 

@@ -9,6 +9,7 @@ use Rattle.yds_trace_text.specs.Text.{text_of}
 use Rattle.yds_trace_reading.specs.LineFault.{past_of, line_fault}
 use Rattle.yds_trace_reading.specs.Reading.{IsTooLong}
 use Rattle.yds_trace_parts.specs.Told.{Halt, told_after, told_of}
+use Rattle.yds_trace_parts.specs.Driving.{IsEndless}
 use Rattle.yds_trace_words.specs.Words.{WordFault}
 use Rattle.yds_trace_words.specs.Request.{Request, ShowHelp, ShowVersion, ReadTrace}
 use Rattle.yds_trace_words.specs.Texts as texts
@@ -65,11 +66,15 @@ pub record EndsWith (request : Result Request WordFault) (input text comment : L
   pub stands : StandsBefore request input before
   pub says : text ≡ before ++ comment
 
--- an input of as many bytes or lines as can be counted
-pub record IsTooMuch (request : Result Request WordFault) (input text : List ℕ) (status : Status) : Type 0 where
-  pub long : IsTooLong input
+-- An input of as many bytes or lines as are counted, which are fewer lines where it is told in parts.
+abbrev pub IsUncounted : Bool → List ℕ → Type 0
+IsUncounted false input = IsTooLong input
+IsUncounted true input = IsEndless input
+
+pub record IsTooMuch (asked : Asked) (strict : Bool) (input text : List ℕ) (status : Status) : Type 0 where
+  pub long : IsUncounted asked.in_parts input
   pub refused : status ≡ statuses.Refused
-  pub ends : EndsWith request input text too_long_text
+  pub ends : EndsWith (Ok (ReadTrace asked strict)) input text too_long_text
 
 -- # Answers
 
@@ -86,7 +91,7 @@ Answers (Err fault) input text status = (status ≡ statuses.Usage) × (text ≡
 Answers (Ok ShowHelp) input text status = (status ≡ statuses.Done) × (text ≡ texts.help_text)
 Answers (Ok ShowVersion) input text status = (status ≡ statuses.Done) × (text ≡ texts.version_line)
 Answers (Ok (ReadTrace asked strict)) input text status =
-    IsTold asked.in_parts asked strict (trace_of input) text status ⊎ IsTooMuch (Ok (ReadTrace asked strict)) input text status
+    IsTold asked.in_parts asked strict (trace_of input) text status ⊎ IsTooMuch asked strict input text status
 
 -- a trace is asked for
 abbrev pub ReadsInput : Result Request WordFault → Type 0

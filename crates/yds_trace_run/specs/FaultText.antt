@@ -99,7 +99,7 @@ halt_text (told.NoPlace name begin late) = failed (no_place_text name begin late
 
 -- the trace has as many bytes or lines as can be counted
 abbrev pub too_long_text : List ℕ
-too_long_text = failed (codes "the trace has more bytes than 64 bits count; give a part of it")
+too_long_text = failed (codes "the trace has more bytes or lines than are counted; give a part of it")
 
 abbrev pub memory_text : List ℕ
 memory_text = failed (codes "out of memory; ask for fewer tasks, or choose a shorter time by --from and --to")

@@ -21,9 +21,9 @@ pub(crate) const MEMORY: &[u8] =
 pub(crate) const READ_FAULT: &[u8] =
     b"# the input couldn't be read to its end; give it anew\nfailed\n";
 
-/// The text for a trace of as many bytes or lines as can be counted.
+/// The text for a trace of as many bytes or lines as are counted.
 pub(crate) const TOO_LONG: &[u8] =
-    b"# the trace has more bytes than 64 bits count; give a part of it\nfailed\n";
+    b"# the trace has more bytes or lines than are counted; give a part of it\nfailed\n";
 
 /// The text for a document that is longer than a document may be.
 pub(crate) const TEXT_TOO_LONG: &[u8] =
