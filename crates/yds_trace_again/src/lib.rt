@@ -6,4 +6,4 @@
 
 mod laws;
 
-pub use laws::read_again;
+pub use laws::{read_again, some_are_read_again};
