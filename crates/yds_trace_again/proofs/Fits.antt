@@ -1,5 +1,5 @@
 -- A trace's document that passes no limit of the program is within those of documents.
-use Rattle.yds_model.proofs.Common.{◌≡◌, ◌≢◌, ℕ, zero, suc, ◌+◌, ◌<◌, ◌≤◌, ◌&&◌, Bool, true, false, nat_lt, List, [], ◌∷◌, ◌++◌, length, map, filter, get_or, Option, Some, None, is_some, refl, sym, ap, subst, ◌∙◌, arith, inl, codes, if◌then◌else◌, All, All-nil, AllByRecursion, AllPairs, recursion_from_All, All-from_recursion, All-map, list_any, list_all, position, position_or_len, option_map, filter_map, flat_map, enumerate_from, ArePoints, AreLevelsOf, IsLevel, fails_before_first, and_parts, or_parts, and_from, ltb-false, cond_both, nat_le, reverse, sum_by-cons, list_all-append, decimal, le-leb, length-map, length-append, IsJob, of_whole, written_slot_at, IsFraction, IsSlot, AreNamedJobs, AreDifferentNames, IsDocument, name_at, is_name, is_visible}
+use Rattle.yds_model.proofs.Common.{◌≡◌, ◌≢◌, ℕ, zero, suc, ◌+◌, ◌<◌, ◌≤◌, ◌==◌, ◌&&◌, eqb-true, Bool, true, false, nat_lt, List, [], ◌∷◌, ◌++◌, length, map, filter, get_or, Option, Some, None, is_some, refl, sym, ap, subst, ◌∙◌, arith, inl, codes, if◌then◌else◌, All, All-nil, AllByRecursion, AllPairs, recursion_from_All, All-from_recursion, All-map, list_any, list_all, position, position_or_len, option_map, filter_map, flat_map, enumerate_from, ArePoints, AreLevelsOf, IsLevel, fails_before_first, and_parts, or_parts, and_from, ltb-false, cond_both, nat_le, reverse, sum_by-cons, list_all-append, decimal, le-leb, length-map, length-append, IsJob, of_whole, written_slot_at, IsFraction, IsSlot, AreNamedJobs, AreDifferentNames, IsDocument, name_at, is_name, is_visible}
 use Rattle.std.specs.List.{cons_option}
 use Rattle.yds_texts.proofs.Within.{only_jobs}
 use Rattle.yds_model.specs.declared.limits.TheConstants.{MAX_JOBS, MAX_TIME, MAX_WORK, MAX_SLOTS, MAX_SLOT_WORK, MAX_NAME}
@@ -88,6 +88,10 @@ passes_limits strict settled none =
       few_runs = ltb-false MAX_SLOTS (length settled.document.runs) (no_fault_if (nat_lt MAX_SLOTS (length settled.document.runs)) faults.TooManyRuns two.0);
       small = λ k d within. small_by (get_or jobs k d) (names k d within) (times k d within) (works k d within);
     }
+
+pub no_jobs : (jobs : List Written) → (length jobs == 0) ≡ true → PassesLimits jobs (all_runs jobs)
+no_jobs [] none = record { few_jobs = omega arith; few_runs = omega arith; small = All-nil IsSmall }
+no_jobs (job ∷ jobs) none = absurd (omega (arith, eqb-true (length (job ∷ jobs)) 0 none))
 
 -- # What is judged
 
