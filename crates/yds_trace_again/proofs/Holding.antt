@@ -23,8 +23,8 @@ here : (part : List ℕ) → Holds part part
 here part = record { before = []; behind = []; is = sym (append-nil part) }
 
 -- what stands within a text that stands within another
-pub within : (text middle part : List ℕ) → Holds text middle → Holds middle part → Holds text part
-within text middle part outer inner =
+pub held_within : (text middle part : List ℕ) → Holds text middle → Holds middle part → Holds text part
+held_within text middle part outer inner =
     subst (λ (one : List ℕ). Holds one part) (sym outer.is)
     (on_the_left (outer.before ++ middle) outer.behind part (on_the_right outer.before middle part inner))
 
