@@ -1,9 +1,11 @@
 -- The parts of a trace, one after another, as they are written.
-use Rattle.std.specs.Prelude.{ℕ, List, [], ◌∷◌, ◌++◌, Option, Some, None}
+use Rattle.std.specs.Prelude.{◌≡◌, ℕ, ⊤, List, [], ◌∷◌, ◌++◌, Option, Some, None}
+use Rattle.std.specs.List.{flat_map}
 use Rattle.yds_kernel.specs.Event.{Said}
 use Rattle.yds_trace.specs.declared.cut.Cut.{Cut}
 use Rattle.yds_trace.specs.Asked.{Asked}
-use Rattle.yds_trace.specs.Parts.{part_until, place_of, cut_after}
+use Rattle.yds_trace.specs.Document.{Judged}
+use Rattle.yds_trace.specs.Parts.{part_until, place_of, cut_after, part_fault}
 use Rattle.yds_trace_document.specs.Settled.{Settled}
 use Rattle.yds_trace_document.specs.Part.{shift_of, part_of}
 use Rattle.yds_trace_text.specs.PartText.{part_text}
@@ -41,3 +43,12 @@ parts_behind asked (said ∷ past) =
 -- all parts of a trace, with the last one
 abbrev pub parts_of : Asked → List Said → List Part
 parts_of asked past = parts_behind asked past ++ made asked past (cut_after asked past) None ∷ []
+
+-- the judged jobs of parts, one part after another
+abbrev pub judged_in_parts : List Part → List Judged
+judged_in_parts parts = flat_map (λ part. part.settled.judged) parts
+
+-- No line is refused behind the parts that were written before it.
+abbrev pub KeepsParts : Asked → List Said → Type 0
+KeepsParts asked [] = ⊤
+KeepsParts asked (said ∷ past) = (part_fault asked past (cut_after asked past) said ≡ None) × KeepsParts asked past
