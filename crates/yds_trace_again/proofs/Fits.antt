@@ -51,7 +51,7 @@ none_passes p xs none k d within =
     fails_before_first p xs k d (omega (arith, past, within))
 
 -- of each written job: its name is short, its times and its work are within the limits
-record IsSmall (job : Written) : Type 0 where
+pub record IsSmall (job : Written) : Type 0 where
   name : length job.name ≤ MAX_NAME
   deadline : job.deadline ≤ MAX_TIME
   ends : list_any ends_late job.runs ≡ false
@@ -96,7 +96,7 @@ no_jobs (job ∷ jobs) none = absurd (omega (arith, eqb-true (length (job ∷ jo
 -- # What is judged
 
 -- a job of one of the tasks with these numbers
-record IsOfTask (asked : Asked) (low high : ℕ) (one : Judged) : Type 0 where
+pub record IsOfTask (asked : Asked) (low high : ℕ) (one : Judged) : Type 0 where
   number : ℕ
   not_before : low ≤ number
   not_after : number < high
@@ -150,7 +150,7 @@ of_all_tasks asked past =
 -- # Names that differ
 
 -- no two elements have the same short name
-abbrev Apart : {A : Type 0} → (A → List ℕ) → List A → Type 0
+abbrev pub Apart : {A : Type 0} → (A → List ℕ) → List A → Type 0
 Apart name [] = Unit {0}
 Apart name (x ∷ xs) = AllByRecursion (λ y. Other (name x) (name y)) xs × Apart name xs
 
@@ -172,7 +172,7 @@ apart_append name [] ys across first second = second
 apart_append name (x ∷ xs) ys across first second =
     (append-all (λ y. Other (name x) (name y)) xs ys first.0 across.0, apart_append name xs ys across.1 first.1 second)
 
-abbrev judged_name : Judged → List ℕ
+abbrev pub judged_name : Judged → List ℕ
 judged_name one = one.name
 
 later_names : (asked : Asked) (past : List Said) (number : ℕ) (before : Bool) (k start : ℕ) (jobs : List TracedJob) → k < start →
