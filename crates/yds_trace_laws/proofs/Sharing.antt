@@ -561,7 +561,7 @@ shares asked (Nothing ∷ past) order = shares asked past order
 -- # The lines that count are in order
 
 -- no line that isn't after `to` goes back
-abbrev GoesOn : Option ℕ → List Said → Type 0
+abbrev pub GoesOn : Option ℕ → List Said → Type 0
 GoesOn to [] = Unit {0}
 GoesOn to (Stamped event ∷ past) = (is_before_to to event.time ≡ true → last_time past ≤ event.time) × GoesOn to past
 GoesOn to (Lost processor reach ∷ past) = GoesOn to past
@@ -580,7 +580,7 @@ stamp_goes_on asked past event none before =
     subst (λ (b : Bool). (if b then event_fault asked past event else stayed_fault asked past event) ≡ None) before behind.0 in
     not_back (nat_lt event.time (last_time past)) event.time (last_time past) (happening_fault asked (up_to asked.to past) event.happening) refl at
 
-lines_go_on : (asked : Asked) (past : List Said) → first_fault asked past ≡ None → GoesOn asked.to past
+pub lines_go_on : (asked : Asked) (past : List Said) → first_fault asked past ≡ None → GoesOn asked.to past
 lines_go_on asked [] none = tt
 lines_go_on asked (Stamped event ∷ past) none =
     let parts = or_none (first_fault asked past) (numbered (length past + 1) (said_fault asked past (Stamped event))) none in
@@ -615,7 +615,7 @@ if_in_order true past other first second = first refl
 if_in_order false past other first second = second refl
 
 -- one that counts, and tells of no loss, isn't after `to`
-counts_by : (to : ℕ) (event : Event) (past : List Said) → counts to event past ≡ true → is_loss event.happening ≡ false → event.time ≤ to
+pub counts_by : (to : ℕ) (event : Event) (past : List Said) → counts to event past ≡ true → is_loss event.happening ≡ false → event.time ≤ to
 counts_by to event past is loss =
     leb-true event.time to (subst (λ (b : Bool). (if b then nat_lt (lost_since event.processor since.ItsLastLine past) to else nat_le event.time to) ≡ true) loss is)
 
