@@ -561,7 +561,7 @@ shares asked (Nothing ∷ past) order = shares asked past order
 -- # The lines that count are in order
 
 -- no line that isn't after `to` goes back
-abbrev GoesOn : Option ℕ → List Said → Type 0
+abbrev pub GoesOn : Option ℕ → List Said → Type 0
 GoesOn to [] = Unit {0}
 GoesOn to (Stamped event ∷ past) = (is_before_to to event.time ≡ true → last_time past ≤ event.time) × GoesOn to past
 GoesOn to (Lost processor reach ∷ past) = GoesOn to past

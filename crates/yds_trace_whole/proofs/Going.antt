@@ -120,7 +120,7 @@ record Going (boundary now : ℕ) (all : List Told) (jobs : List Job) : Type 0 w
   told : told boundary jobs ≡ all
   sound : AreSound now jobs
   free : IsFree boundary jobs
-  open : IsLastOpen jobs
+  last_open : IsLastOpen jobs
 
 fresh_keeps : (boundary now : ℕ) (all : List Told) (jobs : List Job) (woken : Bool) → Fresh boundary now all jobs →
     Keeps boundary now all (record { jobs = jobs; on = None; woken = woken })
@@ -152,12 +152,12 @@ module _ (boundary now : ℕ) (all : List Told) where
       (jobs : List Job) → Going boundary now all jobs → Going boundary now all (changed_last change jobs)
   changed_going change each [] going = going
   changed_going change each (job ∷ jobs) going =
-      let still = each job going.free going.sound.0 going.open in
+      let still = each job going.free going.sound.0 going.last_open in
       record {
         told = changed_told boundary job (change job) jobs going.free still.0 ∙ going.told;
         sound = (still.1, going.sound.1);
         free = still.0;
-        open = still.2;
+        last_open = still.2;
       }
 
   changed_fresh : (change : Job → Job) → ((job : Job) → boundary ≤ job.begin → IsSound now job → (boundary ≤ (change job).begin) × IsSound now (change job)) →
@@ -175,17 +175,17 @@ module _ (boundary now : ℕ) (all : List Told) where
   ran_fresh stretch = changed_fresh (ran stretch) (λ job late sound. (late, sound))
 
   missing_going : (jobs : List Job) → Going boundary now all jobs → Going boundary now all (changed_last missing jobs)
-  missing_going = changed_going missing (λ job late sound open. (late, (sound.0, absent_end now job.switch_missing job.end sound.1), open))
+  missing_going = changed_going missing (λ job late sound last_open. (late, (sound.0, absent_end now job.switch_missing job.end sound.1), last_open))
 
   new_going : (time : ℕ) (certain : Bool) (jobs : List Job) → boundary ≤ time → time ≤ now → told boundary jobs ≡ all → AreSound now jobs →
       Going boundary now all (began time certain jobs)
   new_going time certain jobs late by is sound =
-      record { told = new_told boundary (new_job time certain) jobs late ∙ is; sound = ((by, tt), sound); free = late; open = refl }
+      record { told = new_told boundary (new_job time certain) jobs late ∙ is; sound = ((by, tt), sound); free = late; last_open = refl }
 
   reopened_going : (job : Job) (jobs : List Job) → boundary ≤ job.begin → told boundary (job ∷ jobs) ≡ all → AreSound now (job ∷ jobs) →
       Going boundary now all (reopened job ∷ jobs)
   reopened_going job jobs late is sound =
-      record { told = changed_told boundary job (reopened job) jobs late late ∙ is; sound = ((sound.0.0, tt), sound.1); free = late; open = refl }
+      record { told = changed_told boundary job (reopened job) jobs late late ∙ is; sound = ((sound.0.0, tt), sound.1); free = late; last_open = refl }
 
   -- the last job, where it has this end that isn't done
   undone : (on : Option Standing) (job : Job) (end : End) → job.end ≡ end → (IsDone end → ⊥) → (boundary ≤ job.begin) ⊎ (IsDone job.end × IsOff on) → boundary ≤ job.begin
@@ -194,8 +194,8 @@ module _ (boundary now : ℕ) (all : List Told) where
 
   open_going : (on : Option Standing) (job : Job) (jobs : List Job) → job.end ≡ ends.Open → told boundary (job ∷ jobs) ≡ all → AreSound now (job ∷ jobs) →
       (boundary ≤ job.begin) ⊎ (IsDone job.end × IsOff on) → Going boundary now all (job ∷ jobs)
-  open_going on job jobs open is sound last =
-      record { told = is; sound = sound; free = undone on job ends.Open open (λ done. done) last; open = open }
+  open_going on job jobs last_open is sound last =
+      record { told = is; sound = sound; free = undone on job ends.Open last_open (λ done. done) last; last_open = last_open }
 
   -- # A wake-up, a run
 
@@ -206,8 +206,8 @@ module _ (boundary now : ℕ) (all : List Told) where
     awake_going on (job ∷ jobs) is sound last =
         by_end (Going boundary now all) job.end (job ∷ jobs) (λ end. began time false (job ∷ jobs))
         (λ since goes_on. if goes_on then reopened job ∷ jobs else began time false (job ∷ jobs)) (λ since. began time false (job ∷ jobs))
-        (λ open. open_going on job jobs open is sound last)
-        (λ end ends. new_going time false (job ∷ jobs) late by is sound)
+        (λ last_open. open_going on job jobs last_open is sound last)
+        (λ end is_ended. new_going time false (job ∷ jobs) late by is sound)
         (λ since goes_on unseen. either (Going boundary now all) goes_on (reopened job ∷ jobs) (began time false (job ∷ jobs))
         (reopened_going job jobs (undone on job (ends.Unseen since goes_on) unseen (λ done. done) last) is sound)
         (new_going time false (job ∷ jobs) late by is sound))
@@ -239,15 +239,15 @@ module _ (boundary now : ℕ) (all : List Told) where
     running_going on apart (job ∷ jobs) is sound last ripe =
         by_end (Going boundary now all) job.end (job ∷ jobs) (λ end. woken_after apart time job jobs)
         (λ since goes_on. began time false (job ∷ jobs)) (λ since. began time false (job ∷ jobs))
-        (λ open. open_going on job jobs open is sound last)
-        (λ end ends. woken_after_going apart job jobs is sound (over apart job end ends ripe))
+        (λ last_open. open_going on job jobs last_open is sound last)
+        (λ end is_ended. woken_after_going apart job jobs is sound (over apart job end is_ended ripe))
         (λ since goes_on unseen. new_going time false (job ∷ jobs) late by is sound)
         (λ since lost. new_going time false (job ∷ jobs) late by is sound)
 
     counted_going : (again : Bool) (job : Job) (jobs : List Job) → Going boundary now all (job ∷ jobs) → Going boundary now all (counted again job ∷ jobs)
     counted_going true job jobs going = going
     counted_going false job jobs going =
-        record { told = changed_told boundary job (counted false job) jobs going.free going.free ∙ going.told; sound = going.sound; free = going.free; open = going.open }
+        record { told = changed_told boundary job (counted false job) jobs going.free going.free ∙ going.told; sound = going.sound; free = going.free; last_open = going.last_open }
 
     woken_going : (on : Option Standing) (apart : ℕ) (again : Bool) (jobs : List Job) → told boundary jobs ≡ all → AreSound now jobs → IsLeft boundary on jobs →
         IsRipe boundary apart time jobs → Going boundary now all (woken_jobs apart time again jobs)
@@ -255,8 +255,8 @@ module _ (boundary now : ℕ) (all : List Told) where
     woken_going on apart again (job ∷ jobs) is sound last ripe =
         by_end (Going boundary now all) job.end (counted again job ∷ jobs) (λ end. woken_after apart time job jobs)
         (λ since goes_on. began time true (job ∷ jobs)) (λ since. began time true (job ∷ jobs))
-        (λ open. counted_going again job jobs (open_going on job jobs open is sound last))
-        (λ end ends. woken_after_going apart job jobs is sound (over apart job end ends ripe))
+        (λ last_open. counted_going again job jobs (open_going on job jobs last_open is sound last))
+        (λ end is_ended. woken_after_going apart job jobs is sound (over apart job end is_ended ripe))
         (λ since goes_on unseen. new_going time true (job ∷ jobs) late by is sound)
         (λ since lost. new_going time true (job ∷ jobs) late by is sound)
 
@@ -266,13 +266,13 @@ module _ (boundary now : ℕ) (all : List Told) where
     begun_going on (job ∷ jobs) is sound last =
         by_end (Going boundary now all) job.end (begun_at_most time job ∷ jobs) (λ end. began time false (job ∷ jobs))
         (λ since goes_on. began time false (job ∷ jobs)) (λ since. began time false (job ∷ jobs))
-        (λ open. record {
-          told = changed_told boundary job (begun_at_most time job) jobs (undone on job ends.Open open (λ done. done) last) late ∙ is;
+        (λ last_open. record {
+          told = changed_told boundary job (begun_at_most time job) jobs (undone on job ends.Open last_open (λ done. done) last) late ∙ is;
           sound = ((by, sound.0.1), sound.1);
           free = late;
-          open = open;
+          last_open = last_open;
         })
-        (λ end ends. new_going time false (job ∷ jobs) late by is sound)
+        (λ end is_ended. new_going time false (job ∷ jobs) late by is sound)
         (λ since goes_on unseen. new_going time false (job ∷ jobs) late by is sound)
         (λ since lost. new_going time false (job ∷ jobs) late by is sound)
 
@@ -348,7 +348,7 @@ module _ (boundary now : ℕ) (all : List Told) where
         told = going.told;
         sound = going.sound;
         last = free_left boundary (Some (record { processor = processor; came = time; since = time })) _ going.free;
-        stands = (by, going.open);
+        stands = (by, going.last_open);
       }
 
   -- It leaves: since when all is told of its processor is known.
@@ -417,19 +417,22 @@ module _ (boundary now : ℕ) (all : List Told) where
 
   -- # Other events
 
+  open_not_ended : (end : End) (time : ℕ) → end ≡ ends.Open → end ≡ ends.Ended time → ⊥
+  open_not_ended end time first second = cc
+
   woken_stands : (on : Option Standing) (apart time : ℕ) (again : Bool) (jobs : List Job) → StandsBy now on jobs → StandsBy now on (woken_jobs apart time again jobs)
   woken_stands None apart time again jobs stands = tt
   woken_stands (Some standing) apart time again [] stands = (stands.0, refl)
   woken_stands (Some standing) apart time again (job ∷ jobs) stands =
       (stands.0,
         by_end IsLastOpen job.end (counted again job ∷ jobs) (λ end. woken_after apart time job jobs) (λ since goes_on. began time true (job ∷ jobs)) (λ since. began time true (job ∷ jobs))
-        (λ open. still again open)
-        (λ end ends. absurd (let both : ends.Open ≡ ends.Ended end = sym stands.1 ∙ ends in cc both))
+        (λ last_open. still again last_open)
+        (λ end is. absurd (open_not_ended job.end end stands.1 is))
         (λ since goes_on unseen. refl) (λ since lost. refl))
     where
       still : (b : Bool) → job.end ≡ ends.Open → (counted b job).end ≡ ends.Open
-      still true open = open
-      still false open = open
+      still true last_open = last_open
+      still false last_open = last_open
 
   wakes_keeps : (apart time : ℕ) (known : Known) → boundary ≤ time → time ≤ now → IsRipe boundary apart time known.jobs → Keeps boundary now all known →
       Keeps boundary now all (wakes_up apart time known)
@@ -449,8 +452,8 @@ module _ (boundary now : ℕ) (all : List Told) where
       either (Keeps boundary now all) b (wakes_up apart time known) known (wakes_keeps apart time known late by ripe keeps) keeps
 
   ran_open : (stretch : Stretch) (jobs : List Job) → IsLastOpen jobs → IsLastOpen (changed_last (ran stretch) jobs)
-  ran_open stretch [] open = tt
-  ran_open stretch (job ∷ jobs) open = open
+  ran_open stretch [] last_open = tt
+  ran_open stretch (job ∷ jobs) last_open = last_open
 
   speeds_on : (processor time : ℕ) (khz : Option ℕ) (on : Option Standing) (known : Known) → known.on ≡ on → Keeps boundary now all known →
       (let after : Known = elim on [

@@ -52,33 +52,32 @@ until_most (Some to) time = omega arith
 
 -- # What lies in the past
 
+-- a time before another that isn't after `to`
+earlier : (to : Option ℕ) (one time : ℕ) → one ≤ time → is_before_to to time ≡ true → is_before_to to one ≡ true
+earlier None one time within before = refl
+earlier (Some to) one time within before = le-leb one to (omega (arith, within, leb-true time to before))
+
 -- No time of these lines is after the last one, as far as that isn't after `to`.
-times_by : (to : Option ℕ) (past : List Said) (processor time : ℕ) → GoesOn to past → last_time past ≤ time → is_before_to to time ≡ true →
-    (first_time 0 past ≤ time) × (unwrap_or (last_time_on processor past) 0 ≤ time)
-times_by to past processor time goes last before = (first past 0 goes last (omega arith), on past goes last)
-  where
-    earlier : (one : ℕ) → one ≤ time → is_before_to to one ≡ true
-    earlier one within = by to before
-      where
-        by : (o : Option ℕ) → is_before_to o time ≡ true → is_before_to o one ≡ true
-        by None before = refl
-        by (Some to) before = le-leb one to (omega (arith, within, leb-true time to before))
+first_by : (to : Option ℕ) (past : List Said) (here time : ℕ) → GoesOn to past → last_time past ≤ time → here ≤ time → is_before_to to time ≡ true →
+    first_time here past ≤ time
+first_by to [] here time goes last within before = within
+first_by to (Stamped event ∷ past) here time goes last within before =
+    first_by to past event.time time goes.1 (omega (arith, last, goes.0 (earlier to event.time time last before))) last before
+first_by to (Lost other reach ∷ past) here time goes last within before = first_by to past here time goes last within before
+first_by to (Nothing ∷ past) here time goes last within before = first_by to past here time goes last within before
 
-    first : (past : List Said) (here : ℕ) → GoesOn to past → last_time past ≤ time → here ≤ time → first_time here past ≤ time
-    first [] here goes last within = within
-    first (Stamped event ∷ past) here goes last within = first past event.time goes.1 (omega (arith, last, goes.0 (earlier event.time last))) last
-    first (Lost other reach ∷ past) here goes last within = first past here goes last within
-    first (Nothing ∷ past) here goes last within = first past here goes last within
+if_by : (b : Bool) (time one : ℕ) (o : Option ℕ) → one ≤ time → unwrap_or o 0 ≤ time → unwrap_or (if b then Some one else o) 0 ≤ time
+if_by true time one o first second = first
+if_by false time one o first second = second
 
-    on : (past : List Said) → GoesOn to past → last_time past ≤ time → unwrap_or (last_time_on processor past) 0 ≤ time
-    on [] goes last = omega arith
-    on (Stamped event ∷ past) goes last = which (event.processor == processor)
-      where
-        which : (b : Bool) → unwrap_or (if b then Some event.time else last_time_on processor past) 0 ≤ time
-        which true = last
-        which false = on past goes.1 (omega (arith, last, goes.0 (earlier event.time last)))
-    on (Lost other reach ∷ past) goes last = on past goes last
-    on (Nothing ∷ past) goes last = on past goes last
+on_by : (to : Option ℕ) (past : List Said) (processor time : ℕ) → GoesOn to past → last_time past ≤ time → is_before_to to time ≡ true →
+    unwrap_or (last_time_on processor past) 0 ≤ time
+on_by to [] processor time goes last before = omega arith
+on_by to (Stamped event ∷ past) processor time goes last before =
+    if_by (event.processor == processor) time event.time (last_time_on processor past) last
+    (on_by to past processor time goes.1 (omega (arith, last, goes.0 (earlier to event.time time last before))) before)
+on_by to (Lost other reach ∷ past) processor time goes last before = on_by to past processor time goes last before
+on_by to (Nothing ∷ past) processor time goes last before = on_by to past processor time goes last before
 
 option_by : (time other : ℕ) (o : Option ℕ) → unwrap_or o 0 ≤ time → other ≤ time → unwrap_or o other ≤ time
 option_by time other None first second = second
@@ -87,9 +86,9 @@ option_by time other (Some one) first second = first
 lost_by_time : (to : Option ℕ) (past : List Said) (processor time : ℕ) (reach : Since) → GoesOn to past → last_time past ≤ time → is_before_to to time ≡ true →
     lost_since processor reach past ≤ time
 lost_by_time to past processor time since.ItsLastLine goes last before =
-    let times = times_by to past processor time goes last before in
-    option_by time (first_time 0 past) (last_time_on processor past) times.1 times.0
-lost_by_time to past processor time since.TheBegin goes last before = (times_by to past processor time goes last before).0
+    option_by time (first_time 0 past) (last_time_on processor past) (on_by to past processor time goes last before)
+    (first_by to past 0 time goes last (omega arith) before)
+lost_by_time to past processor time since.TheBegin goes last before = first_by to past 0 time goes last (omega arith) before
 
 -- What is lost within what is asked for is lost since a time of that.
 pub lost_by : (to : Option ℕ) (past : List Said) (processor : ℕ) (reach : Since) → GoesOn to past → is_within_to to (lost_since processor reach past) ≡ true →
@@ -166,9 +165,9 @@ stayed_first to processor Other counting first is = is
 -- the first line with a stamp counts where it is before `to`
 counts_first : (to : ℕ) (event : Event) (past : List Said) → first_stamp past ≡ None → event.time < to → counts to event past ≡ true
 counts_first to event past none within =
-    let since : lost_since event.processor since.ItsLastLine past ≡ 0 =
+    let from_none : lost_since event.processor since.ItsLastLine past ≡ 0 =
     ap (λ (o : Option ℕ). unwrap_or o (first_time 0 past)) (none_on event.processor past none) ∙ first_is 0 past ∙ ap (λ (o : Option ℕ). unwrap_or o 0) none in
-    by (is_loss event.happening) (lost_since event.processor since.ItsLastLine past) since
+    by (is_loss event.happening) (lost_since event.processor since.ItsLastLine past) from_none
   where
     by : (b : Bool) (lost : ℕ) → lost ≡ 0 → (if b then nat_lt lost to else nat_le event.time to) ≡ true
     by true lost is = lt-ltb lost to (omega (arith, is, within))
@@ -176,20 +175,21 @@ counts_first to event past none within =
 
 first_counted : (to first : ℕ) (past : List Said) → first_stamp past ≡ Some first → first < to → first_stamp (up_to_time to past) ≡ Some first
 first_counted to first [] is within = cc is
-first_counted to first (Stamped event ∷ past) is within = by (first_stamp past) refl
+first_counted to first (Stamped event ∷ past) is within = by (first_stamp past) refl (λ some. first_counted to first past some within)
   where
-    by : (o : Option ℕ) → first_stamp past ≡ o → first_stamp (up_to_time to (Stamped event ∷ past)) ≡ Some first
-    by None none =
+    by : (o : Option ℕ) → first_stamp past ≡ o → (first_stamp past ≡ Some first → first_stamp (up_to_time to past) ≡ Some first) →
+        first_stamp (up_to_time to (Stamped event ∷ past)) ≡ Some first
+    by None none again =
         let mine : or_this event.time None ≡ Some first = ap (or_this event.time) (sym none) ∙ is in
         let time : event.time ≡ first = cc mine in
         ap (λ (b : Bool). first_stamp (if b then Stamped event ∷ up_to_time to past else
         (if is_first_switch event (up_to_time to past) then stayed to event.processor event.happening ∷ up_to_time to past else up_to_time to past)))
         (counts_first to event past none (omega (arith, time, within)))
         ∙ ap (or_this event.time) (none_stamped to past none) ∙ ap Some time
-    by (Some other) some =
+    by (Some other) some again =
         let mine : or_this event.time (Some other) ≡ Some first = ap (or_this event.time) (sym some) ∙ is in
         let same : first_stamp past ≡ Some first = some ∙ mine in
-        let rest : first_stamp (up_to_time to past) ≡ Some first = first_counted to first past same within in
+        let rest : first_stamp (up_to_time to past) ≡ Some first = again same in
         if_said (λ (l : List Said). first_stamp l ≡ Some first) (counts to event past) (Stamped event ∷ up_to_time to past)
         (if is_first_switch event (up_to_time to past) then stayed to event.processor event.happening ∷ up_to_time to past else up_to_time to past)
         (λ yes. this_some event.time (first_stamp (up_to_time to past)) first rest)
@@ -255,32 +255,32 @@ counts_before to event past goes on within =
 on_counted : (to processor time : ℕ) (past : List Said) → GoesOn (Some to) past → last_time_on processor past ≡ Some time → time < to →
     last_time_on processor (up_to_time to past) ≡ Some time
 on_counted to processor time [] goes is within = cc is
-on_counted to processor time (Stamped event ∷ past) goes is within = by (event.processor == processor) refl
+on_counted to processor time (Stamped event ∷ past) goes is within = by (event.processor == processor) refl (λ some. on_counted to processor time past goes.1 some within)
   where
-    by : (b : Bool) → (event.processor == processor) ≡ b → last_time_on processor (up_to_time to (Stamped event ∷ past)) ≡ Some time
-    by true mine =
+    by : (b : Bool) → (event.processor == processor) ≡ b → (last_time_on processor past ≡ Some time → last_time_on processor (up_to_time to past) ≡ Some time) →
+        last_time_on processor (up_to_time to (Stamped event ∷ past)) ≡ Some time
+    by true mine again =
         let last : Some event.time ≡ Some time = sym (ap (λ (b : Bool). if b then Some event.time else last_time_on processor past) mine) ∙ is in
         let same : event.time ≡ time = cc last in
         ap (λ (b : Bool). last_time_on processor (if b then Stamped event ∷ up_to_time to past else
         (if is_first_switch event (up_to_time to past) then stayed to event.processor event.happening ∷ up_to_time to past else up_to_time to past)))
         (counts_before to event past goes.1 goes.0 (omega (arith, same, within)))
         ∙ ap (λ (b : Bool). if b then Some event.time else last_time_on processor (up_to_time to past)) mine ∙ last
-    by false other =
-        other_on to processor event past other
-        ∙ on_counted to processor time past goes.1 (sym (ap (λ (b : Bool). if b then Some event.time else last_time_on processor past) other) ∙ is) within
+    by false other again =
+        other_on to processor event past other ∙ again (sym (ap (λ (b : Bool). if b then Some event.time else last_time_on processor past) other) ∙ is)
 on_counted to processor time (Lost other reach ∷ past) goes is within = lost_on to other reach processor past ∙ on_counted to processor time past goes is within
 on_counted to processor time (Nothing ∷ past) goes is within = on_counted to processor time past goes is within
 
 none_counted : (to processor : ℕ) (past : List Said) → last_time_on processor past ≡ None → last_time_on processor (up_to_time to past) ≡ None
 none_counted to processor [] none = refl
-none_counted to processor (Stamped event ∷ past) none = by (event.processor == processor) refl
+none_counted to processor (Stamped event ∷ past) none = by (event.processor == processor) refl (none_counted to processor past)
   where
-    by : (b : Bool) → (event.processor == processor) ≡ b → last_time_on processor (up_to_time to (Stamped event ∷ past)) ≡ None
-    by true mine =
+    by : (b : Bool) → (event.processor == processor) ≡ b → (last_time_on processor past ≡ None → last_time_on processor (up_to_time to past) ≡ None) →
+        last_time_on processor (up_to_time to (Stamped event ∷ past)) ≡ None
+    by true mine again =
         let both : Some event.time ≡ None = sym (ap (λ (b : Bool). if b then Some event.time else last_time_on processor past) mine) ∙ none in cc both
-    by false other =
-        other_on to processor event past other
-        ∙ none_counted to processor past (sym (ap (λ (b : Bool). if b then Some event.time else last_time_on processor past) other) ∙ none)
+    by false other again =
+        other_on to processor event past other ∙ again (sym (ap (λ (b : Bool). if b then Some event.time else last_time_on processor past) other) ∙ none)
 none_counted to processor (Lost other reach ∷ past) none = lost_on to other reach processor past ∙ none_counted to processor past none
 none_counted to processor (Nothing ∷ past) none = none_counted to processor past none
 
@@ -314,11 +314,12 @@ lost_same (Some to) processor reach past goes within = lost_since_same to proces
 
 pub whole_by : (time here : ℕ) (past : List Said) → here ≤ time → AreBy time past → whole_since here past ≤ time
 whole_by time here [] within by = within
-whole_by time here (Stamped event ∷ past) within by = which (is_loss event.happening) refl
+whole_by time here (Stamped event ∷ past) within by = which (is_loss event.happening) refl (λ other. whole_by time event.time past (by.0 other) by.1)
   where
-    which : (b : Bool) → is_loss event.happening ≡ b → (if b then here else whole_since event.time past) ≤ time
-    which true loss = within
-    which false is = whole_by time event.time past (by.0 is) by.1
+    which : (b : Bool) → is_loss event.happening ≡ b → (is_loss event.happening ≡ false → whole_since event.time past ≤ time) →
+        (if b then here else whole_since event.time past) ≤ time
+    which true loss rest = within
+    which false other rest = rest other
 whole_by time here (Lost processor reach ∷ past) within by = within
 whole_by time here (Nothing ∷ past) within by = whole_by time here past within by
 

@@ -27,33 +27,33 @@ some_if b n = if b then Some n else None
 
 -- a job that is shown up to a time
 abbrev late_at : Option ℕ → ℕ → ℕ → ℕ → Bool → Option ℕ
-late_at from last deadline shown open =
-    if is_judged from last deadline && (nat_lt deadline shown || ((deadline == shown) && open)) then Some (shown - deadline) else None
+late_at from last deadline shown unended =
+    if is_judged from last deadline && (nat_lt deadline shown || ((deadline == shown) && unended)) then Some (shown - deadline) else None
 
 judged_same : (from : Option ℕ) (last next deadline : ℕ) → deadline ≤ last → deadline ≤ next → is_judged from last deadline ≡ is_judged from next deadline
 judged_same None last next deadline here there = le-leb deadline last here ∙ sym (le-leb deadline next there)
 judged_same (Some from) last next deadline here there = ap (λ (b : Bool). nat_lt from deadline && b) (le-leb deadline last here ∙ sym (le-leb deadline next there))
 
-due_by : (deadline shown : ℕ) (open : Bool) → (nat_lt deadline shown || ((deadline == shown) && open)) ≡ true → deadline ≤ shown
-due_by deadline shown open is = by (nat_lt deadline shown) refl is
+due_by : (deadline shown : ℕ) (unended : Bool) → (nat_lt deadline shown || ((deadline == shown) && unended)) ≡ true → deadline ≤ shown
+due_by deadline shown unended is = by (nat_lt deadline shown) refl is
   where
-    by : (b : Bool) → nat_lt deadline shown ≡ b → (b || ((deadline == shown) && open)) ≡ true → deadline ≤ shown
+    by : (b : Bool) → nat_lt deadline shown ≡ b → (b || ((deadline == shown) && unended)) ≡ true → deadline ≤ shown
     by true less is = omega (arith, ltb-true deadline shown less)
-    by false other is = omega (arith, eqb-true deadline shown (and_parts (deadline == shown) open is).0)
+    by false other is = omega (arith, eqb-true deadline shown (and_parts (deadline == shown) unended is).0)
 
 and_false : (b : Bool) → (b && false) ≡ false
 and_false true = refl
 and_false false = refl
 
-late_at_same : (from : Option ℕ) (last next deadline shown : ℕ) (open : Bool) → shown ≤ last → shown ≤ next →
-    late_at from last deadline shown open ≡ late_at from next deadline shown open
-late_at_same from last next deadline shown open here there = by (nat_lt deadline shown || ((deadline == shown) && open)) refl
+late_at_same : (from : Option ℕ) (last next deadline shown : ℕ) (unended : Bool) → shown ≤ last → shown ≤ next →
+    late_at from last deadline shown unended ≡ late_at from next deadline shown unended
+late_at_same from last next deadline shown unended here there = by (nat_lt deadline shown || ((deadline == shown) && unended)) refl
   where
-    by : (b : Bool) → (nat_lt deadline shown || ((deadline == shown) && open)) ≡ b →
+    by : (b : Bool) → (nat_lt deadline shown || ((deadline == shown) && unended)) ≡ b →
         ◌≡◌ {A = Option ℕ} (if is_judged from last deadline && b then Some (shown - deadline) else None) (if is_judged from next deadline && b then Some (shown - deadline) else None)
     by true is =
         ap (λ (b : Bool). some_if (b && true) (shown - deadline))
-        (judged_same from last next deadline (omega (arith, due_by deadline shown open is, here)) (omega (arith, due_by deadline shown open is, there)))
+        (judged_same from last next deadline (omega (arith, due_by deadline shown unended is, here)) (omega (arith, due_by deadline shown unended is, there)))
     by false is = ap (λ (b : Bool). some_if b (shown - deadline)) (and_false (is_judged from last deadline) ∙ sym (and_false (is_judged from next deadline)))
 
 late_same : (from : Option ℕ) (last next deadline decided line ripe : ℕ) (absent : Bool) (end : End) → last ≤ next → IsSoundEnd last absent end → IsFirmEnd last decided line ripe end →
@@ -93,10 +93,8 @@ reason_same asked past next task job decided line ripe absent (ends.Unseen since
 reason_same asked past next task job decided line ripe absent (ends.Lost since) on sound firm =
     lost next (lt-ltb since (last_asked asked next) (omega (arith, firm.1, on))) ∙ sym (lost past (lt-ltb since (last_asked asked past) firm.1))
   where
-    abbrev told_lost : Option Reason
-    told_lost = if not (is_after_from asked.from job.begin) then Some reasons.BeforeFrom else Some reasons.EventsLost
-
-    lost : (lines : List Said) → nat_lt since (last_asked asked lines) ≡ true → reason_with asked lines task job absent (ends.Lost since) ≡ told_lost
+    lost : (lines : List Said) → nat_lt since (last_asked asked lines) ≡ true →
+        reason_with asked lines task job absent (ends.Lost since) ≡ (if not (is_after_from asked.from job.begin) then Some reasons.BeforeFrom else Some reasons.EventsLost)
     lost lines is = rw is refl
 
 -- # A job
