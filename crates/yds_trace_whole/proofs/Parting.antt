@@ -1,5 +1,5 @@
 -- The parts put together: each part has the jobs that begin between two cuts, and what is before a cut stays.
-use Rattle.yds_model.proofs.Common.{◌≡◌, ◌∙◌, ℕ, ◌+◌, ◌<◌, ◌≤◌, ◌⊎◌, inl, inr, ◌==◌, ◌&&◌, ◌||◌, List, [], ◌∷◌, ◌++◌, map, filter, flat_map, length, reverse, min, Bool, true, false, not, cond, nat_lt, nat_le, if◌then◌else◌, Option, Some, None, is_some, is_none, refl, sym, ap, ap₂, subst, arith, lt-ltb, le-ltb, le-leb, lt-leb, ltb-true, leb-true, cases_lt, and_parts, append-nil, append_assoc, filter-append, flat_map-append, list_all, list_any}
+use Rattle.yds_model.proofs.Common.{◌≡◌, ◌∙◌, ℕ, ◌+◌, ◌<◌, ◌≤◌, ◌⊎◌, inl, inr, ◌==◌, ◌&&◌, ◌||◌, List, [], ◌∷◌, ◌++◌, map, filter, flat_map, length, reverse, min, Bool, true, false, not, cond, nat_lt, nat_le, if◌then◌else◌, Option, Some, None, is_some, is_none, refl, sym, ap, ap₂, subst, arith, lt-ltb, le-ltb, le-leb, lt-leb, ltb-true, leb-true, cases_lt, true≢false, and_parts, append-nil, append_assoc, filter-append, flat_map-append, list_all, list_any}
 use Rattle.std.specs.List.{AllByRecursion, enumerate_from}
 use Rattle.yds_kernel.specs.Parts.{or_else}
 use Rattle.yds_kernel.specs.Event.{Said}
@@ -35,20 +35,22 @@ map_all P f (x ∷ xs) all = (all.0, map_all P f xs all.1)
 
 filter_all_of : {A : Type 0} (P : A → Type 0) (p : A → Bool) (xs : List A) → AllByRecursion P xs → AllByRecursion (λ x. P x × (p x ≡ true)) (filter p xs)
 filter_all_of P p [] all = tt
-filter_all_of {A} P p (x ∷ xs) all = by (p x) refl
+filter_all_of {A} P p (x ∷ xs) all = by (p x) refl (filter_all_of P p xs all.1)
   where
-    by : (b : Bool) → p x ≡ b → AllByRecursion (λ (y : A). P y × (p y ≡ true)) (cond b (x ∷ filter p xs) (filter p xs))
-    by true is = ((all.0, is), filter_all_of P p xs all.1)
-    by false is = filter_all_of P p xs all.1
+    by : (b : Bool) → p x ≡ b → AllByRecursion (λ (y : A). P y × (p y ≡ true)) (filter p xs) →
+        AllByRecursion (λ (y : A). P y × (p y ≡ true)) (cond b (x ∷ filter p xs) (filter p xs))
+    by true is rest = ((all.0, is), rest)
+    by false is rest = rest
 
 filter_all_back : {A : Type 0} (P : A → Type 0) (p : A → Bool) (xs : List A) → AllByRecursion P (filter p xs) → AllByRecursion (λ x. p x ≡ true → P x) xs
 filter_all_back P p [] all = tt
-filter_all_back {A} P p (x ∷ xs) all = by (p x) refl all
+filter_all_back {A} P p (x ∷ xs) all = by (p x) refl all (filter_all_back P p xs)
   where
     by : (b : Bool) → p x ≡ b → AllByRecursion P (cond b (x ∷ filter p xs) (filter p xs)) →
+        (AllByRecursion P (filter p xs) → AllByRecursion (λ (y : A). p y ≡ true → P y) xs) →
         (p x ≡ true → P x) × AllByRecursion (λ (y : A). p y ≡ true → P y) xs
-    by true is all = (λ so. all.0, filter_all_back P p xs all.1)
-    by false is all = (λ so. absurd (let no : false ≡ true = sym is ∙ so in cc no), filter_all_back P p xs all)
+    by true is all back = (λ so. all.0, back all.1)
+    by false is all back = (λ so. absurd (true≢false (sym so ∙ is)), back all)
 
 list_all_each : {A : Type 0} (p : A → Bool) (xs : List A) → list_all p xs ≡ true → AllByRecursion (λ x. p x ≡ true) xs
 list_all_each p [] all = tt
@@ -70,15 +72,16 @@ all_from boundary low (one ∷ jobs) on from =
 
 two_parts : (boundary : ℕ) (jobs : List Judged) → Rises begin_of jobs → filter (begins_before boundary) jobs ++ filter (begins_from boundary) jobs ≡ jobs
 two_parts boundary [] rises = refl
-two_parts boundary (one ∷ jobs) rises = by (cases_lt one.job.begin boundary)
+two_parts boundary (one ∷ jobs) rises = by (cases_lt one.job.begin boundary) (two_parts boundary jobs rises.1)
   where
-    by : (one.job.begin < boundary) ⊎ (boundary ≤ one.job.begin) → filter (begins_before boundary) (one ∷ jobs) ++ filter (begins_from boundary) (one ∷ jobs) ≡ one ∷ jobs
-    by (inl early) =
+    by : (one.job.begin < boundary) ⊎ (boundary ≤ one.job.begin) → filter (begins_before boundary) jobs ++ filter (begins_from boundary) jobs ≡ jobs →
+        filter (begins_before boundary) (one ∷ jobs) ++ filter (begins_from boundary) (one ∷ jobs) ≡ one ∷ jobs
+    by (inl early) rest =
         ap₂ (λ (b c : Bool). cond b (one ∷ filter (begins_before boundary) jobs) (filter (begins_before boundary) jobs)
         ++ cond c (one ∷ filter (begins_from boundary) jobs) (filter (begins_from boundary) jobs))
         (lt-ltb one.job.begin boundary early) (lt-leb boundary one.job.begin early)
-        ∙ ap (λ (l : List Judged). one ∷ l) (two_parts boundary jobs rises.1)
-    by (inr late) =
+        ∙ ap (λ (l : List Judged). one ∷ l) rest
+    by (inr late) rest =
         ap₂ (λ (b c : Bool). cond b (one ∷ filter (begins_before boundary) jobs) (filter (begins_before boundary) jobs)
         ++ cond c (one ∷ filter (begins_from boundary) jobs) (filter (begins_from boundary) jobs))
         (le-ltb one.job.begin boundary late) (le-leb boundary one.job.begin late)
@@ -86,19 +89,16 @@ two_parts boundary (one ∷ jobs) rises = by (cases_lt one.job.begin boundary)
 
 still_before : (boundary time : ℕ) (jobs : List Judged) → boundary ≤ time → filter (begins_before time) (filter (begins_before boundary) jobs) ≡ filter (begins_before boundary) jobs
 still_before boundary time [] on = refl
-still_before boundary time (one ∷ jobs) on = by (nat_lt one.job.begin boundary) refl
+still_before boundary time (one ∷ jobs) on = by (nat_lt one.job.begin boundary) refl (still_before boundary time jobs on)
   where
-    rest : filter (begins_before time) (filter (begins_before boundary) jobs) ≡ filter (begins_before boundary) jobs
-    rest = still_before boundary time jobs on
-
-    by : (b : Bool) → nat_lt one.job.begin boundary ≡ b →
+    by : (b : Bool) → nat_lt one.job.begin boundary ≡ b → filter (begins_before time) (filter (begins_before boundary) jobs) ≡ filter (begins_before boundary) jobs →
         filter (begins_before time) (cond b (one ∷ filter (begins_before boundary) jobs) (filter (begins_before boundary) jobs))
         ≡ cond b (one ∷ filter (begins_before boundary) jobs) (filter (begins_before boundary) jobs)
-    by true is =
+    by true is rest =
         ap (λ (b : Bool). cond b (one ∷ filter (begins_before time) (filter (begins_before boundary) jobs)) (filter (begins_before time) (filter (begins_before boundary) jobs)))
         (lt-ltb one.job.begin time (omega (arith, ltb-true one.job.begin boundary is, on)))
         ∙ ap (λ (l : List Judged). one ∷ l) rest
-    by false is = rest
+    by false is rest = rest
 
 -- What is before the first cut, and what is between it and the second, is what is before the second.
 next_part : (boundary time : ℕ) (jobs : List Judged) → boundary ≤ time → Rises begin_of jobs →
@@ -125,13 +125,13 @@ module _ (asked : Asked) (past : List Said) where
   all_numbered P number before Q each start [] all = tt
   all_numbered P number before Q each start (job ∷ jobs) all = (each start job all.0, all_numbered P number before Q each (start + 1) jobs all.1)
 
-  changed_all : (Q : Job → Type 0) (change : Job → Job) → ((job : Job) → Q job → Q (change job)) → (jobs : List Job) → AllByRecursion Q jobs → AllByRecursion Q (changed_last change jobs)
-  changed_all Q change keeps [] all = tt
-  changed_all Q change keeps (job ∷ jobs) all = (keeps job all.0, all.1)
+changed_all : (Q : Job → Type 0) (change : Job → Job) → ((job : Job) → Q job → Q (change job)) → (jobs : List Job) → AllByRecursion Q jobs → AllByRecursion Q (changed_last change jobs)
+changed_all Q change keeps [] all = tt
+changed_all Q change keeps (job ∷ jobs) all = (keeps job all.0, all.1)
 
-  all_changed : (Q : Job → Type 0) (change : Job → Job) → ((job : Job) → Q (change job) → Q job) → (jobs : List Job) → AllByRecursion Q (changed_last change jobs) → AllByRecursion Q jobs
-  all_changed Q change back [] all = tt
-  all_changed Q change back (job ∷ jobs) all = (back job all.0, all.1)
+all_changed : (Q : Job → Type 0) (change : Job → Job) → ((job : Job) → Q (change job) → Q job) → (jobs : List Job) → AllByRecursion Q (changed_last change jobs) → AllByRecursion Q jobs
+all_changed Q change back [] all = tt
+all_changed Q change back (job ∷ jobs) all = (back job all.0, all.1)
 
 -- who still has its processor has had it until now
 abbrev closing : Asked → List Said → Standing → Stretch
@@ -171,13 +171,14 @@ from_all asked past P number (task ∷ tasks) each =
 all_from_tasks : (asked : Asked) (past : List Said) (P : Judged → Type 0) (number : ℕ) (tasks : List Task) → AllByRecursion P (judged_from asked past number tasks) →
     (k : ℕ) → number ≤ k → k < number + length tasks → AllByRecursion P (judged_of asked past k)
 all_from_tasks asked past P number [] all k from within = absurd (omega (arith, from, within))
-all_from_tasks asked past P number (task ∷ tasks) all k from within = by (cases_lt number k)
+all_from_tasks asked past P number (task ∷ tasks) all k from within =
+    by (cases_lt number k)
+    (all_from_tasks asked past P (number + 1) tasks (append-all_right P (judged_of asked past number) (judged_from asked past (number + 1) tasks) all) k)
   where
-    by : (number < k) ⊎ (k ≤ number) → AllByRecursion P (judged_of asked past k)
-    by (inl more) =
-        all_from_tasks asked past P (number + 1) tasks (append-all_right P (judged_of asked past number) (judged_from asked past (number + 1) tasks) all)
-        k (omega (arith, more)) (omega (arith, within))
-    by (inr here) =
+    by : (number < k) ⊎ (k ≤ number) → (number + 1 ≤ k → k < number + 1 + length tasks → AllByRecursion P (judged_of asked past k)) →
+        AllByRecursion P (judged_of asked past k)
+    by (inl more) rest = rest (omega (arith, more)) (omega (arith, within))
+    by (inr here) rest =
         subst (λ (n : ℕ). AllByRecursion P (judged_of asked past n)) (let e : number ≡ k = omega (arith, here, from) in e)
         (append-all_left P (judged_of asked past number) (judged_from asked past (number + 1) tasks) all)
 
@@ -197,20 +198,18 @@ all_begun asked past cut holds =
     (closed_all asked past Q (λ job stretch is. is) known
     (all_weaker (IsSound (last_asked asked past)) Q (λ job is. is.0) known.jobs (holds number (omega (arith, within))).keeps.sound)))))
 
-some_is : (time other : ℕ) (o : Option ℕ) → or_else (Some other) o ≡ Some time → ◌≡◌ {A = Option ℕ} (Some other) (Some time)
-some_is time other o is = is
-
 last_where_is : (P : ℕ → Type 0) (test : ℕ → Bool) (times : List ℕ) (time : ℕ) → AllByRecursion P times → last_where test times ≡ Some time → P time × (test time ≡ true)
 last_where_is P test [] time all is = cc is
-last_where_is P test (one ∷ times) time all is = by (last_where test times) refl is
+last_where_is P test (one ∷ times) time all is = by (last_where test times) refl is (last_where_is P test times time all.1)
   where
     here : (b : Bool) → test one ≡ b → ◌≡◌ {A = Option ℕ} (if b then Some one else None) (Some time) → P time × (test time ≡ true)
     here true passes is = let same : one ≡ time = cc is in (subst P same all.0, subst (λ (t : ℕ). test t ≡ true) same passes)
     here false fails is = cc is
 
-    by : (o : Option ℕ) → last_where test times ≡ o → or_else o (if test one then Some one else None) ≡ Some time → P time × (test time ≡ true)
-    by None none is = here (test one) refl is
-    by (Some other) some is = last_where_is P test times time all.1 (some ∙ is)
+    by : (o : Option ℕ) → last_where test times ≡ o → or_else o (if test one then Some one else None) ≡ Some time →
+        (last_where test times ≡ Some time → P time × (test time ≡ true)) → P time × (test time ≡ true)
+    by None none is rest = here (test one) refl is
+    by (Some other) some is rest = rest (some ∙ is)
 
 -- a place lies between the cut and now, and there it is quiet
 pub record IsPlace (asked : Asked) (past : List Said) (cut : Cut) (time : ℕ) : Type 0 where
@@ -270,8 +269,8 @@ abbrev SettledJudged : Asked → List Said → ℕ → ℕ → Judged → Type 0
 SettledJudged asked past boundary time one = boundary ≤ one.job.begin → one.job.begin < time → is_settled asked past one ≡ true
 
 passed : (b c d : Bool) → (b || (c && d)) ≡ true → b ≡ false → c ≡ true
-passed true c d is no = cc no
-passed false c d is no = (and_parts c d is).0
+passed true c d held off = absurd (true≢false off)
+passed false c d held off = (and_parts c d held).0
 
 judged_settled : (asked : Asked) (past : List Said) (cut : Cut) (time : ℕ) → is_quiet asked past (waiting asked past cut) time ≡ true →
     AllByRecursion (SettledJudged asked past cut.boundary time) (all_judged asked past)
