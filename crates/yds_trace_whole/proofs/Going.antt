@@ -1,5 +1,5 @@
 -- What an event does to the jobs that are told: nothing, where these are settled. And what is known of each job's times stays so.
-use Rattle.yds_model.proofs.Common.{◌≡◌, ◌∙◌, ℕ, ◌+◌, ◌<◌, ◌≤◌, ◌⊎◌, inl, inr, ◌==◌, ◌&&◌, List, [], ◌∷◌, map, min, Bool, true, false, not, nat_lt, if◌then◌else◌, Option, Some, None, is_none, refl, sym, ap, subst, arith, ltb-true, le-ltb, and_parts}
+use Rattle.yds_model.proofs.Common.{◌≡◌, ◌∙◌, ℕ, ◌+◌, ◌<◌, ◌≤◌, ◌⊎◌, inl, inr, ◌==◌, ◌&&◌, List, [], ◌∷◌, map, min, Bool, true, false, not, nat_lt, if◌then◌else◌, Option, Some, None, is_none, refl, sym, ap, subst, arith, ltb-true, le-ltb, le_refl, eqb-true, and_parts, length}
 use Rattle.std.specs.List.{AllByRecursion}
 use Rattle.yds_kernel.specs.declared.state.State.{State}
 use Rattle.yds_kernel.specs.declared.state.State.TheVariants as states
@@ -21,8 +21,22 @@ IsSoundEnd now absent (ends.Ended end) = end ≤ now
 IsSoundEnd now absent (ends.Unseen since goes_on) = (since ≤ now) × (absent ≡ true)
 IsSoundEnd now absent (ends.Lost since) = since ≤ now
 
+-- up to when a job may have run
+abbrev pub latest : ℕ → End → ℕ
+latest now (ends.Ended end) = end
+latest now _ = now
+
+-- A stretch lies between two times.
+abbrev pub IsSpan : ℕ → ℕ → Stretch → Type 0
+IsSpan from to stretch = (from ≤ stretch.from) × (stretch.from ≤ stretch.to) × (stretch.to ≤ to)
+
+abbrev pub AreSpans : ℕ → ℕ → List Stretch → Type 0
+AreSpans from to stretches = AllByRecursion (IsSpan from to) stretches
+
+-- And its stretches lie between its begin and its end.
 abbrev pub IsSound : ℕ → Job → Type 0
-IsSound now job = (job.begin ≤ now) × IsSoundEnd now job.switch_missing job.end
+IsSound now job =
+    (job.begin ≤ now) × IsSoundEnd now job.switch_missing job.end × (job.begin ≤ latest now job.end) × AreSpans job.begin (latest now job.end) job.stretches
 
 abbrev pub AreSound : ℕ → List Job → Type 0
 AreSound now jobs = AllByRecursion (IsSound now) jobs
@@ -33,9 +47,37 @@ later_end now later absent (ends.Ended end) on sound = omega (arith, on, sound)
 later_end now later absent (ends.Unseen since goes_on) on sound = (omega (arith, on, sound.0), sound.1)
 later_end now later absent (ends.Lost since) on sound = omega (arith, on, sound)
 
+latest_by : (now : ℕ) (absent : Bool) (end : End) → IsSoundEnd now absent end → latest now end ≤ now
+latest_by now absent ends.Open sound = omega arith
+latest_by now absent (ends.Ended end) sound = sound
+latest_by now absent (ends.Unseen since goes_on) sound = omega arith
+latest_by now absent (ends.Lost since) sound = omega arith
+
+latest_later : (now later : ℕ) (end : End) → now ≤ later → latest now end ≤ latest later end
+latest_later now later ends.Open on = on
+latest_later now later (ends.Ended end) on = omega arith
+latest_later now later (ends.Unseen since goes_on) on = on
+latest_later now later (ends.Lost since) on = on
+
+pub wider : (from to more : ℕ) (stretches : List Stretch) → to ≤ more → AreSpans from to stretches → AreSpans from more stretches
+wider from to more stretches on spans =
+    all_weaker (IsSpan from to) (IsSpan from more) (λ stretch is. (is.0, is.1, omega (arith, is.2, on))) stretches spans
+
+-- a sound job whose end is another one, up to which it may have run
+other_end : (now : ℕ) (job : Job) (absent : Bool) (end : End) → IsSound now job → IsSoundEnd now absent end → now ≤ latest now end →
+    IsSound now (record job { end = end; switch_missing = absent })
+other_end now job absent end sound now_sound on =
+    let most : latest now job.end ≤ now = latest_by now job.switch_missing job.end sound.1 in
+    (sound.0, now_sound, omega (arith, sound.0, on), wider job.begin (latest now job.end) (latest now end) job.stretches (omega (arith, most, on)) sound.3)
+
 pub later_sound : (now later : ℕ) (jobs : List Job) → now ≤ later → AreSound now jobs → AreSound later jobs
 later_sound now later jobs on sound =
-    all_weaker (IsSound now) (IsSound later) (λ job is. (omega (arith, on, is.0), later_end now later job.switch_missing job.end on is.1)) jobs sound
+    all_weaker (IsSound now) (IsSound later) (λ job is. (
+      omega (arith, on, is.0),
+      later_end now later job.switch_missing job.end on is.1,
+      omega (arith, is.2, latest_later now later job.end on),
+      wider job.begin (latest now job.end) (latest later job.end) job.stretches (latest_later now later job.end on) is.3,
+    )) jobs sound
 
 absent_end : (now : ℕ) (absent : Bool) (end : End) → IsSoundEnd now absent end → IsSoundEnd now true end
 absent_end now absent ends.Open sound = tt
@@ -45,15 +87,20 @@ absent_end now absent (ends.Lost since) sound = sound
 
 -- # What holds of the last job
 
--- It is open, if there is one.
+-- There is one, and it is open.
 abbrev pub IsLastOpen : List Job → Type 0
-IsLastOpen [] = Unit {0}
+IsLastOpen [] = ⊥
 IsLastOpen (job ∷ jobs) = job.end ≡ ends.Open
 
--- Its thread runs, and came by this time.
+-- It began by this time.
+abbrev pub IsLastBy : ℕ → List Job → Type 0
+IsLastBy time [] = Unit {0}
+IsLastBy time (job ∷ jobs) = job.begin ≤ time
+
+-- Its thread runs, and came by this time; and the job began before it ran.
 abbrev pub StandsBy : ℕ → Option Standing → List Job → Type 0
 StandsBy now None jobs = Unit {0}
-StandsBy now (Some standing) jobs = (standing.came ≤ now) × IsLastOpen jobs
+StandsBy now (Some standing) jobs = (standing.came ≤ now) × IsLastOpen jobs × IsLastBy standing.since jobs × (standing.since ≤ now)
 
 abbrev pub IsOff : Option Standing → Type 0
 IsOff None = Unit {0}
@@ -171,21 +218,36 @@ module _ (boundary now : ℕ) (all : List Told) where
         free = still.0;
       }
 
-  ran_fresh : (stretch : Stretch) (jobs : List Job) → Fresh boundary now all jobs → Fresh boundary now all (changed_last (ran stretch) jobs)
-  ran_fresh stretch = changed_fresh (ran stretch) (λ job late sound. (late, sound))
+  -- a stretch since a time by which the job began
+  ran_going : (stretch : Stretch) (jobs : List Job) → IsLastBy stretch.from jobs → stretch.from ≤ stretch.to → stretch.to ≤ now → Going boundary now all jobs →
+      Fresh boundary now all (changed_last (ran stretch) jobs)
+  ran_going stretch [] from forward by going = record { told = going.told; sound = going.sound; free = going.free }
+  ran_going stretch (job ∷ jobs) from forward by going =
+      let whole : now ≡ latest now job.end = subst (λ (end : End). now ≡ latest now end) (sym going.last_open) refl in
+      record {
+        told = changed_told boundary job (ran stretch job) jobs going.free going.free ∙ going.told;
+        sound = ((going.sound.0.0, going.sound.0.1, going.sound.0.2, ((from, forward, omega (arith, by, whole)), going.sound.0.3)), going.sound.1);
+        free = going.free;
+      }
 
   missing_going : (jobs : List Job) → Going boundary now all jobs → Going boundary now all (changed_last missing jobs)
-  missing_going = changed_going missing (λ job late sound last_open. (late, (sound.0, absent_end now job.switch_missing job.end sound.1), last_open))
+  missing_going =
+      changed_going missing (λ job late sound last_open. (late, (sound.0, absent_end now job.switch_missing job.end sound.1, sound.2, sound.3), last_open))
 
   new_going : (time : ℕ) (certain : Bool) (jobs : List Job) → boundary ≤ time → time ≤ now → told boundary jobs ≡ all → AreSound now jobs →
       Going boundary now all (began time certain jobs)
   new_going time certain jobs late by is sound =
-      record { told = new_told boundary (new_job time certain) jobs late ∙ is; sound = ((by, tt), sound); free = late; last_open = refl }
+      record { told = new_told boundary (new_job time certain) jobs late ∙ is; sound = ((by, tt, by, tt), sound); free = late; last_open = refl }
 
   reopened_going : (job : Job) (jobs : List Job) → boundary ≤ job.begin → told boundary (job ∷ jobs) ≡ all → AreSound now (job ∷ jobs) →
       Going boundary now all (reopened job ∷ jobs)
   reopened_going job jobs late is sound =
-      record { told = changed_told boundary job (reopened job) jobs late late ∙ is; sound = ((sound.0.0, tt), sound.1); free = late; last_open = refl }
+      record {
+        told = changed_told boundary job (reopened job) jobs late late ∙ is;
+        sound = (other_end now job job.switch_missing ends.Open sound.0 tt (omega arith), sound.1);
+        free = late;
+        last_open = refl;
+      }
 
   -- the last job, where it has this end that isn't done
   undone : (on : Option Standing) (job : Job) (end : End) → job.end ≡ end → (IsDone end → ⊥) → (boundary ≤ job.begin) ⊎ (IsDone job.end × IsOff on) → boundary ≤ job.begin
@@ -260,15 +322,40 @@ module _ (boundary now : ℕ) (all : List Told) where
         (λ since goes_on unseen. new_going time true (job ∷ jobs) late by is sound)
         (λ since lost. new_going time true (job ∷ jobs) late by is sound)
 
-    begun_going : (on : Option Standing) (jobs : List Job) → told boundary jobs ≡ all → AreSound now jobs → IsLeft boundary on jobs →
+    -- Where its thread had no switch yet, the open job has no stretch.
+    no_stretch : (job : Job) (jobs : List Job) (from to : ℕ) → job.end ≡ ends.Open → has_no_switch (job ∷ jobs) ≡ true → AreSpans from to job.stretches
+    no_stretch job jobs from to is none =
+        let parts : ((length job.stretches == 0) && not job.switch_missing) ≡ true = subst (λ (end : End). (elim end [
+          | ends.Open ↦ (length job.stretches == 0) && not job.switch_missing
+          | ends.Ended end ↦ false
+          | ends.Unseen last goes_on ↦ false
+          | ends.Lost last ↦ true
+        ]) ≡ true) is none in
+        empty job.stretches (eqb-true (length job.stretches) 0 (and_parts (length job.stretches == 0) (not job.switch_missing) parts).0)
+      where
+        empty : (stretches : List Stretch) → length stretches ≡ 0 → AreSpans from to stretches
+        empty [] none = tt
+        empty (stretch ∷ stretches) none = absurd (omega (arith, none))
+
+    begun_last : (jobs : List Job) → IsLastBy time (begun_by time jobs)
+    begun_last [] = omega arith
+    begun_last (job ∷ jobs) =
+        by_end (IsLastBy time) job.end (begun_at_most time job ∷ jobs) (λ end. began time false (job ∷ jobs))
+        (λ since goes_on. began time false (job ∷ jobs)) (λ since. began time false (job ∷ jobs))
+        (λ is. le_refl time) (λ end is. le_refl time) (λ since goes_on is. le_refl time) (λ since is. le_refl time)
+
+    begun_going : (on : Option Standing) (jobs : List Job) → told boundary jobs ≡ all → AreSound now jobs → IsLeft boundary on jobs → has_no_switch jobs ≡ true →
         Going boundary now all (begun_by time jobs)
-    begun_going on [] is sound last = new_going time false [] late by is sound
-    begun_going on (job ∷ jobs) is sound last =
+    begun_going on [] is sound last none = new_going time false [] late by is sound
+    begun_going on (job ∷ jobs) is sound last none =
         by_end (Going boundary now all) job.end (begun_at_most time job ∷ jobs) (λ end. began time false (job ∷ jobs))
         (λ since goes_on. began time false (job ∷ jobs)) (λ since. began time false (job ∷ jobs))
         (λ last_open. record {
           told = changed_told boundary job (begun_at_most time job) jobs (undone on job ends.Open last_open (λ done. done) last) late ∙ is;
-          sound = ((by, sound.0.1), sound.1);
+          sound = (
+            (by, sound.0.1, subst (λ (end : End). time ≤ latest now end) (sym last_open) by, no_stretch job jobs time (latest now job.end) last_open none),
+            sound.1,
+          );
           free = late;
           last_open = last_open;
         })
@@ -279,7 +366,8 @@ module _ (boundary now : ℕ) (all : List Told) where
   -- # A thread's switches
 
   unseen_fresh : (came : ℕ) (goes_on : Bool) → came ≤ now → (jobs : List Job) → Fresh boundary now all jobs → Fresh boundary now all (changed_last (left_unseen came goes_on) jobs)
-  unseen_fresh came goes_on by = changed_fresh (left_unseen came goes_on) (λ job late sound. (late, (sound.0, (by, refl))))
+  unseen_fresh came goes_on by = changed_fresh (left_unseen came goes_on) (λ job late sound.
+      (late, other_end now job true (ends.Unseen came goes_on) sound (by, refl) (omega arith)))
 
   vanished_on : (wakes : Bool) (on : Option Standing) (known : Known) → Keeps boundary now all known → known.on ≡ on →
       (let after : Known = elim on [
@@ -335,9 +423,14 @@ module _ (boundary now : ℕ) (all : List Told) where
       either (λ (one : Known). IsRipe boundary apart time one.jobs) (stands_on processor known.on) (vanished wakes known) known
       (vanished_ripe apart time wakes known keeps ripe) ripe
 
-  comes_keeps : (apart : ℕ) (wakes : Bool) (processor time : ℕ) (known : Known) → boundary ≤ time → time ≤ now → Keeps boundary now all known →
+  -- each job began by now
+  last_by : (time : ℕ) (jobs : List Job) → now ≤ time → AreSound now jobs → IsLastBy time jobs
+  last_by time [] at sound = tt
+  last_by time (job ∷ jobs) at sound = omega (arith, at, sound.0.0)
+
+  comes_keeps : (apart : ℕ) (wakes : Bool) (processor time : ℕ) (known : Known) → boundary ≤ time → time ≤ now → now ≤ time → Keeps boundary now all known →
       IsRipe boundary apart time known.jobs → Keeps boundary now all (comes apart wakes processor time known)
-  comes_keeps apart wakes processor time known late by keeps ripe =
+  comes_keeps apart wakes processor time known late by at keeps ripe =
       let gone : Keeps boundary now all (vanished wakes known) = vanished_keeps wakes known keeps in
       let going : Going boundary now all (if wakes then awake_jobs time (vanished wakes known).jobs else running_jobs apart time (vanished wakes known).jobs) =
       either (Going boundary now all) wakes (awake_jobs time (vanished wakes known).jobs) (running_jobs apart time (vanished wakes known).jobs)
@@ -348,91 +441,95 @@ module _ (boundary now : ℕ) (all : List Told) where
         told = going.told;
         sound = going.sound;
         last = free_left boundary (Some (record { processor = processor; came = time; since = time })) _ going.free;
-        stands = (by, going.last_open);
+        stands = (by, going.last_open, last_by time _ at going.sound, by);
       }
 
   -- It leaves: since when all is told of its processor is known.
-  here_fresh : (leaving : Leaving) (on : Option Standing) (jobs : List Job) → told boundary jobs ≡ all → AreSound now jobs → IsLeft boundary on jobs →
-      stands_on leaving.processor on ≡ true →
+  here_fresh : (leaving : Leaving) (on : Option Standing) (jobs : List Job) → leaving.time ≤ now → now ≤ leaving.time → told boundary jobs ≡ all → AreSound now jobs →
+      IsLeft boundary on jobs → StandsBy now on jobs → stands_on leaving.processor on ≡ true →
       Fresh boundary now all (elim on [ None ↦ jobs | Some standing ↦ changed_last (ran (stretch_of leaving standing.since)) jobs ])
-  here_fresh leaving None jobs is sound last there = cc
-  here_fresh leaving (Some standing) jobs is sound last there =
-      ran_fresh (stretch_of leaving standing.since) jobs (record { told = is; sound = sound; free = standing_free boundary standing jobs last })
+  here_fresh leaving None jobs by at is sound last stands there = cc
+  here_fresh leaving (Some standing) jobs by at is sound last stands there =
+      ran_going (stretch_of leaving standing.since) jobs stands.2 (omega (arith, stands.3, at)) by
+      (record { told = is; sound = sound; free = standing_free boundary standing jobs last; last_open = stands.1 })
 
   not_false : (b : Bool) → not b ≡ true → b ≡ false
   not_false true so = cc
   not_false false so = refl
 
-  left_from_fresh : (wakes : Bool) (leaving : Leaving) (known : Known) → boundary ≤ leaving.time → leaving.time ≤ now → leaving.whole_since ≤ now →
+  left_from_fresh : (wakes : Bool) (leaving : Leaving) (known : Known) → boundary ≤ leaving.time → leaving.time ≤ now → now ≤ leaving.time → leaving.whole_since ≤ now →
       (leaving.has_switched ≡ false → boundary ≤ leaving.whole_since) → Keeps boundary now all known → Fresh boundary now all (left_from wakes leaving known)
-  left_from_fresh wakes leaving known late by since whole keeps =
+  left_from_fresh wakes leaving known late by at since whole keeps =
       by_test (Fresh boundary now all) (stands_on leaving.processor known.on)
       (elim known.on [ None ↦ known.jobs | Some standing ↦ changed_last (ran (stretch_of leaving standing.since)) known.jobs ])
       (if is_none known.on && not leaving.has_switched && has_no_switch known.jobs
       then changed_last (ran (stretch_of leaving leaving.whole_since)) (begun_by leaving.whole_since known.jobs)
       else changed_last missing (awake_jobs leaving.time (vanished wakes known).jobs))
-      (here_fresh leaving known.on known.jobs keeps.told keeps.sound keeps.last)
+      (here_fresh leaving known.on known.jobs by at keeps.told keeps.sound keeps.last keeps.stands)
       (λ there. by_test (Fresh boundary now all) (is_none known.on && not leaving.has_switched && has_no_switch known.jobs)
       (changed_last (ran (stretch_of leaving leaving.whole_since)) (begun_by leaving.whole_since known.jobs))
       (changed_last missing (awake_jobs leaving.time (vanished wakes known).jobs))
       (λ first.
       let parts = and_parts (is_none known.on && not leaving.has_switched) (has_no_switch known.jobs) first in
       let two = and_parts (is_none known.on) (not leaving.has_switched) parts.0 in
-      ran_fresh (stretch_of leaving leaving.whole_since) (begun_by leaving.whole_since known.jobs)
-      (going_fresh boundary now all (begun_by leaving.whole_since known.jobs)
-      (begun_going leaving.whole_since (whole (not_false leaving.has_switched two.1)) since known.on known.jobs keeps.told keeps.sound keeps.last)))
+      let low : boundary ≤ leaving.whole_since = whole (not_false leaving.has_switched two.1) in
+      ran_going (stretch_of leaving leaving.whole_since) (begun_by leaving.whole_since known.jobs) (begun_last leaving.whole_since low since known.jobs)
+      (omega (arith, since, at)) by (begun_going leaving.whole_since low since known.on known.jobs keeps.told keeps.sound keeps.last parts.1))
       (λ other.
       let gone : Keeps boundary now all (vanished wakes known) = vanished_keeps wakes known keeps in
       going_fresh boundary now all (changed_last missing (awake_jobs leaving.time (vanished wakes known).jobs))
       (missing_going (awake_jobs leaving.time (vanished wakes known).jobs)
       (awake_going leaving.time late by (vanished wakes known).on (vanished wakes known).jobs gone.told gone.sound gone.last))))
 
-  left_in_fresh : (wakes : Bool) (state : State) (time : ℕ) (jobs : List Job) → time ≤ now → Fresh boundary now all jobs → Fresh boundary now all (left_in wakes state time jobs)
-  left_in_fresh wakes states.GoesOn time jobs by fresh = fresh
-  left_in_fresh wakes states.Sleeps time jobs by fresh = changed_fresh (ended time) (λ job late sound. (late, (sound.0, by))) jobs fresh
-  left_in_fresh wakes states.Unknown time jobs by fresh = unseen_fresh time wakes by jobs fresh
+  left_in_fresh : (wakes : Bool) (state : State) (time : ℕ) (jobs : List Job) → time ≤ now → now ≤ time → Fresh boundary now all jobs → Fresh boundary now all (left_in wakes state time jobs)
+  left_in_fresh wakes states.GoesOn time jobs by at fresh = fresh
+  left_in_fresh wakes states.Sleeps time jobs by at fresh =
+      changed_fresh (ended time) (λ job late sound. (late, other_end now job job.switch_missing (ends.Ended time) sound by at)) jobs fresh
+  left_in_fresh wakes states.Unknown time jobs by at fresh = unseen_fresh time wakes by jobs fresh
 
-  leaves_fresh : (wakes : Bool) (state : State) (leaving : Leaving) (known : Known) → boundary ≤ leaving.time → leaving.time ≤ now → leaving.whole_since ≤ now →
+  leaves_fresh : (wakes : Bool) (state : State) (leaving : Leaving) (known : Known) → boundary ≤ leaving.time → leaving.time ≤ now → now ≤ leaving.time → leaving.whole_since ≤ now →
       (leaving.has_switched ≡ false → boundary ≤ leaving.whole_since) → Keeps boundary now all known → Fresh boundary now all (leaves wakes state leaving known).jobs
-  leaves_fresh wakes state leaving known late by since whole keeps =
-      left_in_fresh wakes state leaving.time (left_from wakes leaving known) by (left_from_fresh wakes leaving known late by since whole keeps)
+  leaves_fresh wakes state leaving known late by at since whole keeps =
+      left_in_fresh wakes state leaving.time (left_from wakes leaving known) by at (left_from_fresh wakes leaving known late by at since whole keeps)
 
   -- Who leaves, and who comes. Only where the thread comes that didn't leave just before, no wake-up may go on with its last job.
   pub switch_keeps : (apart : ℕ) (wakes left came : Bool) (state : State) (leaving : Leaving) (known : Known) → boundary ≤ leaving.time → leaving.time ≤ now →
-      leaving.whole_since ≤ now → (left ≡ true → leaving.has_switched ≡ false → boundary ≤ leaving.whole_since) →
+      now ≤ leaving.time → leaving.whole_since ≤ now → (left ≡ true → leaving.has_switched ≡ false → boundary ≤ leaving.whole_since) →
       (left ≡ false → came ≡ true → IsRipe boundary apart leaving.time known.jobs) → Keeps boundary now all known →
       Keeps boundary now all (after_switch apart wakes left came state leaving known)
-  switch_keeps apart wakes true came state leaving known late by since whole ripe keeps =
-      let fresh : Fresh boundary now all (leaves wakes state leaving known).jobs = leaves_fresh wakes state leaving known late by since (whole refl) keeps in
+  switch_keeps apart wakes true came state leaving known late by at since whole ripe keeps =
+      let fresh : Fresh boundary now all (leaves wakes state leaving known).jobs = leaves_fresh wakes state leaving known late by at since (whole refl) keeps in
       let gone : Keeps boundary now all (leaves wakes state leaving known) = fresh_keeps boundary now all (leaves wakes state leaving known).jobs false fresh in
       either (Keeps boundary now all) came (comes apart wakes leaving.processor leaving.time (leaves wakes state leaving known)) (leaves wakes state leaving known)
-      (comes_keeps apart wakes leaving.processor leaving.time (leaves wakes state leaving known) late by gone
+      (comes_keeps apart wakes leaving.processor leaving.time (leaves wakes state leaving known) late by at gone
       (free_ripe boundary apart leaving.time (leaves wakes state leaving known).jobs fresh.free)) gone
-  switch_keeps apart wakes false came state leaving known late by since whole ripe keeps =
+  switch_keeps apart wakes false came state leaving known late by at since whole ripe keeps =
       let gone : Keeps boundary now all (passed_by wakes leaving.processor known) = passed_keeps wakes leaving.processor known keeps in
       by_test (Keeps boundary now all) came (comes apart wakes leaving.processor leaving.time (passed_by wakes leaving.processor known)) (passed_by wakes leaving.processor known)
-      (λ comes_now. comes_keeps apart wakes leaving.processor leaving.time (passed_by wakes leaving.processor known) late by gone
+      (λ comes_now. comes_keeps apart wakes leaving.processor leaving.time (passed_by wakes leaving.processor known) late by at gone
       (passed_ripe apart leaving.time wakes leaving.processor known keeps (ripe refl comes_now)))
       (λ other. gone)
 
   -- # Other events
 
-  open_not_ended : (end : End) (time : ℕ) → end ≡ ends.Open → end ≡ ends.Ended time → ⊥
-  open_not_ended end time first second = cc
+  -- what a wake-up does to a job that is open
+  woken_open : (apart time : ℕ) (again : Bool) (job : Job) (jobs : List Job) → job.end ≡ ends.Open → woken_jobs apart time again (job ∷ jobs) ≡ counted again job ∷ jobs
+  woken_open apart time again job jobs is = ap (λ (end : End). elim end [
+    | ends.Open ↦ counted again job ∷ jobs
+    | ends.Ended end ↦ woken_after apart time job jobs
+    | ends.Unseen last goes_on ↦ began time true (job ∷ jobs)
+    | ends.Lost last ↦ began time true (job ∷ jobs)
+  ]) is
 
   woken_stands : (on : Option Standing) (apart time : ℕ) (again : Bool) (jobs : List Job) → StandsBy now on jobs → StandsBy now on (woken_jobs apart time again jobs)
   woken_stands None apart time again jobs stands = tt
-  woken_stands (Some standing) apart time again [] stands = (stands.0, refl)
+  woken_stands (Some standing) apart time again [] stands = absurd stands.1
   woken_stands (Some standing) apart time again (job ∷ jobs) stands =
-      (stands.0,
-        by_end IsLastOpen job.end (counted again job ∷ jobs) (λ end. woken_after apart time job jobs) (λ since goes_on. began time true (job ∷ jobs)) (λ since. began time true (job ∷ jobs))
-        (λ last_open. still again last_open)
-        (λ end is. absurd (open_not_ended job.end end stands.1 is))
-        (λ since goes_on unseen. refl) (λ since lost. refl))
+      subst (StandsBy now (Some standing)) (sym (woken_open apart time again job jobs stands.1)) (still again)
     where
-      still : (b : Bool) → job.end ≡ ends.Open → (counted b job).end ≡ ends.Open
-      still true last_open = last_open
-      still false last_open = last_open
+      still : (b : Bool) → StandsBy now (Some standing) (counted b job ∷ jobs)
+      still true = stands
+      still false = stands
 
   wakes_keeps : (apart time : ℕ) (known : Known) → boundary ≤ time → time ≤ now → IsRipe boundary apart time known.jobs → Keeps boundary now all known →
       Keeps boundary now all (wakes_up apart time known)
@@ -452,10 +549,10 @@ module _ (boundary now : ℕ) (all : List Told) where
       either (Keeps boundary now all) b (wakes_up apart time known) known (wakes_keeps apart time known late by ripe keeps) keeps
 
   ran_open : (stretch : Stretch) (jobs : List Job) → IsLastOpen jobs → IsLastOpen (changed_last (ran stretch) jobs)
-  ran_open stretch [] last_open = tt
+  ran_open stretch [] last_open = last_open
   ran_open stretch (job ∷ jobs) last_open = last_open
 
-  speeds_on : (processor time : ℕ) (khz : Option ℕ) (on : Option Standing) (known : Known) → known.on ≡ on → Keeps boundary now all known →
+  speeds_on : (processor time : ℕ) (khz : Option ℕ) (on : Option Standing) (known : Known) → time ≤ now → now ≤ time → known.on ≡ on → Keeps boundary now all known →
       (let after : Known = elim on [
         | None ↦ known
         | Some standing ↦ if standing.processor == processor then record {
@@ -464,25 +561,26 @@ module _ (boundary now : ℕ) (all : List Told) where
           woken = known.woken;
         } else known
       ] in Keeps boundary now all after)
-  speeds_on processor time khz None known is keeps = keeps
-  speeds_on processor time khz (Some standing) known is keeps =
+  speeds_on processor time khz None known by at is keeps = keeps
+  speeds_on processor time khz (Some standing) known by at is keeps =
       let stretch : Stretch = record { processor = processor; from = standing.since; to = time; khz = khz } in
       let last : IsLeft boundary (Some standing) known.jobs = subst (λ (on : Option Standing). IsLeft boundary on known.jobs) is keeps.last in
       let stands : StandsBy now (Some standing) known.jobs = subst (λ (on : Option Standing). StandsBy now on known.jobs) is keeps.stands in
       let fresh : Fresh boundary now all (changed_last (ran stretch) known.jobs) =
-      ran_fresh stretch known.jobs (record { told = keeps.told; sound = keeps.sound; free = standing_free boundary standing known.jobs last }) in
+      ran_going stretch known.jobs stands.2 (omega (arith, stands.3, at)) by
+      (record { told = keeps.told; sound = keeps.sound; free = standing_free boundary standing known.jobs last; last_open = stands.1 }) in
       either (Keeps boundary now all) (standing.processor == processor)
       (record { jobs = changed_last (ran stretch) known.jobs; on = Some (record standing { since = time }); woken = known.woken }) known
       (record {
         told = fresh.told;
         sound = fresh.sound;
         last = free_left boundary (Some (record standing { since = time })) (changed_last (ran stretch) known.jobs) fresh.free;
-        stands = (stands.0, ran_open stretch known.jobs stands.1);
+        stands = (stands.0, ran_open stretch known.jobs stands.1, last_by time (changed_last (ran stretch) known.jobs) at fresh.sound, by);
       })
       keeps
 
-  pub speeds_keeps : (processor time : ℕ) (khz : Option ℕ) (known : Known) → Keeps boundary now all known → Keeps boundary now all (speeds processor time khz known)
-  speeds_keeps processor time khz known keeps = speeds_on processor time khz known.on known refl keeps
+  pub speeds_keeps : (processor time : ℕ) (khz : Option ℕ) (known : Known) → time ≤ now → now ≤ time → Keeps boundary now all known → Keeps boundary now all (speeds processor time khz known)
+  speeds_keeps processor time khz known by at keeps = speeds_on processor time khz known.on known by at refl keeps
 
 -- # Losses
 
@@ -528,31 +626,31 @@ lost_alike boundary since on (job ∷ jobs) known last = (
   earlier_alike boundary since jobs known.1,
 )
 
-sound_if : (now since : ℕ) (absent : Bool) (b : Bool) (end : End) → since ≤ now → IsSoundEnd now absent end → IsSoundEnd now absent (if b then ends.Lost since else end)
-sound_if now since absent true end by sound = by
-sound_if now since absent false end by sound = sound
+-- a sound job whose end is lost, or stays
+sound_if : (now since : ℕ) (job : Job) (b : Bool) (end : End) → since ≤ now → job.end ≡ end → IsSound now job → IsSound now (record job { end = if b then ends.Lost since else end })
+sound_if now since job true end by is sound = other_end now job job.switch_missing (ends.Lost since) sound by (omega arith)
+sound_if now since job false end by is sound = subst (λ (e : End). IsSound now (record job { end = e })) is sound
 
-lost_end_sound : (now since : ℕ) (absent : Bool) (end : End) → since ≤ now → IsSoundEnd now absent end → IsSoundEnd now absent (lost_end since end)
-lost_end_sound now since absent ends.Open by sound = by
-lost_end_sound now since absent (ends.Ended end) by sound = sound_if now since absent (nat_lt since end) (ends.Ended end) by sound
-lost_end_sound now since absent (ends.Unseen last goes_on) by sound = omega (arith, by)
-lost_end_sound now since absent (ends.Lost last) by sound = omega (arith, by)
+lost_end_sound : (now since : ℕ) (job : Job) (end : End) → since ≤ now → job.end ≡ end → IsSound now job → IsSound now (record job { end = lost_end since end })
+lost_end_sound now since job ends.Open by is sound = other_end now job job.switch_missing (ends.Lost since) sound by (omega arith)
+lost_end_sound now since job (ends.Ended end) by is sound = sound_if now since job (nat_lt since end) (ends.Ended end) by is sound
+lost_end_sound now since job (ends.Unseen last goes_on) by is sound =
+    other_end now job job.switch_missing (ends.Lost (min since last)) sound (omega (arith, by)) (omega arith)
+lost_end_sound now since job (ends.Lost last) by is sound = other_end now job job.switch_missing (ends.Lost (min since last)) sound (omega (arith, by)) (omega arith)
 
-lost_before_sound : (now since : ℕ) (absent : Bool) (end : End) → since ≤ now → IsSoundEnd now absent end → IsSoundEnd now absent (lost_before since end)
-lost_before_sound now since absent ends.Open by sound = by
-lost_before_sound now since absent (ends.Ended end) by sound = sound_if now since absent (nat_lt since end) (ends.Ended end) by sound
-lost_before_sound now since absent (ends.Unseen last goes_on) by sound = sound_if now since absent (nat_lt since last) (ends.Unseen last goes_on) by sound
-lost_before_sound now since absent (ends.Lost last) by sound = omega (arith, by)
+lost_before_sound : (now since : ℕ) (job : Job) (end : End) → since ≤ now → job.end ≡ end → IsSound now job → IsSound now (record job { end = lost_before since end })
+lost_before_sound now since job ends.Open by is sound = other_end now job job.switch_missing (ends.Lost since) sound by (omega arith)
+lost_before_sound now since job (ends.Ended end) by is sound = sound_if now since job (nat_lt since end) (ends.Ended end) by is sound
+lost_before_sound now since job (ends.Unseen last goes_on) by is sound = sound_if now since job (nat_lt since last) (ends.Unseen last goes_on) by is sound
+lost_before_sound now since job (ends.Lost last) by is sound = other_end now job job.switch_missing (ends.Lost (min since last)) sound (omega (arith, by)) (omega arith)
 
 earlier_sound : (now since : ℕ) (jobs : List Job) → since ≤ now → AreSound now jobs → AreSound now (map (lost_earlier since) jobs)
 earlier_sound now since [] by sound = tt
-earlier_sound now since (job ∷ jobs) by sound =
-    ((sound.0.0, lost_before_sound now since job.switch_missing job.end by sound.0.1), earlier_sound now since jobs by sound.1)
+earlier_sound now since (job ∷ jobs) by sound = (lost_before_sound now since job job.end by refl sound.0, earlier_sound now since jobs by sound.1)
 
 lost_sound : (now since : ℕ) (jobs : List Job) → since ≤ now → AreSound now jobs → AreSound now (lost_jobs since jobs)
 lost_sound now since [] by sound = tt
-lost_sound now since (job ∷ jobs) by sound =
-    ((sound.0.0, lost_end_sound now since job.switch_missing job.end by sound.0.1), earlier_sound now since jobs by sound.1)
+lost_sound now since (job ∷ jobs) by sound = (lost_end_sound now since job job.end by refl sound.0, earlier_sound now since jobs by sound.1)
 
 done_if : (since : ℕ) (b : Bool) (end : End) → IsDone end → IsDone (if b then ends.Lost since else end)
 done_if since true end done = tt

@@ -148,6 +148,7 @@ record IsNext (asked : Asked) (counting : List Said) (boundary now number : ℕ)
       × Each (λ job. IsKnownBy (lost_since event.processor since.ItsLastLine counting) job.end) boundary (known_after asked number counting).jobs
   late : is_loss happening ≡ false → boundary ≤ event.time
   by : is_loss happening ≡ false → event.time ≤ now
+  at : is_loss happening ≡ false → now ≤ event.time
   whole : is_loss happening ≡ false → whole_since event.time counting ≤ now
   ripe : is_loss happening ≡ false → IsRipe boundary (task_at asked number).apart event.time (known_after asked number counting).jobs
   left : (previous : Thread) (state : State) (next : Thread) → happening ≡ Switch previous state next → is_of asked number previous ≡ true →
@@ -158,13 +159,13 @@ next_keeps : (asked : Asked) (counting : List Said) (boundary now number : ℕ) 
     Keeps boundary now all (after_event asked number counting event happening (known_after asked number counting))
 next_keeps asked counting boundary now number all event (Switch previous state next) is keeps =
     switch_keeps boundary now all (task_at asked number).apart (not asked.begin_at_run) (is_of asked number previous) (is_of asked number next) state
-    (leaving_at asked counting event) (known_after asked number counting) (is.late refl) (is.by refl) (is.whole refl)
+    (leaving_at asked counting event) (known_after asked number counting) (is.late refl) (is.by refl) (is.at refl) (is.whole refl)
     (λ mine first. is.left previous state next refl mine first) (λ other comes. is.ripe refl) keeps
 next_keeps asked counting boundary now number all event (WakeUp thread) is keeps =
     woken_keeps boundary now all (is_of asked number thread && not asked.begin_at_run) (task_at asked number).apart event.time (known_after asked number counting)
     (is.late refl) (is.by refl) (is.ripe refl) keeps
 next_keeps asked counting boundary now number all event (Speed processor khz) is keeps =
-    speeds_keeps boundary now all processor event.time (speed_after asked.start processor counting) (known_after asked number counting) keeps
+    speeds_keeps boundary now all processor event.time (speed_after asked.start processor counting) (known_after asked number counting) (is.by refl) (is.at refl) keeps
 next_keeps asked counting boundary now number all event Loss is keeps =
     loses_keeps boundary now all (lost_since event.processor since.ItsLastLine counting) (known_after asked number counting) (is.lost refl).0 (is.lost refl).1 keeps
 next_keeps asked counting boundary now number all event Marker is keeps = keeps
@@ -175,11 +176,11 @@ abbrev staying : ℕ → ℕ → Thread → Event
 staying processor to thread = record { processor = processor; time = to; happening = Switch thread states.GoesOn thread }
 
 staying_keeps : (asked : Asked) (counting : List Said) (boundary now number : ℕ) (all : List Told) (processor to : ℕ) (thread : Thread) → boundary ≤ to → to ≤ now →
-    whole_since to counting ≤ now → (is_of asked number thread ≡ true → boundary ≤ whole_since to counting) → Keeps boundary now all (known_after asked number counting) →
+    now ≤ to → whole_since to counting ≤ now → (is_of asked number thread ≡ true → boundary ≤ whole_since to counting) → Keeps boundary now all (known_after asked number counting) →
     Keeps boundary now all (known_after asked number (Stamped (staying processor to thread) ∷ counting))
-staying_keeps asked counting boundary now number all processor to thread late by whole left keeps =
+staying_keeps asked counting boundary now number all processor to thread late by at whole left keeps =
     switch_keeps boundary now all (task_at asked number).apart (not asked.begin_at_run) (is_of asked number thread) (is_of asked number thread) states.GoesOn
-    (leaving_at asked counting (staying processor to thread)) (known_after asked number counting) late by whole (λ mine first. left mine)
+    (leaving_at asked counting (staying processor to thread)) (known_after asked number counting) late by at whole (λ mine first. left mine)
     (λ other comes. absurd (true≢false (sym comes ∙ other))) keeps
 
 -- # Whether an event counts
@@ -233,7 +234,7 @@ keeps_later boundary now later all known on keeps =
   where
     by : (standing : Option Standing) → StandsBy now standing known.jobs → StandsBy later standing known.jobs
     by None stands = tt
-    by (Some standing) stands = (omega (arith, on, stands.0), stands.1)
+    by (Some standing) stands = (omega (arith, on, stands.0), stands.1, stands.2, omega (arith, on, stands.3))
 
 known_end : (now decided last ripe since : ℕ) (end : End) → decided ≤ since → IsFirmEnd now decided last ripe end → IsKnownBy since end
 known_end now decided last ripe since ends.Open back firm = firm
@@ -287,6 +288,7 @@ module _ (asked : Asked) (past : List Said) (cut : Cut) (number : ℕ) (begun : 
             );
         late = λ other. by_time event.time (goes.0 (before other));
         by = λ other. here other;
+        at = λ other. omega (arith, until_before asked.to event.time (before other), now_is asked (Stamped event ∷ past));
         whole = λ other.
             omega (arith, here other, whole_by event.time event.time (up_to asked.to past) (omega arith)
             (counting_by asked.to past event.time goes.1 (goes.0 (before other)) (before other)));
@@ -321,7 +323,7 @@ module _ (asked : Asked) (past : List Said) (cut : Cut) (number : ℕ) (begun : 
       let within : cut.boundary ≤ end = omega (arith, begun, now_is asked past, most (last_time past)) in
       let now : later ≡ end = now_is asked (Stamped event ∷ past) ∙ reached in
       let lines : AreBy end (up_to asked.to past) = subst (λ (to : Option ℕ). AreBy end (up_to to past)) (sym is) (up_to_by end past) in
-      staying_keeps asked (up_to asked.to past) cut.boundary later number (told_of asked past cut number) event.processor end previous within (omega (arith, now))
+      staying_keeps asked (up_to asked.to past) cut.boundary later number (told_of asked past cut number) event.processor end previous within (omega (arith, now)) (omega (arith, now))
       (omega (arith, now, whole_by end end (up_to asked.to past) (omega arith) lines))
       (λ mine. whole_from cut.boundary end event.time (up_to asked.to past) within
       (there_since asked past cut event previous state next number (subst (λ (h : Happening). was_there_before asked past cut event h ≡ false) switches kept.there) mine first))
