@@ -4,3 +4,4 @@ pub mod Lines
 pub mod Holding
 pub mod Same
 pub mod Parting
+pub mod Later
