@@ -1,0 +1,7 @@
+pub mod Told
+pub mod Going
+pub mod Lines
+pub mod Holding
+pub mod Same
+pub mod Parting
+pub mod Later

@@ -3,3 +3,7 @@
 //! It stands on `yds_trace`, `yds_trace_document` and `yds_trace_text`, whose parts the laws speak of.
 //! It carries the promise that what a part says of its jobs is what the whole trace says of them.
 #![tactic(auto)]
+
+mod laws;
+
+pub use laws::parts_are_the_whole;
