@@ -1,5 +1,6 @@
 pub mod Told
 pub mod Plain
+pub mod InParts
 pub mod Worth
 pub mod Left
 pub mod Parted

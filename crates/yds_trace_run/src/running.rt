@@ -9,11 +9,9 @@ ghost use Rattle.yds_trace_words.specs.Views.{words_of};
 ghost use Rattle.yds_trace_reading.specs.LineFault.{past_of};
 ghost use Rattle.yds_trace_document.specs.Kept.{IsPlain};
 ghost use Rattle.yds_trace.specs.Views.{asked_read};
-ghost use Rattle.yds_trace_again.specs.Again.{IsReadAgain};
-ghost use Rattle.yds_trace_laws.specs.Faithful.{IsFaithful};
 ghost use Rattle.yds_trace_run.specs.Answer.{ReadsInput};
 ghost use Rattle.yds_trace_run.specs.Endings.{Writes, IsEnded, IsDelivered, Tells, TellsHalt, Leaves, stopped_text, stopped_status};
-ghost use Rattle.yds_trace_run.specs.Worth.{NothingLate};
+ghost use Rattle.yds_trace_run.specs.Worth.{HidesNothing, IsReadSo, IsFaithfulSo, AreWhole};
 
 use crate::delivery::deliver;
 use crate::fault_text::{
@@ -32,11 +30,13 @@ use yds_trace_words::{HELP, LINE_BYTES, NoRequest, Request, VERSION, fault_line,
 
 /// Runs what the words ask for: reads the source to its end in one pass, writes the text and flushes the sink, once.
 ///
-/// - `Done`: the text of a document, of `--help` or of `--version` was written whole.
+/// - `Done`: the text of a document, of all parts of a trace, of `--help` or of `--version` was written whole.
 /// - `Usage`: the words can't be taken. The source isn't read.
-/// - `Refused`: the trace has a fault, or its document passes a limit. Just a comment with the place, the cause and what to do was
-///   written, and the line `failed`. The source was read to its end, or up to a fault of its own.
-/// - `ReadFault`, `Memory`: the input couldn't be read, or memory ran out. A comment says so, and the last line is `failed`.
+/// - `Refused`: the trace has a fault, or its document or a part passes a limit. Just a comment with the place, the cause and what
+///   to do was written, and the line `failed`; in parts, behind those that were whole before. The source was read to its end, or up
+///   to a fault of its own.
+/// - `ReadFault`, `Memory`: the input couldn't be read, or memory ran out. A comment says so, and the last line is `failed`; in parts,
+///   behind those of some lines.
 /// - `WriteFault`: a front of one of these texts was written.
 ///
 /// The source and the sink need not tell their bytes. Where both do, what was written is what the definitions say of the words and
@@ -70,16 +70,20 @@ pub fn run<S: Source, K: Sink>(
     // late by less than a unit of time, and a comment names it.
     ensures nothing_late { result ≡ Status.Done → (asked : asking.Asked) (strict : Bool) → request_of (words_of words.now) ≡ Ok (ReadTrace asked strict)
         → IfSome (S.left source.old) (λ input.
-        (text : List ℕ) × Appends (K.written sink.old) (K.written sink.new) text × NothingLate asked (past_of (trace_of input)) text) }
+        (text : List ℕ) × Appends (K.written sink.old) (K.written sink.new) text × HidesNothing asked.in_parts asked (past_of (trace_of input)) text) }
 
     // It is read again by the definition of documents, within the limits, as just its jobs and its runs, in their order.
     ensures read_again { result ≡ Status.Done → (asked : asking.Asked) (strict : Bool) → request_of (words_of words.now) ≡ Ok (ReadTrace asked strict)
         → IfSome (S.left source.old) (λ input.
-        (text : List ℕ) × Appends (K.written sink.old) (K.written sink.new) text × IsReadAgain asked (past_of (trace_of input)) text) }
+        (text : List ℕ) × Appends (K.written sink.old) (K.written sink.new) text × IsReadSo asked.in_parts asked (past_of (trace_of input)) text) }
 
     // No job and no run of it is invented: each run is stretches of time that the trace shows of its job. And none is missing.
     ensures faithful { result ≡ Status.Done → (asked : asking.Asked) (strict : Bool) → request_of (words_of words.now) ≡ Ok (ReadTrace asked strict)
-        → IfSome (S.left source.old) (λ input. IsFaithful asked (past_of (trace_of input))) }
+        → IfSome (S.left source.old) (λ input. IsFaithfulSo asked.in_parts asked (past_of (trace_of input))) }
+
+    // In parts, a part that was written long ago says of its jobs what the whole trace says of them.
+    ensures whole { result ≡ Status.Done → (asked : asking.Asked) (strict : Bool) → request_of (words_of words.now) ≡ Ok (ReadTrace asked strict)
+        → IfSome (S.left source.old) (λ input. AreWhole asked.in_parts asked (past_of (trace_of input))) }
 {
     match read_words(alloc, words) {
         Ok(Request::Help) => deliver(HELP, Status::Done, sink),
