@@ -40,6 +40,7 @@ pub fn tell_parts<S: Source, K: Sink>(
     ensures flushed_stays { K.flushed sink.new ≡ K.flushed sink.old }
     ensures flushes_stay { K.flushes sink.new ≡ K.flushes sink.old }
     ensures told { IfSome (S.left source.old) (λ input. Writes (asked_read asked) strict input result (K.written sink.old) (K.written sink.new)) }
+    ensures none_left { IfSome (S.left source.old) (λ input. OnOk result (S.left source.new ≡ Some [])) }
     ensures read_out { result ≢ Err Halt.WriteFault
         → IfSome (S.left source.old) (λ input. IsReadOut input (S.left source.new) (S.faults source.old) (S.faults source.new)) }
 {

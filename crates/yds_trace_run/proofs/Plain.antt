@@ -18,6 +18,7 @@ use Rattle.yds_trace_laws.proofs.Ordered.{All-map_back}
 use Rattle.yds_trace_document.specs.Kept.{IsPlain, HaveBegins}
 use Rattle.yds_trace_words.specs.Request.{IsFit}
 use Rattle.yds_trace_reading.specs.Reading.{IsEndOfSome}
+use Rattle.yds_trace_parts.specs.Plain.{IsGranted}
 
 reached : (to : Option ℕ) → IfSome to (λ time. time ≤ MAX_TIME) → IsReached to
 reached None is = tt
@@ -37,6 +38,10 @@ lists_len asked past number (task ∷ tasks) = ap (λ (n : ℕ). suc n) (lists_l
 kept_begins : (lists : List (Vec JobKept Global)) → All (λ (jobs : List Job). All (λ (job : Job). job.begin ≤ MAX_TIME) jobs) (map in_order_of_begin lists) → HaveBegins lists
 kept_begins lists all = λ i d within.
     All-map_back (λ (job : Job). job.begin ≤ MAX_TIME) job_read _ (All-map_back (λ (jobs : List Job). All (λ (job : Job). job.begin ≤ MAX_TIME) jobs) in_order_of_begin lists all i d within)
+
+-- What the words grant is what parts need.
+pub granted : (asked : Asked) → IsFit asked → IsGranted asked
+granted asked fit = record { plain = fit.plain; within = fit.within; reached = reached asked.to fit.reached }
 
 pub plain : (asked : Asked) (ended : Ended) → IsFit asked → IsEndOfSome asked ended → IsPlain ended
 plain asked ended fit some =

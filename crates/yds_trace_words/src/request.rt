@@ -72,6 +72,7 @@ fn asked_by<'a>(alloc: Global, given: &[Setting<'a>]) -> Result<Asked, NoRequest
     check_order(from, to)?;
     let begin_at_run = only(b"--begin", b"run", Reason::Begin, value(given, b"--begin"))?;
     let cut_losses = only(b"--lost", b"cut", Reason::Lost, value(given, b"--lost"))?;
+    let in_parts = value(given, b"--parts").is_some();
     let tasks = tasks_asked(alloc, unit * 1000, value(given, b"--tasks"))?;
     Ok(Asked {
         tasks,
@@ -83,7 +84,7 @@ fn asked_by<'a>(alloc: Global, given: &[Setting<'a>]) -> Result<Asked, NoRequest
         to,
         begin_at_run,
         cut_losses,
-        in_parts: false,
+        in_parts,
     })
 }
 
