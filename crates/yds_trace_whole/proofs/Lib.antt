@@ -6,3 +6,4 @@ pub mod Same
 pub mod Parting
 pub mod Later
 pub mod Ranked
+pub mod Together

@@ -107,7 +107,7 @@ abbrev or_this : ℕ → Option ℕ → Option ℕ
 or_this time None = Some time
 or_this time (Some first) = Some first
 
-abbrev first_stamp : List Said → Option ℕ
+abbrev pub first_stamp : List Said → Option ℕ
 first_stamp [] = None
 first_stamp (Stamped event ∷ past) = or_this event.time (first_stamp past)
 first_stamp (Lost processor reach ∷ past) = first_stamp past
@@ -117,7 +117,7 @@ this_first : (here time : ℕ) (o : Option ℕ) → unwrap_or o time ≡ unwrap_
 this_first here time None = refl
 this_first here time (Some first) = refl
 
-first_is : (here : ℕ) (past : List Said) → first_time here past ≡ unwrap_or (first_stamp past) here
+pub first_is : (here : ℕ) (past : List Said) → first_time here past ≡ unwrap_or (first_stamp past) here
 first_is here [] = refl
 first_is here (Stamped event ∷ past) = first_is event.time past ∙ this_first here event.time (first_stamp past)
 first_is here (Lost processor reach ∷ past) = first_is here past
