@@ -103,7 +103,7 @@ lost_by (Some to) past processor reach goes within = by (nat_le (last_time past)
 -- # Losses among the lines that count
 
 -- the time of the first line with a stamp
-abbrev or_this : ℕ → Option ℕ → Option ℕ
+abbrev pub or_this : ℕ → Option ℕ → Option ℕ
 or_this time None = Some time
 or_this time (Some first) = Some first
 
@@ -127,7 +127,7 @@ if_said : (P : List Said → Type 0) (b : Bool) (x y : List Said) → (b ≡ tru
 if_said P true x y first second = first refl
 if_said P false x y first second = second refl
 
-no_stamp : (past : List Said) (time : ℕ) → or_this time (first_stamp past) ≡ None → ⊥
+pub no_stamp : (past : List Said) (time : ℕ) → or_this time (first_stamp past) ≡ None → ⊥
 no_stamp past time none = by (first_stamp past) none
   where
     by : (o : Option ℕ) → or_this time o ≡ None → ⊥

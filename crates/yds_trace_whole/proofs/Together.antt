@@ -1,5 +1,5 @@
 -- The documents of the parts, put together, are the one document of the whole.
-use Rattle.yds_model.proofs.Common.{◌≡◌, ◌∙◌, ℕ, zero, suc, ◌+◌, ◌-◌, ◌*◌, ◌/◌, ◌<◌, ◌≤◌, ◌⊎◌, inl, inr, ◌==◌, ◌&&◌, ◌||◌, List, [], ◌∷◌, ◌++◌, map, filter, flat_map, filter_map, length, reverse, Bool, true, false, not, nat_lt, nat_le, if◌then◌else◌, Option, Some, None, is_some, is_none, unwrap_or, option_map, refl, sym, ap, ap₂, subst, arith, ltb-true, leb-true, and_parts, true≢false, append-nil, append_assoc, length-append, flat_map-append, filter_map-append, recursion_from_All, All-from_recursion, add-mul-div_right, div-mul-le_self, le-div_iff_mul-le, mul-le-mul_right, All, All-from_get_or, zero-mul}
+use Rattle.yds_model.proofs.Common.{◌≡◌, ◌∙◌, ℕ, zero, suc, ◌+◌, ◌-◌, ◌*◌, ◌/◌, ◌<◌, ◌≤◌, ◌⊎◌, inl, inr, ◌==◌, ◌&&◌, ◌||◌, List, [], ◌∷◌, ◌++◌, map, filter, flat_map, filter_map, length, reverse, Bool, true, false, not, nat_lt, nat_le, if◌then◌else◌, Option, Some, None, is_some, is_none, unwrap_or, option_map, refl, sym, ap, ap₂, subst, arith, le-ltb, ltb-true, leb-true, and_parts, true≢false, append-nil, append_assoc, length-append, flat_map-append, filter_map-append, recursion_from_All, All-from_recursion, add-mul-div_right, div-mul-le_self, le-div_iff_mul-le, mul-le-mul_right, All, All-from_get_or, zero-mul}
 use Rattle.std.specs.List.{AllByRecursion, enumerate_from, cons_option}
 use Rattle.yds_kernel.specs.Event.{Said, Stamped, Lost, Nothing}
 use Rattle.yds_trace.specs.declared.cut.Cut.{Cut}
@@ -14,7 +14,7 @@ use Rattle.yds_trace.specs.Late.{last_asked}
 use Rattle.yds_trace.specs.Faults.{first_fault}
 use Rattle.yds_trace.specs.WrittenTime.{Units, Run, written_time, run_of, before, runs_of}
 use Rattle.yds_trace.specs.Document.{closed, jobs_of, began_before, Judged, judged, judged_of, judged_from, in_order, all_judged, stands, time_zero, units_of, Written, written_runs, with_runs, without_runs, written_of, written_jobs, Placed, all_runs, Document, document_of}
-use Rattle.yds_trace.specs.Parts.{begin_of, begins_from, begins_before, is_settled, ended_by, is_done_by, no_cut, waiting, is_before_end, part_until, place_of, with_part, cut_at, cut_after, part_fault}
+use Rattle.yds_trace.specs.Parts.{begin_of, begins_from, begins_before, is_written, has_written, each_before, is_settled, ended_by, is_done_by, no_cut, waiting, is_before_end, part_until, place_of, with_part, cut_at, cut_after, part_fault}
 use Rattle.yds_trace_document.specs.Part.{whole_zero, shift_from, shift_of, shifted, part_units}
 use Rattle.yds_trace_document.proofs.Sorting.{FromLow, Rises, rises_in_order, rises_filter}
 use Rattle.yds_trace_laws.proofs.Ordered.{either_all, append-all, in_order-all, filter_map-all}
@@ -25,11 +25,17 @@ use Rattle.yds_trace_whole.specs.Parts.{Part, made, made_at, parts_behind, parts
 use Rattle.yds_trace_whole.specs.Whole.{whole_units, document_in, whole_document, run_later, job_later, jobs_later, jobs_of_part, placed_later, runs_of_parts, put_together}
 use Rattle.yds_trace_whole.specs.Laws.{PartsMakeTheDocument, WholeIsTheDocument}
 use Rattle.yds_trace_whole.proofs.Going.{latest, IsSpan, AreSpans, IsSound, AreSound, IsLastBy, StandsBy}
-use Rattle.yds_trace_whole.proofs.Lines.{until, until_most, first_stamp, first_is}
+use Rattle.yds_trace_whole.proofs.Lines.{until, until_most, or_this, first_stamp, first_is, no_stamp}
 use Rattle.yds_trace_whole.proofs.Holding.{counted, Holds, now_is, goes_behind}
 use Rattle.yds_trace_whole.proofs.Parting.{closing, filter_all_of, two_parts, next_part, all_of_them, numbered_all, from_all, IsPlace, place_is, DoneJudged, judged_done, Stands, before_nothing, at_first, part_more, line_more}
 use Rattle.yds_trace_whole.proofs.Later.{AreLater, IsTimed, written_later, part_jobs_later}
 use Rattle.yds_trace_whole.proofs.Ranked.{placed_from, runs_at, HaveRuns, runs_append, HaveRunsLater, later_length, runs_are_later}
+
+abbrev in_units : Asked → ℕ → Units
+in_units asked start = record { zero = start; time = asked.unit; speed = asked.khz }
+
+abbrev a_document : List Written → List Placed → Document
+a_document jobs runs = record { jobs = jobs; runs = runs }
 
 -- # What is known of each judged job
 
@@ -89,7 +95,7 @@ part_is_later : (asked : Asked) (past : List Said) (part : List Judged) → 1 �
 part_is_later asked past [] positive = record {
   times = λ time from.
       let none : (whole_zero asked past) + 0 * asked.unit ≡ whole_zero asked past = omega (arith, zero-mul asked.unit) in
-      ap (λ (zero : ℕ). (time - zero) / asked.unit) (sym none) ∙ (let e : (time - (whole_zero asked past + 0 * asked.unit)) / asked.unit ≡ (time - (whole_zero asked past + 0 * asked.unit)) / asked.unit + 0 = omega arith in e);
+      ap (λ (start : ℕ). (time - start) / asked.unit) (sym none) ∙ (let e : (time - (whole_zero asked past + 0 * asked.unit)) / asked.unit ≡ (time - (whole_zero asked past + 0 * asked.unit)) / asked.unit + 0 = omega arith in e);
   speed = refl;
 }
 part_is_later asked past (one ∷ part) positive =
@@ -302,3 +308,197 @@ record Together (asked : Asked) (past : List Said) (cut : Cut) (parts : List Par
   joined : Joined (whole_units asked past) (filter (begins_before cut.boundary) (all_judged asked past)) parts
   early : HaveRuns (λ run. run.from ≤ written_time (whole_units asked past) cut.boundary) (filter_map (written_of (whole_units asked past)) (filter (begins_before cut.boundary) (all_judged asked past)))
   none : first_stamp past ≡ None → (parts ≡ []) × (cut.boundary ≡ 0)
+
+at_start : (asked : Asked) → Together asked [] no_cut []
+at_start asked =
+    let nothing : [] ≡ filter (begins_before 0) (all_judged asked []) = before_nothing (all_judged asked []) in
+    record {
+      stands = record { holds = λ number within. at_first asked number; begun = omega arith; same = nothing };
+      joined = subst (λ (l : List Judged). Joined (whole_units asked []) l []) nothing (record { jobs = refl; runs = refl; many = refl });
+      early = subst (λ (l : List Judged). HaveRuns (λ run. run.from ≤ written_time (whole_units asked []) 0) (filter_map (written_of (whole_units asked [])) l)) nothing tt;
+      none = λ is. (refl, refl);
+    }
+
+-- ---- a line
+
+or_this_some : (time first : ℕ) (o : Option ℕ) → o ≡ Some first → or_this time o ≡ None → ⊥
+or_this_some time first None is none = cc is
+or_this_some time first (Some other) is none = cc none
+
+stamped_still : (said : Said) (past : List Said) (first : ℕ) → first_stamp past ≡ Some first → first_stamp (said ∷ past) ≡ None → ⊥
+stamped_still (Stamped event) past first is none = or_this_some event.time first (first_stamp past) is none
+stamped_still (Lost processor reach) past first is none = let both : Some first ≡ None = sym is ∙ none in cc both
+stamped_still Nothing past first is none = let both : Some first ≡ None = sym is ∙ none in cc both
+
+first_still : (said : Said) (past : List Said) (first : ℕ) → first_stamp past ≡ Some first → first_time 0 (said ∷ past) ≡ first_time 0 past
+first_still (Stamped event) past first is =
+    first_is event.time past ∙ ap (λ (o : Option ℕ). unwrap_or o event.time) is ∙ sym (first_is 0 past ∙ ap (λ (o : Option ℕ). unwrap_or o 0) is)
+first_still (Lost processor reach) past first is = refl
+first_still Nothing past first is = refl
+
+line_together : (asked : Asked) (said : Said) (past : List Said) (cut : Cut) (parts : List Part) → GoesOn asked.to (said ∷ past) → part_fault asked past cut said ≡ None →
+    Together asked past cut parts → Together asked (said ∷ past) cut parts
+line_together asked said past cut parts goes fault together = by (first_stamp past) refl
+  where
+    now : Stands asked (said ∷ past) cut parts
+    now = line_more asked said past cut parts goes fault together.stands
+
+    by : (o : Option ℕ) → first_stamp past ≡ o → Together asked (said ∷ past) cut parts
+    by None unstamped =
+        let empty = together.none unstamped in
+        let nothing : [] ≡ filter (begins_before cut.boundary) (all_judged asked (said ∷ past)) =
+        before_nothing (all_judged asked (said ∷ past)) ∙ ap (λ (boundary : ℕ). filter (begins_before boundary) (all_judged asked (said ∷ past))) (sym empty.1) in
+        let whole : Units = whole_units asked (said ∷ past) in
+        record {
+          stands = now;
+          joined = subst (λ (l : List Judged). Joined whole l parts) nothing
+              (subst (λ (l : List Part). Joined whole [] l) (sym empty.0) (record { jobs = refl; runs = refl; many = refl }));
+          early = subst (λ (l : List Judged). HaveRuns (λ run. run.from ≤ written_time whole cut.boundary) (filter_map (written_of whole) l)) nothing tt;
+          none = λ is. empty;
+        }
+    by (Some first) stamped =
+        let same : filter (begins_before cut.boundary) (all_judged asked past) ≡ filter (begins_before cut.boundary) (all_judged asked (said ∷ past)) =
+        sym together.stands.same ∙ now.same in
+        let units : whole_units asked past ≡ whole_units asked (said ∷ past) =
+        ap (λ (time : ℕ). in_units asked (unwrap_or asked.from time)) (sym (first_still said past first stamped)) in
+        record {
+          stands = now;
+          joined = subst (λ (l : List Judged). Joined (whole_units asked (said ∷ past)) l parts) same
+              (subst (λ (whole : Units). Joined whole (filter (begins_before cut.boundary) (all_judged asked past)) parts) units together.joined);
+          early = subst (λ (l : List Judged). HaveRuns (λ run. run.from ≤ written_time (whole_units asked (said ∷ past)) cut.boundary) (filter_map (written_of (whole_units asked (said ∷ past))) l)) same
+              (subst (λ (whole : Units). HaveRuns (λ run. run.from ≤ written_time whole cut.boundary) (filter_map (written_of whole) (filter (begins_before cut.boundary) (all_judged asked past)))) units
+              together.early);
+          none = λ is. absurd (stamped_still said past first stamped is);
+        }
+
+-- ---- a part
+
+both_all : {A : Type 0} (P Q : A → Type 0) (xs : List A) → AllByRecursion P xs → AllByRecursion Q xs → AllByRecursion (λ x. P x × Q x) xs
+both_all P Q [] first second = tt
+both_all P Q (x ∷ xs) first second = ((first.0, second.0), both_all P Q xs first.1 second.1)
+
+-- before the first line with a stamp there is no time, and no job
+no_time : (past : List Said) → first_stamp past ≡ None → last_time past ≡ 0
+no_time [] none = refl
+no_time (Stamped event ∷ past) none = absurd (no_stamp past event.time none)
+no_time (Lost processor reach ∷ past) none = no_time past none
+no_time (Nothing ∷ past) none = no_time past none
+
+none_written : (jobs : List Judged) → has_written 0 jobs ≡ false
+none_written [] = refl
+none_written (one ∷ jobs) = ap (λ (b : Bool). (b && is_written one) || has_written 0 jobs) (le-ltb one.job.begin 0 (omega arith)) ∙ none_written jobs
+
+no_place : (asked : Asked) (past : List Said) (cut : Cut) (time : ℕ) → IsPlace asked past cut time → first_stamp past ≡ None → ⊥
+no_place asked past cut time place none =
+    let nothing : time ≡ 0 = omega (arith, place.by, now_is asked past, until_most asked.to (last_time past), no_time past none) in
+    let written : has_written time (waiting asked past cut) ≡ true =
+    (and_parts (has_written time (waiting asked past cut)) (each_before (is_done_by asked past time) time (waiting asked past cut)) place.quiet).0 in
+    true≢false (sym written ∙ ap (λ (t : ℕ). has_written t (waiting asked past cut)) nothing ∙ none_written (waiting asked past cut))
+
+-- what is known of the jobs of a part that is cut
+abbrev IsOfPart : Asked → List Said → ℕ → ℕ → Judged → Type 0
+IsOfPart asked past boundary time one =
+    IsClocked asked (last_asked asked past) one × (boundary ≤ one.job.begin) × ((not (stands one) || ended_by time one.job.end) ≡ true)
+
+of_part : (asked : Asked) (past : List Said) (cut : Cut) (time : ℕ) → AllByRecursion (IsClocked asked (last_asked asked past)) (all_judged asked past) →
+    IsPlace asked past cut time → AllByRecursion (IsOfPart asked past cut.boundary time) (part_until asked past cut (Some time))
+of_part asked past cut time clocked place =
+    let P : Judged → Type 0 = λ one. IsClocked asked (last_asked asked past) one × DoneJudged asked past cut.boundary time one in
+    let Q : Judged → Type 0 = λ one. P one × (begins_from cut.boundary one ≡ true) in
+    all_weaker (λ (one : Judged). Q one × (begins_before time one ≡ true)) (IsOfPart asked past cut.boundary time)
+    (λ one is.
+    let from : cut.boundary ≤ one.job.begin = leb-true cut.boundary one.job.begin is.0.1 in (
+      is.0.0.0,
+      from,
+      (and_parts (is_settled asked past one) (not (stands one) || ended_by time one.job.end) (is.0.0.1 from (ltb-true one.job.begin time is.1))).1,
+    ))
+    (part_until asked past cut (Some time))
+    (filter_all_of Q (begins_before time) (waiting asked past cut)
+    (filter_all_of P (begins_from cut.boundary) (all_judged asked past)
+    (both_all (IsClocked asked (last_asked asked past)) (DoneJudged asked past cut.boundary time) (all_judged asked past) clocked (judged_done asked past cut time place.quiet))))
+
+part_rises : (asked : Asked) (past : List Said) (cut : Cut) (until : Option ℕ) → Rises begin_of (part_until asked past cut until)
+part_rises asked past cut until =
+    rises_filter begin_of (is_before_end until) (waiting asked past cut)
+    (rises_filter begin_of (begins_from cut.boundary) (all_judged asked past) (rises_in_order begin_of (judged_from asked past 0 asked.tasks)))
+
+part_together : (asked : Asked) (past : List Said) (cut : Cut) (parts : List Part) (o : Option ℕ) → IsAsked asked → place_of asked past cut ≡ o → Together asked past cut parts →
+    Together asked past (cut_at asked past cut o) (parts ++ made_at asked past cut o)
+part_together asked past cut parts None words none together =
+    subst (λ (l : List Part). Together asked past cut l) (sym (append-nil parts)) together
+part_together asked past cut parts (Some time) words some together =
+    let stands_now = part_more asked past cut parts (Some time) some together.stands in
+    let place : IsPlace asked past cut time = place_is asked past cut time together.stands.holds some in
+    let whole : Units = whole_units asked past in
+    let now : ℕ = last_asked asked past in
+    let all : List Judged = all_judged asked past in
+    let front : List Judged = filter (begins_before cut.boundary) all in
+    let part : List Judged = part_until asked past cut (Some time) in
+    let is : AllByRecursion (IsOfPart asked past cut.boundary time) part = of_part asked past cut time (all_clocked asked past cut words together.stands.holds) place in
+    let both : front ++ part ≡ filter (begins_before time) all = next_part cut.boundary time all place.from (rises_in_order begin_of (judged_from asked past 0 asked.tasks)) in
+    let joined : Joined whole (front ++ part) (parts ++ made asked past cut (Some time) ∷ []) =
+    join_part whole (written_time whole cut.boundary) front parts (made asked past cut (Some time)) together.joined
+    (part_of_whole asked past cut (Some time) words.has_unit (part_rises asked past cut (Some time))
+    (all_weaker (IsOfPart asked past cut.boundary time) (IsClocked asked now) (λ one so. so.0) part is)) together.early
+    (part_runs_from whole asked now cut.boundary part words.has_unit
+    (all_weaker (IsOfPart asked past cut.boundary time) (λ (one : Judged). IsClocked asked now one × (cut.boundary ≤ one.job.begin)) (λ one so. (so.0, so.1)) part is)) in
+    let Early : List Written → Type 0 = HaveRuns (λ run. run.from ≤ written_time whole time) in
+    let first : Early (filter_map (written_of whole) front) =
+    all_weaker (λ (job : Written). AllByRecursion (λ run. run.from ≤ written_time whole cut.boundary) job.runs) (λ (job : Written). AllByRecursion (λ run. run.from ≤ written_time whole time) job.runs)
+    (λ job runs. all_weaker (λ (run : Run). run.from ≤ written_time whole cut.boundary) (λ (run : Run). run.from ≤ written_time whole time)
+    (λ run by. omega (arith, by, order_is_kept whole cut.boundary time words.has_unit place.from)) job.runs runs)
+    (filter_map (written_of whole) front) together.early in
+    let second : Early (filter_map (written_of whole) part) =
+    part_runs_by whole asked now time part words.has_unit
+    (all_weaker (IsOfPart asked past cut.boundary time) (λ (one : Judged). IsClocked asked now one × ((not (stands one) || ended_by time one.job.end) ≡ true)) (λ one so. (so.0, so.2)) part is) in
+    record {
+      stands = stands_now;
+      joined = subst (λ (l : List Judged). Joined whole l (parts ++ made asked past cut (Some time) ∷ [])) both joined;
+      early = subst (λ (l : List Judged). Early (filter_map (written_of whole) l)) both
+          (subst Early (sym (filter_map-append (written_of whole) front part))
+          (append-all (λ (job : Written). AllByRecursion (λ run. run.from ≤ written_time whole time) job.runs) (filter_map (written_of whole) front) (filter_map (written_of whole) part) first second));
+      none = λ unstamped. absurd (no_place asked past cut time place unstamped);
+    }
+
+all_together : (asked : Asked) (past : List Said) → IsAsked asked → GoesOn asked.to past → KeepsParts asked past → Together asked past (cut_after asked past) (parts_behind asked past)
+all_together asked [] words goes kept = at_start asked
+all_together asked (said ∷ past) words goes kept =
+    let cut : Cut = cut_after asked past in
+    part_together asked (said ∷ past) cut (parts_behind asked past) (place_of asked (said ∷ past) cut) words refl
+    (line_together asked said past cut (parts_behind asked past) goes kept.0 (all_together asked past words (goes_behind asked.to said past goes) kept.1))
+
+-- the law
+pub parts_make_the_document : PartsMakeTheDocument
+parts_make_the_document asked past words none kept =
+    let together : Together asked past (cut_after asked past) (parts_behind asked past) = all_together asked past words (lines_go_on asked past none) kept in
+    let cut : Cut = cut_after asked past in
+    let whole : Units = whole_units asked past in
+    let now : ℕ = last_asked asked past in
+    let all : List Judged = all_judged asked past in
+    let front : List Judged = filter (begins_before cut.boundary) all in
+    let part : List Judged = part_until asked past cut None in
+    let last : part ≡ filter (begins_from cut.boundary) all = all_of_them (filter (begins_from cut.boundary) all) in
+    let is : AllByRecursion (λ one. IsClocked asked now one × (cut.boundary ≤ one.job.begin)) part =
+    subst (AllByRecursion (λ one. IsClocked asked now one × (cut.boundary ≤ one.job.begin))) (sym last)
+    (all_weaker (λ (one : Judged). IsClocked asked now one × (begins_from cut.boundary one ≡ true)) (λ (one : Judged). IsClocked asked now one × (cut.boundary ≤ one.job.begin))
+    (λ one so. (so.0, leb-true cut.boundary one.job.begin so.1)) (filter (begins_from cut.boundary) all)
+    (filter_all_of (IsClocked asked now) (begins_from cut.boundary) all (all_clocked asked past cut words together.stands.holds))) in
+    let joined : Joined whole (front ++ part) (parts_of asked past) =
+    join_part whole (written_time whole cut.boundary) front (parts_behind asked past) (made asked past cut None) together.joined
+    (part_of_whole asked past cut None words.has_unit (part_rises asked past cut None)
+    (all_weaker (λ (one : Judged). IsClocked asked now one × (cut.boundary ≤ one.job.begin)) (IsClocked asked now) (λ one so. so.0) part is)) together.early
+    (part_runs_from whole asked now cut.boundary part words.has_unit is) in
+    let both : front ++ part ≡ all =
+    ap (λ (l : List Judged). front ++ l) last ∙ two_parts cut.boundary all (rises_in_order begin_of (judged_from asked past 0 asked.tasks)) in
+    let done : Joined whole all (parts_of asked past) = subst (λ (l : List Judged). Joined whole l (parts_of asked past)) both joined in
+    ap₂ (λ (jobs : List Written) (runs : List Placed). a_document jobs runs) done.jobs done.runs
+
+-- # With a begin that is asked for
+
+zero_from : (o : Option ℕ) (from first other : ℕ) → o ≡ Some from → unwrap_or o first ≡ (elim o [ Some time ↦ time | None ↦ other ])
+zero_from None from first other is = cc is
+zero_from (Some time) from first other is = refl
+
+pub whole_is_the_document : WholeIsTheDocument
+whole_is_the_document asked past from is =
+    ap (λ (start : ℕ). document_in (in_units asked start) (all_judged asked past)) (zero_from asked.from from (first_time 0 past) _ is)
