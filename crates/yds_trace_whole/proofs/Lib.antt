@@ -7,3 +7,4 @@ pub mod Parting
 pub mod Later
 pub mod Ranked
 pub mod Together
+mod Examples
