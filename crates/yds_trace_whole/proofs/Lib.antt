@@ -6,3 +6,6 @@ pub mod Same
 pub mod Parting
 pub mod Later
 pub mod Worth
+pub mod Ranked
+pub mod Together
+mod Examples
