@@ -592,7 +592,7 @@ lines_go_on asked (Nothing ∷ past) none =
 
 -- ---- without `to`
 
-all_by : (past : List Said) (time : ℕ) → GoesOn None past → last_time past ≤ time → AreBy time past
+pub all_by : (past : List Said) (time : ℕ) → GoesOn None past → last_time past ≤ time → AreBy time past
 all_by [] time goes last = tt
 all_by (Stamped event ∷ past) time goes last = (λ loss. last, all_by past time goes.1 (omega (arith, last, goes.0 refl)))
 all_by (Lost processor reach ∷ past) time goes last = all_by past time goes last
@@ -620,7 +620,7 @@ counts_by to event past is loss =
     leb-true event.time to (subst (λ (b : Bool). (if b then nat_lt (lost_since event.processor since.ItsLastLine past) to else nat_le event.time to) ≡ true) loss is)
 
 -- a switch that doesn't count is after `to`
-later_switch : (to : ℕ) (event : Event) (past counting : List Said) → counts to event past ≡ false → is_first_switch event counting ≡ true → to < event.time
+pub later_switch : (to : ℕ) (event : Event) (past counting : List Said) → counts to event past ≡ false → is_first_switch event counting ≡ true → to < event.time
 later_switch to event past counting is first =
     let loss : is_loss event.happening ≡ false = no_loss event.happening (and_parts (is_switch event.happening) (not (has_switched event.processor counting)) first).0 in
     leb-false event.time to (subst (λ (b : Bool). (if b then nat_lt (lost_since event.processor since.ItsLastLine past) to else nat_le event.time to) ≡ false) loss is)
@@ -642,7 +642,7 @@ stayed_by to processor time Marker counting within by = by
 stayed_by to processor time Other counting within by = by
 
 -- none that counts is after `to`
-up_to_by : (to : ℕ) (past : List Said) → AreBy to (up_to_time to past)
+pub up_to_by : (to : ℕ) (past : List Said) → AreBy to (up_to_time to past)
 up_to_by to [] = tt
 up_to_by to (Stamped event ∷ past) =
     let rest : AreBy to (up_to_time to past) = up_to_by to past in
@@ -657,7 +657,7 @@ up_to_by to (Lost processor reach ∷ past) =
 up_to_by to (Nothing ∷ past) = up_to_by to past
 
 -- Where the last line comes by a time that isn't after `to`, so do all that count.
-counted_by : (to time : ℕ) (past : List Said) → GoesOn (Some to) past → time ≤ to → last_time past ≤ time → AreBy time (up_to_time to past)
+pub counted_by : (to time : ℕ) (past : List Said) → GoesOn (Some to) past → time ≤ to → last_time past ≤ time → AreBy time (up_to_time to past)
 counted_by to time [] goes within last = tt
 counted_by to time (Stamped event ∷ past) goes within last =
     let rest : AreBy time (up_to_time to past) = counted_by to time past goes.1 within (omega (arith, last, goes.0 (le-leb event.time to (omega (arith, last, within))))) in

@@ -1,0 +1,8 @@
+pub mod Told
+pub mod Going
+pub mod Lines
+pub mod Holding
+pub mod Same
+pub mod Parting
+pub mod Later
+pub mod Worth

@@ -23,7 +23,8 @@ use Rattle.yds_trace_again.proofs.Holding.{on_the_right, held_within, late_jobs_
 use Rattle.yds_trace_again.proofs.Parts.{part_is_of, part_not_before, parts_are_read_again}
 use Rattle.yds_trace_whole.specs.Parts.{Part, made, made_at, parts_behind, parts_of, judged_in_parts}
 use Rattle.yds_trace_whole.specs.Worth.{IsPartFeasible, IsNamedIn, IsToldLateIn, NothingLateInParts, IsFaithfulPart, IsReadPart}
-use Rattle.yds_trace_whole.specs.WorthLaws.{EachPartIsRead}
+use Rattle.yds_trace_whole.specs.WorthLaws.{NothingIsLateInParts, PartsAreFaithful, EachPartIsRead}
+use Rattle.yds_trace_whole.proofs.Parting.{parts_are_the_whole}
 
 -- # Where a part is from
 
@@ -172,3 +173,11 @@ pub faithful_parts : (asked : Asked) (past : List Said) → IsAsked asked → fi
 faithful_parts asked past fit none whole i d within =
     let own = own_documents asked past fit none i d within in
     record { of_trace = parts_are_of asked past whole i d within; document_is = own.0; faithful = own.1 }
+
+-- # The laws
+
+pub nothing_is_late_in_parts : NothingIsLateInParts
+nothing_is_late_in_parts asked past text fit none keeps texts = nothing_late asked past text fit none (parts_are_the_whole asked past none keeps) texts
+
+pub parts_are_faithful : PartsAreFaithful
+parts_are_faithful asked past fit none keeps = faithful_parts asked past fit none (parts_are_the_whole asked past none keeps)
