@@ -5,4 +5,4 @@ pub mod Holding
 pub mod Same
 pub mod Parting
 pub mod Later
-pub mod Worth
+pub mod EachPart

@@ -1,4 +1,4 @@
-use Rattle.yds_trace_whole.proofs.Worth.{nothing_is_late_in_parts}
+use Rattle.yds_trace_whole.proofs.EachPart.{nothing_is_late_in_parts}
 use Rattle.yds_trace_whole.proofs.worth.nothing_is_late_in_parts.Goals as goal
 
 pub returns : goal.returns

@@ -1,4 +1,4 @@
-use Rattle.yds_trace_whole.proofs.Worth.{parts_are_faithful}
+use Rattle.yds_trace_whole.proofs.EachPart.{parts_are_faithful}
 use Rattle.yds_trace_whole.proofs.worth.parts_are_faithful.Goals as goal
 
 pub returns : goal.returns
