@@ -28,39 +28,50 @@ use Rattle.yds_trace_whole.proofs.Parting.{parts_are_the_whole}
 
 -- # Where a part is from
 
--- it is made of the jobs behind some lines without a fault
-record IsMade (asked : Asked) (part : Part) : Type 0 where
+-- it is made of the jobs behind some lines, of which Q holds
+record IsMade (asked : Asked) (Q : List Said → Type 0) (part : Part) : Type 0 where
   past : List Said
   cut : Cut
   until : Option ℕ
   is : made asked past cut until ≡ part
-  none : first_fault asked past ≡ None
+  holds : Q past
 
-made_here : (asked : Asked) (past : List Said) (cut : Cut) (until : Option ℕ) → first_fault asked past ≡ None → IsMade asked (made asked past cut until)
-made_here asked past cut until none = record { past = past; cut = cut; until = until; is = refl; none = none }
+made_here : (asked : Asked) (Q : List Said → Type 0) (past : List Said) (cut : Cut) (until : Option ℕ) → Q past → IsMade asked Q (made asked past cut until)
+made_here asked Q past cut until holds = record { past = past; cut = cut; until = until; is = refl; holds = holds }
 
-made_there : (asked : Asked) (past : List Said) (cut : Cut) (place : Option ℕ) → first_fault asked past ≡ None → AllByRecursion (IsMade asked) (made_at asked past cut place)
-made_there asked past cut None none = tt
-made_there asked past cut (Some time) none = (made_here asked past cut (Some time) none, tt)
+made_there : (asked : Asked) (Q : List Said → Type 0) (past : List Said) (cut : Cut) (place : Option ℕ) → Q past → AllByRecursion (IsMade asked Q) (made_at asked past cut place)
+made_there asked Q past cut None holds = tt
+made_there asked Q past cut (Some time) holds = (made_here asked Q past cut (Some time) holds, tt)
 
-made_behind : (asked : Asked) (past : List Said) → first_fault asked past ≡ None → AllByRecursion (IsMade asked) (parts_behind asked past)
-made_behind asked [] none = tt
-made_behind asked (said ∷ past) none =
-    append-all (IsMade asked) (parts_behind asked past) (made_at asked (said ∷ past) (cut_after asked past) (place_of asked (said ∷ past) (cut_after asked past)))
-    (made_behind asked past (or_none (first_fault asked past) (numbered (length past + 1) (said_fault asked past said)) none).0)
-    (made_there asked (said ∷ past) (cut_after asked past) (place_of asked (said ∷ past) (cut_after asked past)) none)
+-- It holds of fewer lines where it holds of more.
+abbrev pub IsKeptBefore : (List Said → Type 0) → Type 0
+IsKeptBefore Q = (said : Said) (past : List Said) → Q (said ∷ past) → Q past
 
-all_made : (asked : Asked) (past : List Said) → first_fault asked past ≡ None → AllByRecursion (IsMade asked) (parts_of asked past)
-all_made asked past none =
-    append-all (IsMade asked) (parts_behind asked past) (made asked past (cut_after asked past) None ∷ []) (made_behind asked past none)
-    (made_here asked past (cut_after asked past) None none, tt)
+made_behind : (asked : Asked) (Q : List Said → Type 0) (past : List Said) → IsKeptBefore Q → Q past → AllByRecursion (IsMade asked Q) (parts_behind asked past)
+made_behind asked Q [] kept holds = tt
+made_behind asked Q (said ∷ past) kept holds =
+    append-all (IsMade asked Q) (parts_behind asked past) (made_at asked (said ∷ past) (cut_after asked past) (place_of asked (said ∷ past) (cut_after asked past)))
+    (made_behind asked Q past kept (kept said past holds))
+    (made_there asked Q (said ∷ past) (cut_after asked past) (place_of asked (said ∷ past) (cut_after asked past)) holds)
 
--- What holds of each part that is made holds of all parts of a trace.
+all_made : (asked : Asked) (Q : List Said → Type 0) (past : List Said) → IsKeptBefore Q → Q past → AllByRecursion (IsMade asked Q) (parts_of asked past)
+all_made asked Q past kept holds =
+    append-all (IsMade asked Q) (parts_behind asked past) (made asked past (cut_after asked past) None ∷ []) (made_behind asked Q past kept holds)
+    (made_here asked Q past (cut_after asked past) None holds, tt)
+
+-- What holds of each part that is made of such lines holds of all parts of a trace.
+pub of_each_made : (P : Part → Type 0) (asked : Asked) (Q : List Said → Type 0) (past : List Said) → IsKeptBefore Q → Q past →
+    ((lines : List Said) (cut : Cut) (until : Option ℕ) → Q lines → P (made asked lines cut until)) → All P (parts_of asked past)
+of_each_made P asked Q past kept holds each =
+    All-from_recursion P (parts_of asked past)
+    (all_weaker (IsMade asked Q) P (λ part from. subst P from.is (each from.past from.cut from.until from.holds)) (parts_of asked past) (all_made asked Q past kept holds))
+
+-- as where none of the lines has a fault
 of_each_part : (P : Part → Type 0) (asked : Asked) (past : List Said) → first_fault asked past ≡ None →
     ((lines : List Said) (cut : Cut) (until : Option ℕ) → first_fault asked lines ≡ None → P (made asked lines cut until)) → All P (parts_of asked past)
 of_each_part P asked past none each =
-    All-from_recursion P (parts_of asked past)
-    (all_weaker (IsMade asked) P (λ part from. subst P from.is (each from.past from.cut from.until from.none)) (parts_of asked past) (all_made asked past none))
+    of_each_made P asked (λ lines. first_fault asked lines ≡ None) past
+    (λ said lines whole. (or_none (first_fault asked lines) (numbered (length lines + 1) (said_fault asked lines said)) whole).0) none each
 
 -- # Each part is read again
 

@@ -6,3 +6,4 @@ pub mod Same
 pub mod Parting
 pub mod Later
 pub mod EachPart
+pub mod Several

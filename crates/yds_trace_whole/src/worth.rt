@@ -1,5 +1,5 @@
 //! What the parts of a trace are worth to whoever reads them.
-ghost use Rattle.yds_trace_whole.specs.WorthLaws.{EachPartIsRead, NothingIsLateInParts, PartsAreFaithful};
+ghost use Rattle.yds_trace_whole.specs.WorthLaws.{EachPartIsRead, NothingIsLateInParts, PartsAreFaithful, SeveralAreRefused};
 
 /// Where no line is refused and each part's document is feasible, each job of the whole trace that is known to be late is late by less than a
 /// unit of time, and a text that has each part's text has a comment that names it.
@@ -15,4 +15,9 @@ pub fn parts_are_faithful()
 /// The text of each part of a trace without a fault is read again as just the part's jobs and runs, where that passes no limit.
 pub fn each_part_is_read()
     ensures { EachPartIsRead }
+{}
+
+/// The texts of two parts or more, one behind the other, aren't read as one document: each part has a line of ticks.
+pub fn several_are_refused()
+    ensures { SeveralAreRefused }
 {}
