@@ -1,5 +1,5 @@
 -- The texts of two parts or more are no document: the second line of ticks is refused, if not a line before it.
-use Rattle.yds_model.proofs.Common.{◌≡◌, ℕ, ◌+◌, ◌≤◌, ◌==◌, Bool, true, false, if◌then◌else◌, List, [], ◌∷◌, ◌++◌, length, map, flat_map, filter_map, Result, Ok, Err, Option, Some, None, is_none, refl, sym, ap, ap₂, subst, ◌∙◌, inl, inr, arith, codes, cases_Bool, eqb-true, append_assoc, append-nil, length-append, map-append, AllByRecursion, recursion_from_All, Line, trimmed, in_front, lines_from, lines_from-written, is_skipped, live_lines, read_line, read_after, reading, document_said, Document, Entry, TicksEntry, ticks_said, more_said}
+use Rattle.yds_model.proofs.Common.{◌≡◌, ℕ, ◌+◌, ◌≤◌, ◌==◌, Bool, true, false, if◌then◌else◌, List, [], ◌∷◌, ◌++◌, length, map, flat_map, filter_map, Result, Ok, Err, Option, Some, None, is_none, refl, sym, ap, ap₂, subst, ◌∙◌, inl, inr, arith, codes, decimal, join_with_byte, cases_Bool, eqb-true, append_assoc, append-nil, length-append, map-append, AllByRecursion, recursion_from_All, Line, trimmed, in_front, lines_from, lines_from-written, is_skipped, live_lines, read_line, read_after, reading, document_said, Document, Entry, TicksEntry, ticks_said, more_said}
 use Rattle.std.specs.Bool.{⊤}
 use Rattle.std.proofs.lemmas.List.Elements.{filter_map-append}
 use Rattle.yds_model.specs.declared.reason.Reason.{Reason}
@@ -9,7 +9,6 @@ use Rattle.yds_kernel.specs.Event.{Said}
 use Rattle.yds_trace.specs.declared.cut.Cut.{Cut}
 use Rattle.yds_trace.specs.Asked.{Asked}
 use Rattle.yds_trace.specs.Document.{Written}
-use Rattle.yds_trace_document.specs.Settled.{Settled}
 use Rattle.yds_texts.proofs.Brought.{live_from}
 use Rattle.yds_trace_text.specs.Text.{comment, told, name_of, head_line, units_line, job_text, ticks_text, run_text, comments_text}
 use Rattle.yds_trace_text.specs.PartText.{part_line}
@@ -125,6 +124,10 @@ second_ticks : (earlier : List Entry) (number start : ℕ) → (length (filter_m
     read_line earlier (ticks_at number start) ≡ Err (record { line = number; column = 1; reason = reasons.Misplaced })
 second_ticks earlier number start some = rw some refl
 
+abbrev IsRefused : Result (List Entry) (Fault Reason) → Type 0
+IsRefused (Ok entries) = ⊥
+IsRefused (Err fault) = ⊤
+
 -- It is read where there was none before.
 at_ticks : (rest : List ℕ) (earlier entries : List Entry) (number start : ℕ) → read_after earlier (live_from number start (ticks_text ++ rest)) ≡ Ok entries →
     (none : length (filter_map ticks_said earlier) ≡ 0) × (next : ℕ) × (place : ℕ) × (read_after (earlier ++ TicksEntry 1 ∷ []) (live_from next place rest) ≡ Ok entries)
@@ -141,7 +144,7 @@ at_ticks rest earlier entries number start is =
       | inr some ↦
           let refused : Err (record { line = number; column = 1; reason = reasons.Misplaced }) ≡ Ok entries =
           sym (ap (after_line earlier lines) (second_ticks earlier number start some)) ∙ here in
-          absurd cc
+          absurd (subst IsRefused refused tt)
     ]
 
 was_read : (said : Result (List Entry) (Fault Reason)) (document : Document) →
@@ -178,9 +181,15 @@ record HasTicks (text : List ℕ) : Type 0 where
   ends : EndsLine front
   is : front ++ (ticks_text ++ behind) ≡ text
 
-units_end : (settled : Settled) → EndsLine (units_line settled.units)
+comment_end : (texts : List (List ℕ)) → EndsLine (comment texts)
 unfolding comment
-units_end settled = record { body = told _; is = refl }
+comment_end texts = record { body = told (codes "# " ∷ texts); is = refl }
+
+job_end : (job : Written) → EndsLine (job_text job)
+job_end job = record {
+  body = join_with_byte 32 (codes "job" ∷ job.name ∷ decimal job.release ∷ decimal job.deadline ∷ decimal job.work ∷ []);
+  is = refl;
+}
 
 regrouped : (p h u j t r c : List ℕ) → (p ++ ((h ++ u) ++ j)) ++ (t ++ (r ++ c)) ≡ p ++ (h ++ u ++ (j ++ t ++ r) ++ c)
 regrouped p h u j t r c = simp append_assoc refl
@@ -198,7 +207,7 @@ made_ticks asked past cut until =
       front = first ++ ((head ++ units) ++ flat_map job_text jobs);
       behind = runs ++ comments;
       ends = ends_behind first ((head ++ units) ++ flat_map job_text jobs)
-          (ends_each job_text (head ++ units) jobs (λ job. record { body = _; is = refl }) (ends_behind head units (units_end part.settled)));
+          (ends_each job_text (head ++ units) jobs job_end (ends_behind head units (comment_end _)));
       is = regrouped first head units (flat_map job_text jobs) ticks_text runs comments;
     }
 
