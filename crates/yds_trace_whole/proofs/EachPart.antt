@@ -1,10 +1,9 @@
 -- No late job is hidden in the parts of a trace, each part is faithful to the trace, and each is read again.
-use Rattle.yds_model.proofs.Common.{◌≡◌, ℕ, ◌+◌, ◌<◌, ◌≤◌, List, [], ◌∷◌, ◌++◌, length, get_or, flat_map, Bool, Option, Some, None, is_none, refl, sym, subst, All, All-from_recursion, All-contains_itself, AllByRecursion, recursion_from_All, Contains}
+use Rattle.yds_model.proofs.Common.{◌≡◌, ℕ, ◌+◌, ◌<◌, List, [], ◌∷◌, length, get_or, Option, Some, None, is_none, refl, sym, subst, All, All-from_recursion, All-contains_itself, AllByRecursion, recursion_from_All, Contains}
 use Rattle.yds_kernel.specs.Event.{Said}
 use Rattle.yds_trace.specs.declared.cut.Cut.{Cut}
 use Rattle.yds_trace.specs.Asked.{Asked, IsAsked}
 use Rattle.yds_trace.specs.Faults.{first_fault, numbered, said_fault}
-use Rattle.yds_trace.specs.WrittenTime.{Units}
 use Rattle.yds_trace.specs.Document.{Judged, all_judged}
 use Rattle.yds_trace.specs.Parts.{part_until, place_of, cut_after}
 use Rattle.yds_trace_laws.specs.Faithful.{AreFaithful}
@@ -14,15 +13,14 @@ use Rattle.yds_trace_laws.proofs.Runs.{all_weaker, contained}
 use Rattle.yds_trace_laws.proofs.Begins.{or_none}
 use Rattle.yds_trace_laws.proofs.Seen.{some_are_in_time}
 use Rattle.yds_trace_laws.proofs.Faithful.{some_are_faithful}
-use Rattle.yds_trace_document.specs.Part.{shift_of, part_units, part_of}
+use Rattle.yds_trace_document.specs.Part.{part_units}
 use Rattle.yds_trace_text.specs.Text.{late_comment, settled_text}
-use Rattle.yds_trace_text.specs.PartText.{part_line, part_text}
+use Rattle.yds_trace_text.specs.PartText.{part_line}
 use Rattle.yds_trace_again.specs.Holds.{Holds}
-use Rattle.yds_trace_again.specs.Laws.{AreLabelled}
 use Rattle.yds_trace_again.proofs.Holding.{on_the_right, held_within, late_jobs_are_named}
 use Rattle.yds_trace_again.proofs.Parts.{part_is_of, part_not_before, parts_are_read_again}
 use Rattle.yds_trace_whole.specs.Parts.{Part, made, made_at, parts_behind, parts_of, judged_in_parts}
-use Rattle.yds_trace_whole.specs.Worth.{IsPartFeasible, IsNamedIn, IsToldLateIn, NothingLateInParts, IsFaithfulPart, IsReadPart}
+use Rattle.yds_trace_whole.specs.Worth.{IsPartFeasible, NothingLateInParts, IsFaithfulPart, IsReadPart}
 use Rattle.yds_trace_whole.specs.WorthLaws.{NothingIsLateInParts, PartsAreFaithful, EachPartIsRead}
 use Rattle.yds_trace_whole.proofs.Parting.{parts_are_the_whole}
 

@@ -10,4 +10,6 @@ mod laws;
 mod worth;
 
 pub use laws::parts_are_the_whole;
-pub use worth::{each_part_is_read, nothing_is_late_in_parts, parts_are_faithful, several_are_refused};
+pub use worth::{
+    each_part_is_read, nothing_is_late_in_parts, parts_are_faithful, several_are_refused,
+};
