@@ -5,5 +5,8 @@ pub mod Holding
 pub mod Same
 pub mod Parting
 pub mod Later
+pub mod Ranked
+pub mod Together
 pub mod EachPart
 pub mod Several
+mod Examples

@@ -9,7 +9,7 @@
 mod laws;
 mod worth;
 
-pub use laws::parts_are_the_whole;
+pub use laws::{parts_are_the_whole, parts_make_the_document, whole_is_the_document};
 pub use worth::{
     each_part_is_read, nothing_is_late_in_parts, parts_are_faithful, several_are_refused,
 };
