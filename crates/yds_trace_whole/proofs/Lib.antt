@@ -8,4 +8,6 @@ pub mod Later
 pub mod Worth
 pub mod Ranked
 pub mod Together
+pub mod EachPart
+pub mod Several
 mod Examples
