@@ -4,8 +4,10 @@ pub mod Placing
 pub mod AsRead
 pub mod Judging
 pub mod Seen
-pub mod Begins
 pub mod Runs
+pub mod Holding
+pub mod Begins
 pub mod Faithful
 pub mod Sharing
 pub mod Units
+pub mod First

@@ -17,8 +17,10 @@ use Rattle.yds_trace_document.specs.declared.fault.DocumentFault.{DocumentFault}
 use Rattle.yds_trace_document.specs.Settled.{settled_of}
 use Rattle.yds_trace_document.specs.Limits.{limit_fault}
 use Rattle.yds_trace_again.specs.Again.{IsReadAgain}
+use Rattle.yds_trace_again.specs.Holds.{Holds}
 use Rattle.yds_trace_again.specs.Laws.{AreLabelled}
 use Rattle.yds_trace_again.proofs.Again.{read_again as is_read_again}
+use Rattle.yds_trace_again.proofs.Holding.{late_jobs_are_named}
 use Rattle.yds_trace_words.specs.Tasks.{is_label}
 use Rattle.yds_trace_run.specs.Fault.{OfText, of_document, of_text, document_fault}
 use Rattle.yds_trace_text.specs.Text.{late_comment, text_of}
@@ -26,40 +28,12 @@ use Rattle.yds_trace_reading.specs.LineFault.{past_of}
 use Rattle.yds_trace_words.specs.Request.{ReadTrace, IsFit}
 use Rattle.yds_trace_run.specs.Answer.{IsDocument}
 use Rattle.yds_trace_run.specs.Endings.{IsText, Outcome, Writes}
-use Rattle.yds_trace_run.specs.Worth.{Holds, NothingLate}
-
-on_the_left : (text more part : List ℕ) → Holds text part → Holds (text ++ more) part
-on_the_left text more part held = record {
-  before = held.before;
-  behind = held.behind ++ more;
-  is = ap (λ (one : List ℕ). one ++ more) held.is ∙ append_assoc (held.before ++ part) held.behind more;
-}
-
-on_the_right : (front text part : List ℕ) → Holds text part → Holds (front ++ text) part
-on_the_right front text part held = record {
-  before = front ++ held.before;
-  behind = held.behind;
-  is = ap (λ (one : List ℕ). front ++ one) held.is ∙ sym (append_assoc front (held.before ++ part) held.behind)
-      ∙ ap (λ (one : List ℕ). one ++ held.behind) (sym (append_assoc front held.before part));
-}
-
-here : (part : List ℕ) → Holds part part
-here part = record { before = []; behind = []; is = sym (append-nil part) }
-
-in_each : (told : Judged → List ℕ) (all : List Judged) (i : ℕ) (d : Judged) → i < length all → Holds (flat_map told all) (told (get_or all i d))
-in_each told [] i d within = absurd (omega arith)
-in_each told (one ∷ all) zero d within = on_the_left (told one) (flat_map told all) (told one) (here (told one))
-in_each told (one ∷ all) (suc i) d within = on_the_right (told one) (flat_map told all) (told (get_or all i d)) (in_each told all i d (omega arith))
-
-named : (asked : Asked) (past : List Said) (i : ℕ) (d : Judged) → i < length (all_judged asked past) → Holds (text_of asked past) (late_comment (units_of asked past) (get_or (all_judged asked past) i d))
-named asked past i d within =
-    on_the_right _ _ _ (on_the_left _ _ _ (on_the_left _ _ _ (on_the_left _ _ _ (on_the_left _ _ _ (on_the_left _ _ _ (on_the_left _ _ _
-    (in_each (late_comment (units_of asked past)) (all_judged asked past) i d within)))))))
+use Rattle.yds_trace_run.specs.Worth.{NothingLate}
 
 told_late : (asked : Asked) (past : List Said) (text : List ℕ) → IsAsked asked → text ≡ text_of asked past → NothingLate asked past text
 told_late asked past text fit is = λ feasible i d within by late. (
   feasible_means_in_time asked past fit feasible i d within by late,
-  subst (λ (one : List ℕ). Holds one (late_comment (units_of asked past) (get_or (all_judged asked past) i d))) (sym is) (named asked past i d within),
+  subst (λ (one : List ℕ). Holds one (late_comment (units_of asked past) (get_or (all_judged asked past) i d))) (sym is) (late_jobs_are_named asked (settled_of asked past) i d within),
 )
 
 -- # What a run that is done wrote

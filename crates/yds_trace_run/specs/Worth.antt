@@ -1,5 +1,5 @@
 -- What a document is worth to whoever asked for it: no late job is hidden in it.
-use Rattle.std.specs.Prelude.{◌≡◌, ℕ, ◌<◌, List, ◌++◌, Some}
+use Rattle.std.specs.Prelude.{◌≡◌, ℕ, ◌<◌, List, Some}
 use Rattle.std.specs.List.{All}
 use Rattle.yds_model.specs.Feasible.{IsFeasible}
 use Rattle.yds_kernel.specs.Event.{Said}
@@ -7,12 +7,7 @@ use Rattle.yds_trace.specs.Asked.{Asked}
 use Rattle.yds_trace.specs.Document.{Judged, all_judged, units_of, document_of}
 use Rattle.yds_trace_laws.specs.AsSlots.{jobs_read, slots_read}
 use Rattle.yds_trace_text.specs.Text.{late_comment}
-
--- one text stands within the other
-pub record Holds (text part : List ℕ) : Type 0 where
-  pub before : List ℕ
-  pub behind : List ℕ
-  pub is : text ≡ before ++ part ++ behind
+use Rattle.yds_trace_again.specs.Holds.{Holds}
 
 -- Where a job is known to be late, it is late by less than a unit of time, and a comment of the text names it.
 abbrev pub IsToldLate : Asked → List Said → List ℕ → Judged → Type 0

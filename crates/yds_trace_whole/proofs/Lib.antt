@@ -7,4 +7,6 @@ pub mod Parting
 pub mod Later
 pub mod Ranked
 pub mod Together
+pub mod Worth
+pub mod Several
 mod Examples
