@@ -8,6 +8,6 @@ pub mod Later
 pub mod Worth
 pub mod Ranked
 pub mod Together
-pub mod EachPart
+pub mod Worth
 pub mod Several
 mod Examples

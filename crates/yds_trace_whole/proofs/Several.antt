@@ -15,7 +15,7 @@ use Rattle.yds_trace_text.specs.PartText.{part_line}
 use Rattle.yds_trace_again.proofs.Plain.{all_other}
 use Rattle.yds_trace_whole.specs.Parts.{Part, made, parts_of}
 use Rattle.yds_trace_whole.specs.WorthLaws.{text_of, SeveralAreRefused}
-use Rattle.yds_trace_whole.proofs.EachPart.{of_each_made}
+use Rattle.yds_trace_whole.proofs.Worth.{of_each_made}
 
 -- # Lines
 

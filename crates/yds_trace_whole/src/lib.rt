@@ -7,9 +7,9 @@
 #![tactic(auto)]
 
 mod laws;
-mod worth;
+mod worth_laws;
 
 pub use laws::{parts_are_the_whole, parts_make_the_document, whole_is_the_document};
-pub use worth::{
+pub use worth_laws::{
     each_part_is_read, nothing_is_late_in_parts, parts_are_faithful, several_are_refused,
 };

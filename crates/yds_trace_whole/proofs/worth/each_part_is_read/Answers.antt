@@ -1,5 +1,0 @@
-use Rattle.yds_trace_whole.proofs.EachPart.{each_part_is_read}
-use Rattle.yds_trace_whole.proofs.worth.each_part_is_read.Goals as goal
-
-pub returns : goal.returns
-returns c = each_part_is_read
