@@ -17,7 +17,7 @@ use Rattle.yds_trace_whole.proofs.Going.{latest, IsSpan, AreSpans}
 lt_later : (a b n : ℕ) → nat_lt (a + n) (b + n) ≡ nat_lt a b
 lt_later a b n = grind (arith, nat_tests)
 
-le_later : (a b n : ℕ) → nat_le (a + n) (b + n) ≡ nat_le a b
+pub le_later : (a b n : ℕ) → nat_le (a + n) (b + n) ≡ nat_le a b
 le_later a b n = grind (arith, nat_tests)
 
 eq_later : (a b n : ℕ) → (a + n == b + n) ≡ (a == b)

@@ -103,11 +103,11 @@ lost_by (Some to) past processor reach goes within = by (nat_le (last_time past)
 -- # Losses among the lines that count
 
 -- the time of the first line with a stamp
-abbrev or_this : ℕ → Option ℕ → Option ℕ
+abbrev pub or_this : ℕ → Option ℕ → Option ℕ
 or_this time None = Some time
 or_this time (Some first) = Some first
 
-abbrev first_stamp : List Said → Option ℕ
+abbrev pub first_stamp : List Said → Option ℕ
 first_stamp [] = None
 first_stamp (Stamped event ∷ past) = or_this event.time (first_stamp past)
 first_stamp (Lost processor reach ∷ past) = first_stamp past
@@ -117,7 +117,7 @@ this_first : (here time : ℕ) (o : Option ℕ) → unwrap_or o time ≡ unwrap_
 this_first here time None = refl
 this_first here time (Some first) = refl
 
-first_is : (here : ℕ) (past : List Said) → first_time here past ≡ unwrap_or (first_stamp past) here
+pub first_is : (here : ℕ) (past : List Said) → first_time here past ≡ unwrap_or (first_stamp past) here
 first_is here [] = refl
 first_is here (Stamped event ∷ past) = first_is event.time past ∙ this_first here event.time (first_stamp past)
 first_is here (Lost processor reach ∷ past) = first_is here past
@@ -127,7 +127,7 @@ if_said : (P : List Said → Type 0) (b : Bool) (x y : List Said) → (b ≡ tru
 if_said P true x y first second = first refl
 if_said P false x y first second = second refl
 
-no_stamp : (past : List Said) (time : ℕ) → or_this time (first_stamp past) ≡ None → ⊥
+pub no_stamp : (past : List Said) (time : ℕ) → or_this time (first_stamp past) ≡ None → ⊥
 no_stamp past time none = by (first_stamp past) none
   where
     by : (o : Option ℕ) → or_this time o ≡ None → ⊥

@@ -33,7 +33,7 @@ map_all : {A B : Type 0} (P : B → Type 0) (f : A → B) (xs : List A) → AllB
 map_all P f [] all = tt
 map_all P f (x ∷ xs) all = (all.0, map_all P f xs all.1)
 
-filter_all_of : {A : Type 0} (P : A → Type 0) (p : A → Bool) (xs : List A) → AllByRecursion P xs → AllByRecursion (λ x. P x × (p x ≡ true)) (filter p xs)
+pub filter_all_of : {A : Type 0} (P : A → Type 0) (p : A → Bool) (xs : List A) → AllByRecursion P xs → AllByRecursion (λ x. P x × (p x ≡ true)) (filter p xs)
 filter_all_of P p [] all = tt
 filter_all_of {A} P p (x ∷ xs) all = by (p x) refl (filter_all_of P p xs all.1)
   where
@@ -70,7 +70,7 @@ all_from boundary low (one ∷ jobs) on from =
     ap (λ (b : Bool). cond b (one ∷ filter (begins_from boundary) jobs) (filter (begins_from boundary) jobs)) (le-leb boundary one.job.begin (omega (arith, on, from.0)))
     ∙ ap (λ (l : List Judged). one ∷ l) (all_from boundary low jobs on from.1)
 
-two_parts : (boundary : ℕ) (jobs : List Judged) → Rises begin_of jobs → filter (begins_before boundary) jobs ++ filter (begins_from boundary) jobs ≡ jobs
+pub two_parts : (boundary : ℕ) (jobs : List Judged) → Rises begin_of jobs → filter (begins_before boundary) jobs ++ filter (begins_from boundary) jobs ≡ jobs
 two_parts boundary [] rises = refl
 two_parts boundary (one ∷ jobs) rises = by (cases_lt one.job.begin boundary) (two_parts boundary jobs rises.1)
   where
@@ -101,21 +101,21 @@ still_before boundary time (one ∷ jobs) on = by (nat_lt one.job.begin boundary
     by false is rest = rest
 
 -- What is before the first cut, and what is between it and the second, is what is before the second.
-next_part : (boundary time : ℕ) (jobs : List Judged) → boundary ≤ time → Rises begin_of jobs →
+pub next_part : (boundary time : ℕ) (jobs : List Judged) → boundary ≤ time → Rises begin_of jobs →
     filter (begins_before boundary) jobs ++ filter (begins_before time) (filter (begins_from boundary) jobs) ≡ filter (begins_before time) jobs
 next_part boundary time jobs on rises =
     ap (λ (l : List Judged). l ++ filter (begins_before time) (filter (begins_from boundary) jobs)) (sym (still_before boundary time jobs on))
     ∙ sym (filter-append (begins_before time) (filter (begins_before boundary) jobs) (filter (begins_from boundary) jobs))
     ∙ ap (filter (begins_before time)) (two_parts boundary jobs rises)
 
-all_of_them : (jobs : List Judged) → filter (is_before_end None) jobs ≡ jobs
+pub all_of_them : (jobs : List Judged) → filter (is_before_end None) jobs ≡ jobs
 all_of_them [] = refl
 all_of_them (one ∷ jobs) = ap (λ (l : List Judged). one ∷ l) (all_of_them jobs)
 
 -- # What is known of each judged job, and of each job of a task
 
 module _ (asked : Asked) (past : List Said) where
-  numbered_all : (P : Judged → Type 0) (number : ℕ) (before : Bool) (Q : Job → Type 0) → ((place : ℕ) (job : Job) → Q job → P (judged asked past number before (place, job))) →
+  pub numbered_all : (P : Judged → Type 0) (number : ℕ) (before : Bool) (Q : Job → Type 0) → ((place : ℕ) (job : Job) → Q job → P (judged asked past number before (place, job))) →
       (start : ℕ) (jobs : List Job) → AllByRecursion Q jobs → AllByRecursion P (map (judged asked past number before) (enumerate_from start jobs))
   numbered_all P number before Q each start [] all = tt
   numbered_all P number before Q each start (job ∷ jobs) all = (each start job all.0, numbered_all P number before Q each (start + 1) jobs all.1)
@@ -134,7 +134,7 @@ all_changed Q change back [] all = tt
 all_changed Q change back (job ∷ jobs) all = (back job all.0, all.1)
 
 -- who still has its processor has had it until now
-abbrev closing : Asked → List Said → Standing → Stretch
+abbrev pub closing : Asked → List Said → Standing → Stretch
 closing asked past standing = record {
   processor = standing.processor;
   from = standing.since;
@@ -161,7 +161,7 @@ all_closed asked past Q back known all = by known.on all
     by (Some standing) all = all_changed Q (ran (closing asked past standing)) (λ job is. back job (closing asked past standing) is) known.jobs all
 
 -- of each listed task's jobs, and of each judged job
-from_all : (asked : Asked) (past : List Said) (P : Judged → Type 0) (number : ℕ) (tasks : List Task) →
+pub from_all : (asked : Asked) (past : List Said) (P : Judged → Type 0) (number : ℕ) (tasks : List Task) →
     ((k : ℕ) → k < number + length tasks → AllByRecursion P (judged_of asked past k)) → AllByRecursion P (judged_from asked past number tasks)
 from_all asked past P number [] each = tt
 from_all asked past P number (task ∷ tasks) each =
@@ -246,7 +246,7 @@ among_is asked past cut time holds is = by (last_where (is_closed asked past job
         let found = last_where_is (IsBetween asked past cut) (is_closed asked past jobs) begins time (waiting_between asked past cut holds) (some ∙ is) in
         record { from = found.0.0; by = found.0.1; quiet = (and_parts (is_quiet asked past jobs time) (each_before _ time jobs) found.1).0 }
 
-place_is : (asked : Asked) (past : List Said) (cut : Cut) (time : ℕ) → ((number : ℕ) → number < length asked.tasks → Holds asked past cut number) →
+pub place_is : (asked : Asked) (past : List Said) (cut : Cut) (time : ℕ) → ((number : ℕ) → number < length asked.tasks → Holds asked past cut number) →
     place_of asked past cut ≡ Some time → IsPlace asked past cut time
 place_is asked past cut time holds is = by (is_due past && may_write asked past && is_much (waiting asked past cut)) is
   where
@@ -268,22 +268,31 @@ SettledBetween asked past boundary time number job = boundary ≤ job.begin → 
 abbrev SettledJudged : Asked → List Said → ℕ → ℕ → Judged → Type 0
 SettledJudged asked past boundary time one = boundary ≤ one.job.begin → one.job.begin < time → is_settled asked past one ≡ true
 
-passed : (b c d : Bool) → (b || (c && d)) ≡ true → b ≡ false → c ≡ true
-passed true c d held off = absurd (true≢false off)
-passed false c d held off = (and_parts c d held).0
+passed : (b c : Bool) → (b || c) ≡ true → b ≡ false → c ≡ true
+passed true c held off = absurd (true≢false off)
+passed false c held off = held
+
+abbrev pub DoneJudged : Asked → List Said → ℕ → ℕ → Judged → Type 0
+DoneJudged asked past boundary time one = boundary ≤ one.job.begin → one.job.begin < time → is_done_by asked past time one ≡ true
+
+-- Each judged job that begins between is settled, and has no run after the cut.
+pub judged_done : (asked : Asked) (past : List Said) (cut : Cut) (time : ℕ) → is_quiet asked past (waiting asked past cut) time ≡ true →
+    AllByRecursion (DoneJudged asked past cut.boundary time) (all_judged asked past)
+judged_done asked past cut time quiet =
+    let jobs : List Judged = waiting asked past cut in
+    let test : Judged → Bool = λ judged. begins_from time judged || is_done_by asked past time judged in
+    let each = (and_parts (has_written time jobs) (each_before (is_done_by asked past time) time jobs) quiet).1 in
+    all_weaker (λ (one : Judged). begins_from cut.boundary one ≡ true → test one ≡ true) (DoneJudged asked past cut.boundary time)
+    (λ one is from before. passed (begins_from time one) (is_done_by asked past time one) (is (le-leb cut.boundary one.job.begin from)) (lt-leb time one.job.begin before))
+    (all_judged asked past)
+    (filter_all_back (λ one. test one ≡ true) (begins_from cut.boundary) (all_judged asked past) (list_all_each test jobs each))
 
 judged_settled : (asked : Asked) (past : List Said) (cut : Cut) (time : ℕ) → is_quiet asked past (waiting asked past cut) time ≡ true →
     AllByRecursion (SettledJudged asked past cut.boundary time) (all_judged asked past)
 judged_settled asked past cut time quiet =
-    let jobs : List Judged = waiting asked past cut in
-    let test : Judged → Bool = λ judged. begins_from time judged || is_done_by asked past time judged in
-    let each = (and_parts (has_written time jobs) (each_before (is_done_by asked past time) time jobs) quiet).1 in
-    all_weaker (λ (one : Judged). begins_from cut.boundary one ≡ true → test one ≡ true) (SettledJudged asked past cut.boundary time)
-    (λ one is from before.
-    passed (begins_from time one) (is_settled asked past one) (not (stands one) || ended_by time one.job.end) (is (le-leb cut.boundary one.job.begin from))
-    (lt-leb time one.job.begin before))
-    (all_judged asked past)
-    (filter_all_back (λ one. test one ≡ true) (begins_from cut.boundary) (all_judged asked past) (list_all_each test jobs each))
+    all_weaker (DoneJudged asked past cut.boundary time) (SettledJudged asked past cut.boundary time)
+    (λ one done from before. (and_parts (is_settled asked past one) (not (stands one) || ended_by time one.job.end) (done from before)).0)
+    (all_judged asked past) (judged_done asked past cut time quiet)
 
 -- So each job of a task that begins between is settled.
 jobs_settled : (asked : Asked) (past : List Said) (cut : Cut) (time number : ℕ) → is_quiet asked past (waiting asked past cut) time ≡ true → number < length asked.tasks →
@@ -390,12 +399,12 @@ module _ (asked : Asked) (past : List Said) (cut : Cut) (time number : ℕ) wher
 
 -- # All lines
 
-record Stands (asked : Asked) (past : List Said) (cut : Cut) (parts : List Part) : Type 0 where
-  holds : (number : ℕ) → number < length asked.tasks → Holds asked past cut number
-  begun : cut.boundary ≤ last_asked asked past
-  same : judged_in_parts parts ≡ filter (begins_before cut.boundary) (all_judged asked past)
+pub record Stands (asked : Asked) (past : List Said) (cut : Cut) (parts : List Part) : Type 0 where
+  pub holds : (number : ℕ) → number < length asked.tasks → Holds asked past cut number
+  pub begun : cut.boundary ≤ last_asked asked past
+  pub same : judged_in_parts parts ≡ filter (begins_before cut.boundary) (all_judged asked past)
 
-before_nothing : (jobs : List Judged) → [] ≡ filter (begins_before 0) jobs
+pub before_nothing : (jobs : List Judged) → [] ≡ filter (begins_before 0) jobs
 before_nothing [] = refl
 before_nothing (one ∷ jobs) =
     before_nothing jobs
@@ -408,13 +417,13 @@ no_lines asked number = by asked.to
     by None = refl
     by (Some to) = refl
 
-at_first : (asked : Asked) (number : ℕ) → Holds asked [] no_cut number
+pub at_first : (asked : Asked) (number : ℕ) → Holds asked [] no_cut number
 at_first asked number = record {
   keeps = subst (λ (known : Known). Keeps 0 (last_asked asked []) (told 0 known.jobs) known) (no_lines asked number) (record { told = refl; sound = tt; last = tt; stands = tt });
   firm = subst (λ (known : Known). Each (IsFirm asked [] 0 number) 0 known.jobs) (no_lines asked number) tt;
 }
 
-part_more : (asked : Asked) (past : List Said) (cut : Cut) (parts : List Part) (o : Option ℕ) → place_of asked past cut ≡ o → Stands asked past cut parts →
+pub part_more : (asked : Asked) (past : List Said) (cut : Cut) (parts : List Part) (o : Option ℕ) → place_of asked past cut ≡ o → Stands asked past cut parts →
     Stands asked past (cut_at asked past cut o) (parts ++ made_at asked past cut o)
 part_more asked past cut parts None none stands =
     record { holds = stands.holds; begun = stands.begun; same = ap judged_in_parts (append-nil parts) ∙ stands.same }
@@ -430,7 +439,7 @@ part_more asked past cut parts (Some time) some stands =
           ∙ next_part cut.boundary time (all_judged asked past) place.from (rises_in_order begin_of (judged_from asked past 0 asked.tasks));
     }
 
-line_more : (asked : Asked) (said : Said) (past : List Said) (cut : Cut) (parts : List Part) → GoesOn asked.to (said ∷ past) → part_fault asked past cut said ≡ None →
+pub line_more : (asked : Asked) (said : Said) (past : List Said) (cut : Cut) (parts : List Part) → GoesOn asked.to (said ∷ past) → part_fault asked past cut said ≡ None →
     Stands asked past cut parts → Stands asked (said ∷ past) cut parts
 line_more asked said past cut parts goes none stands =
     let on : last_asked asked past ≤ last_asked asked (said ∷ past) = now_goes_on asked said past goes in
@@ -442,7 +451,7 @@ line_more asked said past cut parts goes none stands =
           (λ number within. line_keeps asked past cut number stands.begun (stands.holds number within) said goes none));
     }
 
-parts_stand : (asked : Asked) (past : List Said) → GoesOn asked.to past → KeepsParts asked past → Stands asked past (cut_after asked past) (parts_behind asked past)
+pub parts_stand : (asked : Asked) (past : List Said) → GoesOn asked.to past → KeepsParts asked past → Stands asked past (cut_after asked past) (parts_behind asked past)
 parts_stand asked [] goes kept =
     record { holds = λ number within. at_first asked number; begun = omega arith; same = before_nothing (all_judged asked []) }
 parts_stand asked (said ∷ past) goes kept =

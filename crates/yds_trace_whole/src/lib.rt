@@ -6,4 +6,4 @@
 
 mod laws;
 
-pub use laws::parts_are_the_whole;
+pub use laws::{parts_are_the_whole, parts_make_the_document, whole_is_the_document};
