@@ -1,5 +1,5 @@
 -- A part of a trace is some of its jobs, in units of its own; so its text is read again.
-use Rattle.yds_model.proofs.Common.{◌≡◌, ℕ, ◌+◌, ◌-◌, ◌*◌, ◌/◌, ◌≤◌, ◌==◌, ◌&&◌, List, [], ◌∷◌, map, filter, length, get_or, Bool, true, false, nat_lt, if◌then◌else◌, Option, Some, None, is_none, unwrap_or, refl, sym, ap, ap₂, subst, arith, leb-true, and_parts, div-mul-le_self, codes, decimal, no_document, Entry, All, All-from_recursion, All-contains_itself, AllByRecursion, recursion_from_All, Contains, filter_map}
+use Rattle.yds_model.proofs.Common.{◌≡◌, ℕ, ◌+◌, ◌-◌, ◌*◌, ◌/◌, ◌≤◌, ◌==◌, ◌&&◌, List, [], ◌∷◌, map, filter, length, get_or, Bool, true, false, nat_lt, if◌then◌else◌, Option, Some, None, is_none, unwrap_or, refl, sym, ap, subst, arith, leb-true, and_parts, div-mul-le_self, codes, decimal, no_document, Entry, All, All-from_recursion, All-contains_itself, AllByRecursion, recursion_from_All, Contains}
 use Rattle.yds_kernel.specs.Event.{Said}
 use Rattle.yds_kernel.specs.Parts.{capped}
 use Rattle.yds_trace.specs.declared.cut.Cut.{Cut}
@@ -7,7 +7,7 @@ use Rattle.yds_trace.specs.Asked.{Task, Asked, IsAsked, is_after_from}
 use Rattle.yds_trace.specs.Past.{first_time}
 use Rattle.yds_trace.specs.Faults.{first_fault}
 use Rattle.yds_trace.specs.WrittenTime.{Units}
-use Rattle.yds_trace.specs.Document.{Judged, judged_of, judged_from, all_judged, stands, written_of, Written}
+use Rattle.yds_trace.specs.Document.{Judged, judged_of, all_judged, stands, Written}
 use Rattle.yds_trace.specs.Parts.{begin_of, begins_from, is_before_end, part_until}
 use Rattle.yds_trace_laws.specs.InUnits.{document_in, AreOf, NoneBefore}
 use Rattle.yds_trace_laws.proofs.Ordered.{filter-all}
@@ -133,10 +133,43 @@ part_silent P cut last shift jobs =
     (codes "part " ∷ decimal (capped (cut.parts + 1)) ∷ codes ": jobs " ∷ decimal (capped (cut.jobs + 1))
     ∷ codes " to " ∷ decimal (capped (cut.jobs + length jobs)) ∷ codes ", from " ∷ decimal (capped (shift + first_release jobs))
     ∷ codes " to " ∷ decimal (capped (shift + last_deadline jobs))
-    ∷ codes ", shift " ∷ decimal shift ∷ windows_text cut ∷ last_text last ∷ [])
-    (refl, (plain_decimal (capped (cut.parts + 1)), (refl, (plain_decimal (capped (cut.jobs + 1)), (refl, (plain_decimal (capped (cut.jobs + length jobs)), (refl,
-    (plain_decimal (capped (shift + first_release jobs)), (refl, (plain_decimal (capped (shift + last_deadline jobs)), (refl, (plain_decimal shift,
-    (plain_windows cut, (plain_last last, tt))))))))))))))
+    ∷ codes ", shift " ∷ decimal shift ∷ windows_text cut ∷ last_text last ∷ []) (
+      refl,
+      (
+        plain_decimal (capped (cut.parts + 1)),
+        (
+          refl,
+          (
+            plain_decimal (capped (cut.jobs + 1)),
+            (
+              refl,
+              (
+                plain_decimal (capped (cut.jobs + length jobs)),
+                (
+                  refl,
+                  (
+                    plain_decimal (capped (shift + first_release jobs)),
+                    (
+                      refl,
+                      (
+                        plain_decimal (capped (shift + last_deadline jobs)),
+                        (
+                          refl,
+                          (
+                            plain_decimal shift,
+                            (plain_windows cut, (plain_last last, tt)),
+                          ),
+                        ),
+                      ),
+                    ),
+                  ),
+                ),
+              ),
+            ),
+          ),
+        ),
+      ),
+    )
 
 -- the law
 pub parts_are_read_again : PartsAreReadAgain

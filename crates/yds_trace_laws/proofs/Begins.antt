@@ -1,7 +1,6 @@
 -- Each job of a trace without a fault begins by the greatest time that a trace may have.
 use Rattle.yds_model.proofs.Common.{◌≡◌, ℕ, ◌+◌, ◌≤◌, List, [], ◌∷◌, length, Bool, true, false, nat_lt, if◌then◌else◌, Option, Some, None, refl, subst, All}
 use Rattle.std.proofs.lemmas.Bool.{ltb-false}
-use Rattle.yds_kernel.specs.declared.state.State.{State}
 use Rattle.yds_kernel.specs.declared.state.State.TheVariants as states
 use Rattle.yds_kernel.specs.Parts.{or_else}
 use Rattle.yds_kernel.specs.Event.{Happening, Switch, WakeUp, Speed, Loss, Marker, Other, Event, Said, Stamped, Lost, Nothing}
@@ -14,7 +13,7 @@ use Rattle.yds_trace.specs.Jobs.{Job, counted as counted_job}
 use Rattle.yds_trace.specs.Faults.{first_fault, numbered, said_fault, stamped_fault, behind_fault, place_fault, processors_fault, length_fault}
 use Rattle.yds_trace.specs.Document.{jobs_of}
 use Rattle.yds_trace_laws.specs.Laws.{IsReached}
-use Rattle.yds_trace_laws.proofs.Holding.{IsKept, Allows, Ends, EndsAt, AllowsEach, WhereCounts, counting_allows, each_job}
+use Rattle.yds_trace_laws.proofs.Holding.{IsKept, Allows, EndsAt, AllowsEach, WhereCounts, counting_allows, each_job}
 
 -- # What is known of a job's begin
 

@@ -5,7 +5,7 @@ use Rattle.yds_kernel.specs.Event.{Said}
 use Rattle.yds_trace.specs.declared.job.Stretch.{Stretch}
 use Rattle.yds_trace.specs.declared.reason.Reason.{Reason}
 use Rattle.yds_trace.specs.declared.reason.Reason.TheVariants as reasons
-use Rattle.yds_trace.specs.Asked.{Task, Asked, IsAsked, task_at, is_after_from}
+use Rattle.yds_trace.specs.Asked.{Task, Asked, task_at, is_after_from}
 use Rattle.yds_trace.specs.Late.{last_asked, is_open, lateness}
 use Rattle.yds_trace.specs.Jobs.{Job}
 use Rattle.yds_trace.specs.WrittenTime.{Units, Run, run_of}

@@ -7,5 +7,7 @@ pub mod Parting
 pub mod Later
 pub mod Ranked
 pub mod Together
+pub mod Worth
+pub mod Several
 mod Examples
 pub mod Worth

@@ -1,10 +1,9 @@
 -- No late job is hidden in the parts of a trace, each part is faithful to the trace, and each is read again.
-use Rattle.yds_model.proofs.Common.{◌≡◌, ℕ, ◌+◌, ◌<◌, ◌≤◌, List, [], ◌∷◌, ◌++◌, length, get_or, flat_map, Bool, Option, Some, None, is_none, refl, sym, subst, All, All-from_recursion, All-contains_itself, AllByRecursion, recursion_from_All, Contains}
+use Rattle.yds_model.proofs.Common.{◌≡◌, ℕ, ◌+◌, ◌<◌, List, [], ◌∷◌, length, get_or, Option, Some, None, is_none, refl, sym, subst, All, All-from_recursion, All-contains_itself, AllByRecursion, recursion_from_All, Contains}
 use Rattle.yds_kernel.specs.Event.{Said}
 use Rattle.yds_trace.specs.declared.cut.Cut.{Cut}
 use Rattle.yds_trace.specs.Asked.{Asked, IsAsked}
 use Rattle.yds_trace.specs.Faults.{first_fault, numbered, said_fault}
-use Rattle.yds_trace.specs.WrittenTime.{Units}
 use Rattle.yds_trace.specs.Document.{Judged, all_judged}
 use Rattle.yds_trace.specs.Parts.{part_until, place_of, cut_after}
 use Rattle.yds_trace_laws.specs.Faithful.{AreFaithful}
@@ -14,52 +13,63 @@ use Rattle.yds_trace_laws.proofs.Runs.{all_weaker, contained}
 use Rattle.yds_trace_laws.proofs.Begins.{or_none}
 use Rattle.yds_trace_laws.proofs.Seen.{some_are_in_time}
 use Rattle.yds_trace_laws.proofs.Faithful.{some_are_faithful}
-use Rattle.yds_trace_document.specs.Part.{shift_of, part_units, part_of}
+use Rattle.yds_trace_document.specs.Part.{part_units}
 use Rattle.yds_trace_text.specs.Text.{late_comment, settled_text}
-use Rattle.yds_trace_text.specs.PartText.{part_line, part_text}
+use Rattle.yds_trace_text.specs.PartText.{part_line}
 use Rattle.yds_trace_again.specs.Holds.{Holds}
-use Rattle.yds_trace_again.specs.Laws.{AreLabelled}
 use Rattle.yds_trace_again.proofs.Holding.{on_the_right, held_within, late_jobs_are_named}
 use Rattle.yds_trace_again.proofs.Parts.{part_is_of, part_not_before, parts_are_read_again}
 use Rattle.yds_trace_whole.specs.Parts.{Part, made, made_at, parts_behind, parts_of, judged_in_parts}
-use Rattle.yds_trace_whole.specs.Worth.{IsPartFeasible, IsNamedIn, IsToldLateIn, NothingLateInParts, IsFaithfulPart, IsReadPart}
-use Rattle.yds_trace_whole.specs.WorthLaws.{EachPartIsRead}
+use Rattle.yds_trace_whole.specs.Worth.{IsPartFeasible, NothingLateInParts, IsFaithfulPart, IsReadPart}
+use Rattle.yds_trace_whole.specs.WorthLaws.{NothingIsLateInParts, PartsAreFaithful, EachPartIsRead}
+use Rattle.yds_trace_whole.proofs.Parting.{parts_are_the_whole}
 
 -- # Where a part is from
 
--- it is made of the jobs behind some lines without a fault
-record IsMade (asked : Asked) (part : Part) : Type 0 where
+-- it is made of the jobs behind some lines, of which Q holds
+record IsMade (asked : Asked) (Q : List Said → Type 0) (part : Part) : Type 0 where
   past : List Said
   cut : Cut
   until : Option ℕ
   is : made asked past cut until ≡ part
-  none : first_fault asked past ≡ None
+  holds : Q past
 
-made_here : (asked : Asked) (past : List Said) (cut : Cut) (until : Option ℕ) → first_fault asked past ≡ None → IsMade asked (made asked past cut until)
-made_here asked past cut until none = record { past = past; cut = cut; until = until; is = refl; none = none }
+made_here : (asked : Asked) (Q : List Said → Type 0) (past : List Said) (cut : Cut) (until : Option ℕ) → Q past → IsMade asked Q (made asked past cut until)
+made_here asked Q past cut until holds = record { past = past; cut = cut; until = until; is = refl; holds = holds }
 
-made_there : (asked : Asked) (past : List Said) (cut : Cut) (place : Option ℕ) → first_fault asked past ≡ None → AllByRecursion (IsMade asked) (made_at asked past cut place)
-made_there asked past cut None none = tt
-made_there asked past cut (Some time) none = (made_here asked past cut (Some time) none, tt)
+made_there : (asked : Asked) (Q : List Said → Type 0) (past : List Said) (cut : Cut) (place : Option ℕ) → Q past → AllByRecursion (IsMade asked Q) (made_at asked past cut place)
+made_there asked Q past cut None holds = tt
+made_there asked Q past cut (Some time) holds = (made_here asked Q past cut (Some time) holds, tt)
 
-made_behind : (asked : Asked) (past : List Said) → first_fault asked past ≡ None → AllByRecursion (IsMade asked) (parts_behind asked past)
-made_behind asked [] none = tt
-made_behind asked (said ∷ past) none =
-    append-all (IsMade asked) (parts_behind asked past) (made_at asked (said ∷ past) (cut_after asked past) (place_of asked (said ∷ past) (cut_after asked past)))
-    (made_behind asked past (or_none (first_fault asked past) (numbered (length past + 1) (said_fault asked past said)) none).0)
-    (made_there asked (said ∷ past) (cut_after asked past) (place_of asked (said ∷ past) (cut_after asked past)) none)
+-- It holds of fewer lines where it holds of more.
+abbrev pub IsKeptBefore : (List Said → Type 0) → Type 0
+IsKeptBefore Q = (said : Said) (past : List Said) → Q (said ∷ past) → Q past
 
-all_made : (asked : Asked) (past : List Said) → first_fault asked past ≡ None → AllByRecursion (IsMade asked) (parts_of asked past)
-all_made asked past none =
-    append-all (IsMade asked) (parts_behind asked past) (made asked past (cut_after asked past) None ∷ []) (made_behind asked past none)
-    (made_here asked past (cut_after asked past) None none, tt)
+made_behind : (asked : Asked) (Q : List Said → Type 0) (past : List Said) → IsKeptBefore Q → Q past → AllByRecursion (IsMade asked Q) (parts_behind asked past)
+made_behind asked Q [] kept holds = tt
+made_behind asked Q (said ∷ past) kept holds =
+    append-all (IsMade asked Q) (parts_behind asked past) (made_at asked (said ∷ past) (cut_after asked past) (place_of asked (said ∷ past) (cut_after asked past)))
+    (made_behind asked Q past kept (kept said past holds))
+    (made_there asked Q (said ∷ past) (cut_after asked past) (place_of asked (said ∷ past) (cut_after asked past)) holds)
 
--- What holds of each part that is made holds of all parts of a trace.
+all_made : (asked : Asked) (Q : List Said → Type 0) (past : List Said) → IsKeptBefore Q → Q past → AllByRecursion (IsMade asked Q) (parts_of asked past)
+all_made asked Q past kept holds =
+    append-all (IsMade asked Q) (parts_behind asked past) (made asked past (cut_after asked past) None ∷ []) (made_behind asked Q past kept holds)
+    (made_here asked Q past (cut_after asked past) None holds, tt)
+
+-- What holds of each part that is made of such lines holds of all parts of a trace.
+pub of_each_made : (P : Part → Type 0) (asked : Asked) (Q : List Said → Type 0) (past : List Said) → IsKeptBefore Q → Q past →
+    ((lines : List Said) (cut : Cut) (until : Option ℕ) → Q lines → P (made asked lines cut until)) → All P (parts_of asked past)
+of_each_made P asked Q past kept holds each =
+    All-from_recursion P (parts_of asked past)
+    (all_weaker (IsMade asked Q) P (λ part from. subst P from.is (each from.past from.cut from.until from.holds)) (parts_of asked past) (all_made asked Q past kept holds))
+
+-- as where none of the lines has a fault
 of_each_part : (P : Part → Type 0) (asked : Asked) (past : List Said) → first_fault asked past ≡ None →
     ((lines : List Said) (cut : Cut) (until : Option ℕ) → first_fault asked lines ≡ None → P (made asked lines cut until)) → All P (parts_of asked past)
 of_each_part P asked past none each =
-    All-from_recursion P (parts_of asked past)
-    (all_weaker (IsMade asked) P (λ part from. subst P from.is (each from.past from.cut from.until from.none)) (parts_of asked past) (all_made asked past none))
+    of_each_made P asked (λ lines. first_fault asked lines ≡ None) past
+    (λ said lines whole. (or_none (first_fault asked lines) (numbered (length lines + 1) (said_fault asked lines said)) whole).0) none each
 
 -- # Each part is read again
 
@@ -172,3 +182,11 @@ pub faithful_parts : (asked : Asked) (past : List Said) → IsAsked asked → fi
 faithful_parts asked past fit none whole i d within =
     let own = own_documents asked past fit none i d within in
     record { of_trace = parts_are_of asked past whole i d within; document_is = own.0; faithful = own.1 }
+
+-- # The laws
+
+pub nothing_is_late_in_parts : NothingIsLateInParts
+nothing_is_late_in_parts asked past text fit none keeps texts = nothing_late asked past text fit none (parts_are_the_whole asked past none keeps) texts
+
+pub parts_are_faithful : PartsAreFaithful
+parts_are_faithful asked past fit none keeps = faithful_parts asked past fit none (parts_are_the_whole asked past none keeps)
