@@ -1,5 +1,5 @@
 -- Where a part of a trace may end. Jobs of `t` and of another thread wait; each is due 100 after its begin.
-use Rattle.yds_model.proofs.Common.{◌≡◌, ℕ, List, [], ◌∷◌, map, codes, reverse, Bool, true, false, Option, Some, None, refl}
+use Rattle.yds_model.proofs.Common.{◌≡◌, ℕ, List, [], ◌∷◌, map, codes, reverse, Bool, false, Option, Some, None, refl}
 use Rattle.yds_kernel.specs.declared.state.State.TheVariants as states
 use Rattle.yds_kernel.specs.Event.{Switch, WakeUp, Said}
 use Rattle.yds_trace.specs.Asked.{Named, Task, Asked}

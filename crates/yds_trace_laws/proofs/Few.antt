@@ -1,5 +1,5 @@
 -- A line begins at most two jobs of a task: so there are at most twice as many jobs of it as lines.
-use Rattle.yds_model.proofs.Common.{ℕ, suc, ◌+◌, ◌*◌, ◌≤◌, ◌&&◌, ◌==◌, List, [], ◌∷◌, map, reverse, length, Bool, true, false, not, nat_lt, if◌then◌else◌, Option, Some, None, is_none, arith, length-map, length-reverse}
+use Rattle.yds_model.proofs.Common.{ℕ, suc, ◌+◌, ◌*◌, ◌≤◌, ◌&&◌, ◌==◌, List, [], ◌∷◌, map, length, Bool, true, false, not, nat_lt, if◌then◌else◌, Option, Some, None, is_none, arith, length-map, length-reverse}
 use Rattle.yds_kernel.specs.declared.state.State.{State}
 use Rattle.yds_kernel.specs.declared.state.State.TheVariants as states
 use Rattle.yds_kernel.specs.Event.{Happening, Switch, WakeUp, Speed, Loss, Marker, Other, Event, Said, Stamped, Lost, Nothing}
@@ -23,13 +23,13 @@ if_known : (b : Bool) (n : ℕ) (known other : Known) → length known.jobs ≤ 
 if_known true n known other few others = few
 if_known false n known other few others = others
 
-by_end : (end : End) (n : ℕ) (whole : List Job) (ended : ℕ → List Job) (unseen : ℕ → Bool → List Job) (lost : ℕ → List Job) →
-    length whole ≤ n → ((time : ℕ) → length (ended time) ≤ n) → ((time : ℕ) (goes_on : Bool) → length (unseen time goes_on) ≤ n) → ((time : ℕ) → length (lost time) ≤ n) →
-    length (elim end [ ends.Open ↦ whole | ends.Ended time ↦ ended time | ends.Unseen time goes_on ↦ unseen time goes_on | ends.Lost time ↦ lost time ]) ≤ n
-by_end ends.Open n whole ended unseen lost a b c d = a
-by_end (ends.Ended time) n whole ended unseen lost a b c d = b time
-by_end (ends.Unseen time goes_on) n whole ended unseen lost a b c d = c time goes_on
-by_end (ends.Lost time) n whole ended unseen lost a b c d = d time
+by_end : (end : End) (n : ℕ) (whole : List Job) (over : ℕ → List Job) (unseen : ℕ → Bool → List Job) (lost : ℕ → List Job) →
+    length whole ≤ n → ((time : ℕ) → length (over time) ≤ n) → ((time : ℕ) (goes_on : Bool) → length (unseen time goes_on) ≤ n) → ((time : ℕ) → length (lost time) ≤ n) →
+    length {A = Job} (elim end [ ends.Open ↦ whole | ends.Ended time ↦ over time | ends.Unseen time goes_on ↦ unseen time goes_on | ends.Lost time ↦ lost time ]) ≤ n
+by_end ends.Open n whole over unseen lost a b c d = a
+by_end (ends.Ended time) n whole over unseen lost a b c d = b time
+by_end (ends.Unseen time goes_on) n whole over unseen lost a b c d = c time goes_on
+by_end (ends.Lost time) n whole over unseen lost a b c d = d time
 
 -- # A job begins, goes on, or ends
 
@@ -92,7 +92,7 @@ comes_few apart wakes processor time n known few =
     (awake_few time n (vanished wakes known).jobs (omega (arith, few, before))) (running_few apart time n (vanished wakes known).jobs (omega (arith, few, before)))
 
 here_few : (leaving : Leaving) (on : Option Standing) (n : ℕ) (jobs : List Job) → length jobs ≤ n →
-    length (elim on [ None ↦ jobs | Some standing ↦ changed_last (ran (stretch_of leaving standing.since)) jobs ]) ≤ n
+    length {A = Job} (elim on [ None ↦ jobs | Some standing ↦ changed_last (ran (stretch_of leaving standing.since)) jobs ]) ≤ n
 here_few leaving None n jobs few = few
 here_few leaving (Some standing) n jobs few = changed_few (ran (stretch_of leaving standing.since)) n jobs few
 
@@ -203,7 +203,7 @@ up_to_few None past = omega arith
 up_to_few (Some to) past = up_to_time_few to past
 
 closed_on : (last : ℕ) (speed : ℕ → Option ℕ) (on : Option Standing) (n : ℕ) (jobs : List Job) → length jobs ≤ n →
-    length (elim on [
+    length {A = Job} (elim on [
       | None ↦ jobs
       | Some standing ↦ changed_last (ran (record { processor = standing.processor; from = standing.since; to = last; khz = speed standing.processor })) jobs
     ]) ≤ n

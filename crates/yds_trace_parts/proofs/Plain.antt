@@ -1,5 +1,5 @@
 -- What is shown of a pass is what a part's calls need, and what holds of it when a line more is taken.
-use Rattle.yds_model.proofs.Common.{◌≡◌, ℕ, ◌+◌, ◌*◌, ◌<◌, ◌≤◌, List, ◌∷◌, ◌++◌, length, map, All, All-back, Option, Some, None, refl, sym, ap, subst, ◌∙◌, arith, length-append, length-map, slice_index_or}
+use Rattle.yds_model.proofs.Common.{◌≡◌, ℕ, ◌+◌, ◌*◌, ◌≤◌, List, ◌∷◌, ◌++◌, length, map, All, All-back, Option, Some, None, refl, sym, ap, subst, ◌∙◌, arith, length-append, length-map, slice_index_or}
 use Rattle.yds_kernel.specs.declared.limits.TheConstants.{MAX_U64}
 use Rattle.yds_kernel.specs.Event.{Said}
 use Rattle.yds_kernel.specs.Parts.{or_else}
@@ -21,8 +21,7 @@ use Rattle.yds_trace_laws.proofs.Begins.{begins_in_time}
 use Rattle.yds_trace_laws.proofs.Few.{jobs_few}
 use Rattle.yds_trace_laws.proofs.Ordered.{All-map_back}
 use Rattle.yds_trace_document.specs.Kept.{IsPlainTask, IsPlainShown}
-use Rattle.yds_trace_parts.specs.declared.limits.TheConstants.{MOST_LINES}
-use Rattle.yds_trace_parts.specs.Plain.{IsGranted, IsOfSome, IsPlainPass, HasRoom}
+use Rattle.yds_trace_parts.specs.Plain.{IsOfSome, IsPlainPass, HasRoom}
 
 -- # What is shown
 

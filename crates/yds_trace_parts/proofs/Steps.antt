@@ -164,9 +164,3 @@ place_from asked past cut =
 
 pub place_behind : (asked : Asked) (past : List Said) (cut : Cut) (time : ℕ) → place_of asked past cut ≡ Some time → cut.boundary ≤ time
 place_behind asked past cut time is = subst (IsFrom cut.boundary) is (place_from asked past cut)
-
--- # How much waits
-
--- Where not so much waits that a part is to be written, no more waits than may.
-pub little_waits : (jobs : List Judged) → is_much jobs ≡ false → is_too_much jobs ≡ false
-little_waits jobs little = grind (arith, nat_tests)

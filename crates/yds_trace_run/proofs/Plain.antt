@@ -1,5 +1,5 @@
 -- What is known at a trace's end is what a document's call needs.
-use Rattle.yds_model.proofs.Common.{◌≡◌, ℕ, suc, ◌+◌, ◌≤◌, List, [], ◌∷◌, length, map, All, All-cons, All-nil, Option, Some, None, refl, sym, ap, subst, ◌∙◌, arith, length-map}
+use Rattle.yds_model.proofs.Common.{◌≡◌, ℕ, suc, ◌+◌, ◌≤◌, List, [], ◌∷◌, length, map, All, All-cons, All-nil, Option, Some, None, refl, sym, ap, subst, ◌∙◌, length-map}
 use Rattle.std.specs.Prelude.{IfSome, Vec}
 use Rattle.std.specs.declared.alloc.Global.{Global}
 use Rattle.yds_kernel.specs.Event.{Said}
