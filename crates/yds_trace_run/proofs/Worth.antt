@@ -31,6 +31,7 @@ use Rattle.yds_trace_whole.specs.Parts.{parts_of, judged_in_parts}
 use Rattle.yds_trace_whole.specs.Worth.{NothingLateInParts}
 use Rattle.yds_trace_whole.proofs.Worth.{nothing_late as nothing_late_in_parts, faithful_parts, each_part_is_read}
 use Rattle.yds_trace_whole.proofs.Parting.{parts_are_the_whole}
+use Rattle.yds_trace_whole.proofs.Together.{parts_make_the_document}
 use Rattle.yds_trace_run.specs.Worth.{NothingLate, HidesNothing, ArePartsReadAgain, IsReadSo, IsFaithfulSo, IsWholeSo}
 use Rattle.yds_trace_run.proofs.InParts.{no_fault, text_in, IsToldAs, told_as}
 
