@@ -8,4 +8,4 @@ pub range_from-requires : goal.range_from-requires
 range_from-requires c =
     let some : 0 < length (decimal c.args.number) = decimal_nonempty c.args.number (omega arith) in
     let first : 1 ≤ length c.format-digits.result.now = omega (arith, some, ap length c.format-digits.ensures.text) in
-    IsCharBoundary-from_ascii c.format-digits.result.now 1 c.format-digits.ensures.ascii first
+    λ _. IsCharBoundary-from_ascii c.format-digits.result.now 1 c.format-digits.ensures.ascii first
