@@ -35,7 +35,7 @@ first_part : part_text asked (reverse two_jobs) no_cut (Some 1200) ≡ lines (co
     ∷ codes "ticks 1"
     ∷ codes "run t.0 2 4 5"
     ∷ codes "# 1 job written, none left out" ∷ [])
-unfolding digits, comment, unit_comment
+unfolding digits comment unit_comment
 first_part = refl
 
 last_part : part_text asked (reverse two_jobs) cut None ≡ lines (codes "# part 2: jobs 2 to 2, from 20 to 30, shift 20, the last"
@@ -45,7 +45,7 @@ last_part : part_text asked (reverse two_jobs) cut None ≡ lines (codes "# part
     ∷ codes "ticks 1"
     ∷ codes "run t.1 1 3 5"
     ∷ codes "# 1 job written, none left out" ∷ [])
-unfolding digits, comment, unit_comment
+unfolding digits comment unit_comment
 last_part = refl
 
 -- near miss: so few lines are one part
@@ -61,7 +61,7 @@ whole_text = lines (codes "# part 1: jobs 1 to 2, from 0 to 30, shift 0, the las
     ∷ codes "# 2 jobs written, none left out" ∷ [])
 
 told_as_one : told_of asked false (record { said = two_jobs; fault = None }) ≡ record { text = whole_text; halt = None }
-unfolding digits, comment, unit_comment
+unfolding digits comment unit_comment
 told_as_one = refl
 
 -- # Halts
@@ -98,7 +98,7 @@ abbrev one_halt : Told → Option ℕ
 one_halt told = elim told.halt [ None ↦ None | Some halt ↦ Some 1 ]
 
 one_left_out : one_halt (told asked false one_moved) ≡ None
-unfolding digits, comment, unit_comment
+unfolding digits comment unit_comment
 one_left_out = refl
 
 -- # Behind a written part

@@ -6,3 +6,4 @@ pub mod Parting
 pub mod Taking
 pub mod Driven
 pub mod Plain
+pub mod Ending

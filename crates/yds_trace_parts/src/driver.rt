@@ -5,12 +5,12 @@ ghost use Rattle.yds_kernel.specs.Event as trace;
 ghost use Rattle.yds_kernel_text.specs.Reading.{said_by};
 ghost use Rattle.yds_trace.specs.Asked as asking;
 ghost use Rattle.yds_trace.specs.Views.{asked_read};
-ghost use Rattle.yds_trace_reading.specs.Reading.{IsRest, IsReadOut};
+ghost use Rattle.yds_trace_reading.specs.Reading.{IsReadOut};
 ghost use Rattle.yds_port.specs.Sink.{Puts};
 ghost use Rattle.yds_trace_parts.specs.Plain.{HasRoom, IsGranted};
 ghost use Rattle.yds_trace_parts.specs.Telling.{IsTelling, bytes_of};
 ghost use Rattle.yds_trace_parts.specs.Saying.{IsSaid, IsAdded, IsNotSaid};
-ghost use Rattle.yds_trace_parts.specs.Driving.{Writes};
+ghost use Rattle.yds_trace_parts.specs.Driving.{Writes, Tells};
 
 use crate::halt::Halt;
 use crate::limits::MOST_LINES;
@@ -63,17 +63,7 @@ fn tell<S: Source, K: Sink>(
     sink: &mut K,
 ) -> Result<(), Halt>
     requires { IsGranted (asked_read asked) }
-    ensures source_later { S.faults source.old ≤ S.faults source.new }
-    ensures sink_later { K.faults sink.old ≤ K.faults sink.new }
-    ensures no_fault { OnOk result (S.faults source.new ≡ S.faults source.old) }
-    ensures read_fault { result ≡ Err Halt.ReadFault → Rose (S.faults source.old) (S.faults source.new) }
-    ensures write_fault { result ≡ Err Halt.WriteFault → Rose (K.faults sink.old) (K.faults sink.new) }
-    ensures sink_rose { K.faults sink.old < K.faults sink.new → result ≡ Err Halt.WriteFault }
-    ensures flushed_stays { K.flushed sink.new ≡ K.flushed sink.old }
-    ensures flushes_stay { K.flushes sink.new ≡ K.flushes sink.old }
-    ensures told { IfSome (S.left source.old) (λ input. Writes (asked_read asked) strict input result (K.written sink.old) (K.written sink.new)) }
-    ensures none_left { IfSome (S.left source.old) (λ input. OnOk result (S.left source.new ≡ Some [])) }
-    ensures rest { IsRest (S.left source.old) (S.left source.new) }
+    ensures { Tells S.left S.faults K.written K.flushed K.flushes K.faults (asked_read asked) strict result source.old source.new sink.old sink.new }
 {
     let mut reader = TraceReader::new(alloc)?;
     let mut telling = Telling::new(alloc, asked, strict)?;

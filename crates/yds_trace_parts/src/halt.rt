@@ -14,13 +14,24 @@ use yds_trace_text::NoText;
 #[derive(Debug, Drop)]
 pub enum Halt {
     /// The line of this number is refused by its form.
-    InForm { number: u64, fault: LineFault },
+    InForm {
+        number: u64,
+        fault: LineFault,
+    },
     /// The line of this number can't stand behind those before it, or the trace as a whole tells nothing, at its last line.
-    AtLine { number: u64, cause: Cause },
+    AtLine {
+        number: u64,
+        cause: Cause,
+    },
     /// The part of this number passes a limit of documents.
-    Limit { part: u64, fault: DocumentFault },
+    Limit {
+        part: u64,
+        fault: DocumentFault,
+    },
     /// The text of the part of this number is longer than a document may be.
-    TooLong { part: u64 },
+    TooLong {
+        part: u64,
+    },
     /// More jobs or stretches wait than may, and there is no place to cut. This job has been open longest, or is the first that
     /// waits: its begin on the trace's clock, and by how much it is known to be late, in nanoseconds.
     NoPlace {

@@ -16,7 +16,5 @@ mod telling;
 
 pub use driver::tell_parts;
 pub use halt::Halt;
-pub use laws::{
-    few_lines_are_one_part, halts_stay, halts_write_nothing, parts_follow, told_grows,
-};
+pub use laws::{few_lines_are_one_part, halts_stay, halts_write_nothing, parts_follow, told_grows};
 pub use limits::MOST_LINES;

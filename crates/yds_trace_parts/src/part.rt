@@ -180,12 +180,7 @@ fn whole_part(
 }
 
 /// The text of the last part.
-pub(crate) fn last_part(
-    alloc: Global,
-    pass: &Pass,
-    cut: Cut,
-    strict: bool,
-) -> Result<Vec<u8>, Halt>
+pub(crate) fn last_part(alloc: Global, pass: &Pass, cut: Cut, strict: bool) -> Result<Vec<u8>, Halt>
     requires { IsPlainPass cut.boundary pass.now }
     ensures made { (asked : asking.Asked) (past : List trace.Said) → IsAtBehind asked past cut.boundary pass.now
         → IfOk result (λ text. IsLast asked strict past cut text.items) }

@@ -42,8 +42,16 @@ fn asked(alloc: Global) -> Result<Asked, AllocError>
 }
 
 /// A switch at this microsecond of second 5, from one thread to another.
-fn push_switch(text: &mut Vec<u8>, alloc: Global, micros: u64, from: &str, to: &str) -> Result<(), AllocError> {
-    let line = format!(in alloc; "  x-1 [000] d..2. 5.{micros}: sched_switch: prev_comm={from} prev_prio=120 prev_state=S ==> next_comm={to} next_prio=120\n")?;
+fn push_switch(
+    text: &mut Vec<u8>,
+    alloc: Global,
+    micros: u64,
+    from: &str,
+    to: &str,
+) -> Result<(), AllocError> {
+    let line = format!(in alloc;
+        "  x-1 [000] d..2. 5.{micros}: sched_switch: prev_comm={from} prev_prio=120 prev_state=S ==> next_comm={to} next_prio=120\n"
+    )?;
     text.extend_from_slice(line.as_bytes())
 }
 
@@ -52,8 +60,20 @@ fn trace(alloc: Global) -> Result<Vec<u8>, AllocError> {
     let mut text = Vec::new(alloc);
     for number in 0..JOBS {
         let begin = 100_000 + 20 * number;
-        push_switch(&mut text, alloc, begin, "swapper prev_pid=0", "t next_pid=7")?;
-        push_switch(&mut text, alloc, begin + 10, "t prev_pid=7", "swapper next_pid=0")?;
+        push_switch(
+            &mut text,
+            alloc,
+            begin,
+            "swapper prev_pid=0",
+            "t next_pid=7",
+        )?;
+        push_switch(
+            &mut text,
+            alloc,
+            begin + 10,
+            "t prev_pid=7",
+            "swapper next_pid=0",
+        )?;
     }
     Ok(text)
 }
