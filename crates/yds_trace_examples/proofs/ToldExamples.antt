@@ -91,6 +91,7 @@ abbrev one_moved : List Said
 one_moved = woken 1000 ∷ comes 1 1020 ∷ sleeps 1 1030 ∷ woken 1200 ∷ comes 0 1210 ∷ sleeps 0 1230 ∷ []
 
 one_missed : told asked true one_moved ≡ record { text = []; halt = Some (OfDocument 1 (faults.Missed 0)) }
+unfolding digits
 one_missed = refl
 
 -- near miss: without `strict` it may

@@ -7,7 +7,7 @@ use Rattle.yds_trace_parts.proofs.driver.take_line.Goals as goal
 
 pub returns-in-Ok-clause-said : goal.returns-in-Ok-clause-said
 returns-in-Ok-clause-said c = λ asked strict past is at.
-    subst (λ (said : Result Said (Spot Reason)). OnOk c.take.result (IsSaid asked strict past said c.take.new.telling)) (sym c.in-Ok.ensures)
+    subst (λ (said : Result Said (Spot Reason)). OnOk c.take.result (IsSaid asked strict past said c.take.new.self)) (sym c.in-Ok.ensures)
     (c.take.ensures.told asked strict past is (c.number-number.ensures ∙ at))
 
 pub returns-in-Ok-clause-adds : goal.returns-in-Ok-clause-adds
@@ -21,5 +21,4 @@ returns-in-Ok-clause-halts c = λ asked strict past is at.
     (c.take.ensures.halts asked strict past is (c.number-number.ensures ∙ at))
 
 pub returns-in-Err-clause-halts : goal.returns-in-Err-clause-halts
-returns-in-Err-clause-halts c = λ asked strict past is at.
-    subst (λ (said : Result Said (Spot Reason)). IsNotSaid asked strict past c.args.reader.now.number said _) (sym c.in-Err.ensures) (c.number-number.ensures, refl)
+returns-in-Err-clause-halts c = λ asked strict past is at. rw c.in-Err.ensures (c.number-number.ensures, refl)

@@ -49,7 +49,7 @@ loop-lines-preserved g c =
 
 pub returns-in_err-reader : goal.returns-in_err-reader
 returns-in_err-reader g c =
-    let told = err_from_is_err_and c.from_residual-in_err-reader.result c.from_residual-in_err-reader.ensures.1 in
+    let told = err_from_is_err_and c.from_residual.result c.from_residual.ensures.1 in
     rw (told.1, told.2)
     (tells_halt g.S.Source.left g.S.Source.faults g.K.Sink.written g.K.Sink.flushed g.K.Sink.flushes g.K.Sink.faults (asked_read c.args.asked) c.args.strict _ _ _ _ _ tt refl refl refl refl
     (nothing_written (asked_read c.args.asked) c.args.strict (g.S.Source.left c.args.source.now) (g.K.Sink.written c.args.sink.now)) (rest_same (g.S.Source.left c.args.source.now)))
@@ -108,7 +108,7 @@ returns-in_err-write_all-in-End g c =
     (end_cut (asked_read c.args.asked) c.args.strict (g.S.Source.left c.args.source.now) _ _ _ _ _ _ _ _ known c.in-End.ensures.advances.at_end
     (c.in_ok-text-in-End.ensures.sound (asked_read c.args.asked) c.args.strict known.past known.stands (sym known.many))
     (c.in_ok-text-in-End.ensures.told (asked_read c.args.asked) c.args.strict known.past known.stands (sym known.many))
-    c.in_err-write_all-in-End.ensures.puts.delivers.0)
+    (rw c.deref.ensures.value at c.in_err-write_all-in-End.ensures.puts.delivers.0))
     (rest_of _ _ _ (counts_on (g.S.Source.left c.args.source.now) _ _ _ _ c.loop-lines.invariant.behind.counts c.in-End.ensures.counts)))
 
 pub returns-in-End : goal.returns-in-End
@@ -120,7 +120,7 @@ returns-in-End g c =
     (end_told (asked_read c.args.asked) c.args.strict (g.S.Source.left c.args.source.now) _ _ _ _ _ _ _ _ known c.in-End.ensures.advances.at_end
     (c.in_ok-text-in-End.ensures.sound (asked_read c.args.asked) c.args.strict known.past known.stands (sym known.many))
     (c.in_ok-text-in-End.ensures.told (asked_read c.args.asked) c.args.strict known.past known.stands (sym known.many))
-    c.in_ok-write_all-in-End.ensures.puts.delivers.0)
+    (rw c.deref.ensures.value at c.in_ok-write_all-in-End.ensures.puts.delivers.0))
     (nothing_left (g.S.Source.left c.args.source.now) _ _ (Ok {E = HaltKept} tt) (counts_on (g.S.Source.left c.args.source.now) _ _ _ _ known.counts c.in-End.ensures.counts) c.in-End.ensures.advances.none_left)
     (rest_of _ _ _ (counts_on (g.S.Source.left c.args.source.now) _ _ _ _ c.loop-lines.invariant.behind.counts c.in-End.ensures.counts))
 

@@ -9,8 +9,9 @@ use Rattle.yds_trace_parts.proofs.telling.take_line.Goals as goal
 
 pub returns-in-Err-Fault-clause-halts : goal.returns-in-Err-Fault-clause-halts
 returns-in-Err-Fault-clause-halts c = λ asked past at.
-    ap (λ (fault : Option Cause). at_line c.args.number (or_else fault (part_fault asked past c.args.cut (said_read c.args.said))))
-    (rw c.in-Err-Fault.field-0-is at (c.in-Err-Fault.ensures.refused asked past c.args.cut.boundary at))
+    rw c.in-Err-Fault.field-0-is
+    (ap (λ (fault : Option Cause). at_line c.args.number (or_else fault (part_fault asked past c.args.cut (said_read c.args.said))))
+    (rw c.in-Err-Fault.field-0-is at (c.in-Err-Fault.ensures.refused asked past c.args.cut.boundary at)))
 
 pub returns-in-Ok-changes-clause-stands : goal.returns-in-Ok-changes-clause-stands
 returns-in-Ok-changes-clause-stands c asked past at = c.in-Ok.ensures.stands asked past c.args.cut.boundary at
