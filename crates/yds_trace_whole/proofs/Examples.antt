@@ -1,14 +1,14 @@
 -- Small traces in parts, put together, and near misses. A unit of time is 10 nanoseconds, and a job is due 100 after its begin.
-use Rattle.yds_model.proofs.Common.{◌≡◌, ◌≢◌, ◌∙◌, ℕ, List, [], ◌∷◌, map, codes, reverse, true, false, Option, Some, None, refl, sym, ap, get_or}
+use Rattle.yds_model.proofs.Common.{◌≡◌, ◌≢◌, ℕ, List, [], ◌∷◌, map, codes, reverse, true, false, Some, None, refl, ap, get_or}
 use Rattle.std.specs.Fmt.{digits}
 use Rattle.yds_kernel.specs.declared.state.State.TheVariants as states
 use Rattle.yds_kernel.specs.declared.loss.Since.TheVariants as since
 use Rattle.yds_kernel.specs.Event.{Thread, Happening, Switch, WakeUp, Marker, Said, Stamped, Lost}
 use Rattle.yds_trace.specs.declared.cut.Cut.{Cut}
 use Rattle.yds_trace.specs.declared.fault.Cause.TheVariants as causes
-use Rattle.yds_trace.specs.Asked.{Named, Task, Asked, no_task}
+use Rattle.yds_trace.specs.Asked.{Named, Task, Asked}
 use Rattle.yds_trace.specs.Faults.{first_fault}
-use Rattle.yds_trace.specs.Document.{Written, Placed, Document}
+use Rattle.yds_trace.specs.Document.{Document}
 use Rattle.yds_trace.specs.Parts.{no_cut, waiting, part_until, is_quiet, with_part, part_fault}
 use Rattle.yds_trace_whole.specs.Parts.{Part, made, KeepsParts}
 use Rattle.yds_trace_whole.specs.Whole.{release_later, whole_document, put_together}

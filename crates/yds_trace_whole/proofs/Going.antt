@@ -1,5 +1,5 @@
 -- What an event does to the jobs that are told: nothing, where these are settled. And what is known of each job's times stays so.
-use Rattle.yds_model.proofs.Common.{◌≡◌, ◌∙◌, ℕ, ◌+◌, ◌<◌, ◌≤◌, ◌⊎◌, inl, inr, ◌==◌, ◌&&◌, List, [], ◌∷◌, map, min, Bool, true, false, not, nat_lt, if◌then◌else◌, Option, Some, None, is_none, refl, sym, ap, subst, arith, ltb-true, le-ltb, le_refl, eqb-true, and_parts, length}
+use Rattle.yds_model.proofs.Common.{◌≡◌, ◌∙◌, ℕ, ◌+◌, ◌<◌, ◌≤◌, ◌⊎◌, inl, inr, ◌==◌, ◌&&◌, List, [], ◌∷◌, map, min, Bool, true, false, not, nat_lt, if◌then◌else◌, Option, Some, None, is_none, refl, sym, ap, subst, arith, ltb-true, le-ltb, le_refl, eqb-true, and_parts, length, cond_both, not-true}
 use Rattle.std.specs.List.{AllByRecursion}
 use Rattle.yds_kernel.specs.declared.state.State.{State}
 use Rattle.yds_kernel.specs.declared.state.State.TheVariants as states
@@ -8,9 +8,9 @@ use Rattle.yds_trace.specs.declared.job.End.TheVariants as ends
 use Rattle.yds_trace.specs.declared.job.Stretch.{Stretch}
 use Rattle.yds_trace.specs.declared.job.Standing.{Standing}
 use Rattle.yds_trace.specs.declared.job.Leaving.{Leaving}
-use Rattle.yds_trace.specs.Jobs.{Job, Known, new_job, began, reopened, woken_after, counted, woken_jobs, awake_jobs, running_jobs, changed_last, ended, missing, ran, left_unseen, vanished, stands_on, passed_by, comes, has_no_switch, begun_at_most, begun_by, stretch_of, left_from, left_in, leaves, wakes_up, speeds, lost_end, lost_job, lost_before, lost_earlier, lost_jobs, loses, left_if, came_if, after_switch}
+use Rattle.yds_trace.specs.Jobs.{Job, Known, new_job, began, reopened, woken_after, counted, woken_jobs, awake_jobs, running_jobs, changed_last, ended, missing, ran, left_unseen, vanished, stands_on, passed_by, comes, has_no_switch, begun_at_most, begun_by, stretch_of, left_from, left_in, leaves, wakes_up, speeds, lost_end, lost_job, lost_before, lost_earlier, lost_jobs, loses, after_switch}
 use Rattle.yds_trace_laws.proofs.Runs.{all_weaker}
-use Rattle.yds_trace_whole.proofs.Told.{Told, told, new_told, changed_told, IsAlike, AreAlike, alike_told, Each}
+use Rattle.yds_trace_whole.proofs.Told.{Told, told, new_told, changed_told, AreAlike, alike_told, Each}
 
 -- # What holds of each job
 
@@ -188,10 +188,6 @@ by_end P (ends.Lost time) whole ended unseen lost a b c d = d time refl
 either : {A : Type 0} (P : A → Type 0) (b : Bool) (x y : A) → P x → P y → P (if b then x else y)
 either P true x y first second = first
 either P false x y first second = second
-
-by_test : {A : Type 0} (P : A → Type 0) (b : Bool) (x y : A) → (b ≡ true → P x) → (b ≡ false → P y) → P (if b then x else y)
-by_test P true x y first second = first refl
-by_test P false x y first second = second refl
 
 module _ (boundary now : ℕ) (all : List Told) where
   changed_going : (change : Job → Job) → ((job : Job) → boundary ≤ job.begin → IsSound now job → job.end ≡ ends.Open →
@@ -453,26 +449,22 @@ module _ (boundary now : ℕ) (all : List Told) where
       ran_going (stretch_of leaving standing.since) jobs stands.2 (omega (arith, stands.3, at)) by
       (record { told = is; sound = sound; free = standing_free boundary standing jobs last; last_open = stands.1 })
 
-  not_false : (b : Bool) → not b ≡ true → b ≡ false
-  not_false true so = cc
-  not_false false so = refl
-
   left_from_fresh : (wakes : Bool) (leaving : Leaving) (known : Known) → boundary ≤ leaving.time → leaving.time ≤ now → now ≤ leaving.time → leaving.whole_since ≤ now →
       (leaving.has_switched ≡ false → boundary ≤ leaving.whole_since) → Keeps boundary now all known → Fresh boundary now all (left_from wakes leaving known)
   left_from_fresh wakes leaving known late by at since whole keeps =
-      by_test (Fresh boundary now all) (stands_on leaving.processor known.on)
+      cond_both (stands_on leaving.processor known.on)
       (elim known.on [ None ↦ known.jobs | Some standing ↦ changed_last (ran (stretch_of leaving standing.since)) known.jobs ])
       (if is_none known.on && not leaving.has_switched && has_no_switch known.jobs
       then changed_last (ran (stretch_of leaving leaving.whole_since)) (begun_by leaving.whole_since known.jobs)
-      else changed_last missing (awake_jobs leaving.time (vanished wakes known).jobs))
+      else changed_last missing (awake_jobs leaving.time (vanished wakes known).jobs)) (Fresh boundary now all)
       (here_fresh leaving known.on known.jobs by at keeps.told keeps.sound keeps.last keeps.stands)
-      (λ there. by_test (Fresh boundary now all) (is_none known.on && not leaving.has_switched && has_no_switch known.jobs)
+      (λ there. cond_both (is_none known.on && not leaving.has_switched && has_no_switch known.jobs)
       (changed_last (ran (stretch_of leaving leaving.whole_since)) (begun_by leaving.whole_since known.jobs))
-      (changed_last missing (awake_jobs leaving.time (vanished wakes known).jobs))
+      (changed_last missing (awake_jobs leaving.time (vanished wakes known).jobs)) (Fresh boundary now all)
       (λ first.
       let parts = and_parts (is_none known.on && not leaving.has_switched) (has_no_switch known.jobs) first in
       let two = and_parts (is_none known.on) (not leaving.has_switched) parts.0 in
-      let low : boundary ≤ leaving.whole_since = whole (not_false leaving.has_switched two.1) in
+      let low : boundary ≤ leaving.whole_since = whole (not-true leaving.has_switched two.1) in
       ran_going (stretch_of leaving leaving.whole_since) (begun_by leaving.whole_since known.jobs) (begun_last leaving.whole_since low since known.jobs)
       (omega (arith, since, at)) by (begun_going leaving.whole_since low since known.on known.jobs keeps.told keeps.sound keeps.last parts.1))
       (λ other.
@@ -481,7 +473,8 @@ module _ (boundary now : ℕ) (all : List Told) where
       (missing_going (awake_jobs leaving.time (vanished wakes known).jobs)
       (awake_going leaving.time late by (vanished wakes known).on (vanished wakes known).jobs gone.told gone.sound gone.last))))
 
-  left_in_fresh : (wakes : Bool) (state : State) (time : ℕ) (jobs : List Job) → time ≤ now → now ≤ time → Fresh boundary now all jobs → Fresh boundary now all (left_in wakes state time jobs)
+  left_in_fresh : (wakes : Bool) (state : State) (time : ℕ) (jobs : List Job) → time ≤ now → now ≤ time → Fresh boundary now all jobs → Fresh boundary now all
+      (left_in wakes state time jobs)
   left_in_fresh wakes states.GoesOn time jobs by at fresh = fresh
   left_in_fresh wakes states.Sleeps time jobs by at fresh =
       changed_fresh (ended time) (λ job late sound. (late, other_end now job job.switch_missing (ends.Ended time) sound by at)) jobs fresh
@@ -505,7 +498,8 @@ module _ (boundary now : ℕ) (all : List Told) where
       (free_ripe boundary apart leaving.time (leaves wakes state leaving known).jobs fresh.free)) gone
   switch_keeps apart wakes false came state leaving known late by at since whole ripe keeps =
       let gone : Keeps boundary now all (passed_by wakes leaving.processor known) = passed_keeps wakes leaving.processor known keeps in
-      by_test (Keeps boundary now all) came (comes apart wakes leaving.processor leaving.time (passed_by wakes leaving.processor known)) (passed_by wakes leaving.processor known)
+      cond_both came (comes apart wakes leaving.processor leaving.time (passed_by wakes leaving.processor known)) (passed_by wakes leaving.processor known)
+      (Keeps boundary now all)
       (λ comes_now. comes_keeps apart wakes leaving.processor leaving.time (passed_by wakes leaving.processor known) late by at gone
       (passed_ripe apart leaving.time wakes leaving.processor known keeps (ripe refl comes_now)))
       (λ other. gone)
@@ -579,7 +573,8 @@ module _ (boundary now : ℕ) (all : List Told) where
       })
       keeps
 
-  pub speeds_keeps : (processor time : ℕ) (khz : Option ℕ) (known : Known) → time ≤ now → now ≤ time → Keeps boundary now all known → Keeps boundary now all (speeds processor time khz known)
+  pub speeds_keeps : (processor time : ℕ) (khz : Option ℕ) (known : Known) → time ≤ now → now ≤ time → Keeps boundary now all known → Keeps boundary now all
+      (speeds processor time khz known)
   speeds_keeps processor time khz known by at keeps = speeds_on processor time khz known.on known by at refl keeps
 
 -- # Losses

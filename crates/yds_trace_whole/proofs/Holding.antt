@@ -1,5 +1,5 @@
 -- What holds of a task's jobs behind some lines whose parts end at a cut, and that one line more leaves it so, and changes nothing that is told.
-use Rattle.yds_model.proofs.Common.{◌≡◌, ◌∙◌, ℕ, ◌+◌, ◌<◌, ◌≤◌, ◌⊎◌, inl, inr, ◌==◌, ◌&&◌, ◌||◌, List, [], ◌∷◌, length, Bool, true, false, not, nat_lt, nat_le, if◌then◌else◌, Option, Some, None, is_some, is_none, refl, sym, ap, subst, arith, ltb-false, leb-false, le-leb, cases_lt, and_parts, or_parts, true≢false, false≢true, min}
+use Rattle.yds_model.proofs.Common.{◌≡◌, ◌∙◌, ℕ, ◌+◌, ◌<◌, ◌≤◌, ◌⊎◌, inl, inr, ◌&&◌, List, [], ◌∷◌, Bool, true, false, not, nat_lt, nat_le, if◌then◌else◌, Option, Some, None, is_some, refl, sym, ap, subst, arith, ltb-false, le-leb, cases_lt, and_parts, or_parts, true≢false, false≢true, min, cond_both, not-true}
 use Rattle.std.specs.List.{AllByRecursion}
 use Rattle.yds_kernel.specs.declared.state.State.{State}
 use Rattle.yds_kernel.specs.declared.state.State.TheVariants as states
@@ -12,9 +12,8 @@ use Rattle.yds_trace.specs.declared.fault.Cause.TheVariants as causes
 use Rattle.yds_trace.specs.declared.job.End.{End}
 use Rattle.yds_trace.specs.declared.job.End.TheVariants as ends
 use Rattle.yds_trace.specs.declared.job.Standing.{Standing}
-use Rattle.yds_trace.specs.declared.job.Leaving.{Leaving}
 use Rattle.yds_trace.specs.Asked.{Asked, task_at, task_of, is_number, is_of, is_before_to, is_within_to}
-use Rattle.yds_trace.specs.Past.{first_time, last_time, lost_since, is_loss, is_switch, whole_since, has_switched, counts, is_first_switch, stayed, up_to_time, up_to, speed_after}
+use Rattle.yds_trace.specs.Past.{last_time, lost_since, is_loss, is_switch, whole_since, has_switched, counts, is_first_switch, stayed, up_to_time, up_to, speed_after}
 use Rattle.yds_trace.specs.Jobs.{Job, Known, leaving_at, after_event, known_after}
 use Rattle.yds_trace.specs.Late.{last_asked}
 use Rattle.yds_trace.specs.Parts.{reaches_back, was_there_before, changes_parts, part_fault}
@@ -22,7 +21,7 @@ use Rattle.yds_trace.proofs.UpTo.{up_to_lost}
 use Rattle.yds_trace_laws.proofs.Runs.{all_weaker}
 use Rattle.yds_trace_laws.proofs.Sharing.{AreBy, GoesOn, up_to_by, counts_by, later_switch}
 use Rattle.yds_trace_whole.proofs.Told.{Told, told, OfTold, Each, each_told, told_each}
-use Rattle.yds_trace_whole.proofs.Going.{AreSound, later_sound, IsLastOpen, StandsBy, IsLeft, IsRipeEnd, IsRipe, Keeps, switch_keeps, woken_keeps, speeds_keeps, IsKnownBy, loses_keeps}
+use Rattle.yds_trace_whole.proofs.Going.{later_sound, StandsBy, IsRipeEnd, IsRipe, Keeps, switch_keeps, woken_keeps, speeds_keeps, IsKnownBy, loses_keeps}
 use Rattle.yds_trace_whole.proofs.Lines.{until, beyond, until_goes_on, beyond_goes_on, beyond_reached, until_before, until_most, lost_by, lost_same, whole_by, counting_by, whole_from}
 
 -- # What holds
@@ -185,10 +184,6 @@ staying_keeps asked counting boundary now number all processor to thread late by
 
 -- # Whether an event counts
 
-if_either : (P : List Said → Type 0) (b : Bool) (x y : List Said) → (b ≡ true → P x) → (b ≡ false → P y) → P (if b then x else y)
-if_either P true x y first second = first refl
-if_either P false x y first second = second refl
-
 -- It counts; or it is after `to`, and who leaves its processor had it until then; or it doesn't count.
 by_counting : (to : Option ℕ) (event : Event) (past : List Said) (P : List Said → Type 0) →
     ((is_loss event.happening ≡ true → is_within_to to (lost_since event.processor since.ItsLastLine past) ≡ true) →
@@ -198,10 +193,10 @@ by_counting : (to : Option ℕ) (event : Event) (past : List Said) (P : List Sai
     P (up_to to past) → P (up_to to (Stamped event ∷ past))
 by_counting None event past P counts_it stays passes = counts_it (λ is. refl) (λ is. refl)
 by_counting (Some end) event past P counts_it stays passes =
-    if_either P (counts end event past) (Stamped event ∷ up_to_time end past)
-    (if is_first_switch event (up_to_time end past) then stayed end event.processor event.happening ∷ up_to_time end past else up_to_time end past)
+    cond_both (counts end event past) (Stamped event ∷ up_to_time end past)
+    (if is_first_switch event (up_to_time end past) then stayed end event.processor event.happening ∷ up_to_time end past else up_to_time end past) P
     (λ is. counts_it (within is) (λ other. le-leb event.time end (counts_by end event past is other)))
-    (λ no. if_either P (is_first_switch event (up_to_time end past)) (stayed end event.processor event.happening ∷ up_to_time end past) (up_to_time end past)
+    (λ no. cond_both (is_first_switch event (up_to_time end past)) (stayed end event.processor event.happening ∷ up_to_time end past) (up_to_time end past) P
     (λ first. switched event.happening refl
     (and_parts (is_switch event.happening) (not (has_switched event.processor (up_to_time end past))) first)
     (later_switch end event past (up_to_time end past) no first))
@@ -210,16 +205,12 @@ by_counting (Some end) event past P counts_it stays passes =
     within : counts end event past ≡ true → is_loss event.happening ≡ true → nat_lt (lost_since event.processor since.ItsLastLine past) end ≡ true
     within is loss = subst (λ (b : Bool). (if b then nat_lt (lost_since event.processor since.ItsLastLine past) end else nat_le event.time end) ≡ true) loss is
 
-    not_so : (b : Bool) → not b ≡ true → b ≡ false
-    not_so true so = cc
-    not_so false so = refl
-
     switched : (happening : Happening) → event.happening ≡ happening →
         (is_switch event.happening ≡ true) × (not (has_switched event.processor (up_to_time end past)) ≡ true) → end < event.time →
         P (stayed end event.processor event.happening ∷ up_to_time end past)
     switched (Switch previous state next) is both later =
         subst (λ (h : Happening). P (stayed end event.processor h ∷ up_to_time end past)) (sym is)
-        (stays end previous state next refl later is (not_so (has_switched event.processor (up_to_time end past)) both.1))
+        (stays end previous state next refl later is (not-true (has_switched event.processor (up_to_time end past)) both.1))
     switched (WakeUp thread) is both later = absurd (let no : false ≡ true = ap is_switch (sym is) ∙ both.0 in false≢true no)
     switched (Speed processor khz) is both later = absurd (let no : false ≡ true = ap is_switch (sym is) ∙ both.0 in false≢true no)
     switched Loss is both later = absurd (let no : false ≡ true = ap is_switch (sym is) ∙ both.0 in false≢true no)
@@ -290,8 +281,12 @@ module _ (asked : Asked) (past : List Said) (cut : Cut) (number : ℕ) (begun : 
         by = λ other. here other;
         at = λ other. omega (arith, until_before asked.to event.time (before other), now_is asked (Stamped event ∷ past));
         whole = λ other.
-            omega (arith, here other, whole_by event.time event.time (up_to asked.to past) (omega arith)
-            (counting_by asked.to past event.time goes.1 (goes.0 (before other)) (before other)));
+            omega (
+              arith,
+              here other,
+              whole_by event.time event.time (up_to asked.to past) (omega arith)
+                  (counting_by asked.to past event.time goes.1 (goes.0 (before other)) (before other)),
+            );
         ripe = λ other. last_ripe asked past cut number event.time (goes.0 (before other)) (before other) holds;
         left = λ previous state next is mine first.
             there_since asked past cut event previous state next number
@@ -333,9 +328,10 @@ module _ (asked : Asked) (past : List Said) (cut : Cut) (number : ℕ) (begun : 
   lost_keeps : (processor : ℕ) (reach : Since) → GoesOn asked.to past → cut.decided ≤ lost_since processor reach past →
       Keeps cut.boundary (last_asked asked past) (told_of asked past cut number) (counted asked (Lost processor reach ∷ past) number)
   lost_keeps processor reach goes back =
-      subst (λ (counting : List Said). Keeps cut.boundary (last_asked asked past) (told_of asked past cut number) (known_after asked number counting)) (sym (up_to_lost asked.to processor reach past))
-      (if_either (λ (counting : List Said). Keeps cut.boundary (last_asked asked past) (told_of asked past cut number) (known_after asked number counting))
-      (is_within_to asked.to (lost_since processor reach past)) (Lost processor reach ∷ up_to asked.to past) (up_to asked.to past)
+      subst (λ (counting : List Said). Keeps cut.boundary (last_asked asked past) (told_of asked past cut number) (known_after asked number counting))
+      (sym (up_to_lost asked.to processor reach past))
+      (cond_both (is_within_to asked.to (lost_since processor reach past)) (Lost processor reach ∷ up_to asked.to past) (up_to asked.to past)
+      (λ (counting : List Said). Keeps cut.boundary (last_asked asked past) (told_of asked past cut number) (known_after asked number counting))
       (λ within.
       let same : lost_since processor reach (up_to asked.to past) ≡ lost_since processor reach past = lost_same asked.to processor reach past goes within in
       loses_keeps cut.boundary (last_asked asked past) (told_of asked past cut number) (lost_since processor reach (up_to asked.to past)) (counted asked past number)

@@ -1,5 +1,5 @@
 -- A job and its runs in the units of a part are those in the units of the whole, so many units later.
-use Rattle.yds_model.proofs.Common.{◌≡◌, ◌∙◌, ℕ, suc, ◌+◌, ◌-◌, ◌*◌, ◌/◌, ◌<◌, ◌≤◌, ◌⊎◌, inl, inr, ◌==◌, ◌&&◌, ◌||◌, List, [], ◌∷◌, ◌++◌, map, reverse, length, max, Bool, true, false, not, nat_lt, nat_le, if◌then◌else◌, Option, Some, None, is_some, is_none, option_map, unwrap_or, refl, sym, ap, ap₂, subst, arith, nat_tests, sum_by, sum_by-cons, filter_map, add-mul-div_right}
+use Rattle.yds_model.proofs.Common.{◌≡◌, ◌∙◌, ℕ, ◌+◌, ◌-◌, ◌*◌, ◌/◌, ◌≤◌, ◌⊎◌, inl, inr, ◌==◌, ◌&&◌, ◌||◌, List, [], ◌∷◌, map, reverse, max, Bool, true, false, not, nat_lt, nat_le, if◌then◌else◌, Option, Some, None, is_some, option_map, unwrap_or, refl, sym, ap, ap₂, arith, nat_tests, sum_by-cons, filter_map}
 use Rattle.std.specs.List.{AllByRecursion, cons_option}
 use Rattle.yds_trace.specs.declared.job.End.{End}
 use Rattle.yds_trace.specs.declared.job.End.TheVariants as ends
@@ -8,9 +8,8 @@ use Rattle.yds_trace.specs.Late.{is_open}
 use Rattle.yds_trace.specs.WrittenTime.{Units, Run, written_time, written_speed, run_of, before, runs_of, work_of_run, work_of_runs, runs_end}
 use Rattle.yds_trace.specs.Document.{Judged, stands, Written, written_end, written_runs, is_hidden, owed, with_runs, release_without_runs, without_runs, written_of}
 use Rattle.yds_trace.specs.Parts.{is_written}
-use Rattle.yds_trace_laws.proofs.Runs.{all_weaker, reverse-all}
+use Rattle.yds_trace_laws.proofs.Runs.{reverse-all}
 use Rattle.yds_trace_whole.specs.Whole.{run_later, is_at_zero, release_later, job_later, jobs_later}
-use Rattle.yds_trace_whole.proofs.Going.{latest, IsSpan, AreSpans}
 
 -- # Numbers
 
@@ -78,7 +77,8 @@ module _ (units whole : Units) (shift low : ℕ) (later : AreLater units whole s
 work_later : (shift : ℕ) (runs : List Run) → work_of_runs (map (run_later shift) runs) ≡ work_of_runs runs
 work_later shift [] = refl
 work_later shift (run ∷ runs) =
-    let one : work_of_run (run_later shift run) ≡ work_of_run run = ap (λ (n : ℕ). run.speed * n) (let e : (run.to + shift) - (run.from + shift) ≡ run.to - run.from = omega arith in e) in
+    let one : work_of_run (run_later shift run) ≡ work_of_run run = ap (λ (n : ℕ). run.speed * n)
+    (let e : (run.to + shift) - (run.from + shift) ≡ run.to - run.from = omega arith in e) in
     sum_by-cons work_of_run (run_later shift run) (map (run_later shift) runs) ∙ ap₂ (λ (m n : ℕ). m + n) one (work_later shift runs) ∙ sym (sum_by-cons work_of_run run runs)
 
 -- whether the runs end by a time

@@ -1,11 +1,11 @@
 -- One line more: times go on, and what a loss reaches back to is the same among the lines that count.
-use Rattle.yds_model.proofs.Common.{◌≡◌, ◌∙◌, ℕ, ◌+◌, ◌<◌, ◌≤◌, ◌⊎◌, inl, inr, ◌==◌, ◌&&◌, ◌||◌, List, [], ◌∷◌, min, Bool, true, false, not, nat_lt, nat_le, if◌then◌else◌, Option, Some, None, is_none, is_some, unwrap_or, refl, sym, ap, subst, arith, ltb-true, ltb-false, leb-true, leb-false, lt-ltb, le-leb, and_parts, or_parts, cases_Bool, true≢false}
+use Rattle.yds_model.proofs.Common.{◌≡◌, ◌∙◌, ℕ, ◌+◌, ◌<◌, ◌≤◌, ◌==◌, List, [], ◌∷◌, min, Bool, true, false, nat_lt, nat_le, if◌then◌else◌, Option, Some, None, unwrap_or, refl, sym, ap, arith, ltb-true, leb-true, leb-false, lt-ltb, le-leb, cond_both}
 use Rattle.yds_kernel.specs.declared.loss.Since.{Since}
 use Rattle.yds_kernel.specs.declared.loss.Since.TheVariants as since
 use Rattle.yds_kernel.specs.Event.{Happening, Switch, WakeUp, Speed, Loss, Marker, Other, Event, Said, Stamped, Lost, Nothing}
-use Rattle.yds_trace.specs.Asked.{Asked, is_before_to, is_within_to}
+use Rattle.yds_trace.specs.Asked.{is_before_to, is_within_to}
 use Rattle.yds_trace.specs.Past.{first_time, last_time, last_time_on, lost_since, is_loss, whole_since, counts, is_first_switch, stayed, up_to_time, up_to}
-use Rattle.yds_trace_laws.proofs.Sharing.{AreBy, GoesOn, all_by, counted_by, up_to_by, later_switch}
+use Rattle.yds_trace_laws.proofs.Sharing.{AreBy, GoesOn, all_by, counted_by}
 
 -- # Up to when it is asked
 
@@ -123,10 +123,6 @@ first_is here (Stamped event ∷ past) = first_is event.time past ∙ this_first
 first_is here (Lost processor reach ∷ past) = first_is here past
 first_is here (Nothing ∷ past) = first_is here past
 
-if_said : (P : List Said → Type 0) (b : Bool) (x y : List Said) → (b ≡ true → P x) → (b ≡ false → P y) → P (if b then x else y)
-if_said P true x y first second = first refl
-if_said P false x y first second = second refl
-
 pub no_stamp : (past : List Said) (time : ℕ) → or_this time (first_stamp past) ≡ None → ⊥
 no_stamp past time none = by (first_stamp past) none
   where
@@ -138,7 +134,7 @@ none_stamped : (to : ℕ) (past : List Said) → first_stamp past ≡ None → f
 none_stamped to [] none = refl
 none_stamped to (Stamped event ∷ past) none = absurd (no_stamp past event.time none)
 none_stamped to (Lost processor reach ∷ past) none =
-    if_said (λ (l : List Said). first_stamp l ≡ None) (nat_lt (lost_since processor reach past) to) (Lost processor reach ∷ up_to_time to past) (up_to_time to past)
+    cond_both (nat_lt (lost_since processor reach past) to) (Lost processor reach ∷ up_to_time to past) (up_to_time to past) (λ (l : List Said). first_stamp l ≡ None)
     (λ is. none_stamped to past none) (λ is. none_stamped to past none)
 none_stamped to (Nothing ∷ past) none = none_stamped to past none
 
@@ -190,14 +186,14 @@ first_counted to first (Stamped event ∷ past) is within = by (first_stamp past
         let mine : or_this event.time (Some other) ≡ Some first = ap (or_this event.time) (sym some) ∙ is in
         let same : first_stamp past ≡ Some first = some ∙ mine in
         let rest : first_stamp (up_to_time to past) ≡ Some first = again same in
-        if_said (λ (l : List Said). first_stamp l ≡ Some first) (counts to event past) (Stamped event ∷ up_to_time to past)
+        cond_both (counts to event past) (Stamped event ∷ up_to_time to past)
         (if is_first_switch event (up_to_time to past) then stayed to event.processor event.happening ∷ up_to_time to past else up_to_time to past)
+        (λ (l : List Said). first_stamp l ≡ Some first)
         (λ yes. this_some event.time (first_stamp (up_to_time to past)) first rest)
-        (λ no. if_said (λ (l : List Said). first_stamp l ≡ Some first) (is_first_switch event (up_to_time to past))
-        (stayed to event.processor event.happening ∷ up_to_time to past) (up_to_time to past)
+        (λ no. cond_both (is_first_switch event (up_to_time to past)) (stayed to event.processor event.happening ∷ up_to_time to past) (up_to_time to past) (λ (l : List Said). first_stamp l ≡ Some first)
         (λ yes. stayed_first to event.processor event.happening (up_to_time to past) first rest) (λ other. rest))
 first_counted to first (Lost processor reach ∷ past) is within =
-    if_said (λ (l : List Said). first_stamp l ≡ Some first) (nat_lt (lost_since processor reach past) to) (Lost processor reach ∷ up_to_time to past) (up_to_time to past)
+    cond_both (nat_lt (lost_since processor reach past) to) (Lost processor reach ∷ up_to_time to past) (up_to_time to past) (λ (l : List Said). first_stamp l ≡ Some first)
     (λ yes. first_counted to first past is within) (λ no. first_counted to first past is within)
 first_counted to first (Nothing ∷ past) is within = first_counted to first past is within
 
@@ -228,17 +224,17 @@ stayed_on to processor on Other counting other = refl
 other_on : (to processor : ℕ) (event : Event) (past : List Said) → (event.processor == processor) ≡ false →
     last_time_on processor (up_to_time to (Stamped event ∷ past)) ≡ last_time_on processor (up_to_time to past)
 other_on to processor event past other =
-    if_said (λ (l : List Said). last_time_on processor l ≡ last_time_on processor (up_to_time to past)) (counts to event past) (Stamped event ∷ up_to_time to past)
+    cond_both (counts to event past) (Stamped event ∷ up_to_time to past)
     (if is_first_switch event (up_to_time to past) then stayed to event.processor event.happening ∷ up_to_time to past else up_to_time to past)
+    (λ (l : List Said). last_time_on processor l ≡ last_time_on processor (up_to_time to past))
     (λ yes. ap (λ (b : Bool). if b then Some event.time else last_time_on processor (up_to_time to past)) other)
-    (λ no. if_said (λ (l : List Said). last_time_on processor l ≡ last_time_on processor (up_to_time to past)) (is_first_switch event (up_to_time to past))
-    (stayed to event.processor event.happening ∷ up_to_time to past) (up_to_time to past)
+    (λ no. cond_both (is_first_switch event (up_to_time to past)) (stayed to event.processor event.happening ∷ up_to_time to past) (up_to_time to past) (λ (l : List Said). last_time_on processor l ≡ last_time_on processor (up_to_time to past))
     (λ yes. stayed_on to processor event.processor event.happening (up_to_time to past) other) (λ none. refl))
 
 lost_on : (to processor : ℕ) (reach : Since) (on : ℕ) (past : List Said) → last_time_on on (up_to_time to (Lost processor reach ∷ past)) ≡ last_time_on on (up_to_time to past)
 lost_on to processor reach on past =
-    if_said (λ (l : List Said). last_time_on on l ≡ last_time_on on (up_to_time to past)) (nat_lt (lost_since processor reach past) to)
-    (Lost processor reach ∷ up_to_time to past) (up_to_time to past) (λ yes. refl) (λ no. refl)
+    cond_both (nat_lt (lost_since processor reach past) to) (Lost processor reach ∷ up_to_time to past) (up_to_time to past)
+    (λ (l : List Said). last_time_on on l ≡ last_time_on on (up_to_time to past)) (λ yes. refl) (λ no. refl)
 
 -- a line before `to` counts
 counts_before : (to : ℕ) (event : Event) (past : List Said) → GoesOn (Some to) past → (nat_le event.time to ≡ true → last_time past ≤ event.time) → event.time < to →

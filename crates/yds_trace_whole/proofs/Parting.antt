@@ -1,5 +1,5 @@
 -- The parts put together: each part has the jobs that begin between two cuts, and what is before a cut stays.
-use Rattle.yds_model.proofs.Common.{◌≡◌, ◌∙◌, ℕ, ◌+◌, ◌<◌, ◌≤◌, ◌⊎◌, inl, inr, ◌==◌, ◌&&◌, ◌||◌, List, [], ◌∷◌, ◌++◌, map, filter, flat_map, length, reverse, min, Bool, true, false, not, cond, nat_lt, nat_le, if◌then◌else◌, Option, Some, None, is_some, is_none, refl, sym, ap, ap₂, subst, arith, lt-ltb, le-ltb, le-leb, lt-leb, ltb-true, leb-true, cases_lt, true≢false, and_parts, append-nil, append_assoc, filter-append, flat_map-append, list_all, list_any}
+use Rattle.yds_model.proofs.Common.{◌≡◌, ◌∙◌, ℕ, ◌+◌, ◌<◌, ◌≤◌, ◌⊎◌, inl, inr, ◌&&◌, ◌||◌, List, [], ◌∷◌, ◌++◌, map, filter, length, Bool, true, false, not, cond, nat_lt, nat_le, if◌then◌else◌, Option, Some, None, refl, sym, ap, ap₂, subst, arith, lt-ltb, le-ltb, le-leb, lt-leb, ltb-true, leb-true, cases_lt, true≢false, and_parts, append-nil, filter-append, flat_map-append, list_all}
 use Rattle.std.specs.List.{AllByRecursion, enumerate_from}
 use Rattle.yds_kernel.specs.Parts.{or_else}
 use Rattle.yds_kernel.specs.Event.{Said}
@@ -12,19 +12,18 @@ use Rattle.yds_trace.specs.Asked.{Task, Asked, task_at}
 use Rattle.yds_trace.specs.Past.{last_time, up_to, speed_after}
 use Rattle.yds_trace.specs.Jobs.{Job, Known, unknown, changed_last, ran, known_after}
 use Rattle.yds_trace.specs.Late.{last_asked}
-use Rattle.yds_trace.specs.Faults.{first_fault}
-use Rattle.yds_trace.specs.Document.{closed, jobs_of, Judged, judged, judged_of, judged_from, in_order, all_judged, began_before, stands}
-use Rattle.yds_trace.specs.Parts.{begin_of, begins_from, begins_before, waiting_from, last_begin, last_begin_of, is_over, is_settled, ended_by, is_done_by, each_before, has_written, is_quiet, is_closed, last_where, place_among, is_much, is_due, may_write, no_cut, waiting, is_before_end, part_until, place_of, with_part, cut_at, cut_after, part_fault}
+use Rattle.yds_trace.specs.Document.{closed, jobs_of, Judged, judged, judged_of, judged_from, all_judged, began_before, stands}
+use Rattle.yds_trace.specs.Parts.{begin_of, begins_from, begins_before, last_begin, last_begin_of, is_over, is_settled, ended_by, is_done_by, each_before, has_written, is_quiet, is_closed, last_where, place_among, is_much, is_due, may_write, no_cut, waiting, is_before_end, part_until, place_of, with_part, cut_at, cut_after, part_fault}
 use Rattle.yds_trace_document.proofs.Sorting.{FromLow, Rises, rises_in_order}
 use Rattle.yds_trace_laws.proofs.Ordered.{append-all, append-all_left, append-all_right, in_order-all, in_order-all_back}
 use Rattle.yds_trace_laws.proofs.Runs.{all_weaker, reverse-all, reverse-all_back}
 use Rattle.yds_trace_laws.proofs.Sharing.{GoesOn, lines_go_on}
-use Rattle.yds_trace_whole.specs.Parts.{Part, made, made_at, parts_behind, parts_of, judged_in_parts, KeepsParts}
+use Rattle.yds_trace_whole.specs.Parts.{Part, made, made_at, parts_behind, judged_in_parts, KeepsParts}
 use Rattle.yds_trace_whole.specs.Laws.{PartsAreTheWhole}
 use Rattle.yds_trace_whole.proofs.Told.{told, Each}
 use Rattle.yds_trace_whole.proofs.Going.{IsSound, IsSoundEnd, AreSound, IsDone, IsOff, IsLeft, StandsBy, Keeps}
-use Rattle.yds_trace_whole.proofs.Lines.{until, beyond, until_most}
-use Rattle.yds_trace_whole.proofs.Holding.{IsFirmEnd, IsFirm, ripe_from, counted, told_of, Holds, now_is, now_goes_on, goes_behind, line_keeps, line_holds}
+use Rattle.yds_trace_whole.proofs.Lines.{beyond, until_most}
+use Rattle.yds_trace_whole.proofs.Holding.{IsFirmEnd, IsFirm, ripe_from, counted, Holds, now_is, now_goes_on, goes_behind, line_keeps, line_holds}
 use Rattle.yds_trace_whole.proofs.Same.{all_same}
 
 -- # Lists
@@ -330,9 +329,10 @@ module _ (asked : Asked) (past : List Said) (cut : Cut) (time number : ℕ) wher
   new_firm followed until_then absent (ends.Ended end) sound settled =
       (omega (arith, sound, now_by), omega (arith, beyond_most asked.to until_then, leb-true until_then (last_time past) settled))
   new_firm followed until_then absent (ends.Unseen since goes_on) sound settled = omega (arith, sound.0, now_by)
-  new_firm followed until_then absent (ends.Lost since) sound settled =
-      (omega (arith, sound, now_by),
-        ltb-true since (last_asked asked past) (and_parts (nat_lt since (last_asked asked past)) (nat_le until_then (last_time past)) settled).0)
+  new_firm followed until_then absent (ends.Lost since) sound settled = (
+    omega (arith, sound, now_by),
+    ltb-true since (last_asked asked past) (and_parts (nat_lt since (last_asked asked past)) (nat_le until_then (last_time past)) settled).0,
+  )
 
   job_firm : (job : Job) → IsSound (last_asked asked past) job → (job.begin < cut.boundary → IsFirm asked past cut.decided number job) →
       SettledBetween asked past cut.boundary time number job → job.begin < time → IsFirm asked past (last_time past) number job

@@ -1,5 +1,5 @@
 -- The runs of jobs in order of time: those of some jobs, and then those of others that begin no earlier.
-use Rattle.yds_model.proofs.Common.{◌≡◌, ◌∙◌, ℕ, ◌+◌, ◌≤◌, List, [], ◌∷◌, ◌++◌, map, length, flat_map, Bool, true, false, cond, nat_le, Option, Some, None, refl, sym, ap, ap₂, arith, le-leb, nat_tests, map-append, flat_map-append}
+use Rattle.yds_model.proofs.Common.{◌≡◌, ◌∙◌, ℕ, ◌+◌, ◌≤◌, List, [], ◌∷◌, ◌++◌, map, length, flat_map, Bool, true, false, cond, nat_le, refl, sym, ap, ap₂, arith, le-leb, map-append, flat_map-append}
 use Rattle.std.specs.List.{AllByRecursion, enumerate_from}
 use Rattle.yds_trace.specs.WrittenTime.{Run}
 use Rattle.yds_trace.specs.Document.{put_in, in_order, Written, Placed, placed_runs, all_runs}

@@ -1,5 +1,5 @@
 -- What is told of a task's jobs is judged alike behind all further lines.
-use Rattle.yds_model.proofs.Common.{◌≡◌, ◌∙◌, ℕ, ◌+◌, ◌-◌, ◌<◌, ◌≤◌, ◌⊎◌, inl, inr, ◌==◌, ◌&&◌, ◌||◌, List, [], ◌∷◌, ◌++◌, map, filter, length, min, Bool, true, false, not, nat_lt, nat_le, if◌then◌else◌, Option, Some, None, is_some, is_none, refl, sym, ap, ap₂, subst, arith, lt-ltb, le-leb, ltb-true, eqb-true, and_parts, filter-append, list_any}
+use Rattle.yds_model.proofs.Common.{◌≡◌, ◌∙◌, ℕ, ◌+◌, ◌-◌, ◌<◌, ◌≤◌, ◌==◌, ◌&&◌, ◌||◌, List, [], ◌∷◌, ◌++◌, map, filter, length, min, Bool, true, false, not, nat_lt, if◌then◌else◌, Option, Some, None, is_none, refl, sym, ap, ap₂, arith, lt-ltb, le-leb, ltb-true, eqb-true, and_parts, filter-append, list_any, and-false}
 use Rattle.std.specs.List.{AllByRecursion}
 use Rattle.yds_kernel.specs.Event.{Said}
 use Rattle.yds_trace.specs.declared.cut.Cut.{Cut}
@@ -10,14 +10,13 @@ use Rattle.yds_trace.specs.declared.reason.Reason.{Reason}
 use Rattle.yds_trace.specs.declared.reason.Reason.TheVariants as reasons
 use Rattle.yds_trace.specs.Asked.{Task, Asked, task_at, is_after_from}
 use Rattle.yds_trace.specs.Past.{last_time, up_to, speed_after}
-use Rattle.yds_trace.specs.Jobs.{Job, Known, changed_last, ran, known_after}
-use Rattle.yds_trace.specs.Late.{last_asked, due, shown_until, is_open, is_judged, late_by, lateness}
-use Rattle.yds_trace.specs.Document.{closed, jobs_of, is_lost, is_elsewhere, is_of_unknown_speed, reaches_to, reason_of, Judged, judged, judged_of, judged_from, in_order, all_judged}
+use Rattle.yds_trace.specs.Jobs.{Job, Known, changed_last, ran}
+use Rattle.yds_trace.specs.Late.{last_asked, due, is_open, is_judged, late_by}
+use Rattle.yds_trace.specs.Document.{closed, is_lost, is_elsewhere, is_of_unknown_speed, reaches_to, Judged, judged_of, judged_from, in_order, all_judged}
 use Rattle.yds_trace.specs.Parts.{begins_before}
 use Rattle.yds_trace_document.proofs.Sorting.{filter_in_order}
-use Rattle.yds_trace_laws.proofs.Runs.{all_weaker}
 use Rattle.yds_trace_whole.proofs.Told.{Told, told, changed_told, OfTold, Each, each_told, judge, judged_told}
-use Rattle.yds_trace_whole.proofs.Going.{IsSoundEnd, IsSound, AreSound, IsLeft, Keeps, standing_free}
+use Rattle.yds_trace_whole.proofs.Going.{IsSoundEnd, IsSound, IsLeft, Keeps, standing_free}
 use Rattle.yds_trace_whole.proofs.Holding.{IsFirmEnd, ripe_from, IsFirm, counted, told_of, Holds}
 
 -- # Lateness
@@ -41,10 +40,6 @@ due_by deadline shown unended is = by (nat_lt deadline shown) refl is
     by true less is = omega (arith, ltb-true deadline shown less)
     by false other is = omega (arith, eqb-true deadline shown (and_parts (deadline == shown) unended is).0)
 
-and_false : (b : Bool) → (b && false) ≡ false
-and_false true = refl
-and_false false = refl
-
 late_at_same : (from : Option ℕ) (last next deadline shown : ℕ) (unended : Bool) → shown ≤ last → shown ≤ next →
     late_at from last deadline shown unended ≡ late_at from next deadline shown unended
 late_at_same from last next deadline shown unended here there = by (nat_lt deadline shown || ((deadline == shown) && unended)) refl
@@ -54,7 +49,7 @@ late_at_same from last next deadline shown unended here there = by (nat_lt deadl
     by true is =
         ap (λ (b : Bool). some_if (b && true) (shown - deadline))
         (judged_same from last next deadline (omega (arith, due_by deadline shown unended is, here)) (omega (arith, due_by deadline shown unended is, there)))
-    by false is = ap (λ (b : Bool). some_if b (shown - deadline)) (and_false (is_judged from last deadline) ∙ sym (and_false (is_judged from next deadline)))
+    by false is = ap (λ (b : Bool). some_if b (shown - deadline)) (and-false (is_judged from last deadline) ∙ sym (and-false (is_judged from next deadline)))
 
 late_same : (from : Option ℕ) (last next deadline decided line ripe : ℕ) (absent : Bool) (end : End) → last ≤ next → IsSoundEnd last absent end → IsFirmEnd last decided line ripe end →
     late_by from next deadline end ≡ late_by from last deadline end

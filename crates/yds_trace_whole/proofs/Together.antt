@@ -1,35 +1,34 @@
 -- The documents of the parts, put together, are the one document of the whole.
-use Rattle.yds_model.proofs.Common.{◌≡◌, ◌∙◌, ℕ, zero, suc, ◌+◌, ◌-◌, ◌*◌, ◌/◌, ◌<◌, ◌≤◌, ◌⊎◌, inl, inr, ◌==◌, ◌&&◌, ◌||◌, List, [], ◌∷◌, ◌++◌, map, filter, flat_map, filter_map, length, reverse, Bool, true, false, not, nat_lt, nat_le, if◌then◌else◌, Option, Some, None, is_some, is_none, unwrap_or, option_map, refl, sym, ap, ap₂, subst, arith, le-ltb, ltb-true, leb-true, and_parts, true≢false, append-nil, append_assoc, length-append, flat_map-append, filter_map-append, recursion_from_All, All-from_recursion, add-mul-div_right, div-mul-le_self, le-div_iff_mul-le, mul-le-mul_right, All, All-from_get_or, zero-mul}
-use Rattle.std.specs.List.{AllByRecursion, enumerate_from, cons_option}
+use Rattle.yds_model.proofs.Common.{◌≡◌, ◌∙◌, ℕ, zero, suc, ◌+◌, ◌-◌, ◌*◌, ◌/◌, ◌<◌, ◌≤◌, ◌⊎◌, inl, inr, ◌==◌, ◌&&◌, ◌||◌, List, [], ◌∷◌, ◌++◌, map, filter, flat_map, filter_map, length, reverse, Bool, true, false, not, nat_lt, if◌then◌else◌, Option, Some, None, is_some, unwrap_or, option_map, refl, sym, ap, ap₂, subst, arith, le-ltb, ltb-true, leb-true, and_parts, true≢false, append-nil, append_assoc, length-append, flat_map-append, filter_map-append, recursion_from_All, All-from_recursion, add-mul-div_right, div-mul-le_self, le-div_iff_mul-le, mul-le-mul_right, zero-mul}
+use Rattle.std.specs.List.{AllByRecursion, cons_option}
 use Rattle.yds_kernel.specs.Event.{Said, Stamped, Lost, Nothing}
 use Rattle.yds_trace.specs.declared.cut.Cut.{Cut}
 use Rattle.yds_trace.specs.declared.job.End.{End}
 use Rattle.yds_trace.specs.declared.job.End.TheVariants as ends
 use Rattle.yds_trace.specs.declared.job.Standing.{Standing}
 use Rattle.yds_trace.specs.declared.job.Stretch.{Stretch}
-use Rattle.yds_trace.specs.Asked.{Task, Asked, IsAsked, no_task, task_at}
-use Rattle.yds_trace.specs.Past.{first_time, last_time, up_to, speed_after}
+use Rattle.yds_trace.specs.Asked.{Asked, IsAsked, no_task, task_at}
+use Rattle.yds_trace.specs.Past.{first_time, last_time}
 use Rattle.yds_trace.specs.Jobs.{Job, Known, changed_last, ran}
 use Rattle.yds_trace.specs.Late.{last_asked}
-use Rattle.yds_trace.specs.Faults.{first_fault}
 use Rattle.yds_trace.specs.WrittenTime.{Units, Run, written_time, run_of, before, runs_of}
-use Rattle.yds_trace.specs.Document.{closed, jobs_of, began_before, Judged, judged, judged_of, judged_from, in_order, all_judged, stands, time_zero, units_of, Written, written_runs, with_runs, without_runs, written_of, written_jobs, Placed, all_runs, Document, document_of}
-use Rattle.yds_trace.specs.Parts.{begin_of, begins_from, begins_before, is_written, has_written, each_before, is_settled, ended_by, is_done_by, no_cut, waiting, is_before_end, part_until, place_of, with_part, cut_at, cut_after, part_fault}
-use Rattle.yds_trace_document.specs.Part.{whole_zero, shift_from, shift_of, shifted, part_units}
+use Rattle.yds_trace.specs.Document.{closed, jobs_of, began_before, Judged, judged, judged_from, all_judged, stands, Written, written_runs, with_runs, without_runs, written_of, Placed, Document}
+use Rattle.yds_trace.specs.Parts.{begin_of, begins_from, begins_before, is_written, has_written, each_before, is_settled, ended_by, is_done_by, no_cut, waiting, is_before_end, part_until, place_of, cut_at, cut_after, part_fault}
+use Rattle.yds_trace_document.specs.Part.{whole_zero, shift_of, part_units}
 use Rattle.yds_trace_document.proofs.Sorting.{FromLow, Rises, rises_in_order, rises_filter}
 use Rattle.yds_trace_laws.proofs.Ordered.{either_all, append-all, in_order-all, filter_map-all}
 use Rattle.yds_trace_laws.proofs.Runs.{all_weaker, reverse-all, IsForward, runs_forward}
 use Rattle.yds_trace_laws.proofs.Sharing.{GoesOn, lines_go_on}
 use Rattle.yds_trace_laws.proofs.Times.{order_is_kept, ends_are_kept}
 use Rattle.yds_trace_whole.specs.Parts.{Part, made, made_at, parts_behind, parts_of, KeepsParts}
-use Rattle.yds_trace_whole.specs.Whole.{whole_units, document_in, whole_document, run_later, job_later, jobs_later, jobs_of_part, placed_later, runs_of_parts, put_together}
+use Rattle.yds_trace_whole.specs.Whole.{whole_units, document_in, job_later, jobs_of_part, placed_later, runs_of_parts}
 use Rattle.yds_trace_whole.specs.Laws.{PartsMakeTheDocument, WholeIsTheDocument}
-use Rattle.yds_trace_whole.proofs.Going.{latest, IsSpan, AreSpans, IsSound, AreSound, IsLastBy, StandsBy}
+use Rattle.yds_trace_whole.proofs.Going.{latest, IsSpan, IsSound, AreSound, StandsBy}
 use Rattle.yds_trace_whole.proofs.Lines.{until, until_most, or_this, first_stamp, first_is, no_stamp}
 use Rattle.yds_trace_whole.proofs.Holding.{counted, Holds, now_is, goes_behind}
 use Rattle.yds_trace_whole.proofs.Parting.{closing, filter_all_of, two_parts, next_part, all_of_them, numbered_all, from_all, IsPlace, place_is, DoneJudged, judged_done, Stands, before_nothing, at_first, part_more, line_more}
 use Rattle.yds_trace_whole.proofs.Later.{AreLater, IsTimed, written_later, part_jobs_later}
-use Rattle.yds_trace_whole.proofs.Ranked.{placed_from, runs_at, HaveRuns, runs_append, HaveRunsLater, later_length, runs_are_later}
+use Rattle.yds_trace_whole.proofs.Ranked.{runs_at, HaveRuns, runs_append, HaveRunsLater, later_length, runs_are_later}
 
 abbrev in_units : Asked → ℕ → Units
 in_units asked start = record { zero = start; time = asked.unit; speed = asked.khz }
@@ -95,7 +94,8 @@ part_is_later : (asked : Asked) (past : List Said) (part : List Judged) → 1 �
 part_is_later asked past [] positive = record {
   times = λ time from.
       let none : (whole_zero asked past) + 0 * asked.unit ≡ whole_zero asked past = omega (arith, zero-mul asked.unit) in
-      ap (λ (start : ℕ). (time - start) / asked.unit) (sym none) ∙ (let e : (time - (whole_zero asked past + 0 * asked.unit)) / asked.unit ≡ (time - (whole_zero asked past + 0 * asked.unit)) / asked.unit + 0 = omega arith in e);
+      ap (λ (start : ℕ). (time - start) / asked.unit) (sym none) ∙
+      (let e : (time - (whole_zero asked past + 0 * asked.unit)) / asked.unit ≡ (time - (whole_zero asked past + 0 * asked.unit)) / asked.unit + 0 = omega arith in e);
   speed = refl;
 }
 part_is_later asked past (one ∷ part) positive =
@@ -306,7 +306,8 @@ join_part whole middle judged parts part joined is first second =
 record Together (asked : Asked) (past : List Said) (cut : Cut) (parts : List Part) : Type 0 where
   stands : Stands asked past cut parts
   joined : Joined (whole_units asked past) (filter (begins_before cut.boundary) (all_judged asked past)) parts
-  early : HaveRuns (λ run. run.from ≤ written_time (whole_units asked past) cut.boundary) (filter_map (written_of (whole_units asked past)) (filter (begins_before cut.boundary) (all_judged asked past)))
+  early : HaveRuns (λ run. run.from ≤ written_time (whole_units asked past) cut.boundary)
+      (filter_map (written_of (whole_units asked past)) (filter (begins_before cut.boundary) (all_judged asked past)))
   none : first_stamp past ≡ None → (parts ≡ []) × (cut.boundary ≡ 0)
 
 at_start : (asked : Asked) → Together asked [] no_cut []
@@ -444,7 +445,8 @@ part_together asked past cut parts (Some time) words some together =
     (all_weaker (IsOfPart asked past cut.boundary time) (λ (one : Judged). IsClocked asked now one × (cut.boundary ≤ one.job.begin)) (λ one so. (so.0, so.1)) part is)) in
     let Early : List Written → Type 0 = HaveRuns (λ run. run.from ≤ written_time whole time) in
     let first : Early (filter_map (written_of whole) front) =
-    all_weaker (λ (job : Written). AllByRecursion (λ run. run.from ≤ written_time whole cut.boundary) job.runs) (λ (job : Written). AllByRecursion (λ run. run.from ≤ written_time whole time) job.runs)
+    all_weaker (λ (job : Written). AllByRecursion (λ run. run.from ≤ written_time whole cut.boundary) job.runs)
+    (λ (job : Written). AllByRecursion (λ run. run.from ≤ written_time whole time) job.runs)
     (λ job runs. all_weaker (λ (run : Run). run.from ≤ written_time whole cut.boundary) (λ (run : Run). run.from ≤ written_time whole time)
     (λ run by. omega (arith, by, order_is_kept whole cut.boundary time words.has_unit place.from)) job.runs runs)
     (filter_map (written_of whole) front) together.early in

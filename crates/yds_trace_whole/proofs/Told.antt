@@ -1,5 +1,5 @@
 -- The jobs of a task that begin before a boundary, as they are told: each with its number, and with whether the task's first job began before the trace.
-use Rattle.yds_model.proofs.Common.{◌≡◌, ◌∙◌, ℕ, ◌+◌, ◌<◌, ◌≤◌, ◌⊎◌, inl, inr, List, [], ◌∷◌, ◌++◌, map, length, reverse, filter, Bool, true, false, not, cond, nat_lt, if◌then◌else◌, refl, sym, ap, ap₂, subst, arith, lt-ltb, le-ltb, ltb-true, cases_lt, append-nil, map-append, filter-append, reverse-append, length-reverse, map-map}
+use Rattle.yds_model.proofs.Common.{◌≡◌, ◌∙◌, ℕ, ◌+◌, ◌<◌, ◌≤◌, List, [], ◌∷◌, ◌++◌, map, length, reverse, filter, Bool, true, false, not, nat_lt, if◌then◌else◌, refl, sym, ap, ap₂, subst, arith, lt-ltb, le-ltb, ltb-true, append-nil, map-append, filter-append, reverse-append, length-reverse, map-map}
 use Rattle.std.specs.List.{enumerate_from, AllByRecursion}
 use Rattle.yds_kernel.specs.Event.{Said}
 use Rattle.yds_trace.specs.Asked.{Asked}
