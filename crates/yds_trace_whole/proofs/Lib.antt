@@ -10,4 +10,3 @@ pub mod Together
 pub mod Worth
 pub mod Several
 mod Examples
-pub mod Worth
