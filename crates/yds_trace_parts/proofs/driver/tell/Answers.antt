@@ -121,7 +121,7 @@ returns-in-End g c =
     (c.in_ok-text-in-End.ensures.sound (asked_read c.args.asked) c.args.strict known.past known.stands (sym known.many))
     (c.in_ok-text-in-End.ensures.told (asked_read c.args.asked) c.args.strict known.past known.stands (sym known.many))
     (rw c.deref.ensures.value at c.in_ok-write_all-in-End.ensures.puts.delivers.0))
-    (nothing_left (g.S.Source.left c.args.source.now) _ _ (Ok {E = HaltKept} tt) (counts_on (g.S.Source.left c.args.source.now) _ _ _ _ known.counts c.in-End.ensures.counts) c.in-End.ensures.advances.none_left)
+    (nothing_left {A = Unit {0}} {E = HaltKept} (g.S.Source.left c.args.source.now) _ _ (Ok tt) (counts_on (g.S.Source.left c.args.source.now) _ _ _ _ known.counts c.in-End.ensures.counts) c.in-End.ensures.advances.none_left)
     (rest_of _ _ _ (counts_on (g.S.Source.left c.args.source.now) _ _ _ _ c.loop-lines.invariant.behind.counts c.in-End.ensures.counts))
 
 pub returns-in-Failed : goal.returns-in-Failed
