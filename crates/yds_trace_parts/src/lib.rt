@@ -18,3 +18,6 @@ pub use driver::tell_parts;
 pub use halt::Halt;
 pub use laws::{few_lines_are_one_part, halts_stay, halts_write_nothing, parts_follow, told_grows};
 pub use limits::MOST_LINES;
+
+#[cfg(test)]
+mod tests;
