@@ -56,6 +56,7 @@ MOST_OF = {
     "yds_trace": 12,
     "yds_trace_document": 12,
     "yds_trace_text": 12,
+    "yds_trace_run": 10,
 }
 NEEDED = [
     ("yds_plan", "plan"),

@@ -101,11 +101,11 @@ line_told : (asked : Asked) (strict : Bool) (past : List Said) (said : Said) (te
 line_told asked strict past said text (Some halt) before is goes_on = cc
 line_told asked strict past said text None before is goes_on =
     let causes = no_fault (said_fault asked past said) (part_fault asked past (cut_after asked past) said)
-        (no_cause (length past + 1) (or_else (said_fault asked past said) (part_fault asked past (cut_after asked past) said)) is) in
+    (no_cause (length past + 1) (or_else (said_fault asked past said) (part_fault asked past (cut_after asked past) said)) is) in
     let place = place_of asked (said ∷ past) (cut_after asked past) in
     let both = with_parts strict (parts_behind asked past) (made_at asked (said ∷ past) (cut_after asked past) place) text
-        (told_behind asked strict (said ∷ past) (cut_after asked past) place text).text before.says before.stand
-        (behind_put asked strict (said ∷ past) (cut_after asked past) place text goes_on) in
+    (told_behind asked strict (said ∷ past) (cut_after asked past) place text).text before.says before.stand
+    (behind_put asked strict (said ∷ past) (cut_after asked past) place text goes_on) in
     record {
       sound = ap (λ (one : Option (ℕ × Cause)). or_else one (numbered (length past + 1) (said_fault asked past said))) before.sound
           ∙ ap (numbered (length past + 1)) causes.0;
@@ -131,7 +131,7 @@ last_told : (asked : Asked) (strict : Bool) (past : List Said) (text : List ℕ)
 last_told asked strict past text (Some halt) before goes_on = cc
 last_told asked strict past text None before goes_on =
     let both = with_parts strict (parts_behind asked past) (made asked past (cut_after asked past) None ∷ []) text (part_told asked strict past (cut_after asked past) None text).text
-        before.says before.stand (one_put asked strict past (cut_after asked past) None text goes_on) in
+    before.says before.stand (one_put asked strict past (cut_after asked past) None text goes_on) in
     record { sound = before.sound; keeps = before.keeps; says = both.0; stand = both.1 }
 
 end_told : (asked : Asked) (strict : Bool) (past : List Said) (form : Option (Fault Reason)) (text : List ℕ) (halt : Option Halt)

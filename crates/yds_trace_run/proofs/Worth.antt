@@ -31,7 +31,8 @@ use Rattle.yds_trace_whole.specs.Parts.{parts_of, judged_in_parts}
 use Rattle.yds_trace_whole.specs.Worth.{NothingLateInParts}
 use Rattle.yds_trace_whole.proofs.Worth.{nothing_late as nothing_late_in_parts, faithful_parts, each_part_is_read}
 use Rattle.yds_trace_whole.proofs.Parting.{parts_are_the_whole}
-use Rattle.yds_trace_run.specs.Worth.{NothingLate, HidesNothing, ArePartsReadAgain, IsReadSo, IsFaithfulSo, AreWhole}
+use Rattle.yds_trace_whole.proofs.Together.{parts_make_the_document}
+use Rattle.yds_trace_run.specs.Worth.{NothingLate, HidesNothing, ArePartsReadAgain, IsReadSo, IsFaithfulSo, IsWholeSo}
 use Rattle.yds_trace_run.proofs.InParts.{no_fault, text_in, IsToldAs, told_as}
 
 told_late : (asked : Asked) (past : List Said) (text : List ℕ) → IsAsked asked → text ≡ text_of asked past → NothingLate asked past text
@@ -161,12 +162,17 @@ faithful asked strict input old new flushed ended fit done writes =
     lines_hold (λ bytes. IsFaithfulSo asked.in_parts asked (past_of (trace_of bytes))) asked strict
     (λ bytes text told. faithful_so asked.in_parts asked strict (trace_of bytes) text fit told) input old new flushed ended done writes
 
-whole_so : (in_parts : Bool) (asked : Asked) (strict : Bool) (trace : Trace) (text : List ℕ) → IsTold in_parts asked strict trace text statuses.Done → AreWhole in_parts asked (past_of trace)
-whole_so false asked strict trace text told = tt
-whole_so true asked strict trace text told = whole_parts asked strict (past_of trace) text (told_parts asked strict trace text told)
+whole_so : (in_parts : Bool) (asked : Asked) (strict : Bool) (trace : Trace) (text : List ℕ) → IsFit asked → IsTold in_parts asked strict trace text statuses.Done → IsWholeSo in_parts asked (past_of trace)
+whole_so false asked strict trace text fit told = tt
+whole_so true asked strict trace text fit told =
+    let parts = told_parts asked strict trace text told in
+    record {
+      same_jobs = whole_parts asked strict (past_of trace) text parts;
+      same_document = parts_make_the_document asked (past_of trace) fit.plain parts.sound parts.keeps;
+    }
 
-pub whole : (asked : Asked) (strict : Bool) (input old new : Option (List ℕ)) (flushed : Option ℕ) (ended : Status) → ended ≡ statuses.Done
-    → IfSome input (λ bytes. Writes (Ok (ReadTrace asked strict)) bytes ended old new flushed) → IfSome input (λ bytes. AreWhole asked.in_parts asked (past_of (trace_of bytes)))
-whole asked strict input old new flushed ended done writes =
-    lines_hold (λ bytes. AreWhole asked.in_parts asked (past_of (trace_of bytes))) asked strict
-    (λ bytes text told. whole_so asked.in_parts asked strict (trace_of bytes) text told) input old new flushed ended done writes
+pub whole : (asked : Asked) (strict : Bool) (input old new : Option (List ℕ)) (flushed : Option ℕ) (ended : Status) → IsFit asked → ended ≡ statuses.Done
+    → IfSome input (λ bytes. Writes (Ok (ReadTrace asked strict)) bytes ended old new flushed) → IfSome input (λ bytes. IsWholeSo asked.in_parts asked (past_of (trace_of bytes)))
+whole asked strict input old new flushed ended fit done writes =
+    lines_hold (λ bytes. IsWholeSo asked.in_parts asked (past_of (trace_of bytes))) asked strict
+    (λ bytes text told. whole_so asked.in_parts asked strict (trace_of bytes) text fit told) input old new flushed ended done writes

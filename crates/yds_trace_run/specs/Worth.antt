@@ -11,6 +11,7 @@ use Rattle.yds_trace_text.specs.Text.{late_comment}
 use Rattle.yds_trace_again.specs.Again.{IsReadAs, IsReadAgain}
 use Rattle.yds_trace_again.specs.Holds.{Holds}
 use Rattle.yds_trace_whole.specs.Parts.{Part, parts_of, judged_in_parts}
+use Rattle.yds_trace_whole.specs.Whole.{whole_document, put_together}
 use Rattle.yds_trace_whole.specs.Worth.{NothingLateInParts, IsFaithfulPart}
 
 -- Where a job is known to be late, it is late by less than a unit of time, and a comment of the text names it.
@@ -42,7 +43,12 @@ abbrev pub IsFaithfulSo : Bool → Asked → List Said → Type 0
 IsFaithfulSo false asked past = IsFaithful asked past
 IsFaithfulSo true asked past = All (IsFaithfulPart asked past) (parts_of asked past)
 
--- The jobs of the parts, one part after another, are those of the whole trace.
-abbrev pub AreWhole : Bool → Asked → List Said → Type 0
-AreWhole false asked past = Unit {0}
-AreWhole true asked past = judged_in_parts (parts_of asked past) ≡ all_judged asked past
+-- The jobs of the parts, one part after another, are those of the whole trace; and put together, the parts are the one document that it would
+-- have without limits.
+pub record AreTheWhole (asked : Asked) (past : List Said) : Type 0 where
+  pub same_jobs : judged_in_parts (parts_of asked past) ≡ all_judged asked past
+  pub same_document : put_together (parts_of asked past) ≡ whole_document asked past
+
+abbrev pub IsWholeSo : Bool → Asked → List Said → Type 0
+IsWholeSo false asked past = Unit {0}
+IsWholeSo true asked past = AreTheWhole asked past

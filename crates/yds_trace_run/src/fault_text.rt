@@ -214,7 +214,9 @@ pub(crate) fn long_part_line(part: u64) -> ArrayString<LINE_BYTES>
     ensures { result.bytes ≡ spec.halt_text (OfText part) }
 {
     let mut line = part_front(part);
-    line.push_str("the document is longer than 8388608 bytes; choose fewer tasks, or greater units by --us and --khz");
+    line.push_str(
+        "the document is longer than 8388608 bytes; choose fewer tasks, or greater units by --us and --khz",
+    );
     line.push_str(FAILED);
     line
 }

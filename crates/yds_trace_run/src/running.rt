@@ -11,7 +11,7 @@ ghost use Rattle.yds_trace_document.specs.Kept.{IsPlain};
 ghost use Rattle.yds_trace.specs.Views.{asked_read};
 ghost use Rattle.yds_trace_run.specs.Answer.{ReadsInput};
 ghost use Rattle.yds_trace_run.specs.Endings.{Writes, IsEnded, IsDelivered, Tells, TellsHalt, Leaves, stopped_text, stopped_status};
-ghost use Rattle.yds_trace_run.specs.Worth.{HidesNothing, IsReadSo, IsFaithfulSo, AreWhole};
+ghost use Rattle.yds_trace_run.specs.Worth.{HidesNothing, IsReadSo, IsFaithfulSo, IsWholeSo};
 
 use crate::delivery::deliver;
 use crate::fault_text::{
@@ -81,9 +81,10 @@ pub fn run<S: Source, K: Sink>(
     ensures faithful { result ≡ Status.Done → (asked : asking.Asked) (strict : Bool) → request_of (words_of words.now) ≡ Ok (ReadTrace asked strict)
         → IfSome (S.left source.old) (λ input. IsFaithfulSo asked.in_parts asked (past_of (trace_of input))) }
 
-    // In parts, a part that was written long ago says of its jobs what the whole trace says of them.
+    // In parts, a part that was written long ago says of its jobs what the whole trace says of them, and put together the parts are
+    // the one document that the trace would have without limits.
     ensures whole { result ≡ Status.Done → (asked : asking.Asked) (strict : Bool) → request_of (words_of words.now) ≡ Ok (ReadTrace asked strict)
-        → IfSome (S.left source.old) (λ input. AreWhole asked.in_parts asked (past_of (trace_of input))) }
+        → IfSome (S.left source.old) (λ input. IsWholeSo asked.in_parts asked (past_of (trace_of input))) }
 {
     match read_words(alloc, words) {
         Ok(Request::Help) => deliver(HELP, Status::Done, sink),

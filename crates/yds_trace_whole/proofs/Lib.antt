@@ -5,7 +5,6 @@ pub mod Holding
 pub mod Same
 pub mod Parting
 pub mod Later
-pub mod Worth
 pub mod Ranked
 pub mod Together
 pub mod Worth

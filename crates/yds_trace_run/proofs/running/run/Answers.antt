@@ -53,8 +53,10 @@ returns-in-Ok-Trace-clause-whole g c = λ done asked strict same.
     let made = subst (λ (made : RequestMade). request_of (words_of c.args.words.now) ≡ Ok (request_read made)) c.in-Ok-Trace.field-0-is c.in-Ok-Trace.ensures.request in
     let joined : Ok (ReadTrace (asked_read c.in-Ok-Trace.asked) c.in-Ok-Trace.strict) ≡ Ok (ReadTrace asked strict) = sym made ∙ same in
     let both : ReadTrace (asked_read c.in-Ok-Trace.asked) c.in-Ok-Trace.strict ≡ ReadTrace asked strict = cc in
+    let one : asked_read c.in-Ok-Trace.asked ≡ asked = cc in
+    let fit = subst (λ (made : RequestMade). IsFitRequest (request_read made)) c.in-Ok-Trace.field-0-is c.in-Ok-Trace.ensures.fit in
     whole asked strict (g.S.Source.left c.args.source.now) (g.K.Sink.written c.args.sink.now) (g.K.Sink.written c.run_trace.new.sink) (g.K.Sink.flushed c.run_trace.new.sink)
-    c.run_trace.result done
+    c.run_trace.result (subst IsFit one fit) done
     (subst (λ (request : Request). IfSome (g.S.Source.left c.args.source.now) (λ input. Writes (Ok request) input c.run_trace.result (g.K.Sink.written c.args.sink.now)
     (g.K.Sink.written c.run_trace.new.sink) (g.K.Sink.flushed c.run_trace.new.sink))) both c.run_trace.ensures.answer)
 

@@ -1,4 +1,4 @@
-use Rattle.yds_model.proofs.Common.{◌≡◌, [], Ok, Err}
+use Rattle.yds_model.proofs.Common.{◌≡◌, [], Result, Ok, Err}
 use Rattle.yds_model.specs.declared.status.Status.TheVariants as statuses
 use Rattle.yds_trace.specs.Views.{asked_read}
 use Rattle.yds_trace_parts.specs.declared.halt.Halt.{Halt as HaltKept}
@@ -8,13 +8,19 @@ use Rattle.yds_trace_run.proofs.Plain.{granted}
 use Rattle.yds_trace_run.proofs.Parted.{done_writes, halted_writes, delivered_behind, halted_ended, halted_not_done, halted_read_fault, halted_leaves}
 use Rattle.yds_trace_run.proofs.running.run_in_parts.Goals as goal
 
-not_failed : (halt : HaltKept) → Ok {A = Unit {0}} {E = HaltKept} tt ≡ Err halt → ⊥
+abbrev done : Result (Unit {0}) HaltKept
+done = Ok tt
+
+abbrev ended : HaltKept → Result (Unit {0}) HaltKept
+ended halt = Err halt
+
+not_failed : (halt : HaltKept) → done ≡ ended halt → ⊥
 not_failed halt same = cc
 
-same_halt : (one other : HaltKept) → Err {A = Unit {0}} one ≡ Err other → one ≡ other
+same_halt : (one other : HaltKept) → ended one ≡ ended other → one ≡ other
 same_halt one other same = cc
 
-same_end : (one other : HaltKept) → one ≡ other → Err {A = Unit {0}} one ≡ Err other
+same_end : (one other : HaltKept) → one ≡ other → ended one ≡ ended other
 same_end one other same = cc
 
 pub tell_parts-requires : goal.tell_parts-requires

@@ -19,12 +19,11 @@ limited asked strict past fault is = ap (λ (limit : Option DocumentFault). or_e
 
 pub returns-in-Err-Limit : goal.returns-in-Err-Limit
 returns-in-Err-Limit g c =
-    let line : c.as_bytes.result.now ≡ fault_text (OfDocument c.in-Err-Limit.fault) = first_of (search rules, grind (arith, common_steps)) in
     record {
-      text = c.as_bytes.result.now;
+      text = c.document_line.result.bytes;
       status = statuses.Refused;
-      delivered = c.deliver-in-Err-Limit.ensures;
-      says = λ asked past known. (OfDocument c.in-Err-Limit.fault, limited asked c.args.strict past c.in-Err-Limit.fault (subst (λ (none : NoText). Gives c.args.strict asked (settled_of asked past) (Err none)) c.in-Err-Limit.field-0-is (c.in-Err-Limit.ensures asked past known)), line);
+      delivered = c.refuse.ensures;
+      says = λ asked past known. (OfDocument c.in-Err-Limit.fault, limited asked c.args.strict past c.in-Err-Limit.fault (subst (λ (none : NoText). Gives c.args.strict asked (settled_of asked past) (Err none)) c.in-Err-Limit.field-0-is (c.in-Err-Limit.ensures asked past known)), c.document_line.ensures);
     }
 
 too_long : (text : List ℕ) → MAX_INPUT < length text → of_text text ≡ Some OfText
