@@ -12,9 +12,12 @@ use yds_trace::{Asked, Task, Which};
 /// How many jobs are in the trace: behind the last line of them, line 4,096, it is looked for a part, and more than 2,000 wait.
 const JOBS: u64 = 2_048;
 
-const HEADS: &[u8] = b"\
-# part 1: jobs 1 to 2047, from 0 to 40930, shift 0
-# part 2: jobs 2048 to 2048, from 40940 to 40950, shift 40940, the last
+/// Of the thread's first run it isn't known whether its job ran before, so that one is left out.
+const FIRST: &[u8] = b"# part 1: jobs 1 to 2046, from 20 to 40930, shift 0\n";
+
+const BOTH: &[u8] = b"\
+# part 1: jobs 1 to 2046, from 20 to 40930, shift 0
+# part 2: jobs 2047 to 2047, from 40940 to 40950, shift 40940, the last
 ";
 
 /// The jobs of `t` on processor 0, each due 10 microseconds after its first run.
@@ -90,13 +93,32 @@ fn heads(alloc: Global, text: &[u8]) -> Result<Vec<u8>, AllocError> {
     Ok(heads)
 }
 
+/// A letter for how it ended.
+fn letter(told: &Result<(), Halt>) -> u8 {
+    match told {
+        Ok(()) => b'.',
+        Err(Halt::ReadFault) => b'r',
+        Err(Halt::WriteFault) => b'w',
+        Err(_) => b'?',
+    }
+}
+
 #[test]
-fn two_parts_are_written(rt: HostRuntime) -> Result<(), Fail> {
+fn parts_are_written_as_they_are_whole(rt: HostRuntime) -> Result<(), Fail> {
     let alloc = rt.alloc();
-    let mut source = MemorySource::new(trace(alloc)?, 4_096, Vec::new(alloc));
-    let mut sink = MemorySink::with_room(alloc, 200_000, 200_000, Vec::new(alloc))?;
-    let told = tell_parts(alloc, asked(alloc)?, false, &mut source, &mut sink);
-    assert!(rt; told.is_ok());
-    assert_eq!(rt; heads(alloc, sink.bytes())?.as_slice(), HEADS);
+    // The read or the write of this number fails, and the fourth read would tell the end.
+    let cases = [
+        (0, 0, b'.', BOTH),
+        (0, 2, b'w', FIRST),
+        (4, 0, b'r', FIRST),
+        (1, 0, b'r', b"".as_slice()),
+    ];
+    for (read, write, end, parts) in cases {
+        let mut source = MemorySource::new(trace(alloc)?, 1_000_000, [read].to_vec(alloc)?);
+        let mut sink = MemorySink::with_room(alloc, 200_000, 200_000, [write].to_vec(alloc)?)?;
+        let told = tell_parts(alloc, asked(alloc)?, false, &mut source, &mut sink);
+        assert_eq!(rt; letter(&told), end);
+        assert_eq!(rt; heads(alloc, sink.bytes())?.as_slice(), parts);
+    }
     Ok(())
 }
