@@ -23,7 +23,7 @@ pub enum Request {
     Help,
     /// The line of `--version`.
     Version,
-    /// The document of a trace.
+    /// The document of a trace, or its parts.
     Trace {
         /// What is asked of it.
         asked: Asked,
