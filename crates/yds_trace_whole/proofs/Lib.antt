@@ -10,3 +10,4 @@ pub mod Together
 pub mod Worth
 pub mod Several
 mod Examples
+mod LateExamples

@@ -1,0 +1,68 @@
+-- A late job of a part: by less than a unit of time it is in time as it is written, and a comment names it. By a unit it isn't.
+use Rattle.yds_model.proofs.Common.{◌≡◌, ℕ, List, [], ◌∷◌, codes, reverse, flat_map, map, true, false, Option, Some, None, refl}
+use Rattle.std.specs.Fmt.{digits}
+use Rattle.yds_kernel.specs.declared.state.State.TheVariants as states
+use Rattle.yds_kernel.specs.Event.{Thread, Happening, Switch, WakeUp, Said, Stamped}
+use Rattle.yds_trace.specs.Asked.{Named, Asked}
+use Rattle.yds_trace.specs.Document.{Document, Written, all_judged}
+use Rattle.yds_trace.specs.Parts.{no_cut}
+use Rattle.yds_trace_text.specs.Text.{comment, late_comment}
+use Rattle.yds_trace_whole.specs.Parts.{Part, made}
+
+abbrev thread : Thread
+thread = record { name = codes "t"; pid = 7 }
+
+abbrev idle : Thread
+idle = record { name = codes "swapper"; pid = 0 }
+
+abbrev at : ℕ → Happening → Said
+at time happening = Stamped (record { processor = 0; time = time; happening = happening })
+
+-- A job is due 41 nanoseconds after its begin, and a unit of time is 10.
+abbrev asked : Asked
+asked = record {
+  tasks = record { label = codes "t"; thread = Named (codes "t"); deadline = 41; apart = 0 } ∷ [];
+  processor = 0;
+  unit = 10;
+  khz = 1;
+  start = Some 5;
+  from = None;
+  to = None;
+  begin_at_run = false;
+  cut_losses = false;
+  in_parts = true;
+}
+
+-- It is woken at 1000, comes at 1020, and sleeps at this time.
+abbrev ended_at : ℕ → List Said
+ended_at end = reverse (at 1000 (WakeUp thread) ∷ at 1020 (Switch idle states.GoesOn thread) ∷ at end (Switch thread states.Sleeps idle) ∷ [])
+
+abbrev part : ℕ → Part
+part end = made asked (ended_at end) no_cut None
+
+-- the job that is due in unit 4 and runs up to this one
+abbrev runs_to : ℕ → ℕ → Written
+runs_to end work = record { name = codes "t.0"; release = 0; deadline = 4; work = work; runs = record { from = 2; to = end; speed = 5 } ∷ [] }
+
+abbrev just : ℕ → ℕ → Document
+just end work = record { jobs = runs_to end work ∷ []; runs = record { job = 0; run = record { from = 2; to = end; speed = 5 } } ∷ [] }
+
+-- Its end is 4 nanoseconds after its deadline, and is written in the deadline's unit.
+late_by_four : map (λ one. one.late) (all_judged asked (ended_at 1045)) ≡ Some 4 ∷ []
+late_by_four = refl
+
+in_time_as_written : (part 1045).settled.document ≡ just 4 10
+unfolding digits
+in_time_as_written = refl
+
+named : flat_map (late_comment (part 1045).settled.units) (part 1045).settled.judged ≡ codes "# late by less than a unit of time: t.0, 0.000004 ms after its deadline\n"
+unfolding digits comment
+named = refl
+
+-- Near miss: one that is late by a unit runs beyond its deadline, so its part isn't feasible.
+late_by_ten : map (λ one. one.late) (all_judged asked (ended_at 1051)) ≡ Some 10 ∷ []
+late_by_ten = refl
+
+too_late_as_written : (part 1051).settled.document ≡ just 5 15
+unfolding digits
+too_late_as_written = refl
