@@ -1,34 +1,27 @@
 -- What the telling of some lines shows of the whole trace.
-use Rattle.yds_model.proofs.Common.{◌≡◌, ℕ, ◌+◌, ◌≤◌, ◌^◌, ◌⊎◌, inl, inr, List, [], ◌∷◌, ◌++◌, length, reverse, Bool, Option, Some, None, Result, Ok, Err, refl, sym, ap, subst, ◌∙◌, arith, append_assoc, append-nil, reverse-append, Appends}
-use Rattle.std.specs.Prelude.{⊤, IfSome, IfOk, Vec}
-use Rattle.std.specs.Result.{IfErr}
-use Rattle.std.specs.declared.alloc.Global.{Global}
-use Rattle.std.specs.Io.KnownBytes.{IsAtEnd}
-use Rattle.std.proofs.KnownBytes.{Appends-trans}
+use Rattle.yds_model.proofs.Common.{◌≡◌, ℕ, List, [], ◌∷◌, ◌++◌, length, reverse, Bool, Option, Some, None, Err, refl, sym, ap, subst, ◌∙◌, Appends}
 use Rattle.yds_model.specs.Fields.{Spot, Fault}
-use Rattle.yds_port.specs.Sink.{AppendsFront}
 use Rattle.yds_kernel.specs.declared.fault.Reason.{Reason}
 use Rattle.yds_kernel.specs.Parts.{or_else}
 use Rattle.yds_kernel.specs.Event.{Said}
-use Rattle.yds_kernel.specs.Text.{Trace, no_line, then_says, trace_of, trace_from}
-use Rattle.yds_kernel.specs.Views.{spot_read}
-use Rattle.yds_kernel_text.specs.Reading.{Reading, said_by, unread}
-use Rattle.yds_kernel_text.specs.Advancing.{Gives, Counts, GivesLine}
+use Rattle.yds_kernel.specs.Text.{Trace, no_line, trace_of}
+use Rattle.yds_kernel_text.specs.Reading.{Reading, unread}
+use Rattle.yds_kernel_text.specs.Advancing.{Counts}
 use Rattle.yds_trace.specs.Asked.{Asked}
 use Rattle.yds_trace.specs.Faults.{whole_fault}
 use Rattle.yds_trace.specs.Parts.{cut_after}
 use Rattle.yds_trace_reading.specs.LineFault.{past_of}
 use Rattle.yds_trace_reading.specs.Ahead.{ahead, Agrees}
-use Rattle.yds_trace_reading.proofs.Passing.{ahead_past, ahead_fault, counts_on}
+use Rattle.yds_trace_reading.proofs.Passing.{ahead_past, ahead_fault}
 use Rattle.yds_trace_text.specs.PartText.{part_text}
 use Rattle.yds_trace_parts.specs.declared.halt.Halt.{Halt as HaltKept}
 use Rattle.yds_trace_parts.specs.declared.halt.Halt.TheVariants as kept
 use Rattle.yds_trace_parts.specs.declared.telling.Telling.{Telling}
-use Rattle.yds_trace_parts.specs.Told.{Halt, InForm, Told, at_line, in_form, end_halt, part_halt, with_part, told_last, told_after, told_at_end, told_of}
-use Rattle.yds_trace_parts.specs.Telling.{halt_read, IsHaltFor, IsTelling, Adds, bytes_of, IsLast}
+use Rattle.yds_trace_parts.specs.Told.{Halt, InForm, Told, at_line, end_halt, part_halt, with_part, told_last, told_after, told_at_end, told_of}
+use Rattle.yds_trace_parts.specs.Telling.{halt_read, IsHaltFor, IsTelling, IsLast}
 use Rattle.yds_trace_parts.specs.Driving.{WritesSome, WritesTold, Writes}
 use Rattle.yds_trace_parts.specs.Laws.{Begins}
-use Rattle.yds_trace_parts.proofs.Growing.{begins_on, one_begins, lines_begin, end_begins, halted, end_halted, halting_text}
+use Rattle.yds_trace_parts.proofs.Growing.{begins_on, lines_begin, end_begins, halted, end_halted, halting_text}
 
 -- # What was read so far
 

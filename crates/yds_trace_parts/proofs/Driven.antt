@@ -1,16 +1,15 @@
 -- What the telling of some lines shows of the source and of the sink, step by step.
-use Rattle.yds_model.proofs.Common.{◌≡◌, ℕ, ◌+◌, ◌<◌, ◌≤◌, ◌^◌, ◌⊎◌, inl, inr, List, [], ◌∷◌, ◌++◌, length, reverse, Bool, true, Option, Some, None, Result, Ok, Err, refl, sym, ap, subst, ◌∙◌, arith, append_assoc, append-nil, Appends, length-append, length-reverse}
-use Rattle.std.specs.Prelude.{⊤, IfSome, IfOk, Vec}
-use Rattle.std.specs.Result.{IfErr}
+use Rattle.yds_model.proofs.Common.{◌≡◌, ℕ, ◌+◌, ◌<◌, ◌≤◌, ◌^◌, inl, inr, List, [], ◌∷◌, ◌++◌, length, Bool, true, Option, Some, None, Result, Ok, Err, refl, sym, ap, subst, ◌∙◌, arith, append_assoc, append-nil, Appends}
+use Rattle.std.specs.Prelude.{IfSome, Vec}
 use Rattle.std.specs.declared.alloc.Global.{Global}
 use Rattle.std.specs.Io.KnownBytes.{IsAtEnd}
 use Rattle.std.proofs.KnownBytes.{Appends-nil, Appends-trans}
-use Rattle.yds_model.specs.Fields.{Spot, Fault}
+use Rattle.yds_model.specs.Fields.{Spot}
 use Rattle.yds_port.specs.Sink.{AppendsFront}
 use Rattle.yds_kernel.specs.declared.fault.Reason.{Reason}
 use Rattle.yds_kernel.specs.Parts.{or_else}
 use Rattle.yds_kernel.specs.Event.{Said}
-use Rattle.yds_kernel.specs.Text.{Trace, no_line, then_says, trace_of, trace_from}
+use Rattle.yds_kernel.specs.Text.{then_says, trace_of, trace_from}
 use Rattle.yds_kernel.specs.Views.{spot_read}
 use Rattle.yds_kernel_text.specs.declared.limits.TheConstants.{ROOM}
 use Rattle.yds_kernel_text.specs.Reading.{Reading, said_by, unread}
@@ -29,9 +28,9 @@ use Rattle.yds_trace_parts.specs.declared.telling.Telling.{Telling}
 use Rattle.yds_trace_parts.specs.Told.{Halt, InForm, Told, at_line, line_halt, part_halt, told_with, told_next, told_after, told_of}
 use Rattle.yds_trace_parts.specs.declared.limits.TheConstants.{MOST_LINES}
 use Rattle.yds_trace_parts.specs.Plain.{IsGranted, IsOfSome, IsPlainPass, HasRoom}
-use Rattle.yds_trace_parts.specs.Telling.{halt_read, IsHaltFor, IsTelling, Adds, bytes_of, IsLast}
+use Rattle.yds_trace_parts.specs.Telling.{IsHaltFor, IsTelling, bytes_of, IsLast}
 use Rattle.yds_trace_parts.specs.Saying.{IsSaid, IsAdded, IsInForm, IsNotSaid}
-use Rattle.yds_trace_parts.specs.Driving.{IsEndless, WritesSome, WritesTold, Writes}
+use Rattle.yds_trace_parts.specs.Driving.{IsEndless, Writes}
 use Rattle.yds_trace_parts.specs.Laws.{Begins}
 use Rattle.yds_trace_parts.proofs.Ahead.{IsBehind, IsFront, front_of, begins_told, some_written, line_halts, form_halts, end_halts, all_told}
 

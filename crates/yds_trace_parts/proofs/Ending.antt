@@ -1,6 +1,6 @@
 -- What a trace that was told shows of the source and of the sink, by each way in which it ends.
-use Rattle.yds_model.proofs.Common.{◌≡◌, ℕ, ◌<◌, ◌≤◌, List, [], Bool, Option, Some, None, Result, Ok, Err, refl, sym, subst, ◌∙◌, arith, Appends}
-use Rattle.std.specs.Prelude.{⊤, IfSome, OnOk}
+use Rattle.yds_model.proofs.Common.{◌≡◌, ℕ, ◌<◌, List, [], Bool, Option, Some, None, Result, Ok, Err, refl, subst, arith}
+use Rattle.std.specs.Prelude.{⊤, IfSome}
 use Rattle.yds_model.specs.Fields.{Spot}
 use Rattle.yds_port.specs.Count.{Rose}
 use Rattle.yds_kernel.specs.declared.fault.Reason.{Reason}

@@ -1,17 +1,14 @@
 -- What is told of more lines begins with what is told of fewer, and a halt stays.
-use Rattle.yds_model.proofs.Common.{◌≡◌, ℕ, ◌+◌, List, [], ◌∷◌, ◌++◌, length, Bool, Option, Some, None, refl, sym, ap, ap₂, subst, ◌∙◌, append_assoc, append-nil}
+use Rattle.yds_model.proofs.Common.{◌≡◌, ℕ, List, [], ◌∷◌, ◌++◌, Bool, Option, Some, None, refl, sym, ap, ◌∙◌, append_assoc, append-nil}
 use Rattle.yds_kernel.specs.Event.{Said}
-use Rattle.yds_kernel.specs.Parts.{or_else}
 use Rattle.yds_kernel.specs.declared.fault.Reason.{Reason}
 use Rattle.yds_model.specs.Fields.{Fault}
 use Rattle.yds_trace.specs.declared.cut.Cut.{Cut}
-use Rattle.yds_trace.specs.declared.fault.Cause.{Cause}
 use Rattle.yds_trace.specs.Asked.{Asked}
-use Rattle.yds_trace.specs.Faults.{whole_fault}
 use Rattle.yds_trace.specs.Parts.{cut_after, place_of}
 use Rattle.yds_trace_text.specs.PartText.{part_text}
 use Rattle.yds_trace_parts.specs.Laws.{Begins}
-use Rattle.yds_trace_parts.specs.Told.{Halt, Told, line_halt, part_halt, with_part, part_told, waiting_halt, told_behind, told_with, told_next, told_after, at_line, in_form, end_halt, told_last, told_at_end}
+use Rattle.yds_trace_parts.specs.Told.{Halt, line_halt, part_halt, with_part, told_behind, told_with, told_next, told_after, end_halt, told_last, told_at_end}
 
 begins_so : (text : List ℕ) → Begins text text
 begins_so text = record { more = []; is = sym (append-nil text) }

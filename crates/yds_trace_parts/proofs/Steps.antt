@@ -1,5 +1,5 @@
 -- A line more: what is told behind it, and where the last part ends.
-use Rattle.yds_model.proofs.Common.{◌≡◌, ℕ, ◌+◌, ◌<◌, ◌≤◌, ◌%◌, ◌==◌, List, [], ◌∷◌, ◌++◌, length, map, filter, cond, Bool, true, false, not, ◌&&◌, ◌||◌, nat_lt, nat_le, nat_tests, Option, Some, None, Result, Ok, Err, refl, sym, ap, ap₂, subst, ◌∙◌, arith, leb-true, ltb-true, lt-ltb, mod-eq_of_lt, ne_eqb, append-nil, if◌then◌else◌}
+use Rattle.yds_model.proofs.Common.{◌≡◌, ℕ, ◌+◌, ◌<◌, ◌≤◌, ◌%◌, ◌==◌, List, [], ◌∷◌, ◌++◌, length, map, filter, cond, Bool, true, false, ◌&&◌, Option, Some, None, refl, sym, ap, subst, ◌∙◌, arith, leb-true, mod-eq_of_lt, ne_eqb, if◌then◌else◌}
 use Rattle.yds_kernel.specs.Event.{Said}
 use Rattle.yds_kernel.specs.Parts.{or_else}
 use Rattle.yds_trace.specs.declared.cut.Cut.{Cut}
@@ -8,11 +8,11 @@ use Rattle.yds_trace.specs.declared.limits.TheConstants.{LOOK_EVERY}
 use Rattle.yds_trace.specs.Asked.{Asked}
 use Rattle.yds_trace.specs.Document.{Judged}
 use Rattle.yds_trace.specs.Faults.{said_fault}
-use Rattle.yds_trace.specs.Parts.{begin_of, begins_from, waiting, waiting_from, is_much, is_too_much, is_due, is_quiet, is_closed, may_write, last_where, place_among, place_of, part_fault, cut_at, cut_after, no_cut, stretches_of}
+use Rattle.yds_trace.specs.Parts.{begin_of, begins_from, waiting, is_much, is_due, is_quiet, is_closed, may_write, last_where, place_among, place_of, part_fault, cut_at, cut_after, no_cut}
 use Rattle.yds_trace_text.specs.PartText.{part_text}
 use Rattle.yds_trace_parts.specs.declared.part.Whole.{Whole}
 use Rattle.yds_trace_parts.specs.Told.{Halt, Told, line_halt, part_halt, with_part, waiting_halt, told_behind, told_with, told_next, told_after, at_line}
-use Rattle.yds_trace_parts.specs.Telling.{IsWhole, IsNext, MakesPart, place_halt}
+use Rattle.yds_trace_parts.specs.Telling.{IsNext, place_halt}
 
 -- # What is told behind a line
 

@@ -12,7 +12,7 @@ use Rattle.yds_trace_reading.specs.Reading.{IsRest}
 use Rattle.yds_trace_parts.specs.declared.halt.Halt.{Halt as HaltKept}
 use Rattle.yds_trace_parts.specs.declared.halt.Halt.TheVariants as kept
 use Rattle.yds_trace_parts.specs.declared.limits.TheConstants.{MOST_LINES}
-use Rattle.yds_trace_parts.specs.Told.{Told, told_after, told_of}
+use Rattle.yds_trace_parts.specs.Told.{told_after, told_of}
 use Rattle.yds_trace_parts.specs.Telling.{halt_read}
 
 -- Its bytes are as many as 64 bits count, but for one buffer; or its lines are as many as are told.

@@ -1,5 +1,5 @@
 -- What a pass over some lines shows of the whole trace.
-use Rattle.yds_model.proofs.Common.{◌≡◌, ℕ, ◌+◌, ◌-◌, ◌≤◌, ◌^◌, ◌⊎◌, inl, inr, List, [], ◌∷◌, ◌++◌, length, reverse, Option, Some, None, true, Result, Ok, Err, refl, sym, ap, subst, ◌∙◌, arith, append_assoc, append-nil, length-append, length-reverse, reverse-append}
+use Rattle.yds_model.proofs.Common.{◌≡◌, ℕ, ◌+◌, ◌≤◌, ◌^◌, inl, inr, List, [], ◌∷◌, ◌++◌, length, reverse, Option, Some, None, true, Result, Ok, Err, refl, sym, ap, subst, ◌∙◌, arith, append_assoc, append-nil, length-append, length-reverse, reverse-append}
 use Rattle.std.specs.Prelude.{IfSome, IfOk}
 use Rattle.std.specs.Result.{IfErr}
 use Rattle.std.specs.Io.KnownBytes.{IsAtEnd}
@@ -8,10 +8,9 @@ use Rattle.yds_kernel.specs.declared.fault.Reason.{Reason}
 use Rattle.yds_kernel.specs.Parts.{or_else}
 use Rattle.yds_kernel.specs.Event.{Said}
 use Rattle.yds_kernel.specs.Text.{Trace, no_line, then_says, trace_of, trace_from}
-use Rattle.yds_kernel.specs.Views.{spot_read}
 use Rattle.yds_kernel_text.specs.declared.limits.TheConstants.{ROOM}
 use Rattle.yds_kernel_text.specs.Reading.{Reading, said_by, unread}
-use Rattle.yds_kernel_text.specs.Advancing.{Gives, Counts, GivesLine, IsOver}
+use Rattle.yds_kernel_text.specs.Advancing.{Gives, Counts, GivesLine}
 use Rattle.yds_trace.specs.declared.fault.Cause.{Cause}
 use Rattle.yds_trace.specs.declared.ended.Ended.{Ended}
 use Rattle.yds_trace.specs.declared.pass.Pass.{Pass}
@@ -21,9 +20,9 @@ use Rattle.yds_trace.specs.Faults.{first_fault, numbered, said_fault, whole_faul
 use Rattle.yds_trace.specs.Kept.{IsAt}
 use Rattle.yds_trace_reading.specs.declared.stopped.Stopped.{Stopped}
 use Rattle.yds_trace_reading.specs.declared.stopped.Stopped.TheVariants as stops
-use Rattle.yds_trace_reading.specs.LineFault.{LineFault, InForm, AtLine, at_line, in_form, past_of, line_fault, line_fault_after}
+use Rattle.yds_trace_reading.specs.LineFault.{InForm, AtLine, at_line, in_form, past_of, line_fault, line_fault_after}
 use Rattle.yds_trace_reading.specs.Ahead.{ahead, Agrees}
-use Rattle.yds_trace_reading.specs.Taken.{IsTaken, IsRefused, IsNotTaken, IsKnown, IsNotKnown}
+use Rattle.yds_trace_reading.specs.Taken.{IsTaken, IsNotTaken, IsKnown, IsNotKnown}
 use Rattle.yds_trace_reading.specs.Reading.{IsEndOfSome, IsRead, IsTooLong, IsStopped}
 
 -- # A trace behind some lines

@@ -1,4 +1,4 @@
-use Rattle.yds_model.proofs.Common.{IfOk, OnOk, IfErr, ◌∷◌, Result, refl, sym, subst, ◌∙◌}
+use Rattle.yds_model.proofs.Common.{IfOk, OnOk, IfErr, Result, refl, sym, subst, ◌∙◌}
 use Rattle.yds_model.specs.Fields.{Spot}
 use Rattle.yds_kernel.specs.declared.fault.Reason.{Reason}
 use Rattle.yds_kernel.specs.Event.{Said}

@@ -1,4 +1,4 @@
-use Rattle.yds_model.proofs.Common.{◌≡◌, ◌+◌, ◌∙◌, List, length, Ok, refl, sym, arith, err_from_is_err_and}
+use Rattle.yds_model.proofs.Common.{◌≡◌, ◌+◌, ◌∙◌, length, Ok, refl, sym, arith, err_from_is_err_and}
 use Rattle.yds_trace.specs.Views.{asked_read}
 use Rattle.yds_trace_reading.proofs.Draining.{rest_same, rest_of, nothing_left}
 use Rattle.yds_trace_reading.proofs.Passing.{counts_on}

@@ -2,7 +2,6 @@ use Rattle.yds_model.proofs.Common.{◌∙◌, Option, ap, sym}
 use Rattle.yds_kernel.specs.Parts.{or_else}
 use Rattle.yds_kernel.specs.Views.{said_read}
 use Rattle.yds_trace.specs.declared.fault.Cause.{Cause}
-use Rattle.yds_trace.specs.Faults.{said_fault}
 use Rattle.yds_trace.specs.Parts.{part_fault}
 use Rattle.yds_trace_parts.specs.Told.{at_line}
 use Rattle.yds_trace_parts.proofs.telling.take_line.Goals as goal

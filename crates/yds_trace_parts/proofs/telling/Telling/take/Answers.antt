@@ -1,7 +1,5 @@
-use Rattle.yds_model.proofs.Common.{◌≡◌, ◌∷◌, List, length, Bool, refl, arith, err_from_is_err_and}
-use Rattle.yds_kernel.specs.Event.{Said}
+use Rattle.yds_model.proofs.Common.{◌∷◌, refl, arith, err_from_is_err_and}
 use Rattle.yds_kernel.specs.Views.{said_read}
-use Rattle.yds_trace.specs.Asked.{Asked}
 use Rattle.yds_trace.specs.Parts.{part_fault}
 use Rattle.yds_trace_parts.proofs.Plain.{room_taken}
 use Rattle.yds_trace_parts.proofs.Taking.{none_taken, none_adds, one_taken, one_adds, next_behind, line_halted, part_halted}
