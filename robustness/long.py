@@ -600,6 +600,7 @@ def main(words: List[str]) -> int:
     passed = failed = 0
     for number in range(many):
         it = drawn(seed, number)
+        counts[f"shows {it.shows}"] += 1
         said, parts = told_in_parts(it.trace, asked_by(it.words))
         counts.update({f"status {said.status}", *in_parts(said, it.words), *in_fault(said), *in_documents(said)})
         faults = list(faults_of(programs, it, said, parts))

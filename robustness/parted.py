@@ -169,19 +169,23 @@ class Parts:
             raise line_fault(self.number + 1, cause)
         counted = self.counts(line)
         self.is_torn = not is_stamped(line) and (self.is_torn or self.is_lost_within(line))
-        for thread in line.threads:
-            self.seen.add(self.asked.task_of(thread) if self.asked.task_of(thread) is not None else -1)
-        self.is_woken = self.is_woken or (line.kind == "wake" and self.asked.task_of(line.threads[0]) is not None)
+        tasks = [self.asked.task_of(thread) for thread in line.threads]
+        self.seen.update(task for task in tasks if task is not None)
+        self.is_woken = self.is_woken or (line.kind == "wake" and tasks[0] is not None)
         if counted is not None:
-            for follower in self.followers:
-                follower.take(counted, self.counted)
-            for thread in counted.threads:
-                task = self.asked.task_of(thread)
-                if task is not None:
-                    self.threads[task] = thread.pid
-            self.counted.take(counted)
+            self.take_counted(counted)
         self.lines.take(line)
         self.number += 1
+
+    def take_counted(self, line: Line) -> None:
+        """The next line that counts."""
+        for follower in self.followers:
+            follower.take(line, self.counted)
+        for thread in line.threads:
+            task = self.asked.task_of(thread)
+            if task is not None:
+                self.threads[task] = thread.pid
+        self.counted.take(line)
 
     # The jobs that wait
 

@@ -52,9 +52,16 @@ class Asked:
     cut: bool = False
     strict: bool = False
     in_parts: bool = False
+    asked_before: Dict[Thread, Optional[int]] = field(default_factory=dict)
 
     def task_of(self, thread: Thread) -> Optional[int]:
-        """Which task a thread is: the one with its number, or else the one with its name."""
+        """Which task a thread is."""
+        if thread not in self.asked_before:
+            self.asked_before[thread] = self.task_found(thread)
+        return self.asked_before[thread]
+
+    def task_found(self, thread: Thread) -> Optional[int]:
+        """The task with its number, or else the one with its name."""
         by_number = [n for n, task in enumerate(self.tasks) if task.pid == thread.pid]
         by_name = [n for n, task in enumerate(self.tasks) if task.pid is None and task.label == thread.name]
         return next(iter(by_number + by_name), None)
