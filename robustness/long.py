@@ -14,7 +14,7 @@ behind a part that was written, faults of lines and of documents in a later part
 - `yds_cli audit` reads each part, and refuses a text that ends with `failed`.
 
 Before the last line it tells how many traces had each thing. The status is 1 where something differs, and also where of
-400 traces or more fewer than 8 had a thing of WANTED. YDS_TRACE and YDS_CLI are the built programs (build/yds_trace and
+400 traces or more fewer than 4 had a thing of WANTED. YDS_TRACE and YDS_CLI are the built programs (build/yds_trace and
 build/yds_cli).
 """
 
@@ -251,9 +251,10 @@ def at_run(it: Drawing) -> None:
 def hangs(it: Drawing) -> None:
     """A thread hangs from some line on: before all others, or behind them."""
     first = it.draw.randrange(500, it.size)
-    it.size = first + it.draw.choice([500, 4_000, 24_000, 24_000])
+    it.size = first + it.draw.choice([500, 4_000, 30_000, 30_000])
     task = it.draw.choice(it.tasks)
-    is_behind = len(it.tasks) > 1 and it.draw.random() < 0.8
+    is_behind = len(it.tasks) > 1 and it.draw.random() < 0.9
+    it.it.odds["noise"] = 0.0
 
     def run(lines: int, before: Callable[[int], None] = it.it.run) -> None:
         before(first)
@@ -315,7 +316,7 @@ def faulty(it: Drawing) -> None:
 
     def edit(lines: List[bytes]) -> None:
         at = it.draw.randrange(len(lines) // 4, len(lines))
-        way = it.draw.randrange(5)
+        way = it.draw.choice([0, 1, 2, 2, 2, 3, 4])
         if way == 0:
             lines[at] = re.sub(rb" [0-9]+\.", b" 1.", lines[at], count=1)
         elif way == 1:
@@ -331,21 +332,23 @@ def faulty(it: Drawing) -> None:
 
 
 def limited(it: Drawing) -> None:
-    """A job that passes a limit of documents, or that may not be missed."""
-    way = it.draw.randrange(3)
+    """A job that passes a limit of documents: its work, or its speed."""
+    khz = it.draw.choice([2_000_000_000, 1_234])
 
     def edit(lines: List[bytes]) -> None:
         at = it.draw.randrange(len(lines) // 4, len(lines))
         time = it.stamp(lines[at])
-        khz = 2_000_000_000 if way == 0 else 1_234
         lines.insert(at, f" w-5 [000] d..2. {time // 10**9}.{time % 10**9:09d}: cpu_frequency: state={khz} cpu_id=0".encode())
 
-    if way < 2:
-        it.it.odds["speed"] = 0.0
-        it.edits.append(edit)
-    else:
-        it.it.odds.update(missing=0.0001, move=0.0001)
-        it.options["--strict"] = None
+    it.it.odds["speed"] = 0.0
+    it.edits.append(edit)
+
+
+def strict(it: Drawing) -> None:
+    """No job may be missed, and perhaps one is."""
+    it.it.odds.update(missing=0.0001, move=0.0001)
+    it.options["--strict"] = None
+    it.options.pop("--begin", None)
 
 
 def missing(it: Drawing) -> None:
@@ -414,7 +417,7 @@ def unwoken(it: Drawing) -> None:
     """No wake-up is told, where jobs begin at one; or there is one late."""
     it.it.wakes = False
     it.options.pop("--begin", None)
-    it.size = it.draw.choice([3_000, 16_000, 24_000])
+    it.size = it.draw.choice([3_000, 24_000])
     if it.draw.random() < 0.3:
         late = it.draw.randrange(it.size)
 
@@ -435,7 +438,7 @@ def unseen(it: Drawing) -> None:
 
 SHOWN: List[Callable[[Drawing], None]] = [
     plain, hangs, loses, windowed, calm, was_there, faulty, limited, starves, missing, at_run, ended_behind, stretched, opened, elsewhere, hangs,
-    loses, windowed, unwoken, unseen, was_there, limited, ended_behind, opened,
+    loses, windowed, unwoken, unseen, faulty, limited, ended_behind, opened, hangs, faulty, strict, ended_behind, unwoken, hangs, faulty, strict,
 ]
 
 
@@ -464,7 +467,7 @@ WANTED = [
     "part document: strict", "whole: unwoken", "line: unwoken", "whole: a task unseen", "a late job in a part", "a late job without its runs", "a job left out",
     "option --from", "option --to", "option --begin", "option --us", "option APART", "more than 25000 stretches", "a whole trace in parts",
 ]
-LEAST, OF = 8, 400
+LEAST, OF = 4, 400
 
 
 def in_parts(said: Told, words: List[str]) -> Iterator[str]:
