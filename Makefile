@@ -12,7 +12,8 @@
 #   make faults     refuses the built programs memory, reads and writes in turn, and random bytes, and breaks their streams
 #   make fuzz       draws DOCUMENTS documents near the grammar from SEED, and holds the built program's answers against what they promise;
 #                   and breaks TRACES drawn traces: of none yds_trace may say a yes that it doesn't say of the unbroken one
-#   make traces     draws TRACES traces from SEED, and holds the whole text of the built yds_trace against a second reading of each
+#   make traces     draws TRACES traces from SEED, and LONG long ones in parts, and holds the whole text of the built yds_trace against a
+#                   second reading of each
 #   make planted    plants mistakes in yds_trace, one at a time, unproved, and says which the drawn traces find; some twenty minutes of a processor
 #   make record     records some seconds of this machine's kernel, and holds yds_trace against the second reading; needs root and a tracefs,
 #                   and ends with status 77 where the machine doesn't allow it
@@ -57,6 +58,7 @@ COMMAND ?= plan
 SEED ?= 1
 DOCUMENTS ?= 100000
 TRACES ?= 1000
+LONG ?= 50
 # A variable that is exported before it is given a value is empty.
 export PREFIX DESTDIR LIBDIR INSTALLED DOCUMENT EXAMPLE
 
@@ -136,8 +138,9 @@ fuzz: $(BINARY) $(TRACER) build/fuzz
 	@cd build && ./fuzz ./$(PROGRAM) ../examples/rows $(SEED) $(DOCUMENTS)
 	@python3 robustness/broken.py $(SEED) $(TRACES) $(TRACER) $(BINARY)
 
-traces: $(TRACER)
+traces: $(TRACER) $(BINARY)
 	@python3 robustness/trace.py $(SEED) $(TRACES) $(TRACER)
+	@python3 robustness/long.py $(SEED) $(LONG) $(TRACER) $(BINARY)
 
 planted: tool
 	@python3 robustness/planted.py

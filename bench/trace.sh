@@ -14,9 +14,11 @@
 #   others      few lines are of the task, and 2,000 other threads
 #   pipe        `few` through a pipe
 #   --cpu 3     `few`, of another processor
+#   .. in parts     the same with --parts; `parts` counts those that were written
 #
-# A trace may end with status 3 for its size, as `periods` does with more than 4,000 jobs: it is read to its end all the same. The
-# last line is 'N passed, M failed': a run fails that ends with another status than 0 and 3, or takes more than 64 MB.
+# A trace may end with status 3 for its size, as `periods` does with more than 4,000 jobs, and `hangs` in parts: it is read to its end
+# all the same. The last line is 'N passed, M failed': a run fails that ends with another status than 0 and 3, or takes more than 64 MB.
+# The line before it tells the machine's load: how many processes ran, or would have, in the last minute at the begin and at the end.
 
 here=$(cd "$(dirname "$0")" && pwd)
 YDS_TRACE=${YDS_TRACE:-$here/../build/yds_trace}
@@ -79,12 +81,15 @@ row() {
 	pipe) least "$name" "$trace" sh -c 'cat | "$@"' sh "$YDS_TRACE" "$@" ;;
 	*) least "$name" "$trace" "$YDS_TRACE" "$@" ;;
 	esac
-	awk -v name="$name" -v lines="$lines" -v s="$seconds" -v g="$grepped" -v m="$memory" -v status="$status" 'BEGIN {
-		printf "%-10s %9d %8.2f %10.3f %8.2f %7s %6.1f %7d\n", name, lines, s, 1e6 * s / lines, g, (g > 0.02 ? sprintf("%.1f", s / g) : "-"), m / 1024, status }'
+	parts=$(grep -c "^# part " "$work/out")
+	awk -v name="$name" -v lines="$lines" -v s="$seconds" -v g="$grepped" -v m="$memory" -v status="$status" -v parts="$parts" 'BEGIN {
+		printf "%-18s %9d %8.2f %9.3f %7.2f %6s %6.1f %7d %6d\n", name, lines, s, 1e6 * s / lines, g, (g > 0.02 ? sprintf("%.1f", s / g) : "-"), m / 1024, status, parts }'
 	if { [ "$status" = 0 ] || [ "$status" = 3 ]; } && [ "$memory" -lt 65536 ]; then passed=$((passed + 1)); else failed=$((failed + 1)); fi
 }
 
-echo "trace          lines  seconds    us/line     grep   times     MB  status"
+load() { cut -d ' ' -f 1 /proc/loadavg 2>/dev/null || echo unknown; }
+began=$(load)
+echo "trace                  lines  seconds   us/line    grep  times     MB  status  parts"
 one="--tasks decode:16.667 --start 600000"
 two="--tasks decode:16.667,audio:16.667 --start 600000"
 lines=100000
@@ -94,6 +99,7 @@ while [ "$lines" -le "$most" ]; do
 		trace $kind $lines >"$work/trace"
 		case $kind in periods | hangs) words=$two ;; *) words=$one ;; esac
 		row $kind $lines "$work/trace" $words
+		row "$kind in parts" $lines "$work/trace" $words --parts
 		if [ $kind = few ]; then
 			row pipe $lines "$work/trace" $words
 			row "--cpu 3" $lines "$work/trace" $words --cpu 3
@@ -101,5 +107,6 @@ while [ "$lines" -le "$most" ]; do
 	done
 	lines=$((10 * lines))
 done
+echo "load: $began at the begin, $(load) at the end"
 echo "$passed passed, $failed failed"
 [ $failed = 0 ]

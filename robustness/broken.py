@@ -2,9 +2,10 @@
 
     python3 robustness/broken.py [SEED] [TRACES] [YDS_TRACE] [YDS_CLI]
 
-It draws TRACES traces (1,000) by drawn.py, in five formats, many with late jobs. Of each, bytes of one or two lines are
-replaced by bytes that no trace has there, or a line feed is lost, three times. A yes is a document that `yds_cli audit`
-finds feasible and of which no job is left out. What is held:
+It draws TRACES traces (1,000) by drawn.py, in five formats, many with late jobs, every third with the word --parts; and
+of each 50 one by long.py, of several parts. Of each, bytes of one or two lines are replaced by bytes that no trace has
+there, or a line feed is lost, three times. A yes is a document that `yds_cli audit` finds feasible and of which no job is
+left out; in parts each of them. What is held:
 
 - a broken trace has a yes only where the unbroken one has. So a line that can't be read never hides a late job without a
   word. (Bytes that turn one number or name into another make another trace, which no reader can tell.)
@@ -17,12 +18,14 @@ the exit status is 1 where M isn't 0.
 
 import os
 import random
+import re
 import subprocess
 import sys
 from collections import Counter
 from pathlib import Path
 from typing import List, Tuple
 
+import long
 from drawn import plain
 from trace import told
 
@@ -72,8 +75,11 @@ class Programs:
         return subprocess.run([self.program, "audit"], input=document, capture_output=True, check=False).stdout
 
     def is_yes(self, written: bytes, status: int) -> bool:
-        """Whether it is a document that is feasible, and no job is left out of it."""
-        return status == 0 and b"\n# left out:" not in written and self.audit(written) == b"feasible\n"
+        """Whether it is a document that is feasible, or parts that are, and no job is left out."""
+        if status or b"\n# left out:" in written:
+            return False
+        parts = re.split(rb"^(?=# part )", written, flags=re.M) if written.startswith(b"# part ") else [written]
+        return all(self.audit(part) == b"feasible\n" for part in parts if part)
 
 
 def fault_of(programs: Programs, words: List[str], trace: bytes, was_yes: bool) -> str:
@@ -91,29 +97,38 @@ def fault_of(programs: Programs, words: List[str], trace: bytes, was_yes: bool) 
     return ""
 
 
-def main(words: List[str]) -> int:
+def unbroken(seed: int, number: int) -> Tuple[str, List[str], bytes]:
+    """The trace of this number: what it is, its words and its text."""
+    if number % 50 == 49:
+        long_one = long.drawn(seed, number // 50)
+        return f"long {long_one.shows}", long_one.words, long_one.trace
+    it = plain(seed, number)
+    return f"format {it.form}", [*it.words, "--parts"] if number % 3 == 1 else it.words, it.trace
+
+
+def main(given: List[str]) -> int:
     """Breaks the traces. Gives the exit status."""
-    seed = int(words[0]) if words else 1
-    many = int(words[1]) if len(words) > 1 else 1_000
-    programs = Programs(words[2] if len(words) > 2 else "build/yds_trace", words[3] if len(words) > 3 else "build/yds_cli")
+    seed = int(given[0]) if given else 1
+    many = int(given[1]) if len(given) > 1 else 1_000
+    programs = Programs(given[2] if len(given) > 2 else "build/yds_trace", given[3] if len(given) > 3 else "build/yds_cli")
     counts: "Counter[str]" = Counter()
     passed = failed = 0
     for number in range(many):
-        it = plain(seed, number)
+        shown, words, whole = unbroken(seed, number)
         draw = random.Random(f"broken {seed} {number}")
-        written, status = programs.read(it.words, it.trace)
+        written, status = programs.read(words, whole)
         was_yes = programs.is_yes(written, status)
-        counts[f"format {it.form}"] += 1
+        counts[shown] += 1
         counts["unbroken with a yes" if was_yes else "unbroken without one"] += 1
         for _ in range(BREAKS):
-            trace = broken(draw, it.trace)
-            fault = fault_of(programs, it.words, trace, was_yes)
-            counts[f"broken, status {told(it.words, trace).status}"] += 1
+            trace = broken(draw, whole)
+            fault = fault_of(programs, words, trace, was_yes)
+            counts[f"broken, status {told(words, trace).status}"] += 1
             passed, failed = passed + int(not fault), failed + int(bool(fault))
             if fault:
-                print(f"FAILED: {fault}: trace {number} of seed {seed}, words {it.words!r}")
+                print(f"FAILED: {fault}: trace {number} of seed {seed}, words {words!r}")
                 sys.stdout.flush()
-                sys.stdout.buffer.write(b"-- unbroken\n" + it.trace + b"-- broken\n" + trace + b"--\n")
+                sys.stdout.buffer.write(b"-- unbroken\n" + whole + b"-- broken\n" + trace + b"--\n")
     print(", ".join(f"{count} {word}" for word, count in sorted(counts.items())))
     print(f"{passed} passed, {failed} failed")
     return int(failed > 0)

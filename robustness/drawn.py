@@ -729,7 +729,13 @@ def drawn(seed: int, number: int) -> Drawn:
     it = Drawing(draw, show is not anything)
     show(it)
     trace = it.ends.join(it.lines) + (it.last_end if it.lines else b"")
-    return Drawn(show.__name__, it.form, it.words(), trace)
+    return Drawn(show.__name__, it.form, with_parts(seed, number, it.words()), trace)
+
+
+def with_parts(seed: int, number: int, words: List[str]) -> List[str]:
+    """These words, of one trace in eight with the word for parts."""
+    draw = random.Random(f"parts {seed} {number}")
+    return draw.choice([["--parts", *words], [*words, "--parts"]]) if draw.random() < 0.125 else words
 
 
 def plain(seed: int, number: int) -> Drawn:
@@ -758,7 +764,7 @@ def mistaken(seed: int, number: int, words: List[str]) -> List[str]:
         return rest + ["--tasks", mistake if draw.random() < 0.3 else ",".join(parts)]
     added = list(draw.choice(mistake))
     if added == ["TWICE"]:
-        return words + draw.choice([["--lost=cut"] * 2, ["--strict"] * 2, ["--tasks", "a:1"], ["--us", "10", "--us", "10"]])
+        return words + draw.choice([["--lost=cut"] * 2, ["--strict"] * 2, ["--parts"] * 2, ["--tasks", "a:1"], ["--us", "10", "--us", "10"]])
     if added == ["NONE"]:
         return rest
     names = {word.partition("=")[0] for word in added}
@@ -773,7 +779,7 @@ def without(words: List[str], names: "set[str]") -> List[str]:
     rest = list(words)
     while rest:
         word = rest.pop(0)
-        own = [word] if "=" in word or word == "--strict" else [word, rest.pop(0)]
+        own = [word] if "=" in word or word in ("--strict", "--parts") else [word, rest.pop(0)]
         if word.partition("=")[0] not in names:
             kept += own
     return kept
@@ -782,7 +788,7 @@ def without(words: List[str], names: "set[str]") -> List[str]:
 # A text is a task that can't be taken; a list has words that can't. What goes round are these places.
 MISTAKES: List[object] = [
     [["--nonsense"], ["cpu=1"], ["wo\nrd"], ["-h"], [""], ["--cpus=2"], ["--Strict"], ["--tasks2", "a:1"]],
-    [["--strict=yes"], ["--strict="], ["--help=1"]],
+    [["--strict=yes"], ["--strict="], ["--help=1"], ["--parts=1"]],
     [["--to"], ["--khz"], ["--tasks"]],
     [["TWICE"]],
     [["--cpu=x"], ["--cpu", "8192"], ["--cpu", "01"], ["--cpu", "-1"], ["--cpu="]],

@@ -250,9 +250,10 @@ make_traces() {
 			printf "who-5 [000] d..2. %d.000900: sched_switch: prev_comm=decode prev_pid=10 prev_prio=98 prev_state=S ==> next_comm=swapper/0 next_pid=0 next_prio=120\n", i
 		}
 	}' >"$work/long"
+	sed '8000s/==>.*/==>/' "$work/long" >"$work/torn-long"
 }
-# with_traces FUNCTION: calls it for a document, faults of the words, of a line, of its form and of the whole, texts of words alone, and
-# for a document that takes more memory and more than one read and write.
+# with_traces FUNCTION: calls it for a document, faults of the words, of a line, of its form and of the whole, texts of words alone, for
+# a document that takes more memory and more than one read and write, and for traces in parts: of one, of two, and with a fault behind one.
 with_traces() {
 	program=$YDS_TRACE
 	traced "--tasks decode:20,audio:10" "$work/short"
@@ -278,10 +279,26 @@ with_traces() {
 	traced "--tasks decode:20" "$work/long"
 	is_large=1
 	$1
+	traced "--parts --tasks decode:20,audio:10" "$work/short"
+	$1
+	traced "--parts --tasks decode:20" "$work/long"
+	is_large=1
+	$1
+	traced "--parts --tasks decode:20" "$work/torn-long"
+	is_large=1
+	$1
 	program=$YDS
 }
-# ended STATUS TEXT: with this status and this text alone.
-ended() { [ $got = "$1" ] && [ "$(cat "$work/out")" = "$2" ] && [ ! -s "$work/err" ]; }
+# ended STATUS TEXT: with this status and this text of two lines alone; in parts, behind those that were whole.
+ended() { [ $got = "$1" ] && [ "$(tail -n 2 "$work/out")" = "$2" ] && [ ! -s "$work/err" ] && behind_parts; }
+# Before the last two lines stands nothing, or a front of the answer that ends where a part does.
+behind_parts() {
+	head -n -2 "$work/out" >"$work/front"
+	[ ! -s "$work/front" ] || {
+		size=$(wc -c <"$work/front")
+		head -c "$size" "$want" | cmp -s - "$work/front" && tail -c "+$((size + 1))" "$want" | head -n 1 | grep -q "^# part \|^# line "
+	}
+}
 # One that refuses its trace reads on to the end of it, and a read that fails there changes nothing.
 refused_already() { [ "$status" = 3 ] && whole; }
 
@@ -315,12 +332,10 @@ refuse_trace_reads() {
 }
 test_trace_memory() { with_traces refuse_trace_memory; }
 test_trace_reads() { with_traces refuse_trace_reads; }
-# A write of more bytes than main's buffer has isn't tried again where a signal interrupts it: that ends with 5, as the manual says.
-whole_or_front() { whole || { [ "$(wc -c <"$want")" -gt 65536 ] && front_or_all; }; }
 refuse_trace_writes() {
 	refuse_each_write front FAULT_WRITES_FROM
 	refuse_each_write front_or_all FAULT_WRITE
-	refuse_each_write whole_or_front FAULT_WRITE FAULT_ERROR=4
+	refuse_each_write whole FAULT_WRITE FAULT_ERROR=4 # EINTR: such a write is tried again
 }
 test_trace_writes() { with_traces refuse_trace_writes; }
 
@@ -355,6 +370,8 @@ failed
 	trace_stream "errors closed" 0 "$short" '"$YDS_TRACE" --tasks decode:20,audio:10 <"$trace" >"$out" 2>&-'
 	trace_stream "a full device" 5 "" '"$YDS_TRACE" --tasks decode:20,audio:10 <"$trace" >/dev/full'
 	trace_stream "a full device, a long answer" 5 "" '"$YDS_TRACE" --tasks decode:20 <"$long" >/dev/full'
+	trace_stream "a full device, in parts" 5 "" '"$YDS_TRACE" --parts --tasks decode:20 <"$long" >/dev/full'
+	trace_stream "input closed, in parts" 4 "$read_fault" '"$YDS_TRACE" --parts --tasks decode:20 <&- >"$out"'
 	trace_stream "a file at its greatest size" 5 "" 'trap "" XFSZ; ulimit -f 1; "$YDS_TRACE" --tasks decode:20 <"$long" >"$work/small"'
 	trace_stream "a pipe whose reader leaves" 5 "" '{ sleep 0.2; "$YDS_TRACE" --help; echo $? >"$work/status"; } | :; exit "$(cat "$work/status")"'
 	trace_stream "a pipe whose reader leaves, a long answer" 5 "" '{ "$YDS_TRACE" --tasks decode:20 <"$long"; echo $? >"$work/status"; } | head -c 1 >/dev/null; exit "$(cat "$work/status")"'

@@ -4,9 +4,9 @@
 
 rt-app runs three threads with periods of 16.667, 10 and 5 ms for S seconds (3), on all processors, while an instance of
 tracefs of its own records their switches and wake-ups and those of all other threads; nothing else of the machine's
-tracing is touched. The text of the trace, or FILE's, is read by yds_trace as a whole, for each processor, and in pieces
-of 1,000 lines, with several words, by yds_trace and by the second reading of trace.py: the two have to write the same
-text, byte for byte, and end with the same status.
+tracing is touched. The text of the trace, or FILE's, is read by yds_trace as a whole, for each processor; as a whole in
+parts, for each processor, and in pieces of 1,000 lines, with several words, it is read by yds_trace and by the second
+reading of trace.py: the two have to write the same text, byte for byte, and end with the same status.
 
 It needs root, a kernel that lets it mount tracefs and make an instance there, and rt-app (Debian: rt-app). Where one of
 them isn't there, it says so and ends with status 77. Status 1: the readings differ. Status 0: they agree. YDS_TRACE is
@@ -110,7 +110,7 @@ def words_for(number: int, piece: bytes) -> List[str]:
     first = float(stamp[1]) if stamp else 0.0
     more: List[List[str]] = [
         [], ["--us", "1", "--khz", "100000"], ["--lost", "cut"], ["--begin", "run"], ["--from", f"{first + 0.05:.6f}", "--lost", "cut"],
-        ["--to", f"{first + 0.15:.6f}"], ["--strict"],
+        ["--to", f"{first + 0.15:.6f}"], ["--strict"], ["--parts", "--lost", "cut"],
     ]
     chosen = more[number % len(more)]
     tasks = listed(piece, ":3" if number % 3 == 0 else "")
@@ -142,6 +142,21 @@ def compare(program: str, trace: bytes) -> bool:
     return same
 
 
+def compare_parts(program: str, trace: bytes) -> bool:
+    """Whether the readings agree on the whole recording in parts, for each processor."""
+    same = True
+    for processor in range(os.cpu_count() or 1):
+        words = ["--tasks", listed(trace), "--cpu", str(processor), "--start", "1000000", "--lost", "cut", "--parts"]
+        done, said = answer(program, words, trace), told(words, trace)
+        jobs = sum(len(part.rows) for part in said.parts)
+        late = sum(one.late is not None for part in said.parts for one in part.judged)
+        print(f"processor {processor} in parts: status {said.status}, {len(said.parts)} parts, {jobs} jobs written, {late} late jobs")
+        if (done.stdout, done.returncode) != (said.text.encode(), said.status):
+            same = False
+            print(f"the readings of processor {processor} in parts differ")
+    return same
+
+
 def tell_whole(program: str, trace: bytes) -> None:
     """What yds_trace says of the whole recording, for each processor."""
     for processor in range(os.cpu_count() or 1):
@@ -168,6 +183,7 @@ def main(words: Sequence[str]) -> int:
         Path(options.keep).write_bytes(trace)
     tell_whole(program, trace)
     same = compare(program, trace)
+    same = compare_parts(program, trace) and same
     print("the readings agree" if same else "the readings differ")
     return 0 if same else 1
 

@@ -1,0 +1,624 @@
+"""long.py: draws long traces of a kernel with the word --parts, and holds all that yds_trace writes against the second reading parted.py.
+
+    python3 robustness/long.py [SEED] [TRACES] [YDS_TRACE] [YDS_CLI]
+    python3 robustness/long.py one SEED NUMBER         writes the trace of this number, and its words to standard error
+
+It draws TRACES traces (50) of some 6,000 to 40,000 lines: periodic threads with deadlines that are shorter than their
+periods, equal or longer, jobs that are preempted, overrun, wait, sleep within a period or move. Each trace shows one
+thing more, which goes round by its number (SHOWN): a thread that hangs or starves, losses and threads that reach back
+behind a part that was written, faults of lines and of documents in a later part, thousands of stretches, `--from` and
+`--to`. What is held of each:
+
+- the text and the status of yds_trace are those of the second reading, byte for byte;
+- the jobs and runs of the parts, their shifts added, are those that the whole trace shows at its end;
+- `yds_cli audit` reads each part, and refuses a text that ends with `failed`.
+
+Before the last line it tells how many traces had each thing. The status is 1 where something differs, and also where of
+400 traces or more fewer than 4 had a thing of WANTED. YDS_TRACE and YDS_CLI are the built programs (build/yds_trace and
+build/yds_cli).
+"""
+
+import heapq
+import os
+import random
+import re
+import subprocess
+import sys
+from collections import Counter
+from pathlib import Path
+from typing import Callable, Dict, Iterator, List, NamedTuple, Optional, Tuple
+
+from parted import LOOK, Parts, told_in_parts
+from second import Document, Told, asked_by, in_order, judge_jobs
+
+NAMES = ["decode", "audio", "ui"]
+KHZ = [600_000, 1_000_000, 2_000_000]
+
+
+# # A machine
+
+
+class Task:
+    """A periodic thread. Times are nanoseconds."""
+
+    def __init__(self, number: int, period: int, share: float, factor: float) -> None:
+        self.name, self.pid, self.period = NAMES[number], 10 + number, period
+        self.busy, self.deadline = int(period * share), int(period * factor)
+        self.left = 0
+        self.periods = 0
+        self.due = 0
+        self.starves = self.hangs = False
+
+    def is_ready(self) -> bool:
+        """Whether it would run."""
+        return self.left > 0 and not self.starves
+
+
+class Machine:
+    """One processor that runs these tasks, the one that is due first before all others; other processors write lines."""
+
+    def __init__(self, draw: random.Random, tasks: List[Task]) -> None:
+        self.draw, self.tasks = draw, tasks
+        self.time = 50 * 10**9 + draw.randrange(10**9)
+        self.on: Optional[Task] = None
+        self.lines: List[bytes] = []
+        self.wakes, self.switches = True, 0
+        self.odds: Dict[str, float] = {}
+        self.releases = [(self.time + 10_000 * (number + 1), number) for number in range(len(tasks))]
+        heapq.heapify(self.releases)
+        self.write(0, "cpu_frequency", "state=1000000 cpu_id=0")
+
+    def write(self, processor: int, event: str, text: str) -> None:
+        """A line."""
+        stamp = f"{self.time // 10**9}.{self.time % 10**9:09d}"
+        self.lines.append(f" w-5 [{processor:03d}] d..2. {stamp}: {event}: {text}".encode())
+
+    def chance(self, what: str) -> bool:
+        """Whether this happens now."""
+        odds = self.odds.get(what, 0.0)
+        return odds > 0 and self.draw.random() < odds
+
+    def turn(self, state: str, after: Optional[Task], processor: int = 0) -> None:
+        """The processor goes to another thread."""
+        before = self.on
+        one = ("swapper/0", 0) if before is None else (before.name, before.pid)
+        two = ("swapper/0", 0) if after is None else (after.name, after.pid)
+        self.on = after
+        if not self.chance("missing"):
+            self.write(processor, "sched_switch", f"prev_comm={one[0]} prev_pid={one[1]} prev_prio=120 prev_state={state} ==>"
+                                                  f" next_comm={two[0]} next_pid={two[1]} next_prio=98")
+
+    def wake(self, task: Task) -> None:
+        """A thread is woken."""
+        if self.wakes:
+            self.write(0, "sched_waking", f"comm={task.name} pid={task.pid} prio=120 target_cpu=000")
+
+    def release(self, number: int) -> None:
+        """A period begins."""
+        task = self.tasks[number]
+        jitter = self.draw.choice([0, 0, 0, 1_000, 30_000]) if self.chance("jitter") else 0
+        heapq.heappush(self.releases, (self.time + task.period + jitter, number))
+        if task.left == 0 or self.chance("rewoken"):
+            self.wake(task)
+        if task.left == 0:
+            task.left = max(1_000, int(task.busy * self.draw.choice([0.2, 0.8, 1.0, 1.0])))
+            task.due = self.time + task.deadline
+            if self.chance("overrun"):
+                task.left = int(task.period * self.draw.choice([1.0, 1.5, 2.5]))
+            if self.chance("short"):
+                task.left = self.draw.choice([1_000, 4_000, 12_000])
+
+    def dispatch(self, state: str) -> None:
+        """The ready thread that is due first gets the processor."""
+        ready = [task for task in self.tasks if task.is_ready()]
+        best = min(ready, key=lambda task: (task.due, task.pid), default=None)
+        if best is not self.on:
+            self.turn(state, best)
+
+    def step(self) -> None:
+        """To the next event."""
+        at, number = self.releases[0]
+        running = self.on
+        ends = self.time + running.left if running is not None and not running.hangs else at + 1
+        if ends <= at and running is not None:
+            self.time, running.left = ends, 0
+            self.dispatch(self.draw.choice(["S", "S", "S", "I"]))
+            return
+        if running is not None:
+            self.within(running, at)
+            running.left = running.left if running.hangs else max(1, running.left - (at - self.time))
+        self.time = max(at, self.time)
+        heapq.heappop(self.releases)
+        self.release(number)
+        self.dispatch("R")
+
+    def within(self, running: Task, until: int) -> None:
+        """What may happen while a thread runs, before this time."""
+        if self.chance("speed") and until - self.time > 2_000:
+            self.pass_by(running, until)
+            self.write(0, "cpu_frequency", f"state={self.draw.choice(KHZ)} cpu_id=0")
+        if self.chance("sleep") and until - self.time > 20_000:
+            self.pass_by(running, until)
+            self.turn(self.draw.choice(["S", "D"]), None)
+            self.time += 2_000
+            self.wake(running)
+            self.time += 2_000
+            self.turn("R", running)
+        if self.chance("move") and until - self.time > 20_000:
+            self.pass_by(running, until)
+            self.turn("R", None)
+            self.on = None
+            self.turn("R", running, 1)
+            self.pass_by(running, until)
+            self.turn("R", None, 1)
+            self.on = None
+            self.turn("R", running)
+        if self.chance("noise"):
+            self.write(self.draw.choice([1, 2]), "irq_handler_entry", "irq=1 name=x")
+
+    def pass_by(self, running: Task, until: int) -> None:
+        """Some time passes while a thread runs."""
+        passed = min((until - self.time) // 3, max(0, running.left - 1) if not running.hangs else until)
+        self.time += passed
+        running.left = running.left if running.hangs else max(1, running.left - passed)
+
+    def run(self, lines: int) -> None:
+        """Until there are so many lines."""
+        while len(self.lines) < lines:
+            self.step()
+
+
+class Drawing:
+    """A machine with its words, and how long its trace is."""
+
+    def __init__(self, draw: random.Random) -> None:
+        self.draw = draw
+        base = draw.choice([300_000, 1_000_000, 2_000_000])
+        factor = draw.choice([0.5, 1.0, 1.0, 1.5])
+        many = draw.choice([[1], [1, 1], [1, 2], [2, 3], [1, 2, 3]])
+        share = draw.choice([0.2, 0.5, 0.9]) / len(many)
+        self.tasks = [Task(number, base * times, share, factor) for number, times in enumerate(many)]
+        self.it = Machine(draw, self.tasks)
+        self.it.odds = {"jitter": 0.2, "rewoken": 0.05, "overrun": 0.01, "short": 0.05, "speed": 0.05, "sleep": 0.02, "move": 0.002, "noise": 0.05}
+        self.size = draw.randrange(7_000, 22_000)
+        self.options: Dict[str, Optional[str]] = {"--parts": None, "--lost": "cut"}
+        self.apart = draw.choice([0, 0, 0, 50_000])
+        self.edits: List[Callable[[List[bytes]], None]] = []
+        if draw.random() < 0.3:
+            self.options["--us"] = draw.choice(["1", "5", "50"])
+            self.options["--khz"] = "100000"
+        elif draw.random() < 0.2:
+            self.options["--khz"] = draw.choice(["20000", "100000"])
+        if draw.random() < 0.3:
+            self.options["--begin"] = "run"
+
+    def words(self) -> List[str]:
+        """The words."""
+        behind = f":{self.apart / 10**6:.6f}" if self.apart else ""
+        tasks = ",".join(f"{task.name}:{task.deadline / 10**6:.6f}{behind}" for task in self.tasks)
+        found = ["--tasks", tasks]
+        for name, value in self.options.items():
+            found += [name] if value is None else [name, value]
+        return found
+
+    def seconds(self, time: int) -> str:
+        """A time as `--from` and `--to` take it."""
+        return f"{time // 10**9}.{time % 10**9:09d}".rstrip("0").rstrip(".")
+
+    def stamp(self, line: bytes) -> int:
+        """The time of a line."""
+        mark = re.search(rb" ([0-9]+)\.([0-9]{9}): ", line)
+        return int(mark[1] + mark[2]) if mark else 0
+
+    def trace(self) -> bytes:
+        """The trace's text."""
+        self.it.run(self.size)
+        for edit in self.edits:
+            edit(self.it.lines)
+        return b"\n".join(self.it.lines) + b"\n"
+
+
+# # What a trace shows
+
+
+def plain(it: Drawing) -> None:
+    """Periodic threads, and what chance gives them."""
+    it.size = it.draw.randrange(12_000, 30_000)
+
+
+def calm(it: Drawing) -> None:
+    """Nothing but the threads: each window is over when its next job begins."""
+    it.it.odds = {}
+    for task in it.tasks:
+        task.deadline = task.period // 2
+    it.options.pop("--begin", None)
+
+
+def opened(it: Drawing) -> None:
+    """A window is always open: deadlines are later than the next jobs' begins, and none overruns."""
+    it.it.odds.update(overrun=0.0, jitter=0.0, missing=0.0)
+    for task in it.tasks:
+        task.deadline = int(task.period * it.draw.choice([1.1, 1.5, 3.0]))
+        task.busy = task.period // 10
+
+
+def at_run(it: Drawing) -> None:
+    """Jobs begin at their first run, and no wake-up is told."""
+    it.options["--begin"] = "run"
+    it.it.wakes = False
+
+
+def hangs(it: Drawing) -> None:
+    """A thread hangs from some line on: before all others, or behind them."""
+    first = it.draw.randrange(500, it.size)
+    it.size = first + it.draw.choice([500, 4_000, 30_000, 30_000])
+    task = it.draw.choice(it.tasks)
+    is_behind = len(it.tasks) > 1 and it.draw.random() < 0.9
+    it.it.odds["noise"] = 0.0
+
+    def run(lines: int, before: Callable[[int], None] = it.it.run) -> None:
+        before(first)
+        while task.left == 0:
+            it.it.step()
+        task.hangs = True
+        task.due = 10**18 if is_behind else task.due
+        before(max(lines, len(it.it.lines)))
+
+    it.it.run = run  # type: ignore[method-assign]
+
+
+def starves(it: Drawing) -> None:
+    """A thread is woken and gets no processor, from some line on."""
+    first = it.draw.randrange(500, it.size)
+    it.size = first + it.draw.choice([500, 4_000, 24_000])
+    task = it.draw.choice(it.tasks)
+    it.options.pop("--begin", None)
+
+    def run(lines: int, before: Callable[[int], None] = it.it.run) -> None:
+        before(first)
+        task.starves = True
+        before(lines)
+
+    it.it.run = run  # type: ignore[method-assign]
+
+
+def loses(it: Drawing) -> None:
+    """Events were lost, since a time that may be long ago."""
+    it.it.odds["noise"] = it.draw.choice([0.0, 0.001, 0.05])
+
+    def edit(lines: List[bytes]) -> None:
+        at = it.draw.randrange(len(lines) // 3, len(lines))
+        told = it.draw.choice(["CPU:%d [LOST 12 EVENTS]", "CPU:%d [3 EVENTS DROPPED]", "##### CPU %d buffer started ####"])
+        lines.insert(at, (told % it.draw.choice([0, 0, 1, 2, 5])).encode())
+        lines.insert(1, lines[0].replace(b"[000]", b"[001]").replace(b"cpu_id=0", b"cpu_id=1"))
+
+    it.edits.append(edit)
+    if it.draw.random() < 0.15:
+        it.options.pop("--lost")
+
+
+def was_there(it: Drawing) -> None:
+    """A thread leaves a processor that hasn't switched yet: it was there all the time."""
+
+    def edit(lines: List[bytes]) -> None:
+        at = it.draw.randrange(100, len(lines))
+        task = it.draw.choice(it.tasks)
+        stamp = re.search(rb" [0-9]+\.[0-9]{9}: ", lines[at])
+        assert stamp is not None
+        text = f"prev_comm={task.name} prev_pid={task.pid} prev_prio=120 prev_state=R ==> next_comm=swapper/7 next_pid=0 next_prio=120"
+        lines.insert(at, b" w-5 [007] d..2." + stamp[0] + b"sched_switch: " + text.encode())
+
+    it.edits.append(edit)
+
+
+def faulty(it: Drawing) -> None:
+    """A line that is refused, behind parts or before them."""
+
+    def edit(lines: List[bytes]) -> None:
+        at = it.draw.randrange(len(lines) // 4, len(lines))
+        way = it.draw.choice([0, 1, 2, 2, 2, 3, 4])
+        if way == 0:
+            lines[at] = re.sub(rb" [0-9]+\.", b" 1.", lines[at], count=1)
+        elif way == 1:
+            lines[at] = re.sub(rb"\[00[0-9]\]", b"[9000]", lines[at], count=1)
+        elif way == 2:
+            lines[at] = lines[at].replace(b" prev_prio=", b" prev_pri=").replace(b" prio=", b" pri=")
+        elif way == 3:
+            lines[at] = re.sub(rb"prev_state=\w", b"prev_state=q", lines[at])
+        else:
+            lines[at] = re.sub(rb"(decode \w*pid=)10", rb"\g<1>99", lines[at])
+
+    it.edits.append(edit)
+
+
+def limited(it: Drawing) -> None:
+    """A job that passes a limit of documents: its work, or its speed."""
+    khz = it.draw.choice([2_000_000_000, 1_234])
+
+    def edit(lines: List[bytes]) -> None:
+        at = it.draw.randrange(len(lines) // 4, len(lines))
+        time = it.stamp(lines[at])
+        lines.insert(at, f" w-5 [000] d..2. {time // 10**9}.{time % 10**9:09d}: cpu_frequency: state={khz} cpu_id=0".encode())
+
+    it.it.odds["speed"] = 0.0
+    it.edits.append(edit)
+
+
+def strict(it: Drawing) -> None:
+    """No job may be missed, and perhaps one is."""
+    it.it.odds.update(missing=0.0001, move=0.0001)
+    it.options["--strict"] = None
+    it.options.pop("--begin", None)
+
+
+def missing(it: Drawing) -> None:
+    """A switch in a thousand isn't there."""
+    it.it.odds["missing"] = it.draw.choice([0.0002, 0.001, 0.01])
+
+
+def windowed(it: Drawing) -> None:
+    """Between two times of the trace."""
+
+    def edit(lines: List[bytes]) -> None:
+        times = sorted(it.stamp(it.draw.choice(lines)) for _ in range(2))
+        if it.draw.random() < 0.7:
+            it.options["--from"] = it.seconds(times[0])
+        if it.draw.random() < 0.7 and times[0] < times[1]:
+            it.options["--to"] = it.seconds(times[1] + it.draw.choice([0, 1, 10**6]))
+
+    it.edits.append(edit)
+    it.size = it.draw.randrange(12_000, 30_000)
+
+
+def stretched(it: Drawing) -> None:
+    """Many changes of speed: thousands of stretches in few jobs."""
+    it.it.odds.update(overrun=0.0, speed=0.0, noise=0.0)
+    for task in it.tasks:
+        task.period, task.busy, task.deadline = 40 * task.period, 39 * task.period // len(it.tasks), 40 * task.deadline
+    rate = it.draw.choice([200, 2_000, 60_000])
+    size = it.draw.choice([35_000, 60_000])
+    it.options.update({"--us": "50", "--khz": "100000"})
+    it.size = 800
+
+    def edit(lines: List[bytes]) -> None:
+        found: List[bytes] = []
+        for before, behind in zip(lines, lines[1:]):
+            found.append(before)
+            time, until = it.stamp(before), it.stamp(behind)
+            many = min(rate, (until - time) // 1_000)
+            for number in range(many):
+                at = time + (until - time) * (number + 1) // (many + 1)
+                found.append(b" w-5 [000] d..2. %d.%09d: cpu_frequency: state=%d cpu_id=0" % (at // 10**9, at % 10**9, KHZ[number % 3]))
+            if len(found) > size:
+                break
+        lines[:] = found[:size]
+
+    it.edits.append(edit)
+
+
+def ended_behind(it: Drawing) -> None:
+    """The trace ends just behind a line where a part is written, or some lines later."""
+
+    def edit(lines: List[bytes]) -> None:
+        _, parts = told_in_parts(b"\n".join(lines) + b"\n", asked_by(it.words()))
+        places = parts.behind or [len(lines) // LOOK * LOOK]
+        del lines[it.draw.choice(places) + it.draw.choice([0, 0, 1, 2, 3]) :]
+
+    it.edits.append(edit)
+
+
+def elsewhere(it: Drawing) -> None:
+    """The jobs run on another processor than that which is asked for: they are left out, but for those that are late."""
+    it.options["--cpu"] = "1"
+    it.it.odds["overrun"] = it.draw.choice([0.0, 0.002, 0.02])
+
+
+def unwoken(it: Drawing) -> None:
+    """No wake-up is told, where jobs begin at one; or there is one late."""
+    it.it.wakes = False
+    it.options.pop("--begin", None)
+    it.size = it.draw.choice([3_000, 24_000])
+    if it.draw.random() < 0.3:
+        late = it.draw.randrange(it.size)
+
+        def run(lines: int, before: Callable[[int], None] = it.it.run) -> None:
+            before(min(late, lines))
+            it.it.wakes = True
+            before(lines)
+
+        it.it.run = run  # type: ignore[method-assign]
+
+
+def unseen(it: Drawing) -> None:
+    """A task that no line names: it is told at the end."""
+    it.tasks.append(Task(2, 10**6, 0.5, 1.0))
+    it.tasks[-1].name, it.tasks[-1].pid = "nobody", 99
+    it.it.tasks = it.tasks[:-1]
+
+
+SHOWN: List[Callable[[Drawing], None]] = [
+    plain, hangs, loses, windowed, calm, was_there, faulty, limited, starves, missing, at_run, ended_behind, stretched, opened, elsewhere, hangs,
+    loses, windowed, unwoken, unseen, faulty, limited, ended_behind, opened, hangs, faulty, strict, ended_behind, unwoken, hangs, faulty, strict,
+]
+
+
+class Drawn(NamedTuple):
+    """A drawn trace, what it shows, and words for it."""
+
+    shows: str
+    words: List[str]
+    trace: bytes
+
+
+def drawn(seed: int, number: int) -> Drawn:
+    """The trace of this number."""
+    it = Drawing(random.Random(f"long {seed} {number}"))
+    show = SHOWN[number % len(SHOWN)]
+    show(it)
+    trace = it.trace()
+    return Drawn(show.__name__, it.words(), trace)
+
+
+# # What was in the traces
+
+WANTED = [
+    "parts: 1", "parts: 2", "parts: 3 or more", "a part with windows open", "a part without windows open", "a last part without a job", "no place",
+    "no place, known to be late", "line: part written", "form behind a part", "line behind a part", "part document: work", "part document: coarse speed",
+    "part document: strict", "whole: unwoken", "line: unwoken", "whole: a task unseen", "a late job in a part", "a late job without its runs", "a job left out",
+    "option --from", "option --to", "option --begin", "option --us", "option APART", "more than 25000 stretches", "a whole trace in parts",
+]
+LEAST, OF = 4, 400
+
+
+def in_parts(said: Told, words: List[str]) -> Iterator[str]:
+    """What is in a text of parts."""
+    heads = re.findall(r"^# part (\d+): jobs (\d+) to (\d+), from \d+ to \d+, shift \d+(, windows open)?(, the last)?$", said.text, re.M)
+    yield f"parts: {len(heads)}" if len(heads) < 3 else "parts: 3 or more"
+    for number, first, last, is_open, is_last in heads:
+        if int(number) > 1:
+            yield f"a part {'with' if is_open else 'without'} windows open"
+        if is_last and int(last) < int(first):
+            yield "a last part without a job"
+    if said.status == 0 and len(heads) > 1:
+        yield "a whole trace in parts"
+    yield from (f"option {word}" for word in words if word.startswith("--"))
+    if re.search(r":[0-9.]+:[0-9.]+(,|$)", words[1]):
+        yield "option APART"
+
+
+def in_fault(said: Told) -> Iterator[str]:
+    """What the fault is, and whether a part stands before it."""
+    if said.kind:
+        yield said.kind
+        if said.parts and said.kind.startswith(("form", "line")):
+            yield f"{said.kind.partition(':')[0]} behind a part"
+        if said.kind == "no place" and "known to be late by" in said.text:
+            yield "no place, known to be late"
+
+
+def in_documents(said: Told) -> Iterator[str]:
+    """What the jobs of the parts show."""
+    for document in said.parts:
+        for one in document.judged:
+            if one.late is not None:
+                yield "a late job without its runs" if one.reason else "a late job in a part"
+            elif one.reason:
+                yield "a job left out"
+        if sum(len(one.job.ran) for one in document.judged) > 25_000:
+            yield "more than 25000 stretches"
+
+
+# # What is held
+
+Row = Tuple[str, Optional[int], int, int]
+Run = Tuple[str, int, int, int]
+
+
+def put_together(text: str) -> Tuple[List[Row], List[Run]]:
+    """The jobs and runs of the parts of a text, with their shifts added."""
+    jobs: List[Row] = []
+    runs: List[Run] = []
+    shift = 0
+    for line in text.split("\n"):
+        word = line.split(" ")
+        if word[:2] == ["#", "part"]:
+            mark = re.search(r", shift (\d+)", line)
+            shift = int(mark[1]) if mark else 0
+        elif word[0] == "job":
+            jobs.append((word[1], shift + int(word[2]), shift + int(word[3]), int(word[4])))
+        elif word[0] == "run":
+            runs.append((word[1], shift + int(word[2]), shift + int(word[3]), int(word[4])))
+    return jobs, runs
+
+
+def of_the_whole(parts: Parts) -> Tuple[List[Row], List[Run]]:
+    """The jobs and runs that the whole trace shows at its end. Where a begin isn't known, a release tells nothing."""
+    asked, shown = parts.asked, parts.shown()
+    by_task = [judge_jobs(number, parts.jobs(follower), shown, asked) for number, follower in enumerate(parts.followers)]
+    for one in in_order(by_task):
+        one.runs = []
+    document = Document(by_task, asked.begin if asked.begin is not None else parts.lines.first or 0, asked)
+    jobs: List[Row] = [(one.name, release if one.job.known else None, due, work) for one, release, due, work in document.rows]
+    placed = [(one.name, *run) for one, _, _, _ in document.rows if not one.reason for run in one.runs]
+    return jobs, [(name, begin, end, speed) for name, begin, end, speed in sorted(placed, key=lambda run: run[1])]
+
+
+def same_whole(text: str, parts: Parts) -> bool:
+    """Whether the parts of a text are the whole."""
+    jobs, runs = put_together(text)
+    whole_jobs, whole_runs = of_the_whole(parts)
+    known = {name for name, release, _, _ in whole_jobs if release is not None}
+    return [(name, release if name in known else None, due if name in known else 0, work) for name, release, due, work in jobs] == \
+        [(name, release, due if name in known else 0, work) for name, release, due, work in whole_jobs] and runs == whole_runs
+
+
+def documents(text: str) -> List[str]:
+    """The parts of a text, each as a document."""
+    return [part for part in re.split(r"^(?=# part )", text, flags=re.M) if part]
+
+
+def audit(program: str, document: str) -> bytes:
+    """What `yds_cli audit` says of a document."""
+    return subprocess.run([program, "audit"], input=document.encode(), capture_output=True, check=False).stdout
+
+
+class Programs(NamedTuple):
+    """The built programs."""
+
+    tracer: str
+    auditor: str
+
+
+def faults_of(programs: Programs, it: Drawn, said: Told, parts: Parts) -> Iterator[str]:
+    """What isn't as it should be."""
+    done = subprocess.run([programs.tracer, *it.words], input=it.trace, capture_output=True, check=False)
+    if (done.stdout, done.returncode) != (said.text.encode(), said.status):
+        yield f"the readings differ: status {done.returncode}, and {said.status}"
+    if said.status == 0 and not same_whole(said.text, parts):
+        yield "the parts aren't the whole"
+    found = documents(said.text)
+    if said.status and (len(found) > len(said.parts) or not said.parts):
+        found = found[:-1]
+    elif said.status:
+        found[-1] = re.sub(r"# [^\n]*\nfailed\n\Z", "", found[-1])
+    for number, part in enumerate(found, 1):
+        if audit(programs.auditor, part).startswith(b"refused"):
+            yield f"yds_cli refuses part {number}"
+    is_many = len(found) > 1 or said.status
+    if is_many and not audit(programs.auditor, said.text).startswith(b"refused"):
+        yield "yds_cli takes a text of several parts, or one that failed, for a document"
+
+
+def main(words: List[str]) -> int:
+    """Draws the traces, reads them twice, and tells what was in them."""
+    if words[:1] == ["one"]:
+        it = drawn(int(words[1]), int(words[2]))
+        print(" ".join(it.words), file=sys.stderr)
+        sys.stdout.buffer.write(it.trace)
+        return 0
+    seed = int(words[0]) if words else 1
+    many = int(words[1]) if len(words) > 1 else 50
+    programs = Programs(words[2] if len(words) > 2 else "build/yds_trace", words[3] if len(words) > 3 else "build/yds_cli")
+    counts: "Counter[str]" = Counter()
+    passed = failed = 0
+    for number in range(many):
+        it = drawn(seed, number)
+        counts[f"shows {it.shows}"] += 1
+        said, parts = told_in_parts(it.trace, asked_by(it.words))
+        counts.update({f"status {said.status}", *in_parts(said, it.words), *in_fault(said), *in_documents(said)})
+        faults = list(faults_of(programs, it, said, parts))
+        passed, failed = passed + int(not faults), failed + int(bool(faults))
+        for fault in faults:
+            print(f"FAILED: trace {number} of seed {seed} ({it.shows}): {fault}", flush=True)
+    print(", ".join(f"{count} {word}" for word, count in sorted(counts.items())))
+    few = [name for name in WANTED if counts[name] < LEAST] if many >= OF else []
+    if few:
+        print(f"too few: {', '.join(f'{counts[name]} {name}' for name in few)}")
+    print(f"{passed} passed, {failed} failed")
+    return int(failed > 0 or bool(few))
+
+
+if __name__ == "__main__":
+    here = [os.path.abspath(word) if place > 1 and "/" in word else word for place, word in enumerate(sys.argv[1:])]
+    os.chdir(Path(__file__).resolve().parent.parent)
+    sys.exit(main(here))

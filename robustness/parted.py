@@ -1,0 +1,341 @@
+"""parted.py: the second reading of a trace in parts, as `--parts` asks for it, for trace.py and long.py.
+
+What a part is, which jobs wait, when a part is looked for, where it ends and what a line behind it is refused for stands
+in docs/definitions.md ("A trace in parts") and in the definitions that it names. This reading goes through the trace
+once, so that traces of 100,000 lines can be read. What second.py looks up in the lines before, it keeps along (`Kept`);
+that both say the same shows on the small traces of trace.py, where a trace in one part has the jobs of the whole.
+"""
+
+from dataclasses import dataclass, field, replace
+from typing import Dict, List, Optional, Set, Tuple
+
+from lines import reading
+from second import (
+    Asked, CAUSES, Document, FORMS, Follower, Job, Judged, Line, MOST_PROCESSOR, MOST_TEXT, MOST_TIME, Shown, Stretch, Thread, Told, Wrong, in_order,
+    is_loss, is_stamped, judge_jobs, line_fault, line_of, milliseconds, shown_by,
+)
+
+# Behind each line of a multiple of LOOK it is looked whether a part is to be written: where more than PART_JOBS jobs or
+# PART_STRETCHES stretches wait. More than MOST_WAITING and MOST_STRETCHES may not wait.
+LOOK, PART_JOBS, PART_STRETCHES = 1_024, 2_000, 25_000
+MOST_WAITING, MOST_STRETCHES = 4_000, 50_000
+
+
+class Kept:
+    """What lines told, kept along. It answers as `Past` of second.py does, which looks back in them."""
+
+    def __init__(self, asked: Asked) -> None:
+        self.asked = asked
+        self.first: Optional[int] = None
+        self.last = 0
+        self.own: Dict[int, int] = {}
+        self.whole: Optional[int] = None
+        self.switched: Set[int] = set()
+        self.speeds: Dict[int, int] = {}
+        self.torn = False
+
+    def speed(self, processor: int) -> Optional[int]:
+        """A processor's speed."""
+        return self.speeds.get(processor, None if self.torn else self.asked.start)
+
+    def has_switched(self, processor: int) -> bool:
+        """Whether a processor has switched since the last loss."""
+        return processor in self.switched
+
+    def whole_since(self, other: int) -> int:
+        """The time of the first line behind the last loss."""
+        return other if self.whole is None else self.whole
+
+    def lost_since(self, line: Line) -> int:
+        """Since when events were lost, as a line behind them tells."""
+        first = self.first or 0
+        return first if line.kind == "begin" else self.own.get(line.processor, first)
+
+    def take(self, line: Line) -> None:
+        """The next line."""
+        if is_stamped(line):
+            self.first = line.time if self.first is None else self.first
+            self.last = line.time
+            self.own[line.processor] = line.time
+        if is_loss(line):
+            self.switched, self.speeds, self.whole, self.torn = set(), {}, None, True
+        elif is_stamped(line):
+            self.whole = line.time if self.whole is None else self.whole
+        if line.kind == "switch":
+            self.switched.add(line.processor)
+        elif line.kind == "speed":
+            self.speeds[line.of] = line.khz
+
+
+@dataclass
+class Cut:
+    """What was written: the next part's jobs begin at `boundary` or later, and it was written behind the time `decided`."""
+
+    boundary: int = 0
+    decided: int = 0
+    parts: int = 0
+    jobs: int = 0
+    due: int = 0
+
+
+@dataclass
+class Parts:
+    """A trace in parts, as far as it is read: the parts that are written, and behind which lines they were."""
+
+    asked: Asked
+    cut: Cut = field(default_factory=Cut)
+    number: int = 0
+    is_torn: bool = False
+    is_woken: bool = False
+    text: str = ""
+    written: List[Document] = field(default_factory=list)
+    behind: List[int] = field(default_factory=list)
+
+    def __post_init__(self) -> None:
+        self.lines, self.counted = Kept(self.asked), Kept(self.asked)
+        self.threads: Dict[int, int] = {}
+        self.seen: Set[int] = set()
+        self.followers = [Follower(self.asked, number) for number in range(len(self.asked.tasks))]
+
+    # A line
+
+    def counts(self, line: Line) -> Optional[Line]:
+        """The line as it counts, if it does: up to `to`, or what tells of a loss before it, or of who had a processor until then."""
+        end = self.asked.end
+        if end is None:
+            return line
+        if is_loss(line):
+            return line if self.lines.lost_since(line) < end else None
+        if line.time <= end:
+            return line
+        if line.kind == "switch" and not self.counted.has_switched(line.processor):
+            return Line("switch", line.processor, end, (line.threads[0], line.threads[0]), "GoesOn")
+        return None
+
+    def thread_fault(self, thread: Thread) -> Optional[str]:
+        """What a thread is refused for."""
+        if self.asked.is_two(thread):
+            return "tasks"
+        task = self.asked.task_of(thread)
+        before = None if task is None else self.threads.get(task)
+        return "threads" if before is not None and before != thread.pid else None
+
+    def threads_fault(self, line: Line) -> Optional[str]:
+        """What the threads of an event are refused for."""
+        if self.asked.end is not None and line.time > self.asked.end:
+            is_first = line.kind == "switch" and not self.counted.has_switched(line.processor)
+            return self.thread_fault(line.threads[0]) if is_first else None
+        if line.time < self.lines.last:
+            return "back"
+        found = [self.thread_fault(thread) for thread in line.threads[:1]]
+        if line.kind == "switch":
+            first, second = line.threads
+            mine = self.asked.task_of(first)
+            found.append("state" if mine is not None and line.state == "Unknown" else None)
+            found.append(self.thread_fault(second))
+            found.append("threads" if mine is not None and self.asked.task_of(second) == mine and first.pid != second.pid else None)
+        return next((fault for fault in found if fault), None)
+
+    def is_lost_within(self, line: Line) -> bool:
+        """Whether it tells of a loss within what is asked for."""
+        return is_loss(line) and (self.asked.end is None or self.lines.lost_since(line) < self.asked.end)
+
+    def line_cause(self, line: Line) -> Optional[str]:
+        """What a line is refused for, in parts or not."""
+        if not is_stamped(line):
+            return "processor" if is_loss(line) and line.processor > MOST_PROCESSOR else None
+        if line.processor > MOST_PROCESSOR or (line.kind == "speed" and line.of > MOST_PROCESSOR):
+            return "processor"
+        if line.time > MOST_TIME:
+            return "time"
+        fault = self.threads_fault(line)
+        if fault is not None:
+            return fault
+        is_behind = self.asked.begin is None or self.asked.begin < line.time
+        return "lost" if not self.asked.cut and is_behind and (self.is_lost_within(line) or self.is_torn) else None
+
+    def part_cause(self, line: Line) -> Optional[str]:
+        """It tells of a loss, or of a thread that was there, since a time before a part that was written."""
+        if is_loss(line) and self.lines.lost_since(line) < self.cut.decided:
+            return "part written"
+        if line.kind != "switch" or self.asked.task_of(line.threads[0]) is None or self.counted.has_switched(line.processor):
+            return None
+        return "part written" if self.counted.whole_since(line.time) < self.cut.boundary else None
+
+    def take(self, line: Line) -> None:
+        """The next line."""
+        cause = self.line_cause(line) or self.part_cause(line)
+        if cause is not None:
+            raise line_fault(self.number + 1, cause)
+        counted = self.counts(line)
+        self.is_torn = not is_stamped(line) and (self.is_torn or self.is_lost_within(line))
+        tasks = [self.asked.task_of(thread) for thread in line.threads]
+        self.seen.update(task for task in tasks if task is not None)
+        self.is_woken = self.is_woken or (line.kind == "wake" and tasks[0] is not None)
+        if counted is not None:
+            self.take_counted(counted)
+        self.lines.take(line)
+        self.number += 1
+
+    def take_counted(self, line: Line) -> None:
+        """The next line that counts."""
+        for follower in self.followers:
+            follower.take(line, self.counted)
+        for thread in line.threads:
+            task = self.asked.task_of(thread)
+            if task is not None:
+                self.threads[task] = thread.pid
+        self.counted.take(line)
+
+    # The jobs that wait
+
+    def shown(self) -> Shown:
+        """What is asked for and shown."""
+        return shown_by(self.lines.last, self.asked)
+
+    def jobs(self, follower: Follower) -> List[Job]:
+        """The jobs of a task, of which one may have a processor now."""
+        if follower.on is None:
+            return follower.jobs
+        processor, _, since = follower.on
+        last = follower.jobs[-1]
+        stretch = Stretch(processor, since, self.shown().end, self.counted.speed(processor))
+        return follower.jobs[:-1] + [replace(last, ran=last.ran + [stretch])]
+
+    def waiting(self) -> List[List[Judged]]:
+        """Those of each task that wait."""
+        shown = self.shown()
+        return [judge_jobs(number, self.jobs(follower), shown, self.asked, self.cut.boundary) for number, follower in enumerate(self.followers)]
+
+    def is_settled(self, one: Judged) -> bool:
+        """No line that still comes can change what is said of it."""
+        job, shown = one.job, self.shown()
+        followed = job.begin < self.followers[one.task].jobs[-1].begin
+        is_over = {"open": False, "ended": True, "unseen": followed, "lost": job.at < shown.end}[job.state]
+        return is_over and job.begin + self.asked.tasks[one.task].apart <= self.lines.last
+
+    def place(self, waiting: List[Judged]) -> Optional[int]:
+        """The last begin of a waiting job at which all that begin before are settled and have no run behind it, of which one is written: and
+        none of their windows is open, or else whatever windows are open."""
+        quiet: Optional[int] = None
+        closed: Optional[int] = None
+        ended, due, is_done, is_any = 0, 0, True, False
+        at = 0
+        for one in waiting:
+            while waiting[at].job.begin < one.job.begin:
+                before = waiting[at]
+                at += 1
+                is_done = is_done and self.is_settled(before) and (bool(before.reason) or before.job.state == "ended")
+                if not before.reason:
+                    ended = max(ended, before.job.at)
+                if not before.reason or before.late is not None:
+                    is_any, due = True, max(due, before.due)
+            if is_any and is_done and ended <= one.job.begin:
+                quiet = one.job.begin
+                closed = quiet if due <= quiet else closed
+        return quiet if closed is None else closed
+
+    # A part
+
+    def look(self) -> None:
+        """Whether a part is to be written behind this line."""
+        by_task = self.waiting()
+        waiting = in_order(by_task)
+        stretches = sum(len(one.job.ran) for one in waiting)
+        may_write = self.asked.at_run or self.is_woken
+        if may_write and (len(waiting) > PART_JOBS or stretches > PART_STRETCHES):
+            place = self.place(waiting)
+            if place is not None:
+                self.write([[one for one in mine if one.job.begin < place] for mine in by_task], place)
+                return
+        if len(waiting) > MOST_WAITING or stretches > MOST_STRETCHES:
+            if not may_write:
+                raise line_fault(self.number, "unwoken")
+            raise self.no_place(waiting)
+
+    def no_place(self, waiting: List[Judged]) -> Wrong:
+        """That no part can end: it names the first job that isn't settled."""
+        one = next((one for one in waiting if not self.is_settled(one)), waiting[0])
+        late = "not known to be late" if one.late is None else f"known to be late by {milliseconds(one.late)} ms"
+        begun = f"{one.job.begin // 10**9}.{one.job.begin % 10**9:09d} s"
+        return Wrong(f"no part can end, since the processor is never quiet; look at job {one.name}, begun at {begun}, {late}:"
+                     " choose --from and --to around it, or leave its task out", 3, "no place")
+
+    def write(self, by_task: List[List[Judged]], until: Optional[int]) -> None:
+        """A part with these jobs; without a time it is the last."""
+        cut, asked = self.cut, self.asked
+        origin = asked.begin if asked.begin is not None else self.lines.first or 0
+        begins = [one.job.begin for one in in_order(by_task)]
+        shift = max(begins[0] - origin, 0) // asked.unit if begins else 0
+        document = Document(by_task, origin + shift * asked.unit, asked)
+        name = f"part {cut.parts + 1}"
+        try:
+            if cut.parts and not document.rows:
+                document.check_missed()
+            else:
+                document.check()
+        except Wrong as wrong:
+            raise Wrong(f"{name}: {wrong.text}", wrong.status, f"part {wrong.kind}") from wrong
+        text = self.head(document, shift, until is None) + document.text()
+        if len(text.encode()) > MOST_TEXT:
+            raise Wrong(f"{name}: the document is longer than 8388608 bytes; choose fewer tasks, or greater units by --us and --khz", 3, "part: text")
+        self.text += text
+        self.written.append(document)
+        if until is not None:
+            self.behind.append(self.number)
+            due = max([cut.due, *(one.due for one, _, _, _ in document.rows)])
+            self.cut = Cut(until, self.lines.last, cut.parts + 1, cut.jobs + len(document.rows), due)
+
+    def head(self, document: Document, shift: int, is_last: bool) -> str:
+        """The line that says which part it is."""
+        cut, rows = self.cut, document.rows
+        first = min((release for _, release, _, _ in rows), default=0)
+        last = max((due for _, _, due, _ in rows), default=0)
+        windows = ", windows open" if cut.boundary < cut.due else ""
+        return (f"# part {cut.parts + 1}: jobs {cut.jobs + 1} to {cut.jobs + len(rows)}, from {shift + first} to {shift + last}, shift {shift}"
+                f"{windows}{', the last' if is_last else ''}\n")
+
+    # The whole
+
+    def check_whole(self) -> None:
+        """What the whole trace is refused for."""
+        cause: Optional[str] = None
+        unseen = [number for number in range(len(self.asked.tasks)) if number not in self.seen]
+        if self.lines.first is None:
+            cause = "none"
+        elif not self.asked.cut and self.is_torn:
+            cause = "lost"
+        elif unseen:
+            cause = f"no line names task {unseen[0] + 1} of --tasks; write its name as the trace has it"
+        elif not self.asked.at_run and not self.is_woken:
+            cause = "unwoken"
+        if cause is not None:
+            raise line_fault(self.number, cause, "whole")
+
+
+def read_all(parts: Parts, trace: bytes) -> None:
+    """All lines, and the last part."""
+    texts = trace.split(b"\n")
+    is_ended = texts[-1] == b""
+    if is_ended:
+        texts.pop()
+    for number, text in enumerate(texts, 1):
+        said = reading(text[:-1] if text.endswith(b"\r") else text, is_ended or number < len(texts))
+        if said.startswith(b"fault"):
+            _, column, reason = said.decode().split(" ")
+            raise Wrong(f"line {number}, column {column}: {FORMS[reason]}", 3, f"form: {reason}")
+        parts.take(line_of(said))
+        if parts.number % LOOK == 0:
+            parts.look()
+    parts.check_whole()
+    parts.write(parts.waiting(), None)
+
+
+def told_in_parts(trace: bytes, asked: Asked) -> Tuple[Told, Parts]:
+    """What is written of a trace in parts, and what was read of it."""
+    parts = Parts(asked)
+    try:
+        read_all(parts, trace)
+    except Wrong as wrong:
+        return Told(f"{parts.text}# {wrong.text}\nfailed\n", wrong.status, wrong.kind, None, tuple(parts.written)), parts
+    return Told(parts.text, 0, "", None, tuple(parts.written)), parts

@@ -1,0 +1,1002 @@
+"""second.py: the second reading of a kernel's trace, for trace.py, parted.py and the scripts that stand on them.
+
+It takes the words and the trace, and gives the document with each of its lines. It keeps the whole trace in memory, and
+looks back in it for each thing that it wants to know. What a line says it takes from lines.py. It shares no code with the
+crates; the texts of `--help` and `--version` alone it takes from their source.
+"""
+
+import re
+from dataclasses import dataclass, field
+from pathlib import Path
+from typing import Dict, Iterator, List, NamedTuple, Optional, Tuple
+
+from lines import reading
+
+MOST_TIME = 2**63 - 1
+MOST_PROCESSOR = 8191
+MOST_NUMBER = 4_294_967_295
+MOST_WORK, MOST_SPEED, MOST_UNITS = 1_000_000, 1_000_000, 1_000_000_000
+MOST_JOBS, MOST_RUNS, MOST_TEXT = 4_000, 100_000, 8_388_608
+
+# # What the words ask for
+
+
+class Thread(NamedTuple):
+    """A thread, as a line tells of it."""
+
+    name: bytes
+    pid: int
+
+
+class Task(NamedTuple):
+    """A task: how its jobs are called, the thread's number where that is given, and times in nanoseconds."""
+
+    label: bytes
+    pid: Optional[int]
+    deadline: int
+    apart: int
+
+
+@dataclass
+class Asked:
+    """What is asked for. Times are nanoseconds."""
+
+    tasks: List[Task] = field(default_factory=list)
+    processor: int = 0
+    unit: int = 10_000
+    khz: int = 10_000
+    start: Optional[int] = None
+    begin: Optional[int] = None
+    end: Optional[int] = None
+    at_run: bool = False
+    cut: bool = False
+    strict: bool = False
+    in_parts: bool = False
+    asked_before: Dict[Thread, Optional[int]] = field(default_factory=dict)
+
+    def task_of(self, thread: Thread) -> Optional[int]:
+        """Which task a thread is."""
+        if thread not in self.asked_before:
+            self.asked_before[thread] = self.task_found(thread)
+        return self.asked_before[thread]
+
+    def task_found(self, thread: Thread) -> Optional[int]:
+        """The task with its number, or else the one with its name."""
+        by_number = [n for n, task in enumerate(self.tasks) if task.pid == thread.pid]
+        by_name = [n for n, task in enumerate(self.tasks) if task.pid is None and task.label == thread.name]
+        return next(iter(by_number + by_name), None)
+
+    def is_two(self, thread: Thread) -> bool:
+        """Whether it is one task by its number and another by its name."""
+        by_number = any(task.pid == thread.pid for task in self.tasks)
+        return by_number and any(task.pid is None and task.label == thread.name for task in self.tasks)
+
+
+class Wrong(Exception):
+    """Why there is no document: the comment, the status, and what kind of fault it is."""
+
+    def __init__(self, text: str, status: int, kind: str) -> None:
+        super().__init__(text)
+        self.text, self.status, self.kind = text, status, kind
+
+
+class Asks(Exception):
+    """The words ask for a text of the program's own."""
+
+
+HELPS = {
+    "unknown": "no such word; --help lists them",
+    "needless": "it has no value; leave out the equals sign and what is behind it",
+    "missing": "its value is missing; write it behind",
+    "twice": "given twice; give it once",
+    "--cpu": "no number of a processor; write a whole number from 0 to 8191",
+    "--us": "no unit of time; write whole microseconds from 1 to 1000000000",
+    "--khz": "no speed; write whole kilohertz from 1 to 4294967295",
+    "--start": "no speed; write whole kilohertz from 1 to 4294967295",
+    "time": "no time of the trace's clock; write seconds to 9223372036.854775807, with at most nine digits behind the point",
+    "order": "not before --to; give an earlier time, or a later one there",
+    "--begin": "no way in which jobs begin; write run, or leave it out for jobs that begin at wake-ups",
+    "--lost": "no way to go on behind lost events; write cut, or leave it out",
+    "none": "missing; write --tasks NAME:DEADLINE, with the deadline in milliseconds",
+    "many": "more than 1000 tasks; ask for fewer at a time",
+    "form": "no colon behind the name; write NAME:DEADLINE, with the deadline in milliseconds",
+    "label": "no name for jobs; it has 1 to 53 visible ASCII characters: for a thread of another name write PID=NAME:DEADLINE",
+    "pid": "no number of a thread before the equals sign; write a whole number to 4294967295, or a backslash before the sign",
+    "deadline": "no deadline; write milliseconds to 9223372036854.775807, with at most six digits behind the point",
+    "short": "its deadline is less than a unit of time; write a later one, or a smaller unit by --us",
+    "apart": "no time behind the second colon; write milliseconds, with at most six digits behind the point",
+    "same label": "another task has the same name; write PID=NAME:DEADLINE with another name",
+    "same thread": "another task is the same thread; list it once",
+}
+VALUES = ("--cpu", "--tasks", "--us", "--khz", "--start", "--from", "--to", "--begin", "--lost")
+FLAGS = ("--parts", "--strict", "--help", "--version")
+
+
+def word_fault(word: str, reason: str, place: Optional[int] = None) -> Wrong:
+    """That a word can't be taken."""
+    shown = "".join(byte if " " <= byte <= "~" else "?" for byte in word[:64])
+    return Wrong(f"{shown}{'' if place is None else f', task {place}'}: {HELPS[reason]}", 2, f"word: {reason}")
+
+
+def whole(word: str, text: str, least: int, most: int) -> int:
+    """The whole number that a word is set to."""
+    if not re.fullmatch("0|[1-9][0-9]*", text) or not least <= int(text) <= most:
+        raise word_fault(word, word)
+    return int(text)
+
+
+def decimal(text: str, places: int, most: int) -> Optional[int]:
+    """A decimal as a whole number of its smallest parts, exactly."""
+    mark = re.fullmatch(r"(0|[1-9][0-9]*)(?:\.([0-9]{1,%d}))?" % places, text)
+    value = int(mark[1] + (mark[2] or "").ljust(places, "0")) if mark else most + 1
+    return value if value <= most else None
+
+
+def parted(text: str, sign: str) -> List[str]:
+    """The texts between signs that have no backslash before them. A backslash of a sign stays with it."""
+    parts, at = [""], 0
+    while at < len(text):
+        pair = text[at : at + 2]
+        if pair[0] == "\\" and pair[1:] in (",", ":", "="):
+            parts[-1] += pair
+            at += 2
+            continue
+        if pair[0] == sign:
+            parts.append("")
+        else:
+            parts[-1] += pair[0]
+        at += 1
+    return parts
+
+
+def plain(text: str) -> str:
+    """A text with each sign without its backslash."""
+    return re.sub(r"\\([,:=])", r"\1", text)
+
+
+def once(text: str, sign: str) -> Tuple[str, Optional[str]]:
+    """What stands before the first sign, and what behind it."""
+    parts = parted(text, sign)
+    return parts[0], sign.join(parts[1:]) if len(parts) > 1 else None
+
+
+def task_in(text: str, unit: int, place: int) -> Task:
+    """One task of the list."""
+    name, times = once(text, ":")
+    if times is None:
+        raise word_fault("--tasks", "form", place)
+    number, label = once(name, "=")
+    pid: Optional[int] = None
+    if label is not None:
+        spelled = plain(number)
+        if not re.fullmatch("0|[1-9][0-9]*", spelled) or int(spelled) > MOST_NUMBER:
+            raise word_fault("--tasks", "pid", place)
+        pid = int(spelled)
+    label = plain(name if label is None else label)
+    if not re.fullmatch("[!-~]{1,53}", label):
+        raise word_fault("--tasks", "label", place)
+    first, second = once(times, ":")
+    deadline = decimal(plain(first), 6, MOST_TIME)
+    if deadline is None:
+        raise word_fault("--tasks", "deadline", place)
+    if deadline < unit:
+        raise word_fault("--tasks", "short", place)
+    apart = 0 if second is None else decimal(plain(second), 6, MOST_TIME)
+    if apart is None:
+        raise word_fault("--tasks", "apart", place)
+    return Task(label.encode(), pid, deadline, apart)
+
+
+def tasks_in(text: str, unit: int) -> List[Task]:
+    """The tasks of the list."""
+    pieces = parted(text, ",")
+    if len(pieces) > 1000:
+        raise word_fault("--tasks", "many")
+    tasks = [task_in(piece, unit, place) for place, piece in enumerate(pieces, 1)]
+    for place, task in enumerate(tasks, 1):
+        if any(other.label == task.label for other in tasks[place:]):
+            raise word_fault("--tasks", "same label", place)
+        if task.pid is not None and any(other.pid == task.pid for other in tasks[place:]):
+            raise word_fault("--tasks", "same thread", place)
+    return tasks
+
+
+def settings(words: List[str]) -> List[Tuple[str, str]]:
+    """What is set, in the order of the words."""
+    found: List[Tuple[str, str]] = []
+    rest = list(words)
+    while rest:
+        word = rest.pop(0)
+        name, equals, value = word.partition("=")
+        if equals and name not in VALUES:
+            raise word_fault(name, "needless" if name in FLAGS else "unknown")
+        if not equals and name in VALUES:
+            if not rest:
+                raise word_fault(name, "missing")
+            value = rest.pop(0)
+        elif not equals and name not in FLAGS:
+            raise word_fault(name, "unknown")
+        found.append((name, value))
+        if name in ("--help", "--version"):
+            break
+    return found
+
+
+def own_text(name: str) -> str:
+    """What the program writes for `--help` or `--version`, by its source."""
+    source = Path("crates/yds_trace_words/src/texts.rt").read_text(encoding="utf-8")
+    mark = re.search(r'const %s: &\[u8\] = b"(?:\\\n)?(.*?)";' % name[2:].upper(), source, re.S)
+    assert mark is not None
+    return mark[1].replace("\\n", "\n")
+
+
+def asked_by(words: List[str]) -> Asked:
+    """What the words ask of a trace."""
+    found = settings(words)
+    names = [name for name, _ in found]
+    for name in ("--help", "--version"):
+        if name in names:
+            raise Asks(own_text(name))
+    for at, name in enumerate(names):
+        if name in names[at + 1 :]:
+            raise word_fault(name, "twice")
+    given = dict(found)
+    asked = Asked(strict="--strict" in given, in_parts="--parts" in given)
+    asked.processor = whole("--cpu", given.get("--cpu", "0"), 0, MOST_PROCESSOR)
+    asked.unit = 1000 * whole("--us", given.get("--us", "10"), 1, 10**9)
+    asked.khz = whole("--khz", given.get("--khz", "10000"), 1, MOST_NUMBER)
+    if "--start" in given:
+        asked.start = whole("--start", given["--start"], 1, MOST_NUMBER)
+    for word in ("--from", "--to"):
+        time = decimal(given[word], 9, MOST_TIME) if word in given else None
+        if word in given and time is None:
+            raise word_fault(word, "time")
+        if word == "--from":
+            asked.begin = time
+        else:
+            asked.end = time
+    if asked.begin is not None and asked.end is not None and asked.begin >= asked.end:
+        raise word_fault("--from", "order")
+    for word, value in (("--begin", "run"), ("--lost", "cut")):
+        if given.get(word, value) != value:
+            raise word_fault(word, word)
+    asked.at_run, asked.cut = "--begin" in given, "--lost" in given
+    if "--tasks" not in given:
+        raise word_fault("--tasks", "none")
+    asked.tasks = tasks_in(given["--tasks"], asked.unit)
+    return asked
+
+
+# # What the lines say
+
+
+class Line(NamedTuple):
+    """What a line says: `switch`, `wake`, `speed`, `loss`, `other`, or, without a stamp, `lost`, `begin` or `nothing`."""
+
+    kind: str
+    processor: int = 0
+    time: int = -1
+    threads: Tuple[Thread, ...] = ()
+    state: str = ""
+    khz: int = 0
+    of: int = 0
+
+
+def threads_in(text: bytes) -> Tuple[Thread, ...]:
+    """The threads that lines.py writes so: PID/LENGTH:NAME;"""
+    found: List[Thread] = []
+    while text:
+        mark = re.match(rb"([0-9]+)/([0-9]+):", text)
+        assert mark is not None
+        end = mark.end() + int(mark[2])
+        found.append(Thread(text[mark.end() : end], int(mark[1])))
+        text = text[end + 1 :]
+    return tuple(found)
+
+
+def line_of(said: bytes) -> Line:
+    """What lines.py says of a line, taken apart."""
+    word = said.split(b" ", 4)
+    if word[0] == b"lost":
+        return Line("begin" if word[2] == b"TheBegin" else "lost", int(word[1]))
+    if word[0] != b"event":
+        return Line("nothing")
+    processor, time, kind = int(word[1]), int(word[2]), word[3].decode()
+    if kind == "switch":
+        state, threads = word[4].split(b" ", 1)
+        return Line(kind, processor, time, threads_in(threads), state.decode())
+    if kind == "wake":
+        return Line(kind, processor, time, threads_in(word[4]))
+    if kind == "speed":
+        of, khz = word[4].split(b" ")
+        return Line(kind, processor, time, of=int(of), khz=int(khz))
+    return Line("loss" if kind == "loss" else "other", processor, time)
+
+
+FORMS = {
+    "Processor": "the number of the processor is above 4294967295; leave the line out",
+    "Time": "the time has more than nine digits behind the point, or is too great; leave the line out",
+    "UnknownSwitch": "a switch in an unknown form, or cut short; leave the line out, or write the trace anew",
+    "UnknownWakeUp": "a wake-up in an unknown form, or cut short; leave the line out, or write the trace anew",
+    "UnknownSpeed": "a cpu_frequency line in an unknown form, or cut short; leave the line out, or write the trace anew",
+    "Long": "the line is longer than 65536 bytes; leave it out",
+    "Cut": "the last line is cut short; leave it out, or write the trace anew",
+}
+CAUSES = {
+    "processor": "the number of the processor is above 8191; leave the line out",
+    "time": "the time is above 9223372036.854775807 seconds; leave the line out",
+    "back": "its time is before that of an earlier line; sort the lines by their times",
+    "lost": "events were lost before it; record with a larger buffer, choose --from and --to around it, or go on by --lost cut",
+    "state": "a task leaves in a state that the kernel doesn't have; write the trace anew",
+    "threads": "a task's name is that of another thread before; give its number by PID=NAME:DEADLINE",
+    "tasks": "one thread is two tasks, by its number and by its name; leave one out",
+    "none": "no line of a kernel's trace; write the trace as text, by trace-cmd report or perf script",
+    "unwoken": "no wake-up of a task; record sched_waking too, or let jobs begin at their first run by --begin run",
+    "part written": "it changes jobs of a part that was written; choose --from and --to around it",
+}
+
+
+def line_fault(number: int, cause: str, where: str = "line") -> Wrong:
+    """That a line can't stand behind those before it, or the whole trace at its last line."""
+    kind = cause if cause in CAUSES else "a task unseen"
+    return Wrong(f"line {number}: {CAUSES.get(cause, cause)}", 3, f"{where}: {kind}")
+
+
+# # Looking back. Each takes the lines before some place.
+
+
+def is_stamped(line: Line) -> bool:
+    """Whether it has a stamp."""
+    return line.time >= 0
+
+
+def is_loss(line: Line) -> bool:
+    """Whether it tells of lost events."""
+    return line.kind in ("loss", "lost", "begin")
+
+
+def first_time(past: List[Line], other: int = 0) -> int:
+    """The time of the first line with a stamp."""
+    return next((line.time for line in past if is_stamped(line)), other)
+
+
+def last_time(past: List[Line]) -> int:
+    """The time of the last line with a stamp."""
+    return next((line.time for line in reversed(past) if is_stamped(line)), 0)
+
+
+def lost_since(line: Line, past: List[Line]) -> int:
+    """Since when events were lost, as this line behind these tells."""
+    own = [before.time for before in past if is_stamped(before) and before.processor == line.processor]
+    return own[-1] if own and line.kind != "begin" else first_time(past)
+
+
+def since_loss(past: List[Line]) -> List[Line]:
+    """The lines behind the last loss."""
+    at = max((at for at, line in enumerate(past) if is_loss(line)), default=-1)
+    return past[at + 1 :]
+
+
+def has_switched(processor: int, past: List[Line]) -> bool:
+    """Whether a processor has switched since the last loss."""
+    return any(line.kind == "switch" and line.processor == processor for line in since_loss(past))
+
+
+def speed_of(processor: int, past: List[Line], asked: Asked) -> Optional[int]:
+    """A processor's speed behind these lines."""
+    whole_part = since_loss(past)
+    told = [line.khz for line in whole_part if line.kind == "speed" and line.of == processor]
+    return told[-1] if told else asked.start if len(whole_part) == len(past) else None
+
+
+class Past:
+    """The lines before some place, and what is asked of them. It looks back in them each time."""
+
+    def __init__(self, lines: List[Line], asked: Asked) -> None:
+        self.lines, self.asked = lines, asked
+
+    def speed(self, processor: int) -> Optional[int]:
+        """A processor's speed behind them."""
+        return speed_of(processor, self.lines, self.asked)
+
+    def has_switched(self, processor: int) -> bool:
+        """Whether a processor has switched since the last loss."""
+        return has_switched(processor, self.lines)
+
+    def whole_since(self, other: int) -> int:
+        """The time of the first line behind the last loss."""
+        return first_time(since_loss(self.lines), other)
+
+    def lost_since(self, line: Line) -> int:
+        """Since when events were lost, as a line behind them tells."""
+        return lost_since(line, self.lines)
+
+
+def counting(lines: List[Line], asked: Asked) -> List[Line]:
+    """The lines that count: those up to `to`, later ones that tell of a loss before it, and who had a processor until then."""
+    end = asked.end
+    if end is None:
+        return lines
+    found: List[Line] = []
+    for at, line in enumerate(lines):
+        if is_loss(line):
+            if lost_since(line, lines[:at]) < end:
+                found.append(line)
+        elif line.time <= end:
+            found.append(line)
+        elif line.kind == "switch" and not has_switched(line.processor, found):
+            stays = (line.threads[0], line.threads[0])
+            found.append(Line("switch", line.processor, end, stays, "GoesOn"))
+    return found
+
+
+def pid_of(task: int, past: List[Line], asked: Asked) -> Optional[int]:
+    """The thread that was this task last."""
+    for line in reversed(past):
+        for thread in reversed(line.threads):
+            if asked.task_of(thread) == task:
+                return thread.pid
+    return None
+
+
+# # Faults of the lines
+
+
+def thread_fault(thread: Thread, past: List[Line], asked: Asked) -> Optional[str]:
+    """What a thread is refused for, behind the lines that count."""
+    if asked.is_two(thread):
+        return "tasks"
+    task = asked.task_of(thread)
+    before = None if task is None else pid_of(task, past, asked)
+    return "threads" if before is not None and before != thread.pid else None
+
+
+def threads_fault(line: Line, lines: List[Line], asked: Asked) -> Optional[str]:
+    """What the threads of an event are refused for."""
+    past = counting(lines, asked)
+    if asked.end is not None and line.time > asked.end:
+        if line.kind != "switch" or has_switched(line.processor, past):
+            return None
+        return thread_fault(line.threads[0], past, asked)
+    if line.time < last_time(lines):
+        return "back"
+    if not line.threads:
+        return None
+    found = [thread_fault(line.threads[0], past, asked)]
+    if line.kind == "switch":
+        first, second = line.threads
+        mine = asked.task_of(first)
+        found.append("state" if mine is not None and line.state == "Unknown" else None)
+        found.append(thread_fault(second, past, asked))
+        found.append("threads" if mine is not None and asked.task_of(second) == mine and first.pid != second.pid else None)
+    return next((fault for fault in found if fault), None)
+
+
+def just_lost(lines: List[Line], asked: Asked) -> bool:
+    """Lines without a stamp, just before, tell of a loss within what is asked for."""
+    for at in range(len(lines) - 1, -1, -1):
+        if is_stamped(lines[at]):
+            return False
+        if is_loss(lines[at]) and (asked.end is None or lost_since(lines[at], lines[:at]) < asked.end):
+            return True
+    return False
+
+
+def cause_of(line: Line, lines: List[Line], asked: Asked) -> Optional[str]:
+    """What a line is refused for behind these lines."""
+    if not is_stamped(line):
+        return "processor" if is_loss(line) and line.processor > MOST_PROCESSOR else None
+    if line.processor > MOST_PROCESSOR or (line.kind == "speed" and line.of > MOST_PROCESSOR):
+        return "processor"
+    if line.time > MOST_TIME:
+        return "time"
+    fault = threads_fault(line, lines, asked)
+    if fault is not None:
+        return fault
+    own = line.kind == "loss" and (asked.end is None or lost_since(line, lines) < asked.end)
+    torn = not asked.cut and (asked.begin is None or asked.begin < line.time) and (own or just_lost(lines, asked))
+    return "lost" if torn else None
+
+
+def read_lines(trace: bytes, asked: Asked) -> List[Line]:
+    """What the lines say."""
+    texts = trace.split(b"\n")
+    ended = texts[-1] == b""
+    if ended:
+        texts.pop()
+    lines: List[Line] = []
+    for number, text in enumerate(texts, 1):
+        said = reading(text[:-1] if text.endswith(b"\r") else text, ended or number < len(texts))
+        if said.startswith(b"fault"):
+            _, column, reason = said.decode().split(" ")
+            raise Wrong(f"line {number}, column {column}: {FORMS[reason]}", 3, f"form: {reason}")
+        cause = cause_of(line_of(said), lines, asked)
+        if cause is not None:
+            raise line_fault(number, cause)
+        lines.append(line_of(said))
+    if not any(is_stamped(line) for line in lines):
+        raise line_fault(len(lines), "none", "whole")
+    if not asked.cut and just_lost(lines, asked):
+        raise line_fault(len(lines), "lost", "whole")
+    for number in range(len(asked.tasks)):
+        if pid_of(number, lines, asked) is None:
+            cause = f"no line names task {number + 1} of --tasks; write its name as the trace has it"
+            raise line_fault(len(lines), cause, "whole")
+    woken = any(line.kind == "wake" and asked.task_of(line.threads[0]) is not None for line in lines)
+    if not asked.at_run and not woken:
+        raise line_fault(len(lines), "unwoken", "whole")
+    return lines
+
+
+# # The jobs of a task
+
+
+class Stretch(NamedTuple):
+    """In which a thread had a processor at one speed."""
+
+    processor: int
+    begin: int
+    end: int
+    khz: Optional[int]
+
+
+@dataclass
+class Job:
+    """A job: `state` is open, ended, unseen or lost, and `at` when it ended, or was seen last."""
+
+    begin: int
+    known: bool
+    state: str = "open"
+    at: int = 0
+    goes_on: bool = False
+    ran: List[Stretch] = field(default_factory=list)
+    wakes: int = 0
+    missing: bool = False
+    again: int = 0
+
+
+class Follower:
+    """The thread of one task, along the lines that count."""
+
+    def __init__(self, asked: Asked, number: int) -> None:
+        self.asked, self.number = asked, number
+        self.apart = asked.tasks[number].apart
+        self.jobs: List[Job] = []
+        self.on: Optional[Tuple[int, int, int]] = None
+        self.woken = False
+
+    def state(self) -> str:
+        """That of the last job."""
+        return self.jobs[-1].state if self.jobs else "lost"
+
+    def begin(self, time: int, known: bool) -> None:
+        """A job begins, here or before."""
+        self.jobs.append(Job(time, known))
+
+    def stir(self, time: int) -> None:
+        """A wake-up, or a first run where jobs begin at one, with no job open."""
+        last = self.jobs[-1] if self.state() == "ended" else None
+        if last is not None and time - last.begin < self.apart:
+            if last.known:
+                last.state = "open"
+                last.again += 1
+            else:
+                self.begin(time, False)
+        else:
+            self.begin(time, last is not None or not self.asked.at_run)
+
+    def wake(self, time: int) -> None:
+        """It is woken."""
+        if self.state() == "open" and self.jobs:
+            self.jobs[-1].wakes += 0 if self.woken else 1
+        else:
+            self.stir(time)
+        self.woken = True
+
+    def awake(self, time: int) -> None:
+        """It is found awake."""
+        if self.state() == "unseen" and self.jobs[-1].goes_on:
+            self.jobs[-1].state = "open"
+        elif self.state() != "open":
+            self.begin(time, False)
+
+    def vanish(self) -> None:
+        """It isn't where it came to."""
+        if self.on is not None:
+            job = self.jobs[-1]
+            job.state, job.at, job.missing = "unseen", self.on[1], True
+            job.goes_on = not self.asked.at_run and not self.woken
+            self.on = None
+
+    def is_new(self) -> bool:
+        """No switch of it was seen since the begin or a loss."""
+        if self.on is not None:
+            return False
+        last = self.jobs[-1] if self.jobs else Job(0, False, "lost")
+        return last.state == "lost" or (last.state == "open" and not last.ran and not last.missing)
+
+    def leave(self, line: Line, past: Past) -> None:
+        """It leaves a processor."""
+        khz = past.speed(line.processor)
+        if self.on is not None and self.on[0] == line.processor:
+            self.jobs[-1].ran.append(Stretch(line.processor, self.on[2], line.time, khz))
+        elif self.is_new() and not past.has_switched(line.processor):
+            since = past.whole_since(line.time)
+            if self.state() == "open":
+                self.jobs[-1].begin, self.jobs[-1].known = since, False
+            else:
+                self.begin(since, False)
+            self.jobs[-1].ran.append(Stretch(line.processor, since, line.time, khz))
+        else:
+            self.vanish()
+            self.awake(line.time)
+            self.jobs[-1].missing = True
+        if line.state == "Sleeps":
+            self.jobs[-1].state, self.jobs[-1].at = "ended", line.time
+        self.on, self.woken = None, False
+
+    def come(self, line: Line) -> None:
+        """It comes to a processor."""
+        self.vanish()
+        if self.asked.at_run and self.state() != "open":
+            self.stir(line.time)
+        elif not self.asked.at_run:
+            self.awake(line.time)
+        self.on, self.woken = (line.processor, line.time, line.time), False
+
+    def cut(self, time: int, khz: Optional[int]) -> None:
+        """Up to here it ran at this speed."""
+        if self.on is not None:
+            self.jobs[-1].ran.append(Stretch(self.on[0], self.on[2], time, khz))
+            self.on = (self.on[0], self.on[1], time)
+
+    def lose(self, since: int) -> None:
+        """Events were lost."""
+        for job in self.jobs:
+            if job.state == "unseen" and job is not self.jobs[-1] and job.at <= since:
+                continue
+            if job.state in ("unseen", "lost"):
+                job.state, job.at = "lost", min(job.at, since)
+            elif job.state == "open" or job.at > since:
+                job.state, job.at = "lost", since
+        self.on, self.woken = None, False
+
+    def take(self, line: Line, past: Past) -> None:
+        """The next line, behind these."""
+        mine = [self.asked.task_of(thread) == self.number for thread in line.threads]
+        if is_loss(line):
+            self.lose(past.lost_since(line))
+        elif line.kind == "speed" and self.on is not None and self.on[0] == line.of:
+            self.cut(line.time, past.speed(line.of))
+        elif line.kind == "wake" and mine[0] and not self.asked.at_run:
+            self.wake(line.time)
+        elif line.kind == "switch":
+            if mine[0]:
+                self.leave(line, past)
+            elif self.on is not None and self.on[0] == line.processor:
+                self.vanish()
+            if mine[1]:
+                self.come(line)
+
+
+def jobs_of(number: int, lines: List[Line], asked: Asked) -> List[Job]:
+    """The jobs of a task."""
+    follower = Follower(asked, number)
+    count = counting(lines, asked)
+    for at, line in enumerate(count):
+        follower.take(line, Past(count[:at], asked))
+    if follower.on is not None:
+        follower.cut(shown_by(last_time(lines), asked).end, speed_of(follower.on[0], count, asked))
+    return follower.jobs
+
+
+# # What becomes of the jobs
+
+
+@dataclass
+class Judged:
+    """A job, its task and name, when it is due, by how much it is late, and why it doesn't stand as it is."""
+
+    task: int
+    name: str
+    job: Job
+    due: int
+    late: Optional[int]
+    reason: str
+    runs: List[List[int]] = field(default_factory=list)
+
+
+class Shown(NamedTuple):
+    """The end of what is asked for and shown, and whether the trace goes on to `to`."""
+
+    end: int
+    to_its_end: bool
+
+
+def shown_by(last: int, asked: Asked) -> Shown:
+    """The same of a trace whose last line has this time."""
+    if asked.end is None:
+        return Shown(last, False)
+    return Shown(min(asked.end, last), last >= asked.end)
+
+
+def late_by(job: Job, due: int, end: int, asked: Asked) -> Optional[int]:
+    """By how much a job is known to be late, where what is asked for and shown ends there."""
+    shown = {"open": end, "ended": job.at}.get(job.state, min(job.at, end))
+    if due > end or (asked.begin is not None and due <= asked.begin):
+        return None
+    return shown - due if shown > due or (shown == due and job.state != "ended") else None
+
+
+def reason_of(job: Job, late: Optional[int], shown: Shown, asked: Asked) -> str:
+    """Why a job doesn't stand as it is: the first of these."""
+    end = shown.end
+    unended = "after to" if shown.to_its_end else "not ended"
+    reasons = [
+        ("before from", asked.begin is not None and job.begin < asked.begin),
+        ("events lost", job.state == "lost" and job.at < end),
+        ("a switch is missing", job.missing),
+        (unended, job.state != "ended" and late is None),
+        ("its begin isn't in the trace", not job.known),
+        ("ran on another processor", any(ran.processor != asked.processor for ran in job.ran)),
+        ("frequency not known", any(ran.begin < ran.end and ran.khz is None for ran in job.ran)),
+    ]
+    return next((reason for reason, holds in reasons if holds), "")
+
+
+def judge_jobs(number: int, jobs: List[Job], shown: Shown, asked: Asked, since: int = 0) -> List[Judged]:
+    """What becomes of the jobs of a task, of those that begin at this time or after it."""
+    task = asked.tasks[number]
+    before = bool(jobs) and not jobs[0].known
+    found: List[Judged] = []
+    for place, job in enumerate(jobs):
+        if job.begin >= since:
+            last = "before" if before and place == 0 else str(place - int(before))
+            due = job.begin + task.deadline
+            late = late_by(job, due, shown.end, asked)
+            found.append(Judged(number, f"{task.label.decode()}.{last}", job, due, late, reason_of(job, late, shown, asked)))
+    return found
+
+
+def judge(lines: List[Line], asked: Asked) -> List[List[Judged]]:
+    """The jobs of each task."""
+    shown = shown_by(last_time(lines), asked)
+    return [judge_jobs(number, jobs_of(number, lines, asked), shown, asked) for number in range(len(asked.tasks))]
+
+
+def in_order(by_task: List[List[Judged]]) -> List[Judged]:
+    """The jobs of all tasks, in order of begin."""
+    return sorted((one for mine in by_task for one in mine), key=lambda one: one.job.begin)
+
+
+def zero_of(by_task: List[List[Judged]], lines: List[Line], asked: Asked) -> int:
+    """The time 0 of the document of a whole trace."""
+    standing = [one.job.begin for mine in by_task for one in mine if not one.reason]
+    return asked.begin if asked.begin is not None else min(standing, default=first_time(lines))
+
+
+# # The text
+
+
+def milliseconds(time: int) -> str:
+    """Nanoseconds in milliseconds, exactly."""
+    return f"{time // 10**6}.{time % 10**6:06d}"
+
+
+class Document:
+    """A document of these jobs, each judged, with this time 0."""
+
+    def __init__(self, by_task: List[List[Judged]], zero: int, asked: Asked) -> None:
+        self.asked, self.by_task, self.zero = asked, by_task, zero
+        self.judged = in_order(by_task)
+        self.rows: List[Tuple[Judged, int, int, int]] = []
+        for one in self.judged:
+            self.place(one)
+
+    def units(self, time: int) -> int:
+        """A time in units, rounded down; none is before time 0."""
+        return max(time - self.zero, 0) // self.asked.unit
+
+    def signed(self, time: int) -> int:
+        """The same, also before time 0."""
+        return (time - self.zero) // self.asked.unit
+
+    def speed(self, khz: int) -> int:
+        """A speed in units, to the nearest."""
+        return (2 * khz + self.asked.khz) // (2 * self.asked.khz)
+
+    def ended(self, one: Judged) -> int:
+        """The unit in which a job ended."""
+        return self.units(one.job.at) if one.job.state == "ended" else 0
+
+    def place(self, one: Judged) -> None:
+        """The rows of a job, if it is written."""
+        due = self.units(one.due)
+        for ran in one.job.ran:
+            begin, end, speed = self.units(ran.begin), self.units(ran.end), self.speed(ran.khz or 0)
+            if begin < end and one.runs and one.runs[-1][1:] == [begin, speed]:
+                one.runs[-1][1] = end
+            elif begin < end:
+                one.runs.append([begin, end, speed])
+        if one.reason and one.late is not None:
+            release = self.units(one.job.begin) if one.job.known else 0
+            self.rows.append((one, release, max(release + 1, due), 1))
+        elif not one.reason:
+            work = sum(speed * (end - begin) for begin, end, speed in one.runs)
+            hidden = one.job.state != "ended" or (self.ended(one) > due and self.shown_end(one) <= due)
+            self.rows.append((one, self.units(one.job.begin), due, work + int(one.late is not None and hidden)))
+
+    def shown_end(self, one: Judged) -> int:
+        """The end of its last run."""
+        return one.runs[-1][1] if one.runs else 0
+
+    def check_size(self) -> None:
+        """Whether it has too many jobs or runs."""
+        if len(self.rows) > MOST_JOBS:
+            raise Wrong("more than 4000 jobs; choose a shorter time by --from and --to", 3, "document: jobs")
+        if sum(len(one.runs) for one, _, _, _ in self.rows if not one.reason) > MOST_RUNS:
+            raise Wrong("more than 100000 runs; choose a shorter time by --from and --to, or a greater unit by --us", 3, "document: runs")
+
+    def check(self) -> None:
+        """The first limit that it passes."""
+        self.check_size()
+        self.check_rows()
+        if not self.rows:
+            raise Wrong("no job can be written, and a document without jobs is feasible; choose another processor by --cpu,"
+                        " or a longer time by --from and --to", 3, "document: no job")
+        self.check_missed()
+
+    def check_rows(self) -> None:
+        """The first job or run that passes a limit."""
+        runs = {one.name: one.runs for one, _, _, _ in self.rows if not one.reason}
+        for place, (one, _, due, _) in enumerate(self.rows, 1):
+            if due > MOST_UNITS or any(end > MOST_UNITS for _, end, _ in runs.get(one.name, [])):
+                raise Wrong(f"written job {place}: its times are above 1000000000 units; choose a greater unit by --us, or a later --from", 3, "document: times")
+        for place, (one, _, _, work) in enumerate(self.rows, 1):
+            if work > MOST_WORK:
+                raise Wrong(f"written job {place}: its work is above 1000000; choose greater units by --us and --khz", 3, "document: work")
+        for place, one in enumerate(self.judged, 1):
+            if not one.reason and any(self.is_coarse(ran) for ran in one.job.ran):
+                raise Wrong(f"found job {place}: it ran at a speed that is 0, or off by more than a twentieth in its unit;"
+                            " choose a smaller unit by --khz", 3, "document: coarse speed")
+        for place, one in enumerate(self.judged, 1):
+            if not one.reason and any(self.is_in_run(ran) and self.speed(ran.khz or 0) > MOST_SPEED for ran in one.job.ran):
+                raise Wrong(f"found job {place}: it ran at a speed above 1000000 units; choose a greater unit by --khz", 3, "document: great speed")
+
+    def check_missed(self) -> None:
+        """With `--strict` the first job that doesn't stand."""
+        for place, one in enumerate(self.judged, 1):
+            missed = bool(one.reason) and (one.late is not None or one.reason not in ("before from", "after to"))
+            if self.asked.strict and missed:
+                raise Wrong(f"found job {place}: it doesn't stand as it is, and --strict is given; leave that out,"
+                            " or choose --from and --to around the job", 3, "document: strict")
+
+    def is_in_run(self, ran: Stretch) -> bool:
+        """Whether a stretch is in a run."""
+        return self.units(ran.begin) < self.units(ran.end)
+
+    def is_coarse(self, ran: Stretch) -> bool:
+        """Whether a stretch's speed is 0, or off by more than a twentieth in units."""
+        khz = ran.khz or 0
+        speed = self.speed(khz)
+        return self.is_in_run(ran) and (speed == 0 or 20 * abs(speed * self.asked.khz - khz) > khz)
+
+    def text(self) -> str:
+        """The whole text."""
+        return "".join(line + "\n" for line in self.lines())
+
+    def lines(self) -> Iterator[str]:
+        """Its lines."""
+        asked = self.asked
+        yield f"# CPU {asked.processor} of a kernel trace; time 0 is {self.zero // 10**9}.{self.zero % 10**9:09d} s"
+        cycles = f"{asked.unit // 1000 * asked.khz / 1000:.3f}".rstrip("0").rstrip(".")
+        yield f"# time unit {asked.unit // 1000} us, speed unit {asked.khz} kHz, work unit {cycles} cycles"
+        for one, release, due, work in self.rows:
+            yield f"job {one.name} {release} {due} {work}"
+        yield "ticks 1"
+        placed = [(run, one.name) for one, _, _, _ in self.rows if not one.reason for run in one.runs]
+        for (begin, end, speed), name in sorted(placed, key=lambda it: it[0][0]):
+            yield f"run {name} {begin} {end} {speed}"
+        for one in self.judged:
+            if one.late is not None:
+                yield self.late_line(one, one.late)
+        for one in self.judged:
+            if not one.reason:
+                yield from self.shown_lines(one)
+        yield from self.left_out()
+        yield from self.unwritten()
+        for task, mine in zip(asked.tasks, self.by_task):
+            yield from self.wrong_units(task, mine)
+        out = sum(1 for one in self.judged if one.reason and one.late is None)
+        bare = sum(1 for one in self.judged if one.reason and one.late is not None)
+        late = f", {bare} late without {'its' if bare == 1 else 'their'} runs" if bare else ""
+        count = len(self.rows)
+        yield f"# {count} job{'' if count == 1 else 's'} written, {f'{out} left out' if out else 'none left out'}{late}"
+
+    def late_line(self, one: Judged, late: int) -> str:
+        """The comment of a late job."""
+        by = f"{milliseconds(late)} ms after its deadline"
+        if one.reason:
+            how = "not ended " if one.job.state != "ended" else "" if one.job.known else "at least "
+            window = f"; window {self.signed(one.job.begin)} {self.signed(one.due)}" if one.job.known else ""
+            return f"# late, without its runs: {one.name} ({one.reason}), {how}{by}{window}"
+        if one.job.state != "ended":
+            return f"# not ended: {one.name}, {by}"
+        if self.ended(one) <= self.units(one.due):
+            return f"# late by less than a unit of time: {one.name}, {by}"
+        if self.shown_end(one) <= self.units(one.due):
+            return f"# late in a run within one tick: {one.name}, {by}"
+        return f"# late: {one.name}, {by}"
+
+    def shown_lines(self, one: Judged) -> Iterator[str]:
+        """The comments of a begin and an end that no run shows."""
+        begins = [ran.begin for ran in one.job.ran if ran.begin < ran.end]
+        if begins and (not one.runs or self.units(begins[0]) < one.runs[0][0]):
+            yield f"# begins: {one.name} {self.units(begins[0])}"
+        due = self.units(one.due)
+        told = one.late is not None and (self.ended(one) <= due or self.shown_end(one) <= due)
+        if one.job.state == "ended" and not told and (not one.runs or self.shown_end(one) < self.ended(one)):
+            yield f"# ends: {one.name} {self.ended(one)}"
+
+    def left_out(self) -> Iterator[str]:
+        """The comments of the jobs that are left out: the most frequent reason first."""
+        order = ["not ended", "events lost", "a switch is missing", "its begin isn't in the trace",
+                 "ran on another processor", "frequency not known"]
+        groups: List[Tuple[bytes, str, List[str]]] = []
+        for task, mine in zip(self.asked.tasks, self.by_task):
+            for reason in order:
+                names = [one.name for one in mine if one.reason == reason and one.late is None]
+                if names:
+                    groups.append((task.label, reason, names))
+        for label, reason, names in sorted(groups, key=lambda group: -len(group[2])):
+            if len(names) == 1:
+                yield f"# left out: {names[0]} ({reason})"
+            else:
+                yield f"# left out: {len(names)} jobs of {label.decode()} ({reason}), the first {names[0]}, the last {names[-1]}"
+        cut = sum(1 for one in self.judged if one.late is None and one.reason in ("before from", "after to"))
+        if cut:
+            yield f"# left out: {cut} job{'' if cut == 1 else 's'} before from or after to"
+
+    def unwritten(self) -> Iterator[str]:
+        """The comments of stretches that are in no run, and of wake-ups while a job was open."""
+        standing = [one for one in self.judged if not one.reason]
+        short = [ran.end - ran.begin for one in standing for ran in one.job.ran
+                 if ran.begin < ran.end and not self.is_in_run(ran)]
+        if short:
+            count = "1 stretch" if len(short) == 1 else f"{len(short)} stretches"
+            verb = "is" if len(short) == 1 else "are"
+            yield f"# {count} within one unit of time, {milliseconds(sum(short))} ms together, {verb} in no run"
+        wakes = sum(one.job.wakes for one in standing)
+        if wakes:
+            most = max(standing, key=lambda one: one.job.wakes)
+            told = "1 wake-up came while its job was open" if wakes == 1 else f"{wakes} wake-ups came while their job was open"
+            yield f"# {told}, the most of {most.name}: {most.job.wakes}"
+
+    def wrong_units(self, task: Task, mine: List[Judged]) -> Iterator[str]:
+        """The comments of times that are likely in another unit."""
+        begins = [one.job.begin for one in mine if one.job.known]
+        if not begins or begins[0] >= begins[-1]:
+            return
+        mean = (begins[-1] - begins[0]) // (len(begins) - 1)
+        for what, value in (("the deadline", task.deadline), ("APART", task.apart)):
+            how = "more than 100 times" if value > 100 * mean else "less than a hundredth of" if 100 * value < mean else ""
+            if how and value:
+                yield (f"# {what} of {task.label.decode()}, {milliseconds(value)} ms, is {how} the mean distance of its jobs'"
+                       f" begins, {milliseconds(mean)} ms: is it in another unit?")
+
+
+class Told(NamedTuple):
+    """What is written, the status, the kind of fault, if it is one, and the document, or each part."""
+
+    text: str
+    status: int
+    kind: str = ""
+    document: Optional[Document] = None
+    parts: Tuple[Document, ...] = ()
+
+
+def whole_document(trace: bytes, asked: Asked) -> Document:
+    """The document of a whole trace."""
+    lines = read_lines(trace, asked)
+    by_task = judge(lines, asked)
+    return Document(by_task, zero_of(by_task, lines, asked), asked)
