@@ -38,6 +38,7 @@ LATER = [
     "yds_trace_text",
     "yds_trace_again",
     "yds_trace_whole",
+    "yds_trace_parts",
     "yds_trace_words",
     "yds_trace_reading",
     "yds_trace_run",
