@@ -1,5 +1,5 @@
 -- A trace that was told in parts to its end was told as its parts: none of its lines is refused, and none of the parts passes a limit.
-use Rattle.yds_model.proofs.Common.{◌≡◌, ℕ, ◌+◌, ◌≤◌, List, [], ◌∷◌, ◌++◌, length, flat_map, flat_map-append, append_assoc, append-nil, All, All-append, All-cons, All-nil, Bool, true, false, nat_lt, ltb-false, if◌then◌else◌, Option, Some, None, refl, sym, ap, ◌∙◌}
+use Rattle.yds_model.proofs.Common.{◌≡◌, ℕ, ◌+◌, ◌≤◌, List, [], ◌∷◌, ◌++◌, length, flat_map, flat_map-append, append-nil, All, All-append, All-cons, All-nil, Bool, true, false, nat_lt, ltb-false, if◌then◌else◌, Option, Some, None, refl, sym, ap, ◌∙◌}
 use Rattle.yds_model.specs.declared.limits.TheConstants.{MAX_INPUT}
 use Rattle.yds_model.specs.Fields.{Fault}
 use Rattle.yds_kernel.specs.declared.fault.Reason.{Reason}
@@ -15,7 +15,7 @@ use Rattle.yds_trace_document.specs.declared.fault.DocumentFault.{DocumentFault}
 use Rattle.yds_trace_document.specs.Part.{part_of, part_limit_fault}
 use Rattle.yds_trace_text.specs.PartText.{part_text}
 use Rattle.yds_trace_reading.specs.LineFault.{past_of}
-use Rattle.yds_trace_parts.specs.Told.{Halt, OfText, Told, at_line, line_halt, next_number, of_document, of_text, part_halt, with_part, part_told, told_behind, told_with, told_next, told_after, end_halt, told_last, told_at_end, told_of}
+use Rattle.yds_trace_parts.specs.Told.{Halt, OfText, at_line, line_halt, next_number, of_document, of_text, part_halt, with_part, part_told, told_behind, told_with, told_next, told_after, end_halt, told_last, told_at_end, told_of}
 use Rattle.yds_trace_whole.specs.Parts.{Part, made, made_at, parts_behind, parts_of, KeepsParts}
 
 -- # No fault

@@ -1,5 +1,5 @@
 -- From what was told in parts to what was written.
-use Rattle.yds_model.proofs.Common.{◌≡◌, ◌≢◌, ℕ, ◌<◌, ◌≤◌, ◌⊎◌, inl, inr, List, [], ◌++◌, append_assoc, append-nil, Bool, true, Option, Some, None, Result, Ok, Err, refl, sym, ap, subst, ◌∙◌, arith, cases_lt}
+use Rattle.yds_model.proofs.Common.{◌≡◌, ◌≢◌, ℕ, ◌<◌, ◌≤◌, ◌⊎◌, inl, inr, List, [], ◌++◌, append_assoc, append-nil, Bool, true, Option, Some, None, Ok, Err, refl, sym, ap, subst, ◌∙◌, arith, cases_lt}
 use Rattle.std.specs.Prelude.{IfSome}
 use Rattle.std.specs.Io.KnownBytes.{Appends}
 use Rattle.yds_model.specs.declared.status.Status.{Status}
@@ -12,11 +12,11 @@ use Rattle.yds_trace_reading.specs.Reading.{IsReadOut}
 use Rattle.yds_trace_parts.specs.declared.halt.Halt.{Halt as HaltKept}
 use Rattle.yds_trace_parts.specs.declared.halt.Halt.TheVariants as halts
 use Rattle.yds_trace_parts.specs.Told.{Halt, InForm, AtLine, OfDocument, OfText, NoPlace, told_after, told_of}
-use Rattle.yds_trace_parts.specs.Driving.{WritesSome, WritesTold, Writes as WritesParts}
+use Rattle.yds_trace_parts.specs.Driving.{WritesSome, Writes as WritesParts}
 use Rattle.yds_trace_words.specs.Request.{ReadTrace}
 use Rattle.yds_trace_run.specs.FaultText.{halt_text, too_long_text, memory_text, read_fault_text}
 use Rattle.yds_trace_run.specs.Answer.{IsTold, IsUncounted, WasWritten, EndsWith}
-use Rattle.yds_trace_run.specs.Endings.{IsText, Outcome, Writes, IsDelivered, IsEnded, Leaves, TellsHalt, halted_text, halted_status}
+use Rattle.yds_trace_run.specs.Endings.{Outcome, Writes, IsDelivered, IsEnded, Leaves, TellsHalt, halted_text, halted_status}
 use Rattle.yds_trace_run.proofs.Left.{leaves_read_out, leaves_failed}
 
 -- # One text behind another

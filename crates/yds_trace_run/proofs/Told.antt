@@ -1,5 +1,5 @@
 -- From what was read of a trace to what was written of it.
-use Rattle.yds_model.proofs.Common.{◌≡◌, ℕ, ◌⊎◌, inl, inr, List, [], ◌++◌, append-nil, Bool, true, false, Option, Some, None, Result, Ok, Err, refl, sym, ap, subst, ◌∙◌}
+use Rattle.yds_model.proofs.Common.{◌≡◌, ℕ, ◌⊎◌, inl, inr, List, [], append-nil, Bool, true, false, Option, Some, None, Result, Ok, Err, refl, sym, ap, subst, ◌∙◌}
 use Rattle.std.specs.Prelude.{IfSome}
 use Rattle.yds_model.specs.declared.status.Status.{Status}
 use Rattle.yds_model.specs.declared.status.Status.TheVariants as statuses
@@ -15,7 +15,7 @@ use Rattle.yds_trace_reading.specs.LineFault.{LineFault, InForm, AtLine, past_of
 use Rattle.yds_trace_reading.specs.Reading.{IsEndOfSome, IsRead, IsStopped}
 use Rattle.yds_trace_words.specs.Words.{WordFault}
 use Rattle.yds_trace_words.specs.Request.{Request, ShowHelp, ShowVersion, ReadTrace}
-use Rattle.yds_trace_run.specs.Fault.{TraceFault, OfLine, of_line, document_fault, fault_of}
+use Rattle.yds_trace_run.specs.Fault.{OfLine, of_line, document_fault, fault_of}
 use Rattle.yds_trace_run.specs.FaultText.{fault_text, memory_text}
 use Rattle.yds_trace_run.specs.Answer.{IsTold, IsUncounted, WasWritten, StandsBefore, EndsWith}
 use Rattle.yds_trace_run.specs.Endings.{IsText, Writes, IsDelivered, Tells, IsTextOfLines, stopped_text, stopped_status}

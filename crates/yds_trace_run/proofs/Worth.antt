@@ -1,15 +1,14 @@
 -- What was written names each late job, is read again, and is faithful to the trace, in one document or in parts.
-use Rattle.yds_model.proofs.Common.{◌≡◌, ℕ, zero, suc, ◌<◌, inl, inr, List, [], ◌∷◌, ◌++◌, length, get_or, flat_map, All, Bool, Option, Some, None, Ok, refl, sym, ap, subst, ◌∙◌, arith, append_assoc, append-nil, ◌≢◌, ◌≤◌, true, false, nat_lt, if◌then◌else◌, ltb-false, and_parts, AllPairs, is_name}
+use Rattle.yds_model.proofs.Common.{◌≡◌, ℕ, inl, inr, List, length, get_or, All, Bool, Option, Some, None, Ok, refl, sym, subst, ◌≢◌, ◌≤◌, true, false, nat_lt, if◌then◌else◌, ltb-false, and_parts, AllPairs, is_name}
 use Rattle.std.specs.Prelude.{IfSome}
 use Rattle.std.specs.Io.KnownBytes.{Appends}
 use Rattle.yds_model.specs.declared.status.Status.{Status}
 use Rattle.yds_model.specs.declared.status.Status.TheVariants as statuses
 use Rattle.yds_model.specs.declared.limits.TheConstants.{MAX_INPUT}
-use Rattle.yds_kernel.specs.Parts.{or_else}
 use Rattle.yds_kernel.specs.Event.{Said}
 use Rattle.yds_kernel.specs.Text.{Trace, trace_of}
 use Rattle.yds_trace.specs.Asked.{Task, Asked, IsAsked}
-use Rattle.yds_trace.specs.Document.{Judged, all_judged, units_of}
+use Rattle.yds_trace.specs.Document.{all_judged, units_of}
 use Rattle.yds_trace_laws.proofs.Faithful.{documents_are_faithful}
 use Rattle.yds_trace_laws.proofs.Seen.{feasible_means_in_time}
 use Rattle.yds_trace_document.specs.declared.fault.DocumentFault.{DocumentFault}

@@ -1,4 +1,4 @@
-use Rattle.yds_model.proofs.Common.{◌≡◌, ◌∙◌, ◌<◌, ℕ, List, length, Bool, true, Option, Some, None, Err, subst, refl, ap, arith, rules, common_steps, lt-ltb, nat_lt, if◌then◌else◌}
+use Rattle.yds_model.proofs.Common.{◌≡◌, ◌∙◌, ◌<◌, ℕ, List, length, Bool, Option, Some, None, Err, subst, refl, ap, lt-ltb, if◌then◌else◌}
 use Rattle.yds_model.specs.declared.status.Status.TheVariants as statuses
 use Rattle.yds_model.specs.declared.limits.TheConstants.{MAX_INPUT}
 use Rattle.yds_kernel.specs.Parts.{or_else}
@@ -7,8 +7,8 @@ use Rattle.yds_trace_document.specs.Settled.{settled_of}
 use Rattle.yds_trace_document.specs.Limits.{limit_fault}
 use Rattle.yds_trace_text.specs.Text.{text_of}
 use Rattle.yds_trace_text.specs.declared.fault.NoText.{NoText}
-use Rattle.yds_trace_text.specs.Writing.{Gives, Writes, IsTooLong}
-use Rattle.yds_trace_run.specs.Fault.{TraceFault, OfDocument, OfText, of_document, of_text, document_fault}
+use Rattle.yds_trace_text.specs.Writing.{Gives, IsTooLong}
+use Rattle.yds_trace_run.specs.Fault.{OfDocument, OfText, of_document, of_text, document_fault}
 use Rattle.yds_trace_run.specs.FaultText.{fault_text}
 use Rattle.yds_kernel.specs.Event.{Said}
 use Rattle.yds_trace.specs.Asked.{Asked}
