@@ -139,7 +139,7 @@ class Machine:
             self.write(0, "cpu_frequency", f"state={self.draw.choice(KHZ)} cpu_id=0")
         if self.chance("sleep") and until - self.time > 20_000:
             self.pass_by(running, until)
-            self.turn(self.draw.choice(["S", "D"]), None)
+            self.turn("D" if running.hangs else self.draw.choice(["S", "D"]), None)
             self.time += 2_000
             self.wake(running)
             self.time += 2_000
