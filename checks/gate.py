@@ -35,6 +35,7 @@ CHECKS: List[Command] = [
     (sys.executable, "robustness/planted.py", "--check"),
     (sys.executable, "docs/uncalled.py", "--check"),
     (sys.executable, "checks/tools.py"),
+    (sys.executable, "checks/built.py"),
 ]
 
 COUNTS = re.compile(rb"(\d+) passed, (\d+) failed\s*")

@@ -112,6 +112,20 @@ class Gate(InFolder):
         self.assertEqual((lines[-1], status), ("3 passed, 1 failed", 127))
 
 
+class Built(InFolder):
+    """What is said where a program isn't there."""
+
+    def built(self) -> Tuple[List[str], int]:
+        command = [sys.executable, "checks/built.py", str(self.folder)]
+        done = subprocess.run(command, cwd=ROOT, stdout=subprocess.PIPE, stderr=subprocess.DEVNULL, encoding="utf-8")
+        return done.stdout.splitlines(), done.returncode
+
+    def test_a_program_that_isnt_there(self) -> None:
+        self.write("yds_cli", "#!/bin/sh\n").chmod(0o755)
+        wanted = [f"{self.folder.resolve()}/yds_trace isn't there; rt ci builds it", "0 passed, 1 failed"]
+        self.assertEqual(self.built(), (wanted, 1))
+
+
 class Pages(InFolder):
     """What the check of the pages answers to pages that are written here."""
 

@@ -78,7 +78,7 @@ class Verdict:
         if last:
             kind, _, _, end = last.split()[:4]
             self._end = _units(kind, end, ticks, shift)
-        if wanted > count:
+        if verdict and not 1 <= wanted <= count:
             self._answers.refuse(place, f"tells of slot {wanted}, and the part has {count}")
 
     def _look_above(self, number: int, job: bytes, start: bytes, above: bytes) -> None:
