@@ -145,7 +145,7 @@ def things(words: List[str], trace: bytes, said: Told) -> Set[str]:
     """What is in a trace, its words and what is said of it."""
     found = {f"status {said.status}", *in_words(words), *in_trace(trace)}
     if said.kind:
-        found.add(said.kind)
+        found.update({said.kind, said.kind.replace("part document", "document")})
     documents = list(said.parts) if said.document is None else [said.document]
     if documents:
         found.update(in_text(said.text))
