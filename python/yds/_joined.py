@@ -5,6 +5,7 @@ from __future__ import annotations
 import re
 from typing import Dict, List, Tuple
 
+from yds._heads import read_head
 from yds._text import Fault, Line, base, printable
 
 KINDS = frozenset("job task horizon slot run ticks point level piece member grid energy".split())
@@ -61,6 +62,9 @@ class Joined:
                 self._tell(line, f"a unit of {kind} of", found.group(1), hint)
                 self.told_by = self.told_by or line.file
                 self._has_units = True
+        if read_head(line.text.encode("latin-1", "replace") + b"\n"):
+            # Each part of a trace has a time 0 of its own.
+            self._known.pop("time 0 at", None)
         zero, period = _ZERO.search(line.text), _PERIOD.fullmatch(line.text)
         if zero:
             self._tell(line, "time 0 at", zero.group(1), "give one trace")

@@ -13,7 +13,7 @@ from array import array
 from collections import deque
 from typing import IO, Deque, Dict, Iterable, Iterator, List, NamedTuple, Optional, Tuple, Union
 
-from yds._heads import MOST_BYTES, MOST_TIME, PartsError
+from yds._heads import MOST_BYTES, MOST_TIME, PartsError, read_head
 
 _NUMBER = rb"(0|[1-9][0-9]{0,29})"
 _UNREAD = rb"(?:0|[1-9][0-9]{0,29})"
@@ -212,6 +212,10 @@ class Long:
         self._take_fields(fields, number)
 
     def _take_comment(self, line: bytes, number: int) -> None:
+        head = read_head(line) if line.startswith(b"# part ") else None
+        if head is not None and self.jobs:
+            told = f"the head of part {head.number}, so the input is parts already; give --split"
+            raise PartsError(told, number)
         for kind, amount, unit in _UNIT.findall(line):
             if self._told.setdefault(kind, amount) != amount:
                 here, before = (f"{number.decode()} {unit.decode()}" for number in (amount, self._told[kind]))

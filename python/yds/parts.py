@@ -14,6 +14,7 @@ from yds._heads import MOST_JOBS, Head, Part, PartsError, Text, read_head
 from yds._long import Long
 from yds._numbers import integer
 from yds._program import Answer, of_library
+from yds._split import split as _split
 from yds._whole import Whole, put_together
 
 __all__ = [
@@ -29,6 +30,7 @@ __all__ = [
     "cut",
     "read_head",
     "read_spent",
+    "split",
     "whole",
 ]
 
@@ -63,6 +65,20 @@ def cut(
         if len(parts) > MOST_PARTS:
             raise PartsError(f"more than {MOST_PARTS} parts; give more jobs to each")
         yield from Writer(long, parts, folder).parts()
+
+
+def split(lines: Iterable[bytes]) -> Iterator[Part]:
+    """The parts that stand in a text one behind the other, as `yds_trace --parts` writes them.
+
+    lines are those of the text, as a file has them. Each part gets the points and comments that stand before the first
+    one. PartsError is raised where a part is missing or the text is cut short, and where it ends with `failed`: the
+    parts before that were whole.
+
+    >>> head, end = b"# part 1: jobs 1 to 1, from 0 to 4, shift 0, the last\\n", b"# 1 job written, none left out\\n"
+    >>> [part.text.count(b"point") for part in split([b"point 0 0\\n", head, b"job a 0 4 8\\n", end])]
+    [1]
+    """
+    return _split(lines)
 
 
 def whole(parts: Sequence[Text], answers: Sequence[Text], grid: Optional[int] = None) -> Whole:

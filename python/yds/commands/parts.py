@@ -5,7 +5,7 @@ from __future__ import annotations
 import os
 import re
 import sys
-from typing import Callable, Optional, Sequence
+from typing import Callable, Iterable, Optional, Sequence
 
 from yds import parts
 from yds._heads import MOST_JOBS
@@ -21,15 +21,20 @@ DIR/part-00001.txt and so on, each within the program's limits: at most 4,000 jo
 bytes. Answers go beside the parts, as DIR/part-00001.plan, and yds-whole puts them together.
 
     yds-parts --folder parts long.txt
+    yds-parts --split --folder parts parts.txt
 
 Each part is cut at an instant at which each job has all of its runs before it or behind it, and no window is open if
 there is such an instant within the limits; else the first line of the part behind says ', windows open'. Levels, pieces
 and members are left out, and said so.
+
+With --split the input is the parts themselves, one behind the other, as yds_trace --parts writes them. Each goes to its
+file, with the points and comments that stand before the first one.
 """,
     [
         Option("folder", "where the parts go; those of an earlier cut, and their answers, are taken away", "DIR"),
         Option("jobs", "at most so many jobs in a part, up to 4000 (4000)", "N"),
         Option("shift", "times begin at 0 in each part, and those of the document may be above 1000000000"),
+        Option("split", "the input is parts already, as yds_trace --parts writes them"),
     ],
     Files("DOCUMENT", 0, 1),
     "0 done; 1 a fault in the input, or no place to cut: then DIR/part-00001.txt has the one line `failed`, which "
@@ -46,11 +51,16 @@ def cut(given: Given, write: Callable[[str], None]) -> int:
     """Writes the parts; where that fails, a part that the program refuses."""
     if given.folder is None:
         raise WordsError("no --folder DIR is given")
+    if given.split and (given.jobs is not None or given.shift):
+        raise WordsError("--split takes the parts as they are; leave --jobs and --shift out")
     jobs = most_jobs(given.jobs)
     try:
         os.makedirs(given.folder, exist_ok=True)
         take_away_old(given.folder)
-        left_out = write_parts(given.folder, given.files[0] if given.files else "-", jobs, given.shift)
+        file = given.files[0] if given.files else "-"
+        with sys.stdin.buffer if file == "-" else open(file, "rb") as source:
+            found = parts.split(source) if given.split else parts.cut(source, jobs, given.shift, given.folder)
+            left_out = write_parts(given.folder, found)
     except BaseException:
         if os.path.isdir(given.folder):
             take_away_old(given.folder)
@@ -72,15 +82,14 @@ def most_jobs(word: Optional[str]) -> int:
     return int(word)
 
 
-def write_parts(folder: str, file: str, jobs: int, shift: bool) -> int:
-    """Writes the parts of a document, and tells how many lines of levels were left out."""
-    with sys.stdin.buffer if file == "-" else open(file, "rb") as source:
-        left_out = 0
-        for part in parts.cut(source, jobs, shift, folder):
-            left_out = part.left_out
-            with open(place_of(folder, part.head.number), "wb") as target:
-                target.write(part.text)
-        return left_out
+def write_parts(folder: str, found: Iterable[parts.Part]) -> int:
+    """Writes the parts to their files, and tells how many lines of levels were left out."""
+    left_out = 0
+    for part in found:
+        left_out = part.left_out
+        with open(place_of(folder, part.head.number), "wb") as target:
+            target.write(part.text)
+    return left_out
 
 
 def place_of(folder: str, number: int) -> str:

@@ -1,0 +1,88 @@
+"""Parts that stand in one text, one behind the other, as yds_trace --parts writes them."""
+
+from __future__ import annotations
+
+import re
+from typing import Iterable, Iterator, List, Optional
+
+from yds._heads import MOST_BYTES, MOST_JOBS, Head, Part, PartsError, read_head
+
+_CLOSING = re.compile(rb"# [0-9]+ jobs? written, .*\n")
+"""The last line of a document of yds_trace."""
+
+
+class _Begun:
+    """The part that is read: its head, where that stands, and its lines so far."""
+
+    def __init__(self, head: Head, line: int, before: List[bytes]) -> None:
+        self.head = head
+        self.line = line
+        self.lines = [head.spelled(), *before]
+        self.size = sum(map(len, self.lines))
+        self.jobs = 0
+
+    def take(self, line: bytes, number: int) -> None:
+        """Takes a line of the part."""
+        self.jobs += line.split(None, 1)[:1] == [b"job"]
+        self.size += len(line)
+        if self.jobs > MOST_JOBS or self.size > MOST_BYTES:
+            told = f"{MOST_JOBS} jobs or {MOST_BYTES} bytes"
+            raise PartsError(f"part {self.head.number} has more than {told}, the limits of a document", number)
+        self.lines.append(line)
+
+    def ended(self) -> Part:
+        """The part, when all its lines are read."""
+        if self.jobs != self.head.jobs:
+            told = f"part {self.head.number} has {self.jobs} jobs, and its head tells {self.head.jobs}"
+            raise PartsError(told, self.line)
+        if _CLOSING.fullmatch(self.lines[-1]) is None:
+            told = f"part {self.head.number} doesn't end with '# {self.jobs} jobs written, ..': the text is cut short"
+            raise PartsError(told, self.line)
+        return Part(self.head, b"".join(self.lines))
+
+
+def split(lines: Iterable[bytes]) -> Iterator[Part]:
+    """The parts, each with the points and comments that stand before the first."""
+    before: List[bytes] = []
+    part: Optional[_Begun] = None
+    told = b""
+    for number, line in enumerate(lines, 1):
+        line = line if line.endswith(b"\n") else line + b"\n"
+        word = line.split(None, 1)[:1]
+        head = read_head(line)
+        if word == [b"failed"]:
+            raise PartsError(_failed(told), number)
+        if head is not None:
+            _follows(None if part is None else part.head, head, number)
+            if part is not None:
+                yield part.ended()
+            part = _Begun(head, number, before)
+        elif part is not None:
+            part.take(line, number)
+        elif word and word != [b"point"] and not line.startswith(b"#"):
+            raise PartsError("before the first part only points and comments stand", number)
+        else:
+            before.append(line)
+        told = line if line.startswith(b"#") else b""
+    if part is None:
+        raise PartsError("there is no part; the first line of one is as '# part 1: jobs 1 to 4000, ..'")
+    if not part.head.last:
+        raise PartsError(f"part {part.head.number} isn't the last one, and none follows: the text is cut short")
+    yield part.ended()
+
+
+def _failed(told: bytes) -> str:
+    """What is said of a text that ends with the line `failed`, behind a comment with the reason."""
+    reason = "".join(sign if " " <= sign <= "~" else "?" for sign in told.decode("latin-1").strip("# \r\n"))
+    return f"what wrote these parts has failed{': ' if reason else ''}{reason}"
+
+
+def _follows(before: Optional[Head], head: Head, line: int) -> None:
+    """Refuses a head that isn't that of the next part."""
+    number, first = (1, 1) if before is None else (before.number + 1, before.final + 1)
+    if before is not None and before.last:
+        raise PartsError(f"a part behind part {before.number}, which is the last one", line)
+    if head.number != number:
+        raise PartsError(f"part {head.number} here, where part {number} is missing", line)
+    if head.first != first:
+        raise PartsError(f"part {number} begins with job {head.first}, and job {first} is missing", line)
