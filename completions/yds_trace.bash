@@ -12,7 +12,7 @@ _yds_trace() {
 	--lost) words=cut ;;
 	--tasks | --start | --from | --to) ;;
 	--help | --version) ;;
-	*) words="--tasks --cpu --us --khz --start --from --to --begin --lost --strict --help --version" ;;
+	*) words="--tasks --cpu --us --khz --start --from --to --begin --lost --parts --strict --help --version" ;;
 	esac
 	COMPREPLY=($(compgen -W "$words" -- "$word"))
 }

@@ -37,6 +37,7 @@ LATER = [
     "yds_trace_document",
     "yds_trace_text",
     "yds_trace_again",
+    "yds_trace_whole",
     "yds_trace_words",
     "yds_trace_reading",
     "yds_trace_run",
@@ -55,6 +56,7 @@ MOST_OF = {
     "yds_trace": 12,
     "yds_trace_document": 12,
     "yds_trace_text": 12,
+    "yds_trace_run": 10,
 }
 NEEDED = [
     ("yds_plan", "plan"),

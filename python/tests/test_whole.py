@@ -5,6 +5,7 @@ import unittest
 import drawn
 from in_parts import GRID, SHORT, answered, joined, lines, program, texts
 from yds import parts
+from yds._heads import read_head
 
 
 class WholeTest(unittest.TestCase):
@@ -53,6 +54,23 @@ class WholeTest(unittest.TestCase):
         document = lines("job a 0 4 2", "job b 4 9 1", "ticks 1", "run a 0 1 1", "run b 4 5 1", "run a 5 6 1")
         found = texts(document, 1)
         self.assertEqual(joined(parts.whole(found, answered(found, "audit"))), b"late slot 3 a 6 deadline 4\n")
+
+    def test_parts_of_a_trace(self) -> None:
+        # What yds_trace --parts writes: the first line of each, with times of the whole, and a last part without a job.
+        first = b"# part 1: jobs 1 to 1, from 100 to 1100, shift 100\n# CPU 0 of a kernel trace; time 0 is 5.001000000 s\n"
+        first += b"job t.0 0 1000 20000\nticks 1\nrun t.0 0 200 100\n# 1 job written, none left out\n"
+        second = b"# part 2: jobs 2 to 2, from 1100 to 2100, shift 1100, windows open\n"
+        second += first.split(b"\n", 1)[1].replace(b"t.0", b"t.1")
+        last = b"# part 3: jobs 3 to 2, from 0 to 0, shift 0, the last\nticks 1\n# 0 jobs written, none left out\n"
+        found = [first, second, last]
+        heads = [read_head(text.split(b"\n")[0]) for text in found]
+        self.assertEqual([head.jobs if head else None for head in heads], [1, 1, 0])
+        told = parts.whole(found, [b"feasible\n"] * 3)
+        self.assertEqual((told.yes, joined(told)), (True, b"feasible\n"))
+        missed = parts.whole(found, [b"feasible\n", b"late slot 1 t.1 1200 deadline 1000\n", b"feasible\n"])
+        self.assertEqual((missed.yes, joined(missed)), (False, b"late slot 2 t.1 2300 deadline 2100\n"))
+        with self.assertRaisesRegex(parts.PartsError, "the last"):
+            parts.whole(found[:2], [b"feasible\n"] * 2)
 
     def test_slots_of_two_parts_that_overlap(self) -> None:
         document = lines("job a 0 4 2", "job b 1 9 1", "ticks 1", "run a 1 3 1", "run b 2 3 1")

@@ -98,6 +98,10 @@ pub record IsAtBehind (asked : Asked) (past : List Said) (boundary : ℕ) (pass 
 abbrev pub IsAt : Asked → List Said → Pass → Type 0
 IsAt asked past pass = IsAtBehind asked past 0 pass
 
+-- The time that it was told last to forget by, or 0: of the jobs that begin before it each task keeps its last one.
+abbrev pub told_to_forget : Pass → ℕ
+told_to_forget pass = pass.counted.boundary
+
 -- # How much waits
 
 -- At most so many jobs and stretches wait. Beyond 64 bits neither is counted.

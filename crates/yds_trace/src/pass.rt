@@ -5,7 +5,7 @@ ghost use Rattle.yds_kernel.specs.Views.{event_read, said_read};
 ghost use Rattle.yds_trace.specs.Asked as asking;
 ghost use Rattle.yds_trace.specs.Ended.{IsEnded};
 ghost use Rattle.yds_trace.specs.Faults.{said_fault, whole_fault};
-ghost use Rattle.yds_trace.specs.Kept.{IsAt, IsAtBehind, IsEnough, IsStanding};
+ghost use Rattle.yds_trace.specs.Kept.{IsAt, IsAtBehind, IsEnough, IsStanding, told_to_forget};
 ghost use Rattle.yds_trace.specs.Late.{last_asked};
 ghost use Rattle.yds_trace.specs.Past.{last_time};
 ghost use Rattle.yds_trace.specs.Parts.{may_write, part_fault};
@@ -60,6 +60,7 @@ impl Pass {
             → OnOk result (IsAtBehind asked (said_read said.entry ∷ past) boundary self.new) }
         ensures refused { (asked : asking.Asked) (past : List trace.Said) (boundary : ℕ) → IsAtBehind asked past boundary self.old
             → IfErr result (IsRefusedFor (said_fault asked past (said_read said.entry))) }
+        ensures forgets { OnOk result (told_to_forget self.new ≡ told_to_forget self.old) }
     {
         self.take_said(alloc, said)
     }
@@ -110,6 +111,14 @@ impl Pass {
         check_parts(&self.asked, &self.lines, &self.counted, said, cut)
     }
 
+    /// What the trace as a whole is refused for, where it ends here.
+    pub fn check_whole(&self) -> Result<(), Cause>
+        ensures { (asked : asking.Asked) (past : List trace.Said) (boundary : ℕ) → IsAtBehind asked past boundary self.now
+            → fault_in result ≡ whole_fault asked past }
+    {
+        check_whole(&self.asked, &self.lines)
+    }
+
     /// Whether a part may be written: jobs begin at their first run, or a wake-up of a task is among the lines.
     pub fn may_write(&self) -> bool
         ensures { (asked : asking.Asked) (past : List trace.Said) (boundary : ℕ) → IsAtBehind asked past boundary self.now → result ≡ may_write asked past }
@@ -142,8 +151,9 @@ impl Pass {
 
     /// Forgets the jobs that begin before this time, but for each task's last one.
     pub fn forget(&mut self, boundary: u64)
-        ensures { (asked : asking.Asked) (past : List trace.Said) (before : ℕ) → IsAtBehind asked past before self.old → before ≤ boundary
+        ensures stands { (asked : asking.Asked) (past : List trace.Said) (before : ℕ) → IsAtBehind asked past before self.old → before ≤ boundary
             → IsAtBehind asked past boundary self.new }
+        ensures forgets { told_to_forget self.new ≡ boundary }
     {
         forget_each(&mut self.counted.tasks, boundary);
         self.counted.boundary = boundary;

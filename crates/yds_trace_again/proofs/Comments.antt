@@ -1,5 +1,5 @@
 -- The comments of a trace's document are passed over: none has a line feed in it but at its end.
-use Rattle.yds_model.proofs.Common.{◌≡◌, ℕ, zero, suc, ◌+◌, ◌-◌, ◌*◌, ◌/◌, ◌%◌, ◌==◌, ◌&&◌, Bool, true, false, not, nat_lt, nat_le, List, [], ◌∷◌, ◌++◌, length, filter, drop, reverse, decimal, Option, Some, None, refl, arith, codes, if◌then◌else◌, All, AllByRecursion, flat_map, zip, enumerate_from, sum_by, count_by, slice_index_or, cond_both, Entry, is_name}
+use Rattle.yds_model.proofs.Common.{◌≡◌, ℕ, zero, suc, ◌+◌, ◌-◌, ◌*◌, ◌/◌, ◌%◌, ◌==◌, ◌&&◌, Bool, true, false, not, nat_lt, nat_le, List, [], ◌∷◌, ◌++◌, length, map, filter, drop, reverse, decimal, Option, Some, None, refl, arith, codes, if◌then◌else◌, All, AllByRecursion, flat_map, zip, enumerate_from, sum_by, count_by, slice_index_or, cond_both, Entry, is_name}
 use Rattle.yds_kernel.specs.Event.{Said}
 use Rattle.yds_kernel.specs.Parts.{capped}
 use Rattle.yds_trace.specs.declared.job.Stretch.{Stretch}
@@ -10,8 +10,8 @@ use Rattle.yds_trace.specs.Jobs.{Job}
 use Rattle.yds_trace.specs.Late.{is_open}
 use Rattle.yds_trace.specs.WrittenTime.{Units, written_time, runs_end}
 use Rattle.yds_trace.specs.Document.{Judged, judged, judged_of, judged_from, all_judged, began_before, jobs_of, stands, written_end, written_runs}
-use Rattle.yds_trace_laws.proofs.Ordered.{in_order-all, append-all, map-all}
-use Rattle.yds_trace_document.specs.Settled.{Settled, settled_of, judged_by_task}
+use Rattle.yds_trace_laws.proofs.Ordered.{filter-all, in_order-all, append-all, map-all}
+use Rattle.yds_trace_document.specs.Settled.{Settled, judged_by_task}
 use Rattle.yds_trace_text.specs.Text.{told, comment, nine_digits, six_digits, in_seconds, in_milliseconds, behind_point, counted, head_line, cycles, units_line, reason_text, behind_deadline, signed_time, window_text, how_late, without_runs_comment, late_kind, standing_comment, late_comment, first_begin, begin_later, end_comment, begins_comment, end_earlier, end_is_told, ends_comment, shown_comments, every_reason, is_left_out_for, first_name, last_name, Group, group_of, group_for, groups_of_task, has_jobs, groups_of, all_groups, most_first, one_left_out, some_left_out, group_comment, is_cut_off, cut_off_comment, left_out_comments, short_stretches, is_or_are, some_short, short_comment, length_of, wake_ups_of, most_woken, woken_comment, wake_up_comment, known_begins, mean_distance, distance_comment, unit_comment, deadline_comment, apart_comment, task_unit_comments, all_unit_comments, left_out_text, its_or_their, late_without, without_runs_text, last_line, comments_text}
 use Rattle.yds_texts.proofs.Brought.{Leads, Leads-nil, Leads-append, Leads-comment}
 use Rattle.yds_trace_again.specs.Laws.{AreLabelled}
@@ -192,11 +192,6 @@ group_silent P group plain =
     ∷ codes "), the first " ∷ group.first ∷ codes ", the last " ∷ group.last ∷ [])
     (refl, (plain_decimal group.count, (refl, (plain.label, (refl, (plain_reason (Some group.reason), (refl, (plain.first, (refl, (plain.last, tt)))))))))))
 
-filter-all : {A : Type 0} (P : A → Type 0) (p : A → Bool) (xs : List A) → AllByRecursion P xs → AllByRecursion P (filter p xs)
-filter-all P p [] all = tt
-filter-all P p (x ∷ xs) all =
-    cond_both (p x) (x ∷ filter p xs) (filter p xs) (AllByRecursion P) (λ held. (all.0, filter-all P p xs all.1)) (λ denied. filter-all P p xs all.1)
-
 plain_first : (ones : List Judged) → AllByRecursion HasPlainName ones → Plain (first_name ones)
 plain_first [] all = refl
 plain_first (one ∷ ones) all = all.0
@@ -337,6 +332,11 @@ names-all : (asked : Asked) (past : List Said) → AreLabelled asked.tasks → A
 names-all asked past labelled =
     in_order-all HasPlainName (λ one. one.job.begin) (judged_from asked past 0 asked.tasks) (names_from-all asked past 0 asked.tasks labelled)
 
+-- What the comments need: the names of these jobs are plain, and those of each task's.
+pub record ArePlain (tasks : List Task) (by_task : List (List Judged)) (ones : List Judged) : Type 0 where
+  pub names : AllByRecursion HasPlainName ones
+  pub pairs : AllByRecursion IsPlainTask (zip tasks by_task)
+
 tasks-all : (asked : Asked) (past : List Said) (number : ℕ) (tasks : List Task) → AreLabelled asked.tasks → All (λ task. is_name task.label ≡ true) tasks →
     AllByRecursion IsPlainTask (zip tasks (judged_by_task asked past number tasks))
 tasks-all asked past number [] labelled named = tt
@@ -345,25 +345,45 @@ tasks-all asked past number (task ∷ tasks) labelled named = (
   tasks-all asked past (number + 1) tasks labelled (λ k d within. named (suc k) d (omega (arith, within))),
 )
 
+-- also of those that pass a test
+pairs-filter : (test : Judged → Bool) (tasks : List Task) (by_task : List (List Judged)) → AllByRecursion IsPlainTask (zip tasks by_task) →
+    AllByRecursion IsPlainTask (zip tasks (map (filter test) by_task))
+pairs-filter test [] by_task all = tt
+pairs-filter test (task ∷ tasks) [] all = tt
+pairs-filter test (task ∷ tasks) (ones ∷ by_task) all =
+    ((all.0.0, filter-all HasPlainName test ones all.0.1), pairs-filter test tasks by_task all.1)
+
+pub all_plain : (asked : Asked) (past : List Said) → AreLabelled asked.tasks → ArePlain asked.tasks (judged_by_task asked past 0 asked.tasks) (all_judged asked past)
+all_plain asked past labelled = record {
+  names = names-all asked past labelled;
+  pairs = tasks-all asked past 0 asked.tasks labelled labelled.names;
+}
+
+pub some_plain : (asked : Asked) (past : List Said) (test : Judged → Bool) → AreLabelled asked.tasks →
+    ArePlain asked.tasks (map (filter test) (judged_by_task asked past 0 asked.tasks)) (filter test (all_judged asked past))
+some_plain asked past test labelled =
+    let all = all_plain asked past labelled in
+    record {
+      names = filter-all HasPlainName test (all_judged asked past) all.names;
+      pairs = pairs-filter test asked.tasks (judged_by_task asked past 0 asked.tasks) all.pairs;
+    }
+
 -- # All comments
 
-pub comments_silent : (P : List Entry → Type 0) (asked : Asked) (past : List Said) → AreLabelled asked.tasks → Silent P (comments_text asked.tasks (settled_of asked past))
-comments_silent P asked past labelled =
-    let settled : Settled = settled_of asked past in
-    let names = names-all asked past labelled in
-    let tasks = tasks-all asked past 0 asked.tasks labelled labelled.names in
+pub comments_silent : (P : List Entry → Type 0) (tasks : List Task) (settled : Settled) → ArePlain tasks settled.by_task settled.judged → Silent P (comments_text tasks settled)
+comments_silent P tasks settled plain =
     let late : List ℕ = flat_map (late_comment settled.units) settled.judged in
     let shown : List ℕ = flat_map (shown_comments settled.units) settled.judged in
-    let left : List ℕ = left_out_comments asked.tasks settled.by_task settled.judged in
+    let left : List ℕ = left_out_comments tasks settled.by_task settled.judged in
     let short : List ℕ = short_comment (short_stretches settled.units settled.judged) in
     let woken : List ℕ = wake_up_comment settled.judged in
-    let units : List ℕ = all_unit_comments asked.tasks settled.by_task in
+    let units : List ℕ = all_unit_comments tasks settled.by_task in
     let two : Silent P (late ++ shown) =
-    silent_both P late shown (silent_each P HasPlainName (late_comment settled.units) (late_silent P settled.units) settled.judged names)
-    (silent_each P HasPlainName (shown_comments settled.units) (shown_silent P settled.units) settled.judged names) in
-    let three : Silent P (late ++ shown ++ left) = silent_both P (late ++ shown) left two (left_out_silent P asked.tasks settled.by_task settled.judged tasks) in
+    silent_both P late shown (silent_each P HasPlainName (late_comment settled.units) (late_silent P settled.units) settled.judged plain.names)
+    (silent_each P HasPlainName (shown_comments settled.units) (shown_silent P settled.units) settled.judged plain.names) in
+    let three : Silent P (late ++ shown ++ left) = silent_both P (late ++ shown) left two (left_out_silent P tasks settled.by_task settled.judged plain.pairs) in
     let four : Silent P (late ++ shown ++ left ++ short) = silent_both P (late ++ shown ++ left) short three (short_silent P (short_stretches settled.units settled.judged)) in
-    let five : Silent P (late ++ shown ++ left ++ short ++ woken) = silent_both P (late ++ shown ++ left ++ short) woken four (wake_up_silent P settled.judged names) in
+    let five : Silent P (late ++ shown ++ left ++ short ++ woken) = silent_both P (late ++ shown ++ left ++ short) woken four (wake_up_silent P settled.judged plain.names) in
     let six : Silent P (late ++ shown ++ left ++ short ++ woken ++ units) =
-    silent_both P (late ++ shown ++ left ++ short ++ woken) units five (silent_each P IsPlainTask task_unit_comments (task_unit_silent P) (zip asked.tasks settled.by_task) tasks) in
+    silent_both P (late ++ shown ++ left ++ short ++ woken) units five (silent_each P IsPlainTask task_unit_comments (task_unit_silent P) (zip tasks settled.by_task) plain.pairs) in
     silent_both P (late ++ shown ++ left ++ short ++ woken ++ units) (last_line settled) six (last_silent P settled)

@@ -5,11 +5,14 @@ use Rattle.yds_kernel.specs.declared.state.State.TheVariants as states
 use Rattle.yds_kernel.specs.Event.{Thread, Happening, Switch, WakeUp, Said, Stamped}
 use Rattle.yds_trace.specs.Asked.{Asked, Named}
 use Rattle.yds_trace.specs.declared.job.Stretch.{Stretch}
-use Rattle.yds_trace.specs.WrittenTime.{Units, Run}
+use Rattle.yds_trace.specs.WrittenTime.{Units, Run, written_time}
 use Rattle.yds_trace.specs.Document.{named, Written, Placed, document_of}
 use Rattle.yds_trace_laws.specs.Faithful.{IsRounded, IsWithinRun}
-use Rattle.yds_trace_text.specs.Text.{comment, unit_comment, job_text, ticks_text, run_text, text_of}
+use Rattle.yds_trace_text.specs.Text.{comment, unit_comment, job_text, ticks_text, run_text, settled_text, text_of}
+use Rattle.yds_trace_text.specs.PartText.{part_text}
+use Rattle.yds_trace.specs.Parts.{no_cut}
 use Rattle.yds_trace_again.specs.Again.{document_read}
+use Rattle.yds_trace_again.specs.Laws.{settled_where}
 
 -- # A small trace
 
@@ -57,7 +60,29 @@ it_is_read : reading (text_of asked lines) ≡ Ok just_this
 unfolding digits comment unit_comment
 it_is_read = refl
 
+-- So is the text of its one part, with the line that says which part it is.
+its_part_is_read : reading (part_text asked lines no_cut None) ≡ Ok just_this
+unfolding digits comment unit_comment
+its_part_is_read = refl
+
 -- # Near misses
+
+-- Time 0 is after the job's deadline: both of its times are 0.
+abbrev late_units : Units
+late_units = record { zero = 2000; time = 10; speed = 1 }
+
+begun_before : reading (settled_text asked (settled_where asked lines late_units (λ one. true))) ≡ Err (record { line = 3; column = 11; reason = reasons.EmptyWindow })
+unfolding digits comment unit_comment
+begun_before = refl
+
+-- So an end that is four units after a deadline is written in its unit.
+late_in_no_unit : written_time late_units 1140 ≡ written_time late_units 1100
+late_in_no_unit = refl
+
+-- A second line of ticks is refused.
+ticks_twice : reading (ticks_text ++ ticks_text) ≡ Err (record { line = 2; column = 1; reason = reasons.Misplaced })
+unfolding digits
+ticks_twice = refl
 
 abbrev job : Written
 job = record { name = codes "t.0"; release = 0; deadline = 10; work = 10; runs = record { from = 2; to = 4; speed = 5 } ∷ [] }

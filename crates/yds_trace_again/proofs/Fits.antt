@@ -1,5 +1,5 @@
 -- A trace's document that passes no limit of the program is within those of documents.
-use Rattle.yds_model.proofs.Common.{◌≡◌, ◌≢◌, ℕ, zero, suc, ◌+◌, ◌<◌, ◌≤◌, ◌&&◌, Bool, true, false, nat_lt, List, [], ◌∷◌, ◌++◌, length, map, get_or, Option, Some, None, is_some, refl, sym, ap, subst, ◌∙◌, arith, inl, codes, if◌then◌else◌, All, All-nil, AllByRecursion, AllPairs, recursion_from_All, All-from_recursion, All-map, list_any, list_all, position, position_or_len, option_map, filter_map, flat_map, enumerate_from, ArePoints, AreLevelsOf, IsLevel, fails_before_first, and_parts, or_parts, and_from, ltb-false, cond_both, nat_le, reverse, sum_by-cons, list_all-append, decimal, le-leb, length-map, length-append, IsJob, of_whole, written_slot_at, IsFraction, IsSlot, AreNamedJobs, AreDifferentNames, IsDocument, name_at, is_name, is_visible}
+use Rattle.yds_model.proofs.Common.{◌≡◌, ◌≢◌, ℕ, zero, suc, ◌+◌, ◌<◌, ◌≤◌, ◌==◌, ◌&&◌, eqb-true, Bool, true, false, nat_lt, List, [], ◌∷◌, ◌++◌, length, map, filter, get_or, Option, Some, None, is_some, refl, sym, ap, subst, ◌∙◌, arith, inl, codes, if◌then◌else◌, All, All-nil, AllByRecursion, AllPairs, recursion_from_All, All-from_recursion, All-map, list_any, list_all, position, position_or_len, option_map, filter_map, flat_map, enumerate_from, ArePoints, AreLevelsOf, IsLevel, fails_before_first, and_parts, or_parts, and_from, ltb-false, cond_both, nat_le, reverse, sum_by-cons, list_all-append, decimal, le-leb, length-map, length-append, IsJob, of_whole, written_slot_at, IsFraction, IsSlot, AreNamedJobs, AreDifferentNames, IsDocument, name_at, is_name, is_visible}
 use Rattle.std.specs.List.{cons_option}
 use Rattle.yds_texts.proofs.Within.{only_jobs}
 use Rattle.yds_model.specs.declared.limits.TheConstants.{MAX_JOBS, MAX_TIME, MAX_WORK, MAX_SLOTS, MAX_SLOT_WORK, MAX_NAME}
@@ -8,15 +8,16 @@ use Rattle.yds_kernel.specs.Event.{Said}
 use Rattle.yds_trace.specs.Asked.{Task, no_task, Asked, IsAsked, task_at}
 use Rattle.yds_trace.specs.Jobs.{Job as TracedJob}
 use Rattle.yds_trace.specs.WrittenTime.{Units, Run, before, work_of_run, work_of_runs}
-use Rattle.yds_trace.specs.Document.{named, Judged, judged, judged_of, judged_from, all_judged, began_before, jobs_of, stands, put_in, in_order, units_of, Written, with_runs, without_runs, written_of, written_jobs, Placed, placed_runs, all_runs, document_of}
+use Rattle.yds_trace.specs.Document.{named, Judged, judged, judged_of, judged_from, all_judged, began_before, jobs_of, stands, put_in, in_order, units_of, Written, with_runs, without_runs, written_of, Placed, placed_runs, all_runs}
 use Rattle.yds_trace_laws.specs.AsSlots.{job_read, jobs_read, slot_read, slots_read}
-use Rattle.yds_trace_laws.proofs.Ordered.{put_in-all, in_order-all, append-all, map-all, filter_map-all}
+use Rattle.yds_trace_laws.specs.InUnits.{document_in, NoneBefore}
+use Rattle.yds_trace_laws.proofs.Ordered.{filter-all, put_in-all, in_order-all, append-all, map-all, filter_map-all}
 use Rattle.yds_trace_laws.proofs.Runs.{IsForward, runs_forward}
 use Rattle.yds_trace_laws.proofs.Times.{lateness_is_kept}
 use Rattle.yds_trace_laws.proofs.Judging.{zero_before}
 use Rattle.yds_trace_document.specs.declared.fault.DocumentFault.{DocumentFault}
 use Rattle.yds_trace_document.specs.declared.fault.DocumentFault.TheVariants as faults
-use Rattle.yds_trace_document.specs.Settled.{settled_of}
+use Rattle.yds_trace_document.specs.Settled.{Settled}
 use Rattle.yds_trace_document.specs.Limits.{fault_if, is_long_name, ends_late, is_beyond, is_heavy, job_fault, limit_fault}
 use Rattle.yds_trace_text.specs.Text.{name_of}
 use Rattle.yds_trace_again.specs.Again.{document_read}
@@ -50,13 +51,13 @@ none_passes p xs none k d within =
     fails_before_first p xs k d (omega (arith, past, within))
 
 -- of each written job: its name is short, its times and its work are within the limits
-record IsSmall (job : Written) : Type 0 where
+pub record IsSmall (job : Written) : Type 0 where
   name : length job.name ≤ MAX_NAME
   deadline : job.deadline ≤ MAX_TIME
   ends : list_any ends_late job.runs ≡ false
   work : job.work ≤ MAX_WORK
 
-record PassesLimits (jobs : List Written) (runs : List Placed) : Type 0 where
+pub record PassesLimits (jobs : List Written) (runs : List Placed) : Type 0 where
   few_jobs : length jobs ≤ MAX_JOBS
   few_runs : length runs ≤ MAX_SLOTS
   small : All IsSmall jobs
@@ -71,12 +72,11 @@ small_by job long beyond heavy =
       work = ltb-false MAX_WORK job.work heavy;
     }
 
-passes_limits : (strict : Bool) (asked : Asked) (past : List Said) → limit_fault strict (settled_of asked past) ≡ None →
-    PassesLimits (document_of asked past).jobs (document_of asked past).runs
-passes_limits strict asked past none =
-    let jobs : List Written = (document_of asked past).jobs in
+pub passes_limits : (strict : Bool) (settled : Settled) → limit_fault strict settled ≡ None → PassesLimits settled.document.jobs settled.document.runs
+passes_limits strict settled none =
+    let jobs : List Written = settled.document.jobs in
     let one = none_of_two (fault_if (nat_lt MAX_JOBS (length jobs)) faults.TooManyJobs) _ none in
-    let two = none_of_two (fault_if (nat_lt MAX_SLOTS (length (document_of asked past).runs)) faults.TooManyRuns) _ one.1 in
+    let two = none_of_two (fault_if (nat_lt MAX_SLOTS (length settled.document.runs)) faults.TooManyRuns) _ one.1 in
     let three = none_of_two (job_fault jobs) _ two.1 in
     let long = none_of_two (option_map (λ place. faults.NameTooLong place) (position is_long_name jobs)) _ three.0 in
     let beyond = none_of_two (option_map (λ place. faults.TimeTooGreat place) (position is_beyond jobs)) _ long.1 in
@@ -85,14 +85,18 @@ passes_limits strict asked past none =
     let works = none_passes is_heavy jobs (no_place (λ place. faults.WorkTooGreat place) (position is_heavy jobs) beyond.1) in
     record {
       few_jobs = ltb-false MAX_JOBS (length jobs) (no_fault_if (nat_lt MAX_JOBS (length jobs)) faults.TooManyJobs one.0);
-      few_runs = ltb-false MAX_SLOTS (length (document_of asked past).runs) (no_fault_if (nat_lt MAX_SLOTS (length (document_of asked past).runs)) faults.TooManyRuns two.0);
+      few_runs = ltb-false MAX_SLOTS (length settled.document.runs) (no_fault_if (nat_lt MAX_SLOTS (length settled.document.runs)) faults.TooManyRuns two.0);
       small = λ k d within. small_by (get_or jobs k d) (names k d within) (times k d within) (works k d within);
     }
+
+pub no_jobs : (jobs : List Written) → (length jobs == 0) ≡ true → PassesLimits jobs (all_runs jobs)
+no_jobs [] none = record { few_jobs = omega arith; few_runs = omega arith; small = All-nil IsSmall }
+no_jobs (job ∷ jobs) none = absurd (omega (arith, eqb-true (length (job ∷ jobs)) 0 none))
 
 -- # What is judged
 
 -- a job of one of the tasks with these numbers
-record IsOfTask (asked : Asked) (low high : ℕ) (one : Judged) : Type 0 where
+pub record IsOfTask (asked : Asked) (low high : ℕ) (one : Judged) : Type 0 where
   number : ℕ
   not_before : low ≤ number
   not_after : number < high
@@ -146,7 +150,7 @@ of_all_tasks asked past =
 -- # Names that differ
 
 -- no two elements have the same short name
-abbrev Apart : {A : Type 0} → (A → List ℕ) → List A → Type 0
+abbrev pub Apart : {A : Type 0} → (A → List ℕ) → List A → Type 0
 Apart name [] = Unit {0}
 Apart name (x ∷ xs) = AllByRecursion (λ y. Other (name x) (name y)) xs × Apart name xs
 
@@ -168,7 +172,7 @@ apart_append name [] ys across first second = second
 apart_append name (x ∷ xs) ys across first second =
     (append-all (λ y. Other (name x) (name y)) xs ys first.0 across.0, apart_append name xs ys across.1 first.1 second)
 
-abbrev judged_name : Judged → List ℕ
+abbrev pub judged_name : Judged → List ℕ
 judged_name one = one.name
 
 later_names : (asked : Asked) (past : List Said) (number : ℕ) (before : Bool) (k start : ℕ) (jobs : List TracedJob) → k < start →
@@ -304,17 +308,54 @@ written_is units one job positive later is = by (stands one) (is_some one.late) 
     by false true stand is = let same : without_runs units one ≡ job = cc in subst IsWritten same without
     by false false stand is = cc
 
-due_later : (asked : Asked) (past : List Said) → IsAsked asked → All (IsDueLater (units_of asked past)) (all_judged asked past)
-due_later asked past fit k d within =
-    let one = All-from_recursion (IsOfTask asked 0 (length asked.tasks)) (all_judged asked past) (of_all_tasks asked past) k d within in
-    let long : asked.unit ≤ (task_at asked one.number).deadline = fit.deadlines one.number no_task one.not_after in
-    record { zero_first = zero_before asked past k d within; due_later = omega (arith, one.due_is, long) }
+-- # Some of the jobs
 
-all_written : (asked : Asked) (past : List Said) → IsAsked asked → AllByRecursion IsWritten (written_jobs asked past)
-all_written asked past fit =
-    filter_map-all (written_of (units_of asked past)) (IsDueLater (units_of asked past)) IsWritten
-    (λ one job later is. written_is (units_of asked past) one job fit.has_unit later is) (all_judged asked past)
-    (recursion_from_All (IsDueLater (units_of asked past)) (all_judged asked past) (due_later asked past fit))
+-- Jobs of a trace whose names differ, in units of their own: none that stands as it is begins before time 0.
+pub record AreSome (asked : Asked) (units : Units) (ones : List Judged) : Type 0 where
+  pub of_tasks : AllByRecursion (IsOfTask asked 0 (length asked.tasks)) ones
+  pub apart : Apart judged_name ones
+  pub time_is : units.time ≡ asked.unit
+  pub none_before : NoneBefore units ones
+
+apart_filter : {A : Type 0} (name : A → List ℕ) (test : A → Bool) (xs : List A) → Apart name xs → Apart name (filter test xs)
+apart_filter name test [] apart = tt
+apart_filter name test (x ∷ xs) apart =
+    cond_both (test x) (x ∷ filter test xs) (filter test xs) (Apart name)
+    (λ held. (filter-all (λ y. Other (name x) (name y)) test xs apart.0, apart_filter name test xs apart.1))
+    (λ denied. apart_filter name test xs apart.1)
+
+all_apart : (asked : Asked) (past : List Said) → AreLabelled asked.tasks → Apart judged_name (all_judged asked past)
+all_apart asked past labelled =
+    apart_in_order judged_name (λ one. one.job.begin) (judged_from asked past 0 asked.tasks) (apart_from asked past 0 asked.tasks labelled.different (omega arith))
+
+pub all_are_some : (asked : Asked) (past : List Said) → AreLabelled asked.tasks → AreSome asked (units_of asked past) (all_judged asked past)
+all_are_some asked past labelled = record {
+  of_tasks = of_all_tasks asked past;
+  apart = all_apart asked past labelled;
+  time_is = refl;
+  none_before = zero_before asked past;
+}
+
+pub those_are_some : (asked : Asked) (past : List Said) (units : Units) (test : Judged → Bool) → AreLabelled asked.tasks → units.time ≡ asked.unit →
+    NoneBefore units (filter test (all_judged asked past)) → AreSome asked units (filter test (all_judged asked past))
+those_are_some asked past units test labelled time none_before = record {
+  of_tasks = filter-all (IsOfTask asked 0 (length asked.tasks)) test (all_judged asked past) (of_all_tasks asked past);
+  apart = apart_filter judged_name test (all_judged asked past) (all_apart asked past labelled);
+  time_is = time;
+  none_before = none_before;
+}
+
+due_later : (asked : Asked) (units : Units) (ones : List Judged) → IsAsked asked → AreSome asked units ones → All (IsDueLater units) ones
+due_later asked units ones fit some k d within =
+    let one = All-from_recursion (IsOfTask asked 0 (length asked.tasks)) ones some.of_tasks k d within in
+    let long : asked.unit ≤ (task_at asked one.number).deadline = fit.deadlines one.number no_task one.not_after in
+    record { zero_first = some.none_before k d within; due_later = omega (arith, one.due_is, long, some.time_is) }
+
+all_written : (asked : Asked) (units : Units) (ones : List Judged) → IsAsked asked → AreSome asked units ones → AllByRecursion IsWritten (filter_map (written_of units) ones)
+all_written asked units ones fit some =
+    filter_map-all (written_of units) (IsDueLater units) IsWritten
+    (λ one job later is. written_is units one job (omega (arith, fit.has_unit, some.time_is)) later is) ones
+    (recursion_from_All (IsDueLater units) ones (due_later asked units ones fit some))
 
 -- # The document
 
@@ -394,20 +435,16 @@ names_fit : (jobs : List Written) → AllByRecursion (λ job. IsShown job.name) 
 names_fit [] shown small = tt
 names_fit (job ∷ jobs) shown small = (name_fits job.name shown.0 small.0.name, names_fit jobs shown.1 small.1)
 
-pub fits : (asked : Asked) (strict : Bool) (past : List Said) → IsAsked asked → AreLabelled asked.tasks → limit_fault strict (settled_of asked past) ≡ None →
-    IsFit (document_of asked past).jobs (document_of asked past).runs
-fits asked strict past fit labelled none =
-    let jobs : List Written = written_jobs asked past in
-    let limits = passes_limits strict asked past none in
+pub fits : (asked : Asked) (units : Units) (ones : List Judged) → IsAsked asked → AreLabelled asked.tasks → AreSome asked units ones →
+    PassesLimits (document_in units ones).jobs (document_in units ones).runs → IsFit (document_in units ones).jobs (document_in units ones).runs
+fits asked units ones fit labelled some limits =
+    let jobs : List Written = (document_in units ones).jobs in
     let small : AllByRecursion IsSmall jobs = recursion_from_All IsSmall jobs limits.small in
-    let written : AllByRecursion IsWritten jobs = all_written asked past fit in
-    let ones = of_all_tasks asked past in
-    let apart : Apart name_of jobs =
-    written_apart (units_of asked past) (all_judged asked past)
-    (apart_in_order judged_name (λ one. one.job.begin) (judged_from asked past 0 asked.tasks) (apart_from asked past 0 asked.tasks labelled.different (omega arith))) in
+    let written : AllByRecursion IsWritten jobs = all_written asked units ones fit some in
+    let apart : Apart name_of jobs = written_apart units ones some.apart in
     let shown_names : AllByRecursion (λ job. IsShown job.name) jobs =
-    filter_map-all (written_of (units_of asked past)) (IsOfTask asked 0 (length asked.tasks)) (λ job. IsShown job.name)
-    (λ one job of is. subst IsShown (written_name (units_of asked past) one job is) (shown asked one labelled of)) (all_judged asked past) ones in
+    filter_map-all (written_of units) (IsOfTask asked 0 (length asked.tasks)) (λ job. IsShown job.name)
+    (λ one job of is. subst IsShown (written_name units one job is) (shown asked one labelled of)) ones some.of_tasks in
     let placed : AllByRecursion (λ (placed : Placed). (placed.job < length jobs) × IsRun placed.run) (all_runs jobs) =
     in_order-all (λ (placed : Placed). (placed.job < length jobs) × IsRun placed.run) (λ placed. placed.run.from) (flat_map placed_runs (enumerate_from 0 jobs))
     (placed_are 0 (length jobs) jobs (omega arith) (all_runs_are jobs written small)) in

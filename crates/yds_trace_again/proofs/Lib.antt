@@ -5,3 +5,5 @@ pub mod Fits
 pub mod Comments
 pub mod Again
 mod Examples
+pub mod Holding
+pub mod Parts

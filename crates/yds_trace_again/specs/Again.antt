@@ -18,9 +18,13 @@ document_read document = record no_document {
   slots = slots_read document.runs;
 }
 
--- The text is read as the document of the trace: just its jobs and its runs, in their order. That the document is possible says that it is
--- within the limits, and that no two jobs have the same name. It may be read: it isn't too long.
-pub record IsReadAgain (asked : Asked) (past : List Said) (text : List ℕ) : Type 0 where
-  pub possible : IsDocument (document_read (document_of asked past))
-  pub read : reading text ≡ Ok (document_read (document_of asked past))
+-- The text is read as this document: just its jobs and its runs, in their order. That the document is possible says that it is within the
+-- limits, and that no two jobs have the same name. It may be read: it isn't too long.
+pub record IsReadAs (document : Document) (text : List ℕ) : Type 0 where
+  pub possible : IsDocument (document_read document)
+  pub read : reading text ≡ Ok (document_read document)
   pub short : length text ≤ MAX_INPUT
+
+-- as the document of the trace
+abbrev pub IsReadAgain : Asked → List Said → List ℕ → Type 0
+IsReadAgain asked past text = IsReadAs (document_of asked past) text

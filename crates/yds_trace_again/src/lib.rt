@@ -6,4 +6,4 @@
 
 mod laws;
 
-pub use laws::read_again;
+pub use laws::{late_jobs_are_named, parts_are_read_again, read_again, some_are_read_again};

@@ -12,6 +12,9 @@ ghost use Rattle.yds_model.specs.Status.{status_code};
 ghost use Rattle.yds_trace_cli.specs.Codes.{code_without_words};
 ghost use Rattle.yds_trace_cli.specs.Telling.{Tells, text_without_words};
 
+mod small_writes;
+
+use small_writes::SmallWrites;
 use std::io::{BufWriter, ErrorKind};
 use std::process::ExitCode;
 use std::{env, io};
@@ -87,12 +90,12 @@ fn tell<K: Sink>(text: &[u8], code: u8, sink: &mut K) -> u8
     }
 }
 
-/// Runs over standard input, and over standard output with a buffer before it, which `run` flushes.
+/// Runs over standard input, and over standard output with a buffer before it, which is given small pieces and which `run` flushes.
 fn run_words(rt: &HostRuntime) -> io::Result<Status> {
     let line: Vec<String> = env::args(rt)?.collect(rt.alloc())?;
     let output = BufWriter::with_capacity(rt.alloc(), OUTPUT_BUFFER, rt.stdout())?;
     let mut source = StdSource::new(rt.stdin());
-    let mut sink = StdSink::new(output);
+    let mut sink = SmallWrites::new(StdSink::new(output));
     Ok(run(rt.alloc(), words_of(&line), &mut source, &mut sink))
 }
 

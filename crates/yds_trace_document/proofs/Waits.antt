@@ -51,7 +51,7 @@ and_true false = refl
 
 -- # One task
 
-numbered_append : {A : Type 0} (n : ℕ) (xs ys : List A) → enumerate_from n (xs ++ ys) ≡ enumerate_from n xs ++ enumerate_from (n + length xs) ys
+pub numbered_append : {A : Type 0} (n : ℕ) (xs ys : List A) → enumerate_from n (xs ++ ys) ≡ enumerate_from n xs ++ enumerate_from (n + length xs) ys
 numbered_append {A} n [] ys = ap (λ (m : ℕ). enumerate_from m ys) (let e : n ≡ n + 0 = omega arith in e)
 numbered_append {A} n (x ∷ xs) ys =
     ap (λ (l : List (ℕ × A)). let pair : ℕ × A = (n, x) in pair ∷ l)

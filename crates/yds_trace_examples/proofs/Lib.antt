@@ -3,3 +3,5 @@ mod JobExamples
 mod LateExamples
 mod DocumentExamples
 mod FaultExamples
+mod PartExamples
+mod ToldExamples

@@ -5,19 +5,20 @@ use Rattle.yds_kernel.specs.Event.{Said}
 use Rattle.yds_trace.specs.declared.job.Stretch.{Stretch}
 use Rattle.yds_trace.specs.declared.reason.Reason.{Reason}
 use Rattle.yds_trace.specs.declared.reason.Reason.TheVariants as reasons
-use Rattle.yds_trace.specs.Asked.{Task, Asked, IsAsked, task_at, is_after_from}
+use Rattle.yds_trace.specs.Asked.{Task, Asked, task_at, is_after_from}
 use Rattle.yds_trace.specs.Late.{last_asked, is_open, lateness}
 use Rattle.yds_trace.specs.Jobs.{Job}
 use Rattle.yds_trace.specs.WrittenTime.{Units, Run, run_of}
-use Rattle.yds_trace.specs.Document.{is_lost, reaches_to, is_elsewhere, is_of_unknown_speed, reason_of, Judged, judged, all_judged, stands, units_of, Written, with_runs, without_runs, written_runs, written_of, written_jobs, Placed, placed_runs, all_runs, document_of}
+use Rattle.yds_trace.specs.Document.{is_lost, reaches_to, is_elsewhere, is_of_unknown_speed, reason_of, Judged, judged, all_judged, stands, units_of, Written, with_runs, without_runs, written_runs, written_of, Placed, placed_runs, all_runs}
 use Rattle.yds_trace_laws.specs.Faithful.{IsAt, IsShown, IsStanding, IsTraced, IsTracedJob, HasRun, HasItsRuns}
-use Rattle.yds_trace_laws.specs.Laws.{DocumentsAreFaithful}
+use Rattle.yds_trace_laws.specs.InUnits.{document_in}
+use Rattle.yds_trace_laws.specs.Laws.{SomeAreFaithful, DocumentsAreFaithful}
 use Rattle.yds_trace_laws.proofs.Seen.{stands_written}
 use Rattle.yds_trace_laws.proofs.Ordered.{in_order-all, in_order-all_back, append-all, append-all_left, append-all_right, filter_map-all}
 use Rattle.yds_trace_laws.proofs.Placing.{found, place}
 use Rattle.yds_trace_laws.proofs.Times.{order_is_kept}
 use Rattle.yds_trace_laws.proofs.Judging.{each_judged}
-use Rattle.yds_trace_laws.proofs.Runs.{all_weaker, reverse-all, reverse-all_back, IsForward, IsRunOf, WhereForward, runs_are_stretches, IsInSome, stretches_have_runs}
+use Rattle.yds_trace_laws.proofs.Runs.{all_weaker, contained, each_of_these, reverse-all, reverse-all_back, IsForward, IsRunOf, WhereForward, runs_are_stretches, IsInSome, stretches_have_runs}
 
 -- # A job that stands as it is
 
@@ -28,7 +29,7 @@ pub record IsWhole (asked : Asked) (one : Judged) : Type 0 where
 
 none_left : (first second third fourth fifth moved unknown : Bool) (one two three four five six seven : Reason)
     → is_none (if first then Some one else (if second then Some two else (if third then Some three else (if fourth then Some four
-    else (if fifth then Some five else (if moved then Some six else (if unknown then Some seven else None))))))) ≡ true → (moved ≡ false) × (unknown ≡ false)
+    else (if fifth then Some five else (if moved then Some six else (if unknown then Some seven else None))))))) ≡ true → (fourth ≡ false) × (moved ≡ false) × (unknown ≡ false)
 none_left true second third fourth fifth moved unknown one two three four five six seven none = cc
 none_left false true third fourth fifth moved unknown one two three four five six seven none = cc
 none_left false false true fourth fifth moved unknown one two three four five six seven none = cc
@@ -36,10 +37,12 @@ none_left false false false true fifth moved unknown one two three four five six
 none_left false false false false true moved unknown one two three four five six seven none = cc
 none_left false false false false false true unknown one two three four five six seven none = cc
 none_left false false false false false false true one two three four five six seven none = cc
-none_left false false false false false false false one two three four five six seven none = (refl, refl)
+none_left false false false false false false false one two three four five six seven none = (refl, refl, refl)
 
-whole_job : (asked : Asked) (past : List Said) (task : Task) (job : Job) → is_none (reason_of asked past task job) ≡ true →
-    (list_any (is_elsewhere asked.processor) job.stretches ≡ false) × (list_any is_of_unknown_speed job.stretches ≡ false)
+-- it has ended or is known to be late, and its runs are known
+pub whole_job : (asked : Asked) (past : List Said) (task : Task) (job : Job) → is_none (reason_of asked past task job) ≡ true →
+    ((is_open job.end && is_none (lateness asked task (last_asked asked past) job)) ≡ false)
+    × (list_any (is_elsewhere asked.processor) job.stretches ≡ false) × (list_any is_of_unknown_speed job.stretches ≡ false)
 whole_job asked past task job whole =
     none_left (not (is_after_from asked.from job.begin)) (is_lost (last_asked asked past) job.end) job.switch_missing
     (is_open job.end && is_none (lateness asked task (last_asked asked past) job)) (not job.begin_known)
@@ -49,8 +52,8 @@ whole_job asked past task job whole =
 
 whole_is : (asked : Asked) (past : List Said) (number : ℕ) (before : Bool) (numbered : ℕ × Job) → IsWhole asked (judged asked past number before numbered)
 whole_is asked past number before numbered = record {
-  none_elsewhere = λ whole. (whole_job asked past (task_at asked number) numbered.1 whole).0;
-  none_unknown = λ whole. (whole_job asked past (task_at asked number) numbered.1 whole).1;
+  none_elsewhere = λ whole. (whole_job asked past (task_at asked number) numbered.1 whole).1;
+  none_unknown = λ whole. (whole_job asked past (task_at asked number) numbered.1 whole).2;
 }
 
 pub same_processor : (b : Bool) → not b ≡ false → b ≡ true
@@ -100,22 +103,21 @@ shown asked units one positive whole stand =
 
 -- # Each job
 
-traced_job : (asked : Asked) (past : List Said) (one : Judged) (job : Written) → Contains (all_judged asked past) one → written_of (units_of asked past) one ≡ Some job →
-    IsTracedJob asked past job
-traced_job asked past one job has is = chosen (stands one) refl one.late refl is
+traced_job : (units : Units) (ones : List Judged) (one : Judged) (job : Written) → Contains ones one → written_of units one ≡ Some job → IsTracedJob units ones job
+traced_job units ones one job has is = chosen (stands one) refl one.late refl is
   where
     chosen : (b : Bool) → stands one ≡ b → (late : Option ℕ) → one.late ≡ late
-        → (if b then Some (with_runs (units_of asked past) one) else (if is_some late then Some (without_runs (units_of asked past) one) else None)) ≡ Some job → IsTracedJob asked past job
+        → (if b then Some (with_runs units one) else (if is_some late then Some (without_runs units one) else None)) ≡ Some job → IsTracedJob units ones job
     chosen true stand late late_is given =
-        let same : with_runs (units_of asked past) one ≡ job = cc in record { one = one; is_judged = has; written = inl (stand, sym same) }
+        let same : with_runs units one ≡ job = cc in record { one = one; is_judged = has; written = inl (stand, sym same) }
     chosen false stand (Some n) late_is given =
-        let same : without_runs (units_of asked past) one ≡ job = cc in record { one = one; is_judged = has; written = inr (stand, (n, late_is), sym same) }
+        let same : without_runs units one ≡ job = cc in record { one = one; is_judged = has; written = inr (stand, (n, late_is), sym same) }
     chosen false stand None late_is given = cc
 
-traced_jobs : (asked : Asked) (past : List Said) → AllByRecursion (IsTracedJob asked past) (written_jobs asked past)
-traced_jobs asked past =
-    filter_map-all (written_of (units_of asked past)) (Contains (all_judged asked past)) (IsTracedJob asked past) (traced_job asked past) (all_judged asked past)
-    (recursion_from_All (Contains (all_judged asked past)) (all_judged asked past) (All-contains_itself (all_judged asked past)))
+traced_jobs : (units : Units) (ones : List Judged) → AllByRecursion (IsTracedJob units ones) (document_in units ones).jobs
+traced_jobs units ones =
+    filter_map-all (written_of units) (Contains ones) (IsTracedJob units ones) (traced_job units ones) ones
+    (recursion_from_All (Contains ones) ones (All-contains_itself ones))
 
 -- # Each run
 
@@ -155,63 +157,64 @@ at_all P [] n x at all = absurd at
 at_all P (y ∷ ys) zero x at all = subst P at all.0
 at_all P (y ∷ ys) (suc n) x at all = at_all P ys n x at all.1
 
-pub contained : {A : Type 0} (P : A → Type 0) (xs : List A) (x : A) → Contains xs x → All P xs → P x
-contained P xs x has all = subst P has.2 (all has.0 x has.1)
-
 pub all_whole : (asked : Asked) (past : List Said) → All (IsWhole asked) (all_judged asked past)
 all_whole asked past = All-from_recursion (IsWhole asked) (all_judged asked past) (each_judged (IsWhole asked) asked past (whole_is asked past))
 
-runs_of_job : (asked : Asked) (past : List Said) → IsAsked asked → (n : ℕ) (job : Written) → IsAt (written_jobs asked past) n job → AllByRecursion (λ run. IsTraced asked past (place n run)) job.runs
-runs_of_job asked past fit n job at = by (at_all (IsTracedJob asked past) (written_jobs asked past) n job at (traced_jobs asked past))
+-- Each run of a job is one of stretches that are shown, where the job's stretches are.
+abbrev AreWhole : Asked → List Judged → Type 0
+AreWhole asked ones = All (IsWhole asked) ones
+
+runs_of_job : (asked : Asked) (units : Units) (ones : List Judged) → 1 ≤ units.time → AreWhole asked ones → (n : ℕ) (job : Written) → IsAt (document_in units ones).jobs n job →
+    AllByRecursion (λ run. IsTraced asked units ones (place n run)) job.runs
+runs_of_job asked units ones positive whole n job at = by (at_all (IsTracedJob units ones) (document_in units ones).jobs n job at (traced_jobs units ones))
   where
-    standing : (one : Judged) → Contains (all_judged asked past) one → stands one ≡ true → IsAt (written_jobs asked past) n (with_runs (units_of asked past) one) →
-        AllByRecursion (λ run. IsTraced asked past (place n run)) (written_runs (units_of asked past) one.job)
+    standing : (one : Judged) → Contains ones one → stands one ≡ true → IsAt (document_in units ones).jobs n (with_runs units one) →
+        AllByRecursion (λ run. IsTraced asked units ones (place n run)) (written_runs units one.job)
     standing one has stand there =
-        all_weaker (IsRunOf (units_of asked past) (IsShown asked one)) (λ run. IsTraced asked past (place n run))
+        all_weaker (IsRunOf units (IsShown asked one)) (λ run. IsTraced asked units ones (place n run))
         (λ run is. record {
           one = one;
           standing = record { is_judged = has; stands_so = stand; is_there = there };
           stretches = is.stretches;
           shown = All-from_recursion (IsShown asked one) is.stretches is.each;
           rounded = is.rounded;
-        }) (written_runs (units_of asked past) one.job)
-        (runs_are_stretches (units_of asked past) (IsShown asked one) (reverse one.job.stretches)
-        (shown asked (units_of asked past) one fit.has_unit (contained (IsWhole asked) (all_judged asked past) one has (all_whole asked past)) stand))
+        }) (written_runs units one.job)
+        (runs_are_stretches units (IsShown asked one) (reverse one.job.stretches) (shown asked units one positive (contained (IsWhole asked) ones one has whole) stand))
 
-    by : IsTracedJob asked past job → AllByRecursion (λ run. IsTraced asked past (place n run)) job.runs
+    by : IsTracedJob units ones job → AllByRecursion (λ run. IsTraced asked units ones (place n run)) job.runs
     by traced = elim traced.written [
-      | inl whole ↦
-          subst (λ (written : Written). AllByRecursion (λ run. IsTraced asked past (place n run)) written.runs) (sym whole.1)
-          (standing traced.one traced.is_judged whole.0 (subst (IsAt (written_jobs asked past) n) whole.1 at))
-      | inr late ↦ subst (λ (written : Written). AllByRecursion (λ run. IsTraced asked past (place n run)) written.runs) (sym late.2) tt
+      | inl stand ↦
+          subst (λ (written : Written). AllByRecursion (λ run. IsTraced asked units ones (place n run)) written.runs) (sym stand.1)
+          (standing traced.one traced.is_judged stand.0 (subst (IsAt (document_in units ones).jobs n) stand.1 at))
+      | inr late ↦ subst (λ (written : Written). AllByRecursion (λ run. IsTraced asked units ones (place n run)) written.runs) (sym late.2) tt
     ]
 
-no_run_invented : (asked : Asked) (past : List Said) → IsAsked asked → AllByRecursion (IsTraced asked past) (all_runs (written_jobs asked past))
-no_run_invented asked past fit =
-    in_order-all (IsTraced asked past) (λ placed. placed.run.from) (flat_map placed_runs (enumerate_from 0 (written_jobs asked past)))
-    (placed_from (IsTraced asked past) 0 (written_jobs asked past)
+no_run_invented : (asked : Asked) (units : Units) (ones : List Judged) → 1 ≤ units.time → AreWhole asked ones → AllByRecursion (IsTraced asked units ones) (document_in units ones).runs
+no_run_invented asked units ones positive whole =
+    let jobs : List Written = (document_in units ones).jobs in
+    in_order-all (IsTraced asked units ones) (λ placed. placed.run.from) (flat_map placed_runs (enumerate_from 0 jobs))
+    (placed_from (IsTraced asked units ones) 0 jobs
     (λ n job at.
-    all_weaker (λ run. IsTraced asked past (place n run)) (λ run. IsTraced asked past (place (0 + n) run))
-    (λ run is. let number : n ≡ 0 + n = omega arith in subst (λ (m : ℕ). IsTraced asked past (place m run)) number is) job.runs (runs_of_job asked past fit n job at)))
+    all_weaker (λ run. IsTraced asked units ones (place n run)) (λ run. IsTraced asked units ones (place (0 + n) run))
+    (λ run is. let number : n ≡ 0 + n = omega arith in subst (λ (m : ℕ). IsTraced asked units ones (place m run)) number is) job.runs
+    (runs_of_job asked units ones positive whole n job at)))
 
 -- # No run is missing
 
 -- the run that has a stretch, as it is placed
-placed_run : (asked : Asked) (past : List Said) (one : Judged) (n : ℕ) (stretch : Stretch) (runs : List Run) → IsStanding asked past n one →
-    AllByRecursion (λ run. Contains (document_of asked past).runs (place n run)) runs → IsInSome (units_of asked past) stretch runs → HasRun asked past one stretch
-placed_run asked past one n stretch [] standing all there = absurd there
-placed_run asked past one n stretch (run ∷ runs) standing all (inl within) = record { placed = place n run; is_there = all.0; standing = standing; within = within }
-placed_run asked past one n stretch (run ∷ runs) standing all (inr more) = placed_run asked past one n stretch runs standing all.1 more
+placed_run : (units : Units) (ones : List Judged) (one : Judged) (n : ℕ) (stretch : Stretch) (runs : List Run) → IsStanding units ones n one →
+    AllByRecursion (λ run. Contains (document_in units ones).runs (place n run)) runs → IsInSome units stretch runs → HasRun units ones one stretch
+placed_run units ones one n stretch [] standing all there = absurd there
+placed_run units ones one n stretch (run ∷ runs) standing all (inl within) = record { placed = place n run; is_there = all.0; standing = standing; within = within }
+placed_run units ones one n stretch (run ∷ runs) standing all (inr more) = placed_run units ones one n stretch runs standing all.1 more
 
-no_run_missing : (asked : Asked) (past : List Said) → All (HasItsRuns asked past) (all_judged asked past)
-no_run_missing asked past i d within stand =
-    let one : Judged = get_or (all_judged asked past) i d in
-    let units : Units = units_of asked past in
-    let jobs : List Written = written_jobs asked past in
+no_run_missing : (units : Units) (ones : List Judged) → All (HasItsRuns units ones) ones
+no_run_missing units ones i d within stand =
+    let one : Judged = get_or ones i d in
+    let jobs : List Written = (document_in units ones).jobs in
     let runs : List Placed = all_runs jobs in
-    let at = found (written_of units) (all_judged asked past) i d (with_runs units one) within (stands_written units one stand) in
-    let standing : IsStanding asked past at.0 one =
-    record { is_judged = All-contains_itself (all_judged asked past) i d within; stands_so = stand; is_there = at.1 } in
+    let at = found (written_of units) ones i d (with_runs units one) within (stands_written units one stand) in
+    let standing : IsStanding units ones at.0 one = record { is_judged = All-contains_itself ones i d within; stands_so = stand; is_there = at.1 } in
     let there : AllByRecursion (Contains runs) (flat_map placed_runs (enumerate_from 0 jobs)) =
     in_order-all_back (Contains runs) (λ placed. placed.run.from) (flat_map placed_runs (enumerate_from 0 jobs))
     (recursion_from_All (Contains runs) runs (All-contains_itself runs)) in
@@ -219,16 +222,21 @@ no_run_missing asked past i d within stand =
     all_weaker (λ run. Contains runs (place (0 + at.0) run)) (λ run. Contains runs (place at.0 run))
     (λ run has. let number : 0 + at.0 ≡ at.0 = omega arith in subst (λ (m : ℕ). Contains runs (place m run)) number has) (written_runs units one.job)
     (placed_back (Contains runs) 0 at.0 jobs (with_runs units one) at.1 there) in
-    All-from_recursion (λ stretch. IsForward (run_of units stretch) → HasRun asked past one stretch) one.job.stretches
-    (reverse-all_back (λ stretch. IsForward (run_of units stretch) → HasRun asked past one stretch) one.job.stretches
-    (all_weaker (λ stretch. IsForward (run_of units stretch) → IsInSome units stretch (written_runs units one.job)) (λ stretch. IsForward (run_of units stretch) → HasRun asked past one stretch)
-    (λ stretch has forward. placed_run asked past one at.0 stretch (written_runs units one.job) standing its (has forward)) (reverse one.job.stretches)
+    All-from_recursion (λ stretch. IsForward (run_of units stretch) → HasRun units ones one stretch) one.job.stretches
+    (reverse-all_back (λ stretch. IsForward (run_of units stretch) → HasRun units ones one stretch) one.job.stretches
+    (all_weaker (λ stretch. IsForward (run_of units stretch) → IsInSome units stretch (written_runs units one.job)) (λ stretch. IsForward (run_of units stretch) → HasRun units ones one stretch)
+    (λ stretch has forward. placed_run units ones one at.0 stretch (written_runs units one.job) standing its (has forward)) (reverse one.job.stretches)
     (stretches_have_runs units (reverse one.job.stretches))))
 
--- the law
-pub documents_are_faithful : DocumentsAreFaithful
-documents_are_faithful asked past fit = record {
-  no_job_invented = All-from_recursion (IsTracedJob asked past) (written_jobs asked past) (traced_jobs asked past);
-  no_run_invented = All-from_recursion (IsTraced asked past) (all_runs (written_jobs asked past)) (no_run_invented asked past fit);
-  no_run_missing = no_run_missing asked past;
+-- # The laws
+
+pub some_are_faithful : SomeAreFaithful
+some_are_faithful asked past units ones positive are = record {
+  no_job_invented = All-from_recursion (IsTracedJob units ones) (document_in units ones).jobs (traced_jobs units ones);
+  no_run_invented = All-from_recursion (IsTraced asked units ones) (document_in units ones).runs
+      (no_run_invented asked units ones positive (each_of_these (IsWhole asked) (all_judged asked past) ones are (all_whole asked past)));
+  no_run_missing = no_run_missing units ones;
 }
+
+pub documents_are_faithful : DocumentsAreFaithful
+documents_are_faithful asked past fit = some_are_faithful asked past (units_of asked past) (all_judged asked past) fit.has_unit (All-contains_itself (all_judged asked past))

@@ -4,8 +4,11 @@ pub mod Placing
 pub mod AsRead
 pub mod Judging
 pub mod Seen
-pub mod Begins
+pub mod Few
 pub mod Runs
+pub mod Holding
+pub mod Begins
 pub mod Faithful
 pub mod Sharing
 pub mod Units
+pub mod First

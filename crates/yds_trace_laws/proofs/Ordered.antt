@@ -1,5 +1,5 @@
 -- Lists put in order have the same elements and the same sums.
-use Rattle.yds_model.proofs.Common.{◌≡◌, ℕ, ◌+◌, List, [], ◌∷◌, ◌++◌, map, Bool, true, false, nat_le, if◌then◌else◌, Option, Some, None, refl, arith, sum_by, sum_by-cons}
+use Rattle.yds_model.proofs.Common.{cond_both, filter, ◌≡◌, ℕ, ◌+◌, List, [], ◌∷◌, ◌++◌, map, Bool, true, false, nat_le, if◌then◌else◌, Option, Some, None, refl, arith, sum_by, sum_by-cons, All, All-cons, All-head, All-nil, All-tail}
 use Rattle.std.specs.List.{AllByRecursion, filter_map, cons_option}
 use Rattle.yds_trace.specs.Document.{put_in, in_order}
 
@@ -67,6 +67,18 @@ append-all P (x ∷ xs) ys first second = (first.0, append-all P xs ys first.1 s
 pub map-all : {A B : Type 0} (P : B → Type 0) (f : A → B) (xs : List A) → ((x : A) → P (f x)) → AllByRecursion P (map f xs)
 map-all P f [] each = tt
 map-all P f (x ∷ xs) each = (each x, map-all P f xs each)
+
+-- what holds of each value holds of each element by its value
+pub All-map_back : {A B : Type 0} (P : B → Type 0) (f : A → B) (xs : List A) → All P (map f xs) → All (λ x. P (f x)) xs
+All-map_back P f [] all = All-nil _
+All-map_back P f (x ∷ xs) all =
+    All-cons (λ x. P (f x)) x xs (All-head P (f x) (map f xs) all) (All-map_back P f xs (All-tail P (f x) (map f xs) all))
+
+-- of those that pass a test
+pub filter-all : {A : Type 0} (P : A → Type 0) (p : A → Bool) (xs : List A) → AllByRecursion P xs → AllByRecursion P (filter p xs)
+filter-all P p [] all = tt
+filter-all P p (x ∷ xs) all =
+    cond_both (p x) (x ∷ filter p xs) (filter p xs) (AllByRecursion P) (λ held. (all.0, filter-all P p xs all.1)) (λ denied. filter-all P p xs all.1)
 
 -- of what a list gives, element by element
 pub filter_map-all : {A B : Type 0} (h : A → Option B) (P : A → Type 0) (Q : B → Type 0) → ((x : A) (y : B) → P x → h x ≡ Some y → Q y) → (xs : List A) →

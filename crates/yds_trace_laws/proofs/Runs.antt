@@ -1,5 +1,5 @@
 -- The runs of stretches: each is some of them, and each stretch that ends in a later unit of time is in one.
-use Rattle.yds_model.proofs.Common.{◌≡◌, ℕ, ◌<◌, ◌⊎◌, inl, inr, ◌==◌, ◌&&◌, List, [], ◌∷◌, ◌++◌, reverse, true, nat_lt, refl, sym, ap₂, subst, ◌∙◌, arith, and_parts, cond_both, eqb-true, ltb-true, ltb-false, reverse-append}
+use Rattle.yds_model.proofs.Common.{All, Contains, get_or, ◌≡◌, ℕ, ◌<◌, ◌⊎◌, inl, inr, ◌==◌, ◌&&◌, List, [], ◌∷◌, ◌++◌, reverse, true, nat_lt, refl, sym, ap₂, subst, ◌∙◌, arith, and_parts, cond_both, eqb-true, ltb-true, ltb-false, reverse-append}
 use Rattle.std.specs.List.{AllByRecursion}
 use Rattle.yds_trace.specs.declared.job.Stretch.{Stretch}
 use Rattle.yds_trace.specs.WrittenTime.{Units, Run, run_of, before, runs_of}
@@ -22,6 +22,13 @@ reverse-all_back P [] all = tt
 reverse-all_back P (x ∷ xs) all =
     let parts : AllByRecursion P (reverse xs ++ x ∷ []) = subst (AllByRecursion P) (reverse-append (x ∷ []) xs) all in
     ((append-all_right P (reverse xs) (x ∷ []) parts).0, reverse-all_back P xs (append-all_left P (reverse xs) (x ∷ []) parts))
+
+pub contained : {A : Type 0} (P : A → Type 0) (xs : List A) (x : A) → Contains xs x → All P xs → P x
+contained P xs x has all = subst P has.2 (all has.0 x has.1)
+
+-- what holds of each of a list holds of some of them
+pub each_of_these : {A : Type 0} (P : A → Type 0) (xs ys : List A) → All (Contains xs) ys → All P xs → All P ys
+each_of_these P xs ys are all k d within = contained P xs (get_or ys k d) (are k d within) all
 
 -- # Each run takes time
 

@@ -1,18 +1,20 @@
 -- A job that is late by a unit or more makes the document infeasible; so do work without a slot, and a front that misses a run.
-use Rattle.yds_model.proofs.Common.{◌≡◌, ◌∙◌, ◌≢◌, ℕ, zero, suc, ◌+◌, ◌-◌, ◌<◌, ◌≤◌, ◌==◌, ◌&&◌, ◌||◌, List, [], ◌∷◌, map, length, take, drop, Bool, true, false, nat_lt, nat_le, if◌then◌else◌, Option, Some, None, is_some, refl, sym, ap, subst, arith, inl, inr, cases_Bool, cases_lt, or_parts, lt-ltb, leb-false, All, sum_by, sum_by-cons, sum_by-take-drop, drop-cons, ne_eqb, recursion_from_All, All-from_recursion, Job, job_at}
+use Rattle.yds_model.proofs.Common.{◌≡◌, ◌∙◌, ◌≢◌, ℕ, zero, suc, ◌+◌, ◌-◌, ◌<◌, ◌≤◌, ◌==◌, ◌&&◌, ◌||◌, List, [], ◌∷◌, map, length, take, drop, Bool, true, false, nat_lt, nat_le, if◌then◌else◌, Option, Some, None, is_some, refl, sym, ap, subst, arith, inl, inr, cases_Bool, cases_lt, or_parts, lt-ltb, leb-false, All, All-contains_itself, sum_by, sum_by-cons, sum_by-take-drop, drop-cons, ne_eqb, recursion_from_All, All-from_recursion, Job, job_at}
 use Rattle.std.specs.List.{AllByRecursion, flat_map, enumerate_from, slice_index_or}
 use Rattle.yds_kernel.specs.Event.{Said}
 use Rattle.yds_model.specs.Feasible.{IsFeasible}
 use Rattle.yds_trace.specs.declared.job.End.{End}
 use Rattle.yds_trace.specs.declared.job.End.TheVariants as ends
-use Rattle.yds_trace.specs.Asked.{Asked, IsAsked}
+use Rattle.yds_trace.specs.Asked.{Asked}
 use Rattle.yds_trace.specs.Late.{last_asked, is_judged, is_open, late_by}
 use Rattle.yds_trace.specs.WrittenTime.{Units, Run, written_time, work_of_run, work_of_runs, runs_end}
-use Rattle.yds_trace.specs.Document.{Judged, Written, Placed, stands, written_end, written_runs, is_hidden, with_runs, without_runs, written_of, written_jobs, all_judged, all_runs, units_of, document_of, placed_runs}
+use Rattle.yds_trace.specs.Document.{Judged, Written, Placed, stands, written_end, written_runs, is_hidden, with_runs, without_runs, written_of, all_judged, all_runs, units_of, placed_runs}
 use Rattle.yds_trace_laws.specs.AsSlots.{job_read, jobs_read, slots_read}
-use Rattle.yds_trace_laws.specs.Laws.{FeasibleMeansInTime, WorkNeedsASlot, FrontsAreInfeasible}
+use Rattle.yds_trace_laws.specs.InUnits.{document_in, AreOf, NoneBefore}
+use Rattle.yds_trace_laws.specs.Laws.{SomeAreInTime, FeasibleMeansInTime, WorkNeedsASlot, FrontsAreInfeasible}
 use Rattle.yds_model.proofs.Horizon.{part_own}
 use Rattle.yds_trace_laws.proofs.Ordered.{in_order-sum, in_order-all, in_order-all_back, append-all, map-all}
+use Rattle.yds_trace_laws.proofs.Runs.{each_of_these}
 use Rattle.yds_trace_laws.proofs.Times.{lateness_is_kept}
 use Rattle.yds_trace_laws.proofs.Placing.{IsAt, found, mine, place, if_other, given_at, IsWithin, within_at}
 use Rattle.yds_trace_laws.proofs.AsRead.{deadline_of, runs_within, gets}
@@ -119,37 +121,39 @@ shows units asked last one by positive zero_first is late much shown =
 
 -- # Feasible means in time
 
-late_is_seen : (asked : Asked) (past : List Said) → IsAsked asked →
-    IsFeasible (jobs_read (document_of asked past).jobs) (slots_read (document_of asked past).runs) →
-    (i : ℕ) (d : Judged) → i < length (all_judged asked past) → (by : ℕ) → (slice_index_or (all_judged asked past) i d).late ≡ Some by → asked.unit ≤ by → ⊥
-late_is_seen asked past is_asked feasible i d within by late much =
-    elim (cases_Bool (stands (slice_index_or (all_judged asked past) i d))) [
+late_is_seen : (asked : Asked) (past : List Said) (units : Units) (ones : List Judged) → 1 ≤ units.time → AreOf asked past ones → NoneBefore units ones →
+    IsFeasible (jobs_read (document_in units ones).jobs) (slots_read (document_in units ones).runs) →
+    (i : ℕ) (d : Judged) → i < length ones → (by : ℕ) → (slice_index_or ones i d).late ≡ Some by → units.time ≤ by → ⊥
+late_is_seen asked past units ones positive are none_before feasible i d within by late much =
+    elim (cases_Bool (stands (slice_index_or ones i d))) [
       | inl whole ↦
-          let one : Judged = slice_index_or (all_judged asked past) i d in
-          let place = found (written_of (units_of asked past)) (all_judged asked past) i d (with_runs (units_of asked past) one) within
-          (stands_written (units_of asked past) one whole) in
-          let work = gets_its_work (written_jobs asked past) place.0 (with_runs (units_of asked past) one) place.1 feasible in
-          let ending = last_in_time (written_jobs asked past) place.0 (with_runs (units_of asked past) one) place.1 feasible in
-          let is = all_are_judged asked past i d within in
-          let whole_zero = zero_before asked past i d within whole in
-          let hidden : is_hidden (units_of asked past) one ≡ false =
-          owes_none (is_some one.late) (is_hidden (units_of asked past) one) (omega (arith, work)) (ap is_some late) in
-          let shown = shows (units_of asked past) asked (last_asked asked past) one by is_asked.has_unit (omega (arith, is.begun, whole_zero)) is late much hidden in
+          let one : Judged = slice_index_or ones i d in
+          let jobs : List Written = (document_in units ones).jobs in
+          let place = found (written_of units) ones i d (with_runs units one) within (stands_written units one whole) in
+          let work = gets_its_work jobs place.0 (with_runs units one) place.1 feasible in
+          let ending = last_in_time jobs place.0 (with_runs units one) place.1 feasible in
+          let is = each_of_these (IsJudged asked (last_asked asked past)) (all_judged asked past) ones are (all_are_judged asked past) i d within in
+          let not_before = none_before i d within whole in
+          let hidden : is_hidden units one ≡ false = owes_none (is_some one.late) (is_hidden units one) (omega (arith, work)) (ap is_some late) in
+          let shown = shows units asked (last_asked asked past) one by positive (omega (arith, is.begun, not_before)) is late much hidden in
           absurd (omega (arith, shown, ending))
       | inr not_whole ↦
-          let one : Judged = slice_index_or (all_judged asked past) i d in
-          let place = found (written_of (units_of asked past)) (all_judged asked past) i d (without_runs (units_of asked past) one) within
-          (late_written (units_of asked past) one by not_whole late) in
-          let work = gets_its_work (written_jobs asked past) place.0 (without_runs (units_of asked past) one) place.1 feasible in
+          let one : Judged = slice_index_or ones i d in
+          let place = found (written_of units) ones i d (without_runs units one) within (late_written units one by not_whole late) in
+          let work = gets_its_work (document_in units ones).jobs place.0 (without_runs units one) place.1 feasible in
           absurd (omega (arith, work))
     ]
 
-pub feasible_means_in_time : FeasibleMeansInTime
-feasible_means_in_time asked past is_asked feasible i d within by late =
-    elim (cases_lt by asked.unit) [
+pub some_are_in_time : SomeAreInTime
+some_are_in_time asked past units ones positive are none_before feasible i d within by late =
+    elim (cases_lt by units.time) [
       | inl less ↦ less
-      | inr much ↦ absurd (late_is_seen asked past is_asked feasible i d within by late much)
+      | inr much ↦ absurd (late_is_seen asked past units ones positive are none_before feasible i d within by late much)
     ]
+
+pub feasible_means_in_time : FeasibleMeansInTime
+feasible_means_in_time asked past fit feasible =
+    some_are_in_time asked past (units_of asked past) (all_judged asked past) fit.has_unit (All-contains_itself (all_judged asked past)) (zero_before asked past) feasible
 
 -- # Work without a slot
 

@@ -561,7 +561,7 @@ shares asked (Nothing ∷ past) order = shares asked past order
 -- # The lines that count are in order
 
 -- no line that isn't after `to` goes back
-abbrev GoesOn : Option ℕ → List Said → Type 0
+abbrev pub GoesOn : Option ℕ → List Said → Type 0
 GoesOn to [] = Unit {0}
 GoesOn to (Stamped event ∷ past) = (is_before_to to event.time ≡ true → last_time past ≤ event.time) × GoesOn to past
 GoesOn to (Lost processor reach ∷ past) = GoesOn to past
@@ -580,7 +580,7 @@ stamp_goes_on asked past event none before =
     subst (λ (b : Bool). (if b then event_fault asked past event else stayed_fault asked past event) ≡ None) before behind.0 in
     not_back (nat_lt event.time (last_time past)) event.time (last_time past) (happening_fault asked (up_to asked.to past) event.happening) refl at
 
-lines_go_on : (asked : Asked) (past : List Said) → first_fault asked past ≡ None → GoesOn asked.to past
+pub lines_go_on : (asked : Asked) (past : List Said) → first_fault asked past ≡ None → GoesOn asked.to past
 lines_go_on asked [] none = tt
 lines_go_on asked (Stamped event ∷ past) none =
     let parts = or_none (first_fault asked past) (numbered (length past + 1) (said_fault asked past (Stamped event))) none in
@@ -592,7 +592,7 @@ lines_go_on asked (Nothing ∷ past) none =
 
 -- ---- without `to`
 
-all_by : (past : List Said) (time : ℕ) → GoesOn None past → last_time past ≤ time → AreBy time past
+pub all_by : (past : List Said) (time : ℕ) → GoesOn None past → last_time past ≤ time → AreBy time past
 all_by [] time goes last = tt
 all_by (Stamped event ∷ past) time goes last = (λ loss. last, all_by past time goes.1 (omega (arith, last, goes.0 refl)))
 all_by (Lost processor reach ∷ past) time goes last = all_by past time goes last
@@ -615,12 +615,12 @@ if_in_order true past other first second = first refl
 if_in_order false past other first second = second refl
 
 -- one that counts, and tells of no loss, isn't after `to`
-counts_by : (to : ℕ) (event : Event) (past : List Said) → counts to event past ≡ true → is_loss event.happening ≡ false → event.time ≤ to
+pub counts_by : (to : ℕ) (event : Event) (past : List Said) → counts to event past ≡ true → is_loss event.happening ≡ false → event.time ≤ to
 counts_by to event past is loss =
     leb-true event.time to (subst (λ (b : Bool). (if b then nat_lt (lost_since event.processor since.ItsLastLine past) to else nat_le event.time to) ≡ true) loss is)
 
 -- a switch that doesn't count is after `to`
-later_switch : (to : ℕ) (event : Event) (past counting : List Said) → counts to event past ≡ false → is_first_switch event counting ≡ true → to < event.time
+pub later_switch : (to : ℕ) (event : Event) (past counting : List Said) → counts to event past ≡ false → is_first_switch event counting ≡ true → to < event.time
 later_switch to event past counting is first =
     let loss : is_loss event.happening ≡ false = no_loss event.happening (and_parts (is_switch event.happening) (not (has_switched event.processor counting)) first).0 in
     leb-false event.time to (subst (λ (b : Bool). (if b then nat_lt (lost_since event.processor since.ItsLastLine past) to else nat_le event.time to) ≡ false) loss is)
@@ -642,7 +642,7 @@ stayed_by to processor time Marker counting within by = by
 stayed_by to processor time Other counting within by = by
 
 -- none that counts is after `to`
-up_to_by : (to : ℕ) (past : List Said) → AreBy to (up_to_time to past)
+pub up_to_by : (to : ℕ) (past : List Said) → AreBy to (up_to_time to past)
 up_to_by to [] = tt
 up_to_by to (Stamped event ∷ past) =
     let rest : AreBy to (up_to_time to past) = up_to_by to past in
@@ -657,7 +657,7 @@ up_to_by to (Lost processor reach ∷ past) =
 up_to_by to (Nothing ∷ past) = up_to_by to past
 
 -- Where the last line comes by a time that isn't after `to`, so do all that count.
-counted_by : (to time : ℕ) (past : List Said) → GoesOn (Some to) past → time ≤ to → last_time past ≤ time → AreBy time (up_to_time to past)
+pub counted_by : (to time : ℕ) (past : List Said) → GoesOn (Some to) past → time ≤ to → last_time past ≤ time → AreBy time (up_to_time to past)
 counted_by to time [] goes within last = tt
 counted_by to time (Stamped event ∷ past) goes within last =
     let rest : AreBy time (up_to_time to past) = counted_by to time past goes.1 within (omega (arith, last, goes.0 (le-leb event.time to (omega (arith, last, within))))) in

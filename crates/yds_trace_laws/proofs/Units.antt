@@ -1,20 +1,20 @@
 -- No unit of time is in runs of two tasks: rounding down keeps stretches apart, and a run has no unit that none of its stretches has.
-use Rattle.yds_model.proofs.Common.{◌≡◌, ◌∙◌, ℕ, ◌+◌, ◌≤◌, ◌⊎◌, inl, inr, ◌==◌, List, [], ◌∷◌, map, reverse, Bool, false, None, sym, subst, arith, get_or, All, All-from_recursion, recursion_from_All, All-contains_itself, Contains, list_any, or_parts, eqb-true}
+use Rattle.yds_model.proofs.Common.{◌≡◌, ◌∙◌, ℕ, ◌+◌, ◌<◌, ◌≤◌, ◌⊎◌, inl, inr, ◌==◌, List, [], ◌∷◌, map, reverse, length, Bool, false, None, sym, subst, arith, get_or, All, All-from_recursion, recursion_from_All, All-contains_itself, Contains, list_any, or_parts, eqb-true}
 use Rattle.std.specs.List.{AllByRecursion, enumerate_from}
 use Rattle.yds_kernel.specs.Event.{Said}
 use Rattle.yds_trace.specs.declared.job.Stretch.{Stretch}
-use Rattle.yds_trace.specs.Asked.{Task, Asked, IsAsked}
+use Rattle.yds_trace.specs.Asked.{Task, Asked}
 use Rattle.yds_trace.specs.Jobs.{Job}
 use Rattle.yds_trace.specs.Faults.{first_fault}
 use Rattle.yds_trace.specs.WrittenTime.{Units, Run, run_of, runs_of}
 use Rattle.yds_trace.specs.Document.{is_elsewhere, Judged, judged, judged_of, judged_from, all_judged, began_before, jobs_of, units_of}
 use Rattle.yds_trace_laws.specs.Faithful.{IsRounded}
 use Rattle.yds_trace_laws.specs.Sharing.{AreApart, EachStretch, RunsAreApart, HaveOwnUnits}
-use Rattle.yds_trace_laws.specs.Laws.{RunsHaveOwnUnits}
+use Rattle.yds_trace_laws.specs.Laws.{UnitsAreOwn, RunsHaveOwnUnits}
 use Rattle.yds_trace_laws.proofs.Ordered.{append-all, in_order-all}
 use Rattle.yds_trace_laws.proofs.Times.{order_is_kept}
-use Rattle.yds_trace_laws.proofs.Runs.{all_weaker, reverse-all, IsForward, runs_forward, IsRunOf, WhereForward, runs_are_stretches}
-use Rattle.yds_trace_laws.proofs.Faithful.{IsWhole, all_whole, same_processor, contained}
+use Rattle.yds_trace_laws.proofs.Runs.{all_weaker, contained, reverse-all, IsForward, runs_forward, IsRunOf, WhereForward, runs_are_stretches}
+use Rattle.yds_trace_laws.proofs.Faithful.{IsWhole, all_whole, same_processor}
 use Rattle.yds_trace_laws.proofs.Sharing.{tasks_have_own_time}
 
 -- # Runs of two lists of stretches
@@ -99,27 +99,30 @@ all_runs_apart units ss ts all =
 
 -- # Jobs of two tasks
 
--- a job that is judged is one of its task's
-abbrev IsOne : Asked → List Said → Judged → Type 0
-IsOne asked past one = Contains (jobs_of asked past one.task) one.job
+-- a job that is judged is one of its task's, and that is one of the tasks
+pub record IsOne (asked : Asked) (past : List Said) (one : Judged) : Type 0 where
+  pub known : one.task < length asked.tasks
+  pub job : Contains (jobs_of asked past one.task) one.job
 
-numbered_are : (asked : Asked) (past : List Said) (number : ℕ) (before : Bool) (start : ℕ) (jobs : List Job) → AllByRecursion (Contains (jobs_of asked past number)) jobs →
-    AllByRecursion (IsOne asked past) (map (judged asked past number before) (enumerate_from start jobs))
-numbered_are asked past number before start [] all = tt
-numbered_are asked past number before start (job ∷ jobs) all = (all.0, numbered_are asked past number before (start + 1) jobs all.1)
+numbered_are : (asked : Asked) (past : List Said) (number : ℕ) (before : Bool) (start : ℕ) (jobs : List Job) → number < length asked.tasks →
+    AllByRecursion (Contains (jobs_of asked past number)) jobs → AllByRecursion (IsOne asked past) (map (judged asked past number before) (enumerate_from start jobs))
+numbered_are asked past number before start [] known all = tt
+numbered_are asked past number before start (job ∷ jobs) known all =
+    (record { known = known; job = all.0 }, numbered_are asked past number before (start + 1) jobs known all.1)
 
-tasks_are : (asked : Asked) (past : List Said) (number : ℕ) (tasks : List Task) → AllByRecursion (IsOne asked past) (judged_from asked past number tasks)
-tasks_are asked past number [] = tt
-tasks_are asked past number (task ∷ tasks) =
+tasks_are : (asked : Asked) (past : List Said) (number : ℕ) (tasks : List Task) → number + length tasks ≤ length asked.tasks →
+    AllByRecursion (IsOne asked past) (judged_from asked past number tasks)
+tasks_are asked past number [] within = tt
+tasks_are asked past number (task ∷ tasks) within =
     append-all (IsOne asked past) (judged_of asked past number) (judged_from asked past (number + 1) tasks)
-    (numbered_are asked past number (began_before (jobs_of asked past number)) 0 (jobs_of asked past number)
+    (numbered_are asked past number (began_before (jobs_of asked past number)) 0 (jobs_of asked past number) (omega (arith, within))
     (recursion_from_All (Contains (jobs_of asked past number)) (jobs_of asked past number) (All-contains_itself (jobs_of asked past number))))
-    (tasks_are asked past (number + 1) tasks)
+    (tasks_are asked past (number + 1) tasks (omega (arith, within)))
 
-all_are : (asked : Asked) (past : List Said) → All (IsOne asked past) (all_judged asked past)
+pub all_are : (asked : Asked) (past : List Said) → All (IsOne asked past) (all_judged asked past)
 all_are asked past =
     All-from_recursion (IsOne asked past) (all_judged asked past)
-    (in_order-all (IsOne asked past) (λ one. one.job.begin) (judged_from asked past 0 asked.tasks) (tasks_are asked past 0 asked.tasks))
+    (in_order-all (IsOne asked past) (λ one. one.job.begin) (judged_from asked past 0 asked.tasks) (tasks_are asked past 0 asked.tasks (omega arith)))
 
 there : (processor : ℕ) (stretches : List Stretch) → list_any (is_elsewhere processor) stretches ≡ false → AllByRecursion (λ s. s.processor ≡ processor) stretches
 there processor [] none = tt
@@ -139,21 +142,20 @@ written_pairs units processor [] ts positive apart here all = tt
 written_pairs units processor (s ∷ ss) ts positive apart here all =
     (written_inner units processor s ts positive here.0 apart.0 all, written_pairs units processor ss ts positive apart.1 here.1 all)
 
-own_units : (asked : Asked) (past : List Said) → IsAsked asked → first_fault asked past ≡ None → (one other : Judged) → IsOne asked past one → IsOne asked past other →
-    IsWhole asked one → IsWhole asked other → HaveOwnUnits asked past one other
-own_units asked past fit none one other first second whole whole_too stand stand_too apart =
-    let units : Units = units_of asked past in
+own_units : (asked : Asked) (past : List Said) (units : Units) → 1 ≤ units.time → first_fault asked past ≡ None → (one other : Judged) → IsOne asked past one → IsOne asked past other →
+    IsWhole asked one → IsWhole asked other → HaveOwnUnits units one other
+own_units asked past units positive none one other first second whole whole_too stand stand_too apart =
     let theirs : List Stretch = other.job.stretches in
     let mine : List Stretch = one.job.stretches in
     let all : All (λ s. EachStretch (AreApart s) (jobs_of asked past other.task)) mine =
-    contained (λ (job : Job). All (λ s. EachStretch (AreApart s) (jobs_of asked past other.task)) job.stretches) (jobs_of asked past one.task) one.job first
+    contained (λ (job : Job). All (λ s. EachStretch (AreApart s) (jobs_of asked past other.task)) job.stretches) (jobs_of asked past one.task) one.job first.job
     (tasks_have_own_time asked past none one.task other.task apart) in
     let pairs : AllByRecursion (λ s. AllByRecursion (AreApart s) theirs) mine =
     all_weaker (λ s. EachStretch (AreApart s) (jobs_of asked past other.task)) (λ s. AllByRecursion (AreApart s) theirs)
-    (λ s each. recursion_from_All (AreApart s) theirs (contained (λ (job : Job). All (AreApart s) job.stretches) (jobs_of asked past other.task) other.job second each)) mine
+    (λ s each. recursion_from_All (AreApart s) theirs (contained (λ (job : Job). All (AreApart s) job.stretches) (jobs_of asked past other.task) other.job second.job each)) mine
     (recursion_from_All (λ s. EachStretch (AreApart s) (jobs_of asked past other.task)) mine all) in
     let written : Pairs units mine theirs =
-    written_pairs units asked.processor mine theirs fit.has_unit pairs (there asked.processor mine (whole.none_elsewhere stand)) (there asked.processor theirs (whole_too.none_elsewhere stand_too)) in
+    written_pairs units asked.processor mine theirs positive pairs (there asked.processor mine (whole.none_elsewhere stand)) (there asked.processor theirs (whole_too.none_elsewhere stand_too)) in
     let turned_around : Pairs units (reverse mine) (reverse theirs) =
     reverse-all (IsFirst units (reverse theirs)) mine (all_weaker (IsFirst units theirs) (IsFirst units (reverse theirs))
     (λ s each. reverse-all (λ t. RunsAreApart (run_of units s) (run_of units t)) theirs each) mine written) in
@@ -162,8 +164,12 @@ own_units asked past fit none one other first second whole whole_too stand stand
     (all_weaker (λ run. AllByRecursion (RunsAreApart run) (runs_of units (reverse theirs))) (λ run. All (RunsAreApart run) (runs_of units (reverse theirs)))
     (λ run each. All-from_recursion (RunsAreApart run) (runs_of units (reverse theirs)) each) (runs_of units (reverse mine)) runs)
 
--- the law
-pub runs_have_own_units : RunsHaveOwnUnits
-runs_have_own_units asked past fit none i d within j e within_too =
-    own_units asked past fit none (get_or (all_judged asked past) i d) (get_or (all_judged asked past) j e) (all_are asked past i d within) (all_are asked past j e within_too)
+-- # The laws
+
+pub units_are_own : UnitsAreOwn
+units_are_own asked past units positive none i d within j e within_too =
+    own_units asked past units positive none (get_or (all_judged asked past) i d) (get_or (all_judged asked past) j e) (all_are asked past i d within) (all_are asked past j e within_too)
     (all_whole asked past i d within) (all_whole asked past j e within_too)
+
+pub runs_have_own_units : RunsHaveOwnUnits
+runs_have_own_units asked past fit none = units_are_own asked past (units_of asked past) fit.has_unit none

@@ -1,4 +1,5 @@
 pub mod AsSlots
 pub mod Faithful
+pub mod InUnits
 pub mod Laws
 pub mod Sharing

@@ -5,8 +5,8 @@ use Rattle.yds_kernel.specs.Event.{Said}
 use Rattle.yds_trace.specs.declared.job.Stretch.{Stretch}
 use Rattle.yds_trace.specs.Asked.{Asked}
 use Rattle.yds_trace.specs.Jobs.{Job}
-use Rattle.yds_trace.specs.WrittenTime.{Run}
-use Rattle.yds_trace.specs.Document.{Judged, stands, jobs_of, units_of, written_runs}
+use Rattle.yds_trace.specs.WrittenTime.{Units, Run}
+use Rattle.yds_trace.specs.Document.{Judged, stands, jobs_of, written_runs}
 
 -- of two stretches on one processor, one ends by when the other begins
 abbrev pub AreApart : Stretch → Stretch → Type 0
@@ -25,7 +25,7 @@ abbrev pub RunsAreApart : Run → Run → Type 0
 RunsAreApart run other = (run.to ≤ other.from) ⊎ (other.to ≤ run.from)
 
 -- Jobs of two tasks that stand as they are: no unit of time is in runs of both.
-abbrev pub HaveOwnUnits : Asked → List Said → Judged → Judged → Type 0
-HaveOwnUnits asked past one other =
+abbrev pub HaveOwnUnits : Units → Judged → Judged → Type 0
+HaveOwnUnits units one other =
     stands one ≡ true → stands other ≡ true → one.task ≢ other.task →
-    All (λ run. All (RunsAreApart run) (written_runs (units_of asked past) other.job)) (written_runs (units_of asked past) one.job)
+    All (λ run. All (RunsAreApart run) (written_runs units other.job)) (written_runs units one.job)

@@ -1,4 +1,4 @@
-ghost use Rattle.yds_trace_laws.specs.Laws.{BeginsAreInTime, DocumentsAreFaithful, EndsAreKept, FeasibleMeansInTime, FrontsAreInfeasible, LatenessIsKept, OrderIsKept, RunsHaveOwnUnits, TasksHaveOwnTime, WorkNeedsASlot};
+ghost use Rattle.yds_trace_laws.specs.Laws.{BeginsAreInTime, DocumentsAreFaithful, EndsAreKept, FeasibleMeansInTime, FrontsAreInfeasible, LatenessIsKept, NoneBeginsBefore, OrderIsKept, RunsHaveOwnUnits, SomeAreFaithful, SomeAreInTime, TasksHaveOwnTime, UnitsAreOwn, WorkNeedsASlot};
 
 /// A written time keeps order.
 pub fn order_is_kept()
@@ -20,6 +20,16 @@ pub fn begins_are_in_time()
     ensures { BeginsAreInTime }
 {}
 
+/// No job of a trace without a fault that stands as it is begins before the trace's first line.
+pub fn none_begins_before()
+    ensures { NoneBeginsBefore }
+{}
+
+/// Where the document of some of a trace's jobs is feasible, each of them that is known to be late is late by less than a unit of time.
+pub fn some_are_in_time()
+    ensures { SomeAreInTime }
+{}
+
 /// Where a trace's document is feasible, each job that is known to be late is late by less than a unit of time.
 pub fn feasible_means_in_time()
     ensures { FeasibleMeansInTime }
@@ -35,6 +45,11 @@ pub fn fronts_are_infeasible()
     ensures { FrontsAreInfeasible }
 {}
 
+/// No job and no run of the document of some of a trace's jobs is invented, and no run is missing.
+pub fn some_are_faithful()
+    ensures { SomeAreFaithful }
+{}
+
 /// No job and no run of a trace's document is invented, and no run is missing.
 pub fn documents_are_faithful()
     ensures { DocumentsAreFaithful }
@@ -45,7 +60,12 @@ pub fn tasks_have_own_time()
     ensures { TasksHaveOwnTime }
 {}
 
-/// No unit of time is in runs of two tasks.
+/// No unit of time is in runs of two tasks, in any units.
+pub fn units_are_own()
+    ensures { UnitsAreOwn }
+{}
+
+/// No unit of time of a trace's document is in runs of two tasks.
 pub fn runs_have_own_units()
     ensures { RunsHaveOwnUnits }
 {}

@@ -4,8 +4,6 @@ use Rattle.std.specs.Prelude.{⊤, IfSome, OnOk}
 use Rattle.std.specs.Io.KnownBytes.{Keeps, IsAtEnd}
 use Rattle.yds_port.specs.Count.{Rose}
 use Rattle.yds_kernel_text.specs.Advancing.{Counts}
-use Rattle.yds_trace.specs.declared.ended.Ended.{Ended}
-use Rattle.yds_trace_reading.specs.declared.stopped.Stopped.{Stopped}
 use Rattle.yds_trace_reading.specs.Reading.{IsRest, IsReadOut}
 
 -- # Behind some lines
@@ -19,12 +17,12 @@ rest_of None left taken counts = tt
 rest_of (Some bytes) None taken counts = absurd counts
 rest_of (Some bytes) (Some rest) taken counts = omega (arith, counts)
 
-pub nothing_left : (input left : Option (List ℕ)) (taken : ℕ) (result : Result Ended Stopped) → Counts input left 0 taken → IsAtEnd left
+pub nothing_left : {A E : Type 0} (input left : Option (List ℕ)) (taken : ℕ) (result : Result A E) → Counts input left 0 taken → IsAtEnd left
     → IfSome input (λ bytes. OnOk result (left ≡ Some []))
 nothing_left None left taken result counts over = tt
 nothing_left (Some bytes) None taken result counts over = absurd counts
-nothing_left (Some bytes) (Some rest) taken (Ok ended) counts over = ap Some over
-nothing_left (Some bytes) (Some rest) taken (Err stopped) counts over = tt
+nothing_left (Some bytes) (Some rest) taken (Ok value) counts over = ap Some over
+nothing_left (Some bytes) (Some rest) taken (Err error) counts over = tt
 
 -- # Behind some reads
 

@@ -1,5 +1,5 @@
 -- What a pass over some lines shows of the whole trace.
-use Rattle.yds_model.proofs.Common.{◌≡◌, ℕ, ◌+◌, ◌-◌, ◌≤◌, ◌^◌, ◌⊎◌, inl, inr, List, [], ◌∷◌, ◌++◌, length, reverse, Option, Some, None, true, Result, Ok, Err, refl, sym, ap, subst, ◌∙◌, arith, append_assoc, append-nil, length-append, length-reverse, reverse-append}
+use Rattle.yds_model.proofs.Common.{◌≡◌, ℕ, ◌+◌, ◌≤◌, ◌^◌, inl, inr, List, [], ◌∷◌, ◌++◌, length, reverse, Option, Some, None, true, Result, Ok, Err, refl, sym, ap, subst, ◌∙◌, arith, append_assoc, append-nil, length-append, length-reverse, reverse-append}
 use Rattle.std.specs.Prelude.{IfSome, IfOk}
 use Rattle.std.specs.Result.{IfErr}
 use Rattle.std.specs.Io.KnownBytes.{IsAtEnd}
@@ -8,10 +8,9 @@ use Rattle.yds_kernel.specs.declared.fault.Reason.{Reason}
 use Rattle.yds_kernel.specs.Parts.{or_else}
 use Rattle.yds_kernel.specs.Event.{Said}
 use Rattle.yds_kernel.specs.Text.{Trace, no_line, then_says, trace_of, trace_from}
-use Rattle.yds_kernel.specs.Views.{spot_read}
 use Rattle.yds_kernel_text.specs.declared.limits.TheConstants.{ROOM}
 use Rattle.yds_kernel_text.specs.Reading.{Reading, said_by, unread}
-use Rattle.yds_kernel_text.specs.Advancing.{Gives, Counts, GivesLine, IsOver}
+use Rattle.yds_kernel_text.specs.Advancing.{Gives, Counts, GivesLine}
 use Rattle.yds_trace.specs.declared.fault.Cause.{Cause}
 use Rattle.yds_trace.specs.declared.ended.Ended.{Ended}
 use Rattle.yds_trace.specs.declared.pass.Pass.{Pass}
@@ -21,21 +20,21 @@ use Rattle.yds_trace.specs.Faults.{first_fault, numbered, said_fault, whole_faul
 use Rattle.yds_trace.specs.Kept.{IsAt}
 use Rattle.yds_trace_reading.specs.declared.stopped.Stopped.{Stopped}
 use Rattle.yds_trace_reading.specs.declared.stopped.Stopped.TheVariants as stops
-use Rattle.yds_trace_reading.specs.LineFault.{LineFault, InForm, AtLine, at_line, in_form, past_of, line_fault, line_fault_after}
+use Rattle.yds_trace_reading.specs.LineFault.{InForm, AtLine, at_line, in_form, past_of, line_fault, line_fault_after}
 use Rattle.yds_trace_reading.specs.Ahead.{ahead, Agrees}
-use Rattle.yds_trace_reading.specs.Taken.{IsTaken, IsRefused, IsNotTaken, IsKnown, IsNotKnown}
+use Rattle.yds_trace_reading.specs.Taken.{IsTaken, IsNotTaken, IsKnown, IsNotKnown}
 use Rattle.yds_trace_reading.specs.Reading.{IsEndOfSome, IsRead, IsTooLong, IsStopped}
 
 -- # A trace behind some lines
 
-ahead_past : (past : List Said) (trace : Trace) → past_of (ahead past trace) ≡ reverse trace.said ++ past
+pub ahead_past : (past : List Said) (trace : Trace) → past_of (ahead past trace) ≡ reverse trace.said ++ past
 ahead_past [] trace = sym (append-nil (reverse trace.said))
 ahead_past (said ∷ past) trace =
     ahead_past past (record { said = said ∷ trace.said; fault = trace.fault })
     ∙ ap (λ (front : List Said). front ++ past) (reverse-append (said ∷ []) trace.said)
     ∙ append_assoc (reverse trace.said) (said ∷ []) past
 
-ahead_fault : (past : List Said) (trace : Trace) → (ahead past trace).fault ≡ trace.fault
+pub ahead_fault : (past : List Said) (trace : Trace) → (ahead past trace).fault ≡ trace.fault
 ahead_fault [] trace = refl
 ahead_fault (said ∷ past) trace = ahead_fault past (record { said = said ∷ trace.said; fault = trace.fault })
 
@@ -62,7 +61,7 @@ counts_on (Some bytes) None now old new first second = absurd first
 counts_on (Some bytes) (Some rest) None old new first second = absurd second
 counts_on (Some bytes) (Some rest) (Some more) old new first second = omega (arith, first, second)
 
-agrees_on : (input : Option (List ℕ)) (past : List Said) (count : ℕ) (line : Said) (before now : Option (List ℕ)) → Agrees input past count before
+pub agrees_on : (input : Option (List ℕ)) (past : List Said) (count : ℕ) (line : Said) (before now : Option (List ℕ)) → Agrees input past count before
     → Gives (count + 1) (Ok line) before now → Agrees input (line ∷ past) (count + 1) now
 agrees_on None past count line before now agrees gives = tt
 agrees_on (Some bytes) past count line None now agrees gives = absurd agrees
@@ -144,7 +143,7 @@ not_taken asked (Some bytes) pass old new before left count faults_before faults
 
 -- # The end
 
-whole_trace : (bytes : List ℕ) (past : List Said) (count : ℕ) (rest : Option (List ℕ)) → Agrees (Some bytes) past count rest → IsAtEnd rest → trace_of bytes ≡ ahead past no_line
+pub whole_trace : (bytes : List ℕ) (past : List Said) (count : ℕ) (rest : Option (List ℕ)) → Agrees (Some bytes) past count rest → IsAtEnd rest → trace_of bytes ≡ ahead past no_line
 whole_trace bytes past count None agrees ended = absurd agrees
 whole_trace bytes past count (Some rest) agrees ended = agrees ∙ ap (λ (none : List ℕ). ahead past (trace_from (count + 1) none)) ended
 
@@ -199,39 +198,41 @@ stopped_whole asked (Some bytes) pass old before count (Err stopped) known over 
 
 -- # As much as can be counted
 
-many_bytes : (bytes : List ℕ) (left : Option (List ℕ)) (taken : ℕ) → Counts (Some bytes) left 0 taken → 2 ^ 64 ≤ taken + ROOM → IsTooLong bytes
-many_bytes bytes None taken counts many = absurd counts
-many_bytes bytes (Some rest) taken counts many = inl (omega (arith, counts, many))
+pub taken_bytes : (bytes : List ℕ) (left : Option (List ℕ)) (taken : ℕ) → Counts (Some bytes) left 0 taken → taken ≤ length bytes
+taken_bytes bytes None taken counts = absurd counts
+taken_bytes bytes (Some rest) taken counts = omega (arith, counts)
 
 pub too_many_bytes : (asked : Asked) (input : Option (List ℕ)) (pass : Pass) (old : Reading) (before left : Option (List ℕ)) (count taken : ℕ)
     → IsAhead asked input pass old before count → Counts before left old.taken taken → 2 ^ 64 ≤ taken + ROOM → IfSome input IsTooLong
 too_many_bytes asked None pass old before left count taken known counts many = tt
 too_many_bytes asked (Some bytes) pass old before left count taken known counts many =
-    many_bytes bytes left taken (counts_on (Some bytes) before left old.taken taken known.counts counts) many
+    inl (omega (arith, many, taken_bytes bytes left taken (counts_on (Some bytes) before left old.taken taken known.counts counts)))
 
 said_by_past : (past : List Said) (trace : Trace) → length past ≤ length (ahead past trace).said
 said_by_past past trace =
     let all : length (past_of (ahead past trace)) ≡ length (reverse trace.said ++ past) = ap length (ahead_past past trace) in
     omega (arith, all, length-reverse (ahead past trace).said, length-append (reverse trace.said) past)
 
-many_lines : (bytes : List ℕ) (past : List Said) (count : ℕ) (rest : Option (List ℕ)) → Agrees (Some bytes) past count rest → length past ≡ count → 2 ^ 64 ≤ count + 1 → IsTooLong bytes
-many_lines bytes past count None agrees many all = absurd agrees
-many_lines bytes past count (Some rest) agrees many all =
+pub taken_lines : (bytes : List ℕ) (past : List Said) (count : ℕ) (rest : Option (List ℕ)) → Agrees (Some bytes) past count rest → length past ≡ count
+    → count ≤ length (trace_of bytes).said
+taken_lines bytes past count None agrees many = absurd agrees
+taken_lines bytes past count (Some rest) agrees many =
     let lines : length (trace_of bytes).said ≡ length (ahead past (trace_from (count + 1) rest)).said = ap (λ (trace : Trace). length trace.said) agrees in
-    inr (omega (arith, lines, many, all, said_by_past past (trace_from (count + 1) rest)))
+    omega (arith, lines, many, said_by_past past (trace_from (count + 1) rest))
 
 pub too_many_lines : (asked : Asked) (input : Option (List ℕ)) (pass : Pass) (old : Reading) (before : Option (List ℕ)) (count : ℕ)
     → IsAhead asked input pass old before count → 2 ^ 64 ≤ count + 1 → IfSome input IsTooLong
 too_many_lines asked None pass old before count known all = tt
-too_many_lines asked (Some bytes) pass old before count known all = many_lines bytes known.past count (unread old before) known.agrees known.many all
+too_many_lines asked (Some bytes) pass old before count known all =
+    inr (omega (arith, all, taken_lines bytes known.past count (unread old before) known.agrees known.many))
 
 -- # Before the first line
 
-agrees_first : (left : Option (List ℕ)) → Agrees left [] 0 (unread (record { left = []; text = []; ended = true; number = 0; taken = 0 }) left)
+pub agrees_first : (left : Option (List ℕ)) → Agrees left [] 0 (unread (record { left = []; text = []; ended = true; number = 0; taken = 0 }) left)
 agrees_first None = tt
 agrees_first (Some bytes) = refl
 
-counts_first : (left : Option (List ℕ)) → Counts left left 0 0
+pub counts_first : (left : Option (List ℕ)) → Counts left left 0 0
 counts_first None = tt
 counts_first (Some bytes) = refl
 

@@ -8,5 +8,5 @@
 mod reading;
 mod stopped;
 
-pub use reading::read_trace;
+pub use reading::{drain, read_trace};
 pub use stopped::Stopped;

@@ -94,8 +94,8 @@ fn end(alloc: Global, number: u64, pass: Pass) -> Result<Ended, Stopped>
     }
 }
 
-/// Reads what is left. It takes no memory.
-fn drain<S: Source>(source: &mut S)
+/// Reads what is left of a source, so that whoever writes into it isn't stopped. It takes no memory. It ends where a read fails.
+pub fn drain<S: Source>(source: &mut S)
     ensures later { S.faults source.old ≤ S.faults source.new }
     ensures read_out { IfSome (S.left source.old) (λ input. IsReadOut input (S.left source.new) (S.faults source.old) (S.faults source.new)) }
 {

@@ -1,5 +1,5 @@
 -- What a run leaves of a trace.
-use Rattle.yds_model.proofs.Common.{◌≡◌, ◌≢◌, ℕ, ◌⊎◌, inl, inr, List, [], Option, Some, None, refl, sym, ◌∙◌}
+use Rattle.yds_model.proofs.Common.{◌≡◌, ◌≢◌, ℕ, ◌⊎◌, inl, inr, List, [], Option, Some, None, refl, sym, subst, ◌∙◌}
 use Rattle.std.specs.Prelude.{IfSome}
 use Rattle.yds_model.specs.declared.status.Status.{Status}
 use Rattle.yds_model.specs.declared.status.Status.TheVariants as statuses
@@ -43,3 +43,15 @@ pub leaves_as_stopped : (input left : Option (List ℕ)) (stopped : Stopped) (en
     → IfSome input (λ bytes. IsReadOut bytes left faults_before faults_now) → IfSome input (λ bytes. Leaves ended bytes left faults_before faults_now)
 leaves_as_stopped None left stopped ended faults_before faults_now said out = tt
 leaves_as_stopped (Some bytes) left stopped ended faults_before faults_now said out = leaves_out bytes left ended faults_before faults_now (not_done stopped ended said) out
+
+-- It wasn't read to its end, but read out.
+pub leaves_read_out : (input left : Option (List ℕ)) (ended : Status) (faults_before faults_now : ℕ) → ended ≢ statuses.Done
+    → IfSome input (λ bytes. IsReadOut bytes left faults_before faults_now) → IfSome input (λ bytes. Leaves ended bytes left faults_before faults_now)
+leaves_read_out None left ended faults_before faults_now other out = tt
+leaves_read_out (Some bytes) left ended faults_before faults_now other out = leaves_out bytes left ended faults_before faults_now other out
+
+-- A write failed.
+pub leaves_failed : (input left : Option (List ℕ)) (ended : Status) (faults_before faults_now : ℕ) → ended ≡ statuses.WriteFault
+    → IfSome input (λ bytes. Leaves ended bytes left faults_before faults_now)
+leaves_failed None left ended faults_before faults_now failed = tt
+leaves_failed (Some bytes) left ended faults_before faults_now failed = subst (λ (one : Status). Leaves one bytes left faults_before faults_now) (sym failed) tt

@@ -1,4 +1,6 @@
 pub mod Told
 pub mod Plain
+pub mod InParts
 pub mod Worth
 pub mod Left
+pub mod Parted

@@ -1,5 +1,5 @@
 -- What is known at a trace's end is what a document's call needs.
-use Rattle.yds_model.proofs.Common.{◌≡◌, ℕ, suc, ◌+◌, ◌≤◌, List, [], ◌∷◌, length, map, All, All-cons, All-nil, All-head, All-tail, Option, Some, None, refl, sym, ap, subst, ◌∙◌, arith, length-map}
+use Rattle.yds_model.proofs.Common.{◌≡◌, ℕ, suc, ◌+◌, ◌≤◌, List, [], ◌∷◌, length, map, All, All-cons, All-nil, Option, Some, None, refl, sym, ap, subst, ◌∙◌, length-map}
 use Rattle.std.specs.Prelude.{IfSome, Vec}
 use Rattle.std.specs.declared.alloc.Global.{Global}
 use Rattle.yds_kernel.specs.Event.{Said}
@@ -14,13 +14,11 @@ use Rattle.yds_trace.specs.Faults.{first_fault}
 use Rattle.yds_trace.specs.Views.{task_read, job_read, asked_read}
 use Rattle.yds_trace_laws.specs.Laws.{IsReached}
 use Rattle.yds_trace_laws.proofs.Begins.{begins_in_time}
+use Rattle.yds_trace_laws.proofs.Ordered.{All-map_back}
 use Rattle.yds_trace_document.specs.Kept.{IsPlain, HaveBegins}
 use Rattle.yds_trace_words.specs.Request.{IsFit}
 use Rattle.yds_trace_reading.specs.Reading.{IsEndOfSome}
-
-unmap : {X Y : Type 0} (P : Y → Type 0) (f : X → Y) (xs : List X) → All P (map f xs) → All (λ x. P (f x)) xs
-unmap P f [] all = All-nil _
-unmap P f (x ∷ xs) all = All-cons (λ x. P (f x)) x xs (All-head P (f x) (map f xs) all) (unmap P f xs (All-tail P (f x) (map f xs) all))
+use Rattle.yds_trace_parts.specs.Plain.{IsGranted}
 
 reached : (to : Option ℕ) → IfSome to (λ time. time ≤ MAX_TIME) → IsReached to
 reached None is = tt
@@ -39,7 +37,11 @@ lists_len asked past number (task ∷ tasks) = ap (λ (n : ℕ). suc n) (lists_l
 
 kept_begins : (lists : List (Vec JobKept Global)) → All (λ (jobs : List Job). All (λ (job : Job). job.begin ≤ MAX_TIME) jobs) (map in_order_of_begin lists) → HaveBegins lists
 kept_begins lists all = λ i d within.
-    unmap (λ (job : Job). job.begin ≤ MAX_TIME) job_read _ (unmap (λ (jobs : List Job). All (λ (job : Job). job.begin ≤ MAX_TIME) jobs) in_order_of_begin lists all i d within)
+    All-map_back (λ (job : Job). job.begin ≤ MAX_TIME) job_read _ (All-map_back (λ (jobs : List Job). All (λ (job : Job). job.begin ≤ MAX_TIME) jobs) in_order_of_begin lists all i d within)
+
+-- What the words grant is what parts need.
+pub granted : (asked : Asked) → IsFit asked → IsGranted asked
+granted asked fit = record { plain = fit.plain; within = fit.within; reached = reached asked.to fit.reached }
 
 pub plain : (asked : Asked) (ended : Ended) → IsFit asked → IsEndOfSome asked ended → IsPlain ended
 plain asked ended fit some =
@@ -47,7 +49,7 @@ plain asked ended fit some =
     record {
       has_unit = subst (λ (a : Asked). 1 ≤ a.unit) (sym same) fit.plain.has_unit;
       has_speed_unit = subst (λ (a : Asked). 1 ≤ a.khz) (sym same) fit.plain.has_speed_unit;
-      deadlines = unmap (λ (task : Task). task.deadline ≤ MAX_DEADLINE) task_read ended.asked.tasks.items
+      deadlines = All-map_back (λ (task : Task). task.deadline ≤ MAX_DEADLINE) task_read ended.asked.tasks.items
           (subst (λ (a : Asked). All (λ (task : Task). task.deadline ≤ MAX_DEADLINE) a.tasks) (sym same) fit.within.deadlines);
       begins = kept_begins ended.jobs.items
           (subst (λ (lists : List (List Job)). All (λ (jobs : List Job). All (λ (job : Job). job.begin ≤ MAX_TIME) jobs) lists) (sym some.known.jobs)

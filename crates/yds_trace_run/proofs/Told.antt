@@ -1,11 +1,10 @@
 -- From what was read of a trace to what was written of it.
-use Rattle.yds_model.proofs.Common.{◌≡◌, ℕ, ◌<◌, ◌≤◌, ◌⊎◌, inl, inr, List, length, Bool, Option, Some, None, Result, Ok, Err, refl, sym, ap, subst, ◌∙◌, arith}
+use Rattle.yds_model.proofs.Common.{◌≡◌, ℕ, ◌⊎◌, inl, inr, List, [], append-nil, Bool, true, false, Option, Some, None, Result, Ok, Err, refl, sym, ap, subst, ◌∙◌}
 use Rattle.std.specs.Prelude.{IfSome}
 use Rattle.yds_model.specs.declared.status.Status.{Status}
 use Rattle.yds_model.specs.declared.status.Status.TheVariants as statuses
-use Rattle.yds_port.specs.Sink.{AppendsFront}
 use Rattle.yds_kernel.specs.Parts.{or_else}
-use Rattle.yds_kernel.specs.Text.{trace_of}
+use Rattle.yds_kernel.specs.Text.{Trace, trace_of}
 use Rattle.yds_trace.specs.declared.ended.Ended.{Ended}
 use Rattle.yds_trace.specs.Asked.{Asked}
 use Rattle.yds_trace.specs.Ended.{IsEnded as KnowsEnd}
@@ -15,11 +14,28 @@ use Rattle.yds_trace_reading.specs.declared.stopped.Stopped.TheVariants as stops
 use Rattle.yds_trace_reading.specs.LineFault.{LineFault, InForm, AtLine, past_of, line_fault}
 use Rattle.yds_trace_reading.specs.Reading.{IsEndOfSome, IsRead, IsStopped}
 use Rattle.yds_trace_words.specs.Words.{WordFault}
-use Rattle.yds_trace_words.specs.Request.{Request, ReadTrace}
-use Rattle.yds_trace_run.specs.Fault.{TraceFault, OfLine, of_line, document_fault, fault_of}
-use Rattle.yds_trace_run.specs.FaultText.{fault_text}
-use Rattle.yds_trace_run.specs.Answer.{IsTold}
-use Rattle.yds_trace_run.specs.Endings.{IsText, Outcome, Writes, IsDelivered, Tells, IsTextOfLines, stopped_text, stopped_status}
+use Rattle.yds_trace_words.specs.Request.{Request, ShowHelp, ShowVersion, ReadTrace}
+use Rattle.yds_trace_run.specs.Fault.{OfLine, of_line, document_fault, fault_of}
+use Rattle.yds_trace_run.specs.FaultText.{fault_text, memory_text}
+use Rattle.yds_trace_run.specs.Answer.{IsTold, IsUncounted, WasWritten, StandsBefore, EndsWith}
+use Rattle.yds_trace_run.specs.Endings.{IsText, Writes, IsDelivered, Tells, IsTextOfLines, stopped_text, stopped_status}
+
+-- # Ends that aren't of the trace
+
+-- In parts, no part is written with no line.
+none_written : (in_parts : Bool) (asked : Asked) (strict : Bool) (trace : Trace) → WasWritten in_parts asked strict trace []
+none_written false asked strict trace = refl
+none_written true asked strict trace = record { past = []; behind = past_of trace; front = sym (append-nil (past_of trace)); goes_on = refl; says = refl }
+
+none_stands : (request : Result Request WordFault) (input : List ℕ) → StandsBefore request input []
+none_stands (Err fault) input = refl
+none_stands (Ok ShowHelp) input = refl
+none_stands (Ok ShowVersion) input = refl
+none_stands (Ok (ReadTrace asked strict)) input = none_written asked.in_parts asked strict (trace_of input)
+
+-- a comment with nothing before it
+pub ends_alone : (request : Result Request WordFault) (input comment : List ℕ) → EndsWith request input comment comment
+ends_alone request input comment = record { before = []; stands = none_stands request input; says = refl }
 
 -- # Why it wasn't read
 
@@ -27,54 +43,62 @@ stopped_fault : (asked : Asked) (strict : Bool) (bytes : List ℕ) (fault : Line
 stopped_fault asked strict bytes fault is =
     ap (λ (line : Option LineFault). or_else (of_line line) (document_fault asked strict (past_of (trace_of bytes)))) is
 
-stopped_is : (asked : Asked) (strict : Bool) (bytes : List ℕ) (stopped : Stopped) → IsStopped asked bytes stopped
+-- what is told in one document
+in_one : (asked : Asked) (strict : Bool) (trace : Trace) (text : List ℕ) (status : Status) → asked.in_parts ≡ false → IsTold false asked strict trace text status
+    → IsTold asked.in_parts asked strict trace text status
+in_one asked strict trace text status whole is = subst (λ (b : Bool). IsTold b asked strict trace text status) (sym whole) is
+
+line_told : (asked : Asked) (strict : Bool) (bytes : List ℕ) (fault : LineFault) → line_fault asked (trace_of bytes) ≡ Some fault
+    → IsTold false asked strict (trace_of bytes) (fault_text (OfLine fault)) statuses.Refused
+line_told asked strict bytes fault is = record { fault = OfLine fault; first = stopped_fault asked strict bytes fault is; says = refl }
+
+stopped_is : (asked : Asked) (strict : Bool) (bytes : List ℕ) (stopped : Stopped) → asked.in_parts ≡ false → IsStopped asked bytes stopped
     → IsText (Ok (ReadTrace asked strict)) bytes (stopped_text stopped) (stopped_status stopped)
-stopped_is asked strict bytes (stops.InForm number fault) is =
-    inl (record {
-      fault = OfLine (InForm (record { line = number; column = fault.column; reason = fault.reason }));
-      first = stopped_fault asked strict bytes (InForm (record { line = number; column = fault.column; reason = fault.reason })) is;
-      says = refl;
-    })
-stopped_is asked strict bytes (stops.AtLine number cause) is =
-    inl (record { fault = OfLine (AtLine number cause); first = stopped_fault asked strict bytes (AtLine number cause) is; says = refl })
-stopped_is asked strict bytes stops.TooLong is = inr (record { long = is; refused = refl; says = refl })
-stopped_is asked strict bytes stops.ReadFault is = refl
-stopped_is asked strict bytes stops.Memory is = refl
+stopped_is asked strict bytes (stops.InForm number fault) whole is =
+    let line : LineFault = InForm (record { line = number; column = fault.column; reason = fault.reason }) in
+    inl (in_one asked strict (trace_of bytes) (fault_text (OfLine line)) statuses.Refused whole (line_told asked strict bytes line is))
+stopped_is asked strict bytes (stops.AtLine number cause) whole is =
+    inl (in_one asked strict (trace_of bytes) (fault_text (OfLine (AtLine number cause))) statuses.Refused whole (line_told asked strict bytes (AtLine number cause) is))
+stopped_is asked strict bytes stops.TooLong whole is = inr (record { long = subst (λ (b : Bool). IsUncounted b bytes) (sym whole) is; refused = refl; ends = ends_alone (Ok (ReadTrace asked strict)) bytes (stopped_text stops.TooLong) })
+stopped_is asked strict bytes stops.ReadFault whole is = ends_alone (Ok (ReadTrace asked strict)) bytes (stopped_text stops.ReadFault)
+stopped_is asked strict bytes stops.Memory whole is = ends_alone (Ok (ReadTrace asked strict)) bytes (stopped_text stops.Memory)
 
 pub stopped_writes : {K : Type 0} (written : K → Option (List ℕ)) (flushed : K → Option ℕ) (flushes faults : K → ℕ) (asked : Asked) (strict : Bool) (input : Option (List ℕ)) (stopped : Stopped)
-    (ended : Status) (old new : K) → IfSome input (λ bytes. IsStopped asked bytes stopped)
+    (ended : Status) (old new : K) → asked.in_parts ≡ false → IfSome input (λ bytes. IsStopped asked bytes stopped)
     → IsDelivered written flushed flushes faults (stopped_text stopped) (stopped_status stopped) ended old new
     → IfSome input (λ bytes. Writes (Ok (ReadTrace asked strict)) bytes ended (written old) (written new) (flushed new))
-stopped_writes written flushed flushes faults asked strict None stopped ended old new is delivered = tt
-stopped_writes written flushed flushes faults asked strict (Some bytes) stopped ended old new is delivered =
-    record { text = stopped_text stopped; status = stopped_status stopped; is_text = stopped_is asked strict bytes stopped is; outcome = delivered.outcome }
+stopped_writes written flushed flushes faults asked strict None stopped ended old new whole is delivered = tt
+stopped_writes written flushed flushes faults asked strict (Some bytes) stopped ended old new whole is delivered =
+    record { text = stopped_text stopped; status = stopped_status stopped; is_text = stopped_is asked strict bytes stopped whole is; outcome = delivered.outcome }
 
 -- # What was read
 
-told_is : (asked : Asked) (strict : Bool) (bytes : List ℕ) (text : List ℕ) (status : Status) → line_fault asked (trace_of bytes) ≡ None
+told_is : (asked : Asked) (strict : Bool) (bytes : List ℕ) (text : List ℕ) (status : Status) → asked.in_parts ≡ false → line_fault asked (trace_of bytes) ≡ None
     → IsTextOfLines asked strict (past_of (trace_of bytes)) text status → IsText (Ok (ReadTrace asked strict)) bytes text status
-told_is asked strict bytes text statuses.Done sound is = inl (record { sound = sound; fits = is.0; says = is.1 })
-told_is asked strict bytes text statuses.Refused sound is =
-    inl (record {
+told_is asked strict bytes text statuses.Done whole sound is =
+    inl (in_one asked strict (trace_of bytes) text statuses.Done whole (record { sound = sound; fits = is.0; says = is.1 }))
+told_is asked strict bytes text statuses.Refused whole sound is =
+    inl (in_one asked strict (trace_of bytes) text statuses.Refused whole (record {
       fault = is.0;
       first = ap (λ (line : Option LineFault). or_else (of_line line) (document_fault asked strict (past_of (trace_of bytes)))) sound ∙ is.1;
       says = is.2;
-    })
-told_is asked strict bytes text statuses.Memory sound is = is
-told_is asked strict bytes text statuses.No sound is = absurd is
-told_is asked strict bytes text statuses.Usage sound is = absurd is
-told_is asked strict bytes text statuses.ReadFault sound is = absurd is
-told_is asked strict bytes text statuses.WriteFault sound is = absurd is
+    }))
+told_is asked strict bytes text statuses.Memory whole sound is =
+    subst (λ (one : List ℕ). EndsWith (Ok (ReadTrace asked strict)) bytes one memory_text) (sym is) (ends_alone (Ok (ReadTrace asked strict)) bytes memory_text)
+told_is asked strict bytes text statuses.No whole sound is = absurd is
+told_is asked strict bytes text statuses.Usage whole sound is = absurd is
+told_is asked strict bytes text statuses.ReadFault whole sound is = absurd is
+told_is asked strict bytes text statuses.WriteFault whole sound is = absurd is
 
 pub told_writes : {K : Type 0} (written : K → Option (List ℕ)) (flushed : K → Option ℕ) (flushes faults : K → ℕ) (asked : Asked) (strict : Bool) (input : Option (List ℕ)) (known : Ended)
-    (ended : Status) (old new : K) → IfSome input (λ bytes. IsRead asked bytes known) → Tells written flushed flushes faults known strict ended old new
+    (ended : Status) (old new : K) → asked.in_parts ≡ false → IfSome input (λ bytes. IsRead asked bytes known) → Tells written flushed flushes faults known strict ended old new
     → IfSome input (λ bytes. Writes (Ok (ReadTrace asked strict)) bytes ended (written old) (written new) (flushed new))
-told_writes written flushed flushes faults asked strict None known ended old new is tells = tt
-told_writes written flushed flushes faults asked strict (Some bytes) known ended old new is tells =
+told_writes written flushed flushes faults asked strict None known ended old new whole is tells = tt
+told_writes written flushed flushes faults asked strict (Some bytes) known ended old new whole is tells =
     record {
       text = tells.text;
       status = tells.status;
-      is_text = told_is asked strict bytes tells.text tells.status is.sound (tells.says asked (past_of (trace_of bytes)) is.known);
+      is_text = told_is asked strict bytes tells.text tells.status whole is.sound (tells.says asked (past_of (trace_of bytes)) is.known);
       outcome = tells.delivered.outcome;
     }
 

@@ -1,98 +1,110 @@
--- A document that was written names each late job, is read again, and is faithful to the trace.
-use Rattle.yds_model.proofs.Common.{◌≡◌, ℕ, zero, suc, ◌<◌, inl, inr, List, [], ◌∷◌, ◌++◌, length, get_or, flat_map, All, Bool, Option, Some, None, Ok, refl, sym, ap, subst, ◌∙◌, arith, append_assoc, append-nil, ◌≢◌, ◌≤◌, true, false, nat_lt, if◌then◌else◌, ltb-false, and_parts, AllPairs, is_name}
+-- What was written names each late job, is read again, and is faithful to the trace, in one document or in parts.
+use Rattle.yds_model.proofs.Common.{◌≡◌, ℕ, inl, inr, List, length, get_or, All, Bool, Option, Some, None, Ok, refl, sym, subst, ◌≢◌, ◌≤◌, true, false, nat_lt, if◌then◌else◌, ltb-false, and_parts, AllPairs, is_name}
 use Rattle.std.specs.Prelude.{IfSome}
 use Rattle.std.specs.Io.KnownBytes.{Appends}
 use Rattle.yds_model.specs.declared.status.Status.{Status}
 use Rattle.yds_model.specs.declared.status.Status.TheVariants as statuses
 use Rattle.yds_model.specs.declared.limits.TheConstants.{MAX_INPUT}
-use Rattle.yds_kernel.specs.Parts.{or_else}
 use Rattle.yds_kernel.specs.Event.{Said}
-use Rattle.yds_kernel.specs.Text.{trace_of}
+use Rattle.yds_kernel.specs.Text.{Trace, trace_of}
 use Rattle.yds_trace.specs.Asked.{Task, Asked, IsAsked}
-use Rattle.yds_trace.specs.Document.{Judged, all_judged, units_of}
-use Rattle.yds_trace_laws.specs.Faithful.{IsFaithful}
+use Rattle.yds_trace.specs.Document.{all_judged, units_of}
 use Rattle.yds_trace_laws.proofs.Faithful.{documents_are_faithful}
 use Rattle.yds_trace_laws.proofs.Seen.{feasible_means_in_time}
 use Rattle.yds_trace_document.specs.declared.fault.DocumentFault.{DocumentFault}
 use Rattle.yds_trace_document.specs.Settled.{settled_of}
 use Rattle.yds_trace_document.specs.Limits.{limit_fault}
 use Rattle.yds_trace_again.specs.Again.{IsReadAgain}
+use Rattle.yds_trace_again.specs.Holds.{Holds}
 use Rattle.yds_trace_again.specs.Laws.{AreLabelled}
 use Rattle.yds_trace_again.proofs.Again.{read_again as is_read_again}
+use Rattle.yds_trace_again.proofs.Holding.{in_each, late_jobs_are_named}
 use Rattle.yds_trace_words.specs.Tasks.{is_label}
 use Rattle.yds_trace_run.specs.Fault.{OfText, of_document, of_text, document_fault}
 use Rattle.yds_trace_text.specs.Text.{late_comment, text_of}
 use Rattle.yds_trace_reading.specs.LineFault.{past_of}
 use Rattle.yds_trace_words.specs.Request.{ReadTrace, IsFit}
-use Rattle.yds_trace_run.specs.Answer.{IsDocument}
+use Rattle.yds_trace_run.specs.Answer.{AreParts, IsTold}
 use Rattle.yds_trace_run.specs.Endings.{IsText, Outcome, Writes}
-use Rattle.yds_trace_run.specs.Worth.{Holds, NothingLate}
-
-on_the_left : (text more part : List ℕ) → Holds text part → Holds (text ++ more) part
-on_the_left text more part held = record {
-  before = held.before;
-  behind = held.behind ++ more;
-  is = ap (λ (one : List ℕ). one ++ more) held.is ∙ append_assoc (held.before ++ part) held.behind more;
-}
-
-on_the_right : (front text part : List ℕ) → Holds text part → Holds (front ++ text) part
-on_the_right front text part held = record {
-  before = front ++ held.before;
-  behind = held.behind;
-  is = ap (λ (one : List ℕ). front ++ one) held.is ∙ sym (append_assoc front (held.before ++ part) held.behind)
-      ∙ ap (λ (one : List ℕ). one ++ held.behind) (sym (append_assoc front held.before part));
-}
-
-here : (part : List ℕ) → Holds part part
-here part = record { before = []; behind = []; is = sym (append-nil part) }
-
-in_each : (told : Judged → List ℕ) (all : List Judged) (i : ℕ) (d : Judged) → i < length all → Holds (flat_map told all) (told (get_or all i d))
-in_each told [] i d within = absurd (omega arith)
-in_each told (one ∷ all) zero d within = on_the_left (told one) (flat_map told all) (told one) (here (told one))
-in_each told (one ∷ all) (suc i) d within = on_the_right (told one) (flat_map told all) (told (get_or all i d)) (in_each told all i d (omega arith))
-
-named : (asked : Asked) (past : List Said) (i : ℕ) (d : Judged) → i < length (all_judged asked past) → Holds (text_of asked past) (late_comment (units_of asked past) (get_or (all_judged asked past) i d))
-named asked past i d within =
-    on_the_right _ _ _ (on_the_left _ _ _ (on_the_left _ _ _ (on_the_left _ _ _ (on_the_left _ _ _ (on_the_left _ _ _ (on_the_left _ _ _
-    (in_each (late_comment (units_of asked past)) (all_judged asked past) i d within)))))))
+use Rattle.yds_trace_whole.specs.Parts.{parts_of, judged_in_parts}
+use Rattle.yds_trace_whole.specs.Worth.{NothingLateInParts}
+use Rattle.yds_trace_whole.proofs.Worth.{nothing_late as nothing_late_in_parts, faithful_parts, each_part_is_read}
+use Rattle.yds_trace_whole.proofs.Parting.{parts_are_the_whole}
+use Rattle.yds_trace_whole.proofs.Together.{parts_make_the_document}
+use Rattle.yds_trace_run.specs.Worth.{NothingLate, HidesNothing, ArePartsReadAgain, IsReadSo, IsFaithfulSo, IsWholeSo}
+use Rattle.yds_trace_run.proofs.InParts.{no_fault, text_in, IsToldAs, told_as}
 
 told_late : (asked : Asked) (past : List Said) (text : List ℕ) → IsAsked asked → text ≡ text_of asked past → NothingLate asked past text
 told_late asked past text fit is = λ feasible i d within by late. (
   feasible_means_in_time asked past fit feasible i d within by late,
-  subst (λ (one : List ℕ). Holds one (late_comment (units_of asked past) (get_or (all_judged asked past) i d))) (sym is) (named asked past i d within),
+  subst (λ (one : List ℕ). Holds one (late_comment (units_of asked past) (get_or (all_judged asked past) i d))) (sym is) (late_jobs_are_named asked (settled_of asked past) i d within),
 )
 
 -- # What a run that is done wrote
 
-is_document : (asked : Asked) (strict : Bool) (bytes text : List ℕ) (status : Status) → statuses.Done ≡ status → IsText (Ok (ReadTrace asked strict)) bytes text status
-    → IsDocument asked strict (trace_of bytes) text
-is_document asked strict bytes text status done is = elim (subst (λ (s : Status). IsText (Ok (ReadTrace asked strict)) bytes text s) (sym done) is) [
-  | inl document ↦ document
+done_so : (asked : Asked) (strict : Bool) (bytes text : List ℕ) (status : Status) → statuses.Done ≡ status → IsText (Ok (ReadTrace asked strict)) bytes text status
+    → IsTold asked.in_parts asked strict (trace_of bytes) text statuses.Done
+done_so asked strict bytes text status done is = elim (subst (λ (s : Status). IsText (Ok (ReadTrace asked strict)) bytes text s) (sym done) is) [
+  | inl told ↦ told
   | inr much ↦ let other : statuses.Done ≡ statuses.Refused = much.refused in absurd cc
 ]
 
--- What holds of each document holds of what it wrote.
-done_holds : (Q : List ℕ → List ℕ → Type 0) (asked : Asked) (strict : Bool) → ((bytes text : List ℕ) → IsDocument asked strict (trace_of bytes) text → Q bytes text)
+-- What holds of each text that is told holds of what it wrote.
+done_holds : (Q : List ℕ → List ℕ → Type 0) (asked : Asked) (strict : Bool)
+    → ((bytes text : List ℕ) → IsTold asked.in_parts asked strict (trace_of bytes) text statuses.Done → Q bytes text)
     → (input old new : Option (List ℕ)) (flushed : Option ℕ) (ended : Status) → ended ≡ statuses.Done
     → IfSome input (λ bytes. Writes (Ok (ReadTrace asked strict)) bytes ended old new flushed)
     → IfSome input (λ bytes. (text : List ℕ) × Appends old new text × Q bytes text)
 done_holds Q asked strict each None old new flushed ended done writes = tt
 done_holds Q asked strict each (Some bytes) old new flushed ended done writes =
     let whole = subst (λ (s : Status). Outcome s writes.text writes.status old new flushed) done writes.outcome in
-    (writes.text, whole.whole, each bytes writes.text (is_document asked strict bytes writes.text writes.status whole.said writes.is_text))
+    (writes.text, whole.whole, each bytes writes.text (done_so asked strict bytes writes.text writes.status whole.said writes.is_text))
+
+labelled : (tasks : List Task) → All (λ task. is_label task.label ≡ true) tasks → AllPairs (λ task other. task.label ≢ other.label) tasks → AreLabelled tasks
+labelled tasks labels different = record {
+  names = λ k d within. (and_parts (is_name (get_or tasks k d).label) _ (labels k d within)).0;
+  different = different;
+}
+
+-- # In parts
+
+-- It is the text of the trace's parts, and none of its lines is refused.
+told_parts : (asked : Asked) (strict : Bool) (trace : Trace) (text : List ℕ) → AreParts asked strict trace text → IsToldAs asked strict (past_of trace) (parts_of asked (past_of trace)) text
+told_parts asked strict trace text parts =
+    subst (λ (one : List ℕ). IsToldAs asked strict (past_of trace) (parts_of asked (past_of trace)) one) (sym parts.says) (told_as asked strict trace parts.sound)
+
+whole_parts : (asked : Asked) (strict : Bool) (past : List Said) (text : List ℕ) → IsToldAs asked strict past (parts_of asked past) text → judged_in_parts (parts_of asked past) ≡ all_judged asked past
+whole_parts asked strict past text told = parts_are_the_whole asked past told.sound told.keeps
+
+parts_hide_nothing : (asked : Asked) (strict : Bool) (past : List Said) (text : List ℕ) → IsFit asked → IsToldAs asked strict past (parts_of asked past) text → NothingLateInParts asked past text
+parts_hide_nothing asked strict past text fit told =
+    nothing_late_in_parts asked past text fit.plain told.sound (whole_parts asked strict past text told)
+    (λ i d within. subst (λ (one : List ℕ). Holds one (get_or (parts_of asked past) i d).text) (sym told.says) (in_each text_in (parts_of asked past) i d within))
+
+parts_read_again : (asked : Asked) (strict : Bool) (past : List Said) (text : List ℕ) → IsFit asked → IsToldAs asked strict past (parts_of asked past) text
+    → ArePartsReadAgain (parts_of asked past) text
+parts_read_again asked strict past text fit told = record {
+  says = told.says;
+  read = λ i d within.
+      each_part_is_read asked strict past fit.plain (labelled asked.tasks fit.labels fit.different) told.sound i d within
+      (told.stand i d within).within (told.stand i d within).short;
+}
+
+-- # No late job is hidden
+
+hides_nothing : (in_parts : Bool) (asked : Asked) (strict : Bool) (trace : Trace) (text : List ℕ) → IsFit asked → IsTold in_parts asked strict trace text statuses.Done
+    → HidesNothing in_parts asked (past_of trace) text
+hides_nothing false asked strict trace text fit told = told_late asked (past_of trace) text fit.plain told.says
+hides_nothing true asked strict trace text fit told = parts_hide_nothing asked strict (past_of trace) text fit (told_parts asked strict trace text told)
 
 pub nothing_late : (asked : Asked) (strict : Bool) (input old new : Option (List ℕ)) (flushed : Option ℕ) (ended : Status) → IsFit asked → ended ≡ statuses.Done
     → IfSome input (λ bytes. Writes (Ok (ReadTrace asked strict)) bytes ended old new flushed)
-    → IfSome input (λ bytes. (text : List ℕ) × Appends old new text × NothingLate asked (past_of (trace_of bytes)) text)
+    → IfSome input (λ bytes. (text : List ℕ) × Appends old new text × HidesNothing asked.in_parts asked (past_of (trace_of bytes)) text)
 nothing_late asked strict input old new flushed ended fit done writes =
-    done_holds (λ bytes text. NothingLate asked (past_of (trace_of bytes)) text) asked strict
-    (λ bytes text document. told_late asked (past_of (trace_of bytes)) text fit.plain document.says) input old new flushed ended done writes
+    done_holds (λ bytes text. HidesNothing asked.in_parts asked (past_of (trace_of bytes)) text) asked strict
+    (λ bytes text told. hides_nothing asked.in_parts asked strict (trace_of bytes) text fit told) input old new flushed ended done writes
 
 -- # It is read again
-
-no_fault : {A : Type 0} (first second : Option A) → or_else first second ≡ None → (first ≡ None) × (second ≡ None)
-no_fault None second none = (refl, none)
-no_fault (Some x) second none = cc
 
 no_limit : (limit : Option DocumentFault) → of_document limit ≡ None → limit ≡ None
 no_limit None none = refl
@@ -105,12 +117,6 @@ not_long text none = by (nat_lt MAX_INPUT (length text)) refl none
     by true is none = cc
     by false is none = ltb-false MAX_INPUT (length text) is
 
-labelled : (tasks : List Task) → All (λ task. is_label task.label ≡ true) tasks → AllPairs (λ task other. task.label ≢ other.label) tasks → AreLabelled tasks
-labelled tasks labels different = record {
-  names = λ k d within. (and_parts (is_name (get_or tasks k d).label) _ (labels k d within)).0;
-  different = different;
-}
-
 document_again : (asked : Asked) (strict : Bool) (past : List Said) (text : List ℕ) → IsFit asked → document_fault asked strict past ≡ None → text ≡ text_of asked past
     → IsReadAgain asked past text
 document_again asked strict past text fit none is =
@@ -119,15 +125,53 @@ document_again asked strict past text fit none is =
     (is_read_again asked strict past fit.plain (labelled asked.tasks fit.labels fit.different) (no_limit (limit_fault strict (settled_of asked past)) parts.0)
     (not_long (text_of asked past) parts.1))
 
+read_so : (in_parts : Bool) (asked : Asked) (strict : Bool) (trace : Trace) (text : List ℕ) → IsFit asked → IsTold in_parts asked strict trace text statuses.Done
+    → IsReadSo in_parts asked (past_of trace) text
+read_so false asked strict trace text fit told = document_again asked strict (past_of trace) text fit told.fits told.says
+read_so true asked strict trace text fit told = parts_read_again asked strict (past_of trace) text fit (told_parts asked strict trace text told)
+
 pub read_again : (asked : Asked) (strict : Bool) (input old new : Option (List ℕ)) (flushed : Option ℕ) (ended : Status) → IsFit asked → ended ≡ statuses.Done
     → IfSome input (λ bytes. Writes (Ok (ReadTrace asked strict)) bytes ended old new flushed)
-    → IfSome input (λ bytes. (text : List ℕ) × Appends old new text × IsReadAgain asked (past_of (trace_of bytes)) text)
+    → IfSome input (λ bytes. (text : List ℕ) × Appends old new text × IsReadSo asked.in_parts asked (past_of (trace_of bytes)) text)
 read_again asked strict input old new flushed ended fit done writes =
-    done_holds (λ bytes text. IsReadAgain asked (past_of (trace_of bytes)) text) asked strict
-    (λ bytes text document. document_again asked strict (past_of (trace_of bytes)) text fit document.fits document.says) input old new flushed ended done writes
+    done_holds (λ bytes text. IsReadSo asked.in_parts asked (past_of (trace_of bytes)) text) asked strict
+    (λ bytes text told. read_so asked.in_parts asked strict (trace_of bytes) text fit told) input old new flushed ended done writes
 
--- # It is faithful
+-- # It is faithful, and whole
 
-pub faithful : (asked : Asked) (input : Option (List ℕ)) → IsFit asked → IfSome input (λ bytes. IsFaithful asked (past_of (trace_of bytes)))
-faithful asked None fit = tt
-faithful asked (Some bytes) fit = documents_are_faithful asked (past_of (trace_of bytes)) fit.plain
+-- What holds of the lines of each trace that is told holds of its lines.
+lines_hold : (Q : List ℕ → Type 0) (asked : Asked) (strict : Bool) → ((bytes text : List ℕ) → IsTold asked.in_parts asked strict (trace_of bytes) text statuses.Done → Q bytes)
+    → (input old new : Option (List ℕ)) (flushed : Option ℕ) (ended : Status) → ended ≡ statuses.Done
+    → IfSome input (λ bytes. Writes (Ok (ReadTrace asked strict)) bytes ended old new flushed) → IfSome input Q
+lines_hold Q asked strict each None old new flushed ended done writes = tt
+lines_hold Q asked strict each (Some bytes) old new flushed ended done writes =
+    let whole = subst (λ (s : Status). Outcome s writes.text writes.status old new flushed) done writes.outcome in
+    each bytes writes.text (done_so asked strict bytes writes.text writes.status whole.said writes.is_text)
+
+faithful_so : (in_parts : Bool) (asked : Asked) (strict : Bool) (trace : Trace) (text : List ℕ) → IsFit asked → IsTold in_parts asked strict trace text statuses.Done
+    → IsFaithfulSo in_parts asked (past_of trace)
+faithful_so false asked strict trace text fit told = documents_are_faithful asked (past_of trace) fit.plain
+faithful_so true asked strict trace text fit told =
+    let parts = told_parts asked strict trace text told in
+    faithful_parts asked (past_of trace) fit.plain parts.sound (whole_parts asked strict (past_of trace) text parts)
+
+pub faithful : (asked : Asked) (strict : Bool) (input old new : Option (List ℕ)) (flushed : Option ℕ) (ended : Status) → IsFit asked → ended ≡ statuses.Done
+    → IfSome input (λ bytes. Writes (Ok (ReadTrace asked strict)) bytes ended old new flushed) → IfSome input (λ bytes. IsFaithfulSo asked.in_parts asked (past_of (trace_of bytes)))
+faithful asked strict input old new flushed ended fit done writes =
+    lines_hold (λ bytes. IsFaithfulSo asked.in_parts asked (past_of (trace_of bytes))) asked strict
+    (λ bytes text told. faithful_so asked.in_parts asked strict (trace_of bytes) text fit told) input old new flushed ended done writes
+
+whole_so : (in_parts : Bool) (asked : Asked) (strict : Bool) (trace : Trace) (text : List ℕ) → IsFit asked → IsTold in_parts asked strict trace text statuses.Done → IsWholeSo in_parts asked (past_of trace)
+whole_so false asked strict trace text fit told = tt
+whole_so true asked strict trace text fit told =
+    let parts = told_parts asked strict trace text told in
+    record {
+      same_jobs = whole_parts asked strict (past_of trace) text parts;
+      same_document = parts_make_the_document asked (past_of trace) fit.plain parts.sound parts.keeps;
+    }
+
+pub whole : (asked : Asked) (strict : Bool) (input old new : Option (List ℕ)) (flushed : Option ℕ) (ended : Status) → IsFit asked → ended ≡ statuses.Done
+    → IfSome input (λ bytes. Writes (Ok (ReadTrace asked strict)) bytes ended old new flushed) → IfSome input (λ bytes. IsWholeSo asked.in_parts asked (past_of (trace_of bytes)))
+whole asked strict input old new flushed ended fit done writes =
+    lines_hold (λ bytes. IsWholeSo asked.in_parts asked (past_of (trace_of bytes))) asked strict
+    (λ bytes text told. whole_so asked.in_parts asked strict (trace_of bytes) text fit told) input old new flushed ended done writes

@@ -1,17 +1,20 @@
 -- What answers the words over the bytes of an input: a text, and the status of a run that wrote it.
-use Rattle.std.specs.Prelude.{◌≡◌, ℕ, ◌⊎◌, List, Bool, Some, None, Result, Ok, Err}
+use Rattle.std.specs.Prelude.{◌≡◌, ℕ, ◌⊎◌, List, [], ◌++◌, Bool, true, false, Some, None, Result, Ok, Err}
 use Rattle.yds_model.specs.declared.status.Status.{Status}
 use Rattle.yds_model.specs.declared.status.Status.TheVariants as statuses
+use Rattle.yds_kernel.specs.Event.{Said}
 use Rattle.yds_kernel.specs.Text.{Trace, trace_of}
 use Rattle.yds_trace.specs.Asked.{Asked}
 use Rattle.yds_trace_text.specs.Text.{text_of}
 use Rattle.yds_trace_reading.specs.LineFault.{past_of, line_fault}
 use Rattle.yds_trace_reading.specs.Reading.{IsTooLong}
+use Rattle.yds_trace_parts.specs.Told.{Halt, told_after, told_of}
+use Rattle.yds_trace_parts.specs.Driving.{IsEndless}
 use Rattle.yds_trace_words.specs.Words.{WordFault}
 use Rattle.yds_trace_words.specs.Request.{Request, ShowHelp, ShowVersion, ReadTrace}
 use Rattle.yds_trace_words.specs.Texts as texts
 use Rattle.yds_trace_run.specs.Fault.{TraceFault, document_fault, fault_of}
-use Rattle.yds_trace_run.specs.FaultText.{fault_text, too_long_text}
+use Rattle.yds_trace_run.specs.FaultText.{fault_text, halt_text, too_long_text}
 
 -- The trace has no fault, its document passes no limit, and the text is that of the definition.
 pub record IsDocument (asked : Asked) (strict : Bool) (trace : Trace) (text : List ℕ) : Type 0 where
@@ -25,23 +28,70 @@ pub record IsRefusal (asked : Asked) (strict : Bool) (trace : Trace) (text : Lis
   pub first : fault_of asked strict trace ≡ Some fault
   pub says : text ≡ fault_text fault
 
--- the trace is told, or refused
-abbrev pub IsTold : Asked → Bool → Trace → List ℕ → Status → Type 0
-IsTold asked strict trace text statuses.Done = IsDocument asked strict trace text
-IsTold asked strict trace text statuses.Refused = IsRefusal asked strict trace text
-IsTold asked strict trace text _ = ⊥
+-- # In parts
 
--- an input of as many bytes or lines as can be counted
-pub record IsTooMuch (input text : List ℕ) (status : Status) : Type 0 where
-  pub long : IsTooLong input
+-- The trace is told to its end, and the text is that of all its parts, one behind the other.
+pub record AreParts (asked : Asked) (strict : Bool) (trace : Trace) (text : List ℕ) : Type 0 where
+  pub sound : (told_of asked strict trace).halt ≡ None
+  pub says : text ≡ (told_of asked strict trace).text
+
+-- This is the first cause for which it isn't told further. The text is that of the parts that were whole before, its comment and the line `failed`.
+pub record IsHalted (asked : Asked) (strict : Bool) (trace : Trace) (text : List ℕ) : Type 0 where
+  pub halt : Halt
+  pub first : (told_of asked strict trace).halt ≡ Some halt
+  pub says : text ≡ (told_of asked strict trace).text ++ halt_text halt
+
+-- the text of the parts that were whole with some of the trace's lines, from the first on
+pub record ArePartsOfSome (asked : Asked) (strict : Bool) (trace : Trace) (text : List ℕ) : Type 0 where
+  pub past : List Said
+  pub behind : List Said
+  pub front : past_of trace ≡ behind ++ past
+  pub goes_on : (told_after asked strict past).halt ≡ None
+  pub says : text ≡ (told_after asked strict past).text
+
+-- # Ends that aren't of the trace
+
+-- What was written before such an end: nothing, or in parts those of some lines.
+abbrev pub WasWritten : Bool → Asked → Bool → Trace → List ℕ → Type 0
+WasWritten false asked strict trace before = before ≡ []
+WasWritten true asked strict trace before = ArePartsOfSome asked strict trace before
+
+abbrev pub StandsBefore : Result Request WordFault → List ℕ → List ℕ → Type 0
+StandsBefore (Ok (ReadTrace asked strict)) input before = WasWritten asked.in_parts asked strict (trace_of input) before
+StandsBefore _ input before = before ≡ []
+
+-- this comment with the line `failed`, behind what was written before
+pub record EndsWith (request : Result Request WordFault) (input text comment : List ℕ) : Type 0 where
+  pub before : List ℕ
+  pub stands : StandsBefore request input before
+  pub says : text ≡ before ++ comment
+
+-- An input of as many bytes or lines as are counted, which are fewer lines where it is told in parts.
+abbrev pub IsUncounted : Bool → List ℕ → Type 0
+IsUncounted false input = IsTooLong input
+IsUncounted true input = IsEndless input
+
+pub record IsTooMuch (asked : Asked) (strict : Bool) (input text : List ℕ) (status : Status) : Type 0 where
+  pub long : IsUncounted asked.in_parts input
   pub refused : status ≡ statuses.Refused
-  pub says : text ≡ too_long_text
+  pub ends : EndsWith (Ok (ReadTrace asked strict)) input text too_long_text
+
+-- # Answers
+
+-- the trace is told, in one document or in parts, or refused
+abbrev pub IsTold : Bool → Asked → Bool → Trace → List ℕ → Status → Type 0
+IsTold false asked strict trace text statuses.Done = IsDocument asked strict trace text
+IsTold false asked strict trace text statuses.Refused = IsRefusal asked strict trace text
+IsTold true asked strict trace text statuses.Done = AreParts asked strict trace text
+IsTold true asked strict trace text statuses.Refused = IsHalted asked strict trace text
+IsTold in_parts asked strict trace text _ = ⊥
 
 abbrev pub Answers : Result Request WordFault → List ℕ → List ℕ → Status → Type 0
 Answers (Err fault) input text status = (status ≡ statuses.Usage) × (text ≡ texts.fault_text fault)
 Answers (Ok ShowHelp) input text status = (status ≡ statuses.Done) × (text ≡ texts.help_text)
 Answers (Ok ShowVersion) input text status = (status ≡ statuses.Done) × (text ≡ texts.version_line)
-Answers (Ok (ReadTrace asked strict)) input text status = IsTold asked strict (trace_of input) text status ⊎ IsTooMuch input text status
+Answers (Ok (ReadTrace asked strict)) input text status =
+    IsTold asked.in_parts asked strict (trace_of input) text status ⊎ IsTooMuch asked strict input text status
 
 -- a trace is asked for
 abbrev pub ReadsInput : Result Request WordFault → Type 0

@@ -7,7 +7,7 @@ use Rattle.yds_port.specs.Count.{Rose, next_count}
 use Rattle.yds_port.specs.Sink.{AppendsFront, IsFlushed}
 use Rattle.yds_trace_words.specs.Words.{WordFault}
 use Rattle.yds_trace_words.specs.Request.{Request}
-use Rattle.yds_trace_run.specs.Answer.{Answers}
+use Rattle.yds_trace_run.specs.Answer.{EndsWith, Answers}
 use Rattle.yds_kernel.specs.Event.{Said}
 use Rattle.yds_trace.specs.declared.ended.Ended.{Ended}
 use Rattle.yds_trace.specs.Asked.{Asked}
@@ -18,12 +18,15 @@ use Rattle.yds_trace_reading.specs.declared.stopped.Stopped.TheVariants as stops
 use Rattle.yds_trace_reading.specs.LineFault.{InForm, AtLine}
 use Rattle.yds_trace_reading.specs.Reading.{IsReadOut}
 use Rattle.yds_trace_run.specs.Fault.{TraceFault, document_fault}
-use Rattle.yds_trace_run.specs.FaultText.{failed, line_text, fault_text, too_long_text, memory_text, read_fault_text}
+use Rattle.yds_trace_parts.specs.declared.halt.Halt.{Halt}
+use Rattle.yds_trace_parts.specs.declared.halt.Halt.TheVariants as halts
+use Rattle.yds_trace_parts.specs.Told as told
+use Rattle.yds_trace_run.specs.FaultText.{failed, line_text, fault_text, halt_text, too_long_text, memory_text, read_fault_text}
 
 -- the text with which a run ends so: an answer, or why there is none
 abbrev pub IsText : Result Request WordFault → List ℕ → List ℕ → Status → Type 0
-IsText request input text statuses.Memory = text ≡ memory_text
-IsText request input text statuses.ReadFault = text ≡ read_fault_text
+IsText request input text statuses.Memory = EndsWith request input text memory_text
+IsText request input text statuses.ReadFault = EndsWith request input text read_fault_text
 IsText request input text statuses.WriteFault = ⊥
 IsText request input text statuses.No = ⊥
 IsText request input text status = Answers request input text status
@@ -84,6 +87,31 @@ stopped_status (stops.AtLine number cause) = statuses.Refused
 stopped_status stops.TooLong = statuses.Refused
 stopped_status stops.ReadFault = statuses.ReadFault
 stopped_status stops.Memory = statuses.Memory
+
+-- # Why a trace wasn't told further
+
+-- the comment for it; none where a write failed
+abbrev pub halted_text : Halt → List ℕ
+halted_text (halts.InForm number fault) = halt_text (told.InForm (record { line = number; column = fault.column; reason = fault.reason }))
+halted_text (halts.AtLine number cause) = halt_text (told.AtLine number cause)
+halted_text (halts.Limit part fault) = halt_text (told.OfDocument part fault)
+halted_text (halts.TooLong part) = halt_text (told.OfText part)
+halted_text (halts.NoPlace name begin late) = halt_text (told.NoPlace name.items begin late)
+halted_text halts.Endless = too_long_text
+halted_text halts.ReadFault = read_fault_text
+halted_text halts.Memory = memory_text
+halted_text halts.WriteFault = []
+
+abbrev pub halted_status : Halt → Status
+halted_status halts.ReadFault = statuses.ReadFault
+halted_status halts.Memory = statuses.Memory
+halted_status halts.WriteFault = statuses.WriteFault
+halted_status _ = statuses.Refused
+
+-- The comment was delivered to the sink, whose members stand first. Where a write had failed before, nothing more was done to it.
+abbrev pub TellsHalt : {K : Type 0} → (K → Option (List ℕ)) → (K → Option ℕ) → (K → ℕ) → (K → ℕ) → Halt → Status → K → K → Type 0
+TellsHalt written flushed flushes faults halts.WriteFault ended old new = (ended ≡ statuses.WriteFault) × (new ≡ old)
+TellsHalt written flushed flushes faults halt ended old new = IsDelivered written flushed flushes faults (halted_text halt) (halted_status halt) ended old new
 
 -- # What is known at a trace's end
 

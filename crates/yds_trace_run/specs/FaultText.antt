@@ -1,5 +1,5 @@
 -- The texts of a run that tells no document: one comment with the place, the cause and what to do, and a line that no reader of documents takes.
-use Rattle.std.specs.Prelude.{ℕ, ◌+◌, List, ◌++◌, codes, decimal}
+use Rattle.std.specs.Prelude.{ℕ, ◌+◌, List, ◌++◌, codes, decimal, Option, Some, None}
 use Rattle.yds_kernel.specs.declared.fault.Reason.{Reason}
 use Rattle.yds_kernel.specs.declared.fault.Reason.TheVariants as reasons
 use Rattle.yds_trace.specs.declared.fault.Cause.{Cause}
@@ -7,6 +7,9 @@ use Rattle.yds_trace.specs.declared.fault.Cause.TheVariants as causes
 use Rattle.yds_trace_document.specs.declared.fault.DocumentFault.{DocumentFault}
 use Rattle.yds_trace_document.specs.declared.fault.DocumentFault.TheVariants as faults
 use Rattle.yds_trace_reading.specs.LineFault.{LineFault, InForm, AtLine}
+use Rattle.yds_trace_text.specs.Text.{in_seconds, in_milliseconds}
+use Rattle.yds_trace_parts.specs.Told as told
+use Rattle.yds_trace_words.specs.Texts.{shown_word}
 use Rattle.yds_trace_run.specs.Fault.{TraceFault, OfLine, OfDocument, OfText}
 
 -- a comment, and the last line
@@ -68,11 +71,35 @@ fault_text (OfLine fault) = failed (line_text fault)
 fault_text (OfDocument fault) = failed (document_text fault)
 fault_text OfText = failed (codes "the document is longer than 8388608 bytes; choose a shorter time by --from and --to")
 
+-- # Parts
+
+abbrev pub of_part : ℕ → List ℕ → List ℕ
+of_part part text = codes "part " ++ decimal part ++ codes ": " ++ text
+
+-- by how much a job is known to be late
+abbrev pub late_text : Option ℕ → List ℕ
+late_text None = codes "not known to be late"
+late_text (Some late) = codes "known to be late by " ++ in_milliseconds late ++ codes " ms"
+
+-- A job is told by its name, as a comment shows the bytes of a word, and by its begin on the trace's clock.
+abbrev pub no_place_text : List ℕ → ℕ → Option ℕ → List ℕ
+no_place_text name begin late =
+    codes "no part can end, since the processor is never quiet; look at job " ++ shown_word name ++ codes ", begun at " ++ in_seconds begin
+    ++ codes " s, " ++ late_text late ++ codes ": choose --from and --to around it, or leave its task out"
+
+-- why a trace isn't told further in parts
+abbrev pub halt_text : told.Halt → List ℕ
+halt_text (told.InForm fault) = failed (line_text (InForm fault))
+halt_text (told.AtLine number cause) = failed (line_text (AtLine number cause))
+halt_text (told.OfDocument part fault) = failed (of_part part (document_text fault))
+halt_text (told.OfText part) = failed (of_part part (codes "the document is longer than 8388608 bytes; choose fewer tasks, or greater units by --us and --khz"))
+halt_text (told.NoPlace name begin late) = failed (no_place_text name begin late)
+
 -- # Other ends
 
 -- the trace has as many bytes or lines as can be counted
 abbrev pub too_long_text : List ℕ
-too_long_text = failed (codes "the trace has more bytes than 64 bits count; give a part of it")
+too_long_text = failed (codes "the trace has more bytes or lines than are counted; give a part of it")
 
 abbrev pub memory_text : List ℕ
 memory_text = failed (codes "out of memory; ask for fewer tasks, or choose a shorter time by --from and --to")

@@ -1,18 +1,18 @@
--- What a document is worth to whoever asked for it: no late job is hidden in it.
-use Rattle.std.specs.Prelude.{◌≡◌, ℕ, ◌<◌, List, ◌++◌, Some}
-use Rattle.std.specs.List.{All}
+-- What a document, or documents in parts, are worth to whoever asked for them: no late job is hidden, each is read again, and each is faithful.
+use Rattle.std.specs.Prelude.{◌≡◌, ℕ, ◌<◌, List, Bool, true, false, Some}
+use Rattle.std.specs.List.{All, flat_map}
 use Rattle.yds_model.specs.Feasible.{IsFeasible}
 use Rattle.yds_kernel.specs.Event.{Said}
 use Rattle.yds_trace.specs.Asked.{Asked}
 use Rattle.yds_trace.specs.Document.{Judged, all_judged, units_of, document_of}
 use Rattle.yds_trace_laws.specs.AsSlots.{jobs_read, slots_read}
+use Rattle.yds_trace_laws.specs.Faithful.{IsFaithful}
 use Rattle.yds_trace_text.specs.Text.{late_comment}
-
--- one text stands within the other
-pub record Holds (text part : List ℕ) : Type 0 where
-  pub before : List ℕ
-  pub behind : List ℕ
-  pub is : text ≡ before ++ part ++ behind
+use Rattle.yds_trace_again.specs.Again.{IsReadAs, IsReadAgain}
+use Rattle.yds_trace_again.specs.Holds.{Holds}
+use Rattle.yds_trace_whole.specs.Parts.{Part, parts_of, judged_in_parts}
+use Rattle.yds_trace_whole.specs.Whole.{whole_document, put_together}
+use Rattle.yds_trace_whole.specs.Worth.{NothingLateInParts, IsFaithfulPart}
 
 -- Where a job is known to be late, it is late by less than a unit of time, and a comment of the text names it.
 abbrev pub IsToldLate : Asked → List Said → List ℕ → Judged → Type 0
@@ -23,3 +23,32 @@ abbrev pub NothingLate : Asked → List Said → List ℕ → Type 0
 NothingLate asked past text =
     IsFeasible (jobs_read (document_of asked past).jobs) (slots_read (document_of asked past).runs)
     → All (IsToldLate asked past text) (all_judged asked past)
+
+-- # By whether it is told in parts
+
+abbrev pub HidesNothing : Bool → Asked → List Said → List ℕ → Type 0
+HidesNothing false asked past text = NothingLate asked past text
+HidesNothing true asked past text = NothingLateInParts asked past text
+
+-- The text is that of the parts, one behind the other, and each of them is read again as its document.
+pub record ArePartsReadAgain (parts : List Part) (text : List ℕ) : Type 0 where
+  pub says : text ≡ flat_map (λ part. part.text) parts
+  pub read : All (λ part. IsReadAs part.settled.document part.text) parts
+
+abbrev pub IsReadSo : Bool → Asked → List Said → List ℕ → Type 0
+IsReadSo false asked past text = IsReadAgain asked past text
+IsReadSo true asked past text = ArePartsReadAgain (parts_of asked past) text
+
+abbrev pub IsFaithfulSo : Bool → Asked → List Said → Type 0
+IsFaithfulSo false asked past = IsFaithful asked past
+IsFaithfulSo true asked past = All (IsFaithfulPart asked past) (parts_of asked past)
+
+-- The jobs of the parts, one part after another, are those of the whole trace; and put together, the parts are the one document that it would
+-- have without limits.
+pub record AreTheWhole (asked : Asked) (past : List Said) : Type 0 where
+  pub same_jobs : judged_in_parts (parts_of asked past) ≡ all_judged asked past
+  pub same_document : put_together (parts_of asked past) ≡ whole_document asked past
+
+abbrev pub IsWholeSo : Bool → Asked → List Said → Type 0
+IsWholeSo false asked past = Unit {0}
+IsWholeSo true asked past = AreTheWhole asked past

@@ -1,7 +1,9 @@
-//! The texts of a run that tells no document.
-ghost use Rattle.std.specs.Prelude.{◌≡◌, ◌≤◌, ◌+◌, ◌++◌, length, decimal};
+//! The texts of a run that tells no document, or not all parts.
+ghost use Rattle.std.specs.Prelude.{◌≡◌, ◌≤◌, ◌+◌, ◌++◌, codes, drop, length, decimal};
 ghost use Rattle.arrayvec.specs.ArrayString.{array_string_len};
 ghost use Rattle.yds_trace_reading.specs.LineFault.{InForm, AtLine};
+ghost use Rattle.yds_trace_text.specs.Text.{in_seconds, in_milliseconds};
+ghost use Rattle.yds_trace_parts.specs.Told.{OfDocument, OfText, NoPlace};
 ghost use Rattle.yds_trace_run.specs.FaultText as spec;
 
 use arrayvec::ArrayString;
@@ -9,9 +11,7 @@ use itoa::Buffer;
 use yds_kernel::{LineFault, Reason};
 use yds_trace::Cause;
 use yds_trace_document::DocumentFault;
-
-/// How many bytes such a text has at most.
-pub(crate) const LINE_BYTES: usize = 320;
+use yds_trace_words::{LINE_BYTES, push_shown};
 
 /// The text for want of memory. It takes none.
 pub(crate) const MEMORY: &[u8] =
@@ -21,9 +21,9 @@ pub(crate) const MEMORY: &[u8] =
 pub(crate) const READ_FAULT: &[u8] =
     b"# the input couldn't be read to its end; give it anew\nfailed\n";
 
-/// The text for a trace of as many bytes or lines as can be counted.
+/// The text for a trace of as many bytes or lines as are counted.
 pub(crate) const TOO_LONG: &[u8] =
-    b"# the trace has more bytes than 64 bits count; give a part of it\nfailed\n";
+    b"# the trace has more bytes or lines than are counted; give a part of it\nfailed\n";
 
 /// The text for a document that is longer than a document may be.
 pub(crate) const TEXT_TOO_LONG: &[u8] =
@@ -146,7 +146,7 @@ pub(crate) fn document_line(fault: DocumentFault) -> ArrayString<LINE_BYTES>
 
 /// Which limit it is, and what to do.
 fn push_document(fault: DocumentFault, line: &mut ArrayString<LINE_BYTES>)
-    requires { array_string_len line.old ≤ 10 }
+    requires { array_string_len line.old ≤ 40 }
     ensures text { line.new.bytes ≡ line.old.bytes ++ spec.document_text fault }
     ensures short { array_string_len line.new ≤ 240 }
 {
@@ -197,6 +197,106 @@ fn push_document(fault: DocumentFault, line: &mut ArrayString<LINE_BYTES>)
             line,
         ),
     }
+}
+
+/// The text for a part that is beyond a limit.
+pub(crate) fn part_line(part: u64, fault: DocumentFault) -> ArrayString<LINE_BYTES>
+    ensures { result.bytes ≡ spec.halt_text (OfDocument part fault) }
+{
+    let mut line = part_front(part);
+    push_document(fault, &mut line);
+    line.push_str(FAILED);
+    line
+}
+
+/// The text for a part that is longer than a document may be.
+pub(crate) fn long_part_line(part: u64) -> ArrayString<LINE_BYTES>
+    ensures { result.bytes ≡ spec.halt_text (OfText part) }
+{
+    let mut line = part_front(part);
+    line.push_str(
+        "the document is longer than 8388608 bytes; choose fewer tasks, or greater units by --us and --khz",
+    );
+    line.push_str(FAILED);
+    line
+}
+
+/// The begin of a comment on the part of this number.
+fn part_front(part: u64) -> ArrayString<LINE_BYTES>
+    ensures text { result.bytes ≡ codes "# " ++ (codes "part " ++ decimal part ++ codes ": ") }
+    ensures short { array_string_len result ≤ 30 }
+{
+    let mut line = ArrayString::new();
+    line.push_str("# part ");
+    line.push_str(Buffer::new().format(part));
+    line.push_str(": ");
+    line
+}
+
+/// The text where too much waits and there is no place to cut: the job that has been open longest, or else the first that waits,
+/// with its begin on the trace's clock and by how much it is known to be late, in nanoseconds.
+pub(crate) fn place_line(name: &[u8], begin: u64, late: Option<u64>) -> ArrayString<LINE_BYTES>
+    ensures { result.bytes ≡ spec.halt_text (NoPlace name.now begin late) }
+{
+    let mut line = ArrayString::new();
+    line.push_str("# no part can end, since the processor is never quiet; look at job ");
+    push_shown(name, &mut line);
+    line.push_str(", begun at ");
+    push_seconds(begin, &mut line);
+    line.push_str(" s, ");
+    push_late(late, &mut line);
+    line.push_str(": choose --from and --to around it, or leave its task out");
+    line.push_str(FAILED);
+    line
+}
+
+/// By how much a job is known to be late.
+fn push_late(late: Option<u64>, line: &mut ArrayString<LINE_BYTES>)
+    requires { array_string_len line.old ≤ 190 }
+    ensures text { line.new.bytes ≡ line.old.bytes ++ spec.late_text late }
+    ensures short { array_string_len line.new ≤ array_string_len line.old + 64 }
+{
+    match late {
+        None => line.push_str("not known to be late"),
+        Some(late) => {
+            line.push_str("known to be late by ");
+            push_milliseconds(late, line);
+            line.push_str(" ms");
+        }
+    }
+}
+
+/// Nanoseconds, told in seconds.
+fn push_seconds(time: u64, line: &mut ArrayString<LINE_BYTES>)
+    requires { array_string_len line.old ≤ 220 }
+    ensures text { line.new.bytes ≡ line.old.bytes ++ in_seconds time }
+    ensures short { array_string_len line.new ≤ array_string_len line.old + 41 }
+{
+    line.push_str(Buffer::new().format(time / 1_000_000_000));
+    line.push_str(".");
+    push_behind_first(1_000_000_000 + time % 1_000_000_000, line);
+}
+
+/// Nanoseconds, told in milliseconds.
+fn push_milliseconds(time: u64, line: &mut ArrayString<LINE_BYTES>)
+    requires { array_string_len line.old ≤ 220 }
+    ensures text { line.new.bytes ≡ line.old.bytes ++ in_milliseconds time }
+    ensures short { array_string_len line.new ≤ array_string_len line.old + 41 }
+{
+    line.push_str(Buffer::new().format(time / 1_000_000));
+    line.push_str(".");
+    push_behind_first(1_000_000 + time % 1_000_000, line);
+}
+
+/// The digits of a number but for the first one.
+fn push_behind_first(number: u64, line: &mut ArrayString<LINE_BYTES>)
+    requires { array_string_len line.old ≤ 260 }
+    ensures text { line.new.bytes ≡ line.old.bytes ++ drop 1 (decimal number) }
+    ensures short { array_string_len line.new ≤ array_string_len line.old + 20 }
+{
+    let mut buffer = Buffer::new();
+    let digits = buffer.format(number);
+    line.push_str(&digits[1..]);
 }
 
 /// What is wrong with the job or the task at a place, which counts from 0.

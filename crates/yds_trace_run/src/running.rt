@@ -1,5 +1,5 @@
 //! The run of the program.
-ghost use Rattle.std.specs.Prelude.{◌≡◌, ◌≢◌, ◌⊎◌, ◌<◌, ◌≤◌, ℕ, List, Ok, IfSome, Bool};
+ghost use Rattle.std.specs.Prelude.{◌≡◌, ◌≢◌, ◌⊎◌, ◌<◌, ◌≤◌, ℕ, List, Ok, IfSome, Bool, true, false};
 ghost use Rattle.std.specs.Io.KnownBytes.{Appends};
 ghost use Rattle.yds_port.specs.Count.{Rose, next_count};
 ghost use Rattle.yds_kernel.specs.Text.{trace_of};
@@ -9,31 +9,34 @@ ghost use Rattle.yds_trace_words.specs.Views.{words_of};
 ghost use Rattle.yds_trace_reading.specs.LineFault.{past_of};
 ghost use Rattle.yds_trace_document.specs.Kept.{IsPlain};
 ghost use Rattle.yds_trace.specs.Views.{asked_read};
-ghost use Rattle.yds_trace_again.specs.Again.{IsReadAgain};
-ghost use Rattle.yds_trace_laws.specs.Faithful.{IsFaithful};
 ghost use Rattle.yds_trace_run.specs.Answer.{ReadsInput};
-ghost use Rattle.yds_trace_run.specs.Endings.{Writes, IsEnded, IsDelivered, Tells, Leaves, stopped_text, stopped_status};
-ghost use Rattle.yds_trace_run.specs.Worth.{NothingLate};
+ghost use Rattle.yds_trace_run.specs.Endings.{Writes, IsEnded, IsDelivered, Tells, TellsHalt, Leaves, stopped_text, stopped_status};
+ghost use Rattle.yds_trace_run.specs.Worth.{HidesNothing, IsReadSo, IsFaithfulSo, IsWholeSo};
 
 use crate::delivery::deliver;
 use crate::fault_text::{
     MEMORY, READ_FAULT, TEXT_TOO_LONG, TOO_LONG, cause_line, document_line, form_line,
+    long_part_line, part_line, place_line,
 };
+use arrayvec::ArrayString;
 use std::alloc::Global;
 use yds_model::Status;
 use yds_port::{Sink, Source};
 use yds_trace::{Asked, Ended};
+use yds_trace_parts::{Halt, tell_parts};
 use yds_trace_reading::{Stopped, read_trace};
 use yds_trace_text::{NoText, document_text};
-use yds_trace_words::{HELP, NoRequest, Request, VERSION, fault_line, read_words};
+use yds_trace_words::{HELP, LINE_BYTES, NoRequest, Request, VERSION, fault_line, read_words};
 
 /// Runs what the words ask for: reads the source to its end in one pass, writes the text and flushes the sink, once.
 ///
-/// - `Done`: the text of a document, of `--help` or of `--version` was written whole.
+/// - `Done`: the text of a document, of all parts of a trace, of `--help` or of `--version` was written whole.
 /// - `Usage`: the words can't be taken. The source isn't read.
-/// - `Refused`: the trace has a fault, or its document passes a limit. Just a comment with the place, the cause and what to do was
-///   written, and the line `failed`. The source was read to its end, or up to a fault of its own.
-/// - `ReadFault`, `Memory`: the input couldn't be read, or memory ran out. A comment says so, and the last line is `failed`.
+/// - `Refused`: the trace has a fault, or its document or a part passes a limit. Just a comment with the place, the cause and what
+///   to do was written, and the line `failed`; in parts, behind those that were whole before. The source was read to its end, or up
+///   to a fault of its own.
+/// - `ReadFault`, `Memory`: the input couldn't be read, or memory ran out. A comment says so, and the last line is `failed`; in parts,
+///   behind those of some lines.
 /// - `WriteFault`: a front of one of these texts was written.
 ///
 /// The source and the sink need not tell their bytes. Where both do, what was written is what the definitions say of the words and
@@ -67,16 +70,21 @@ pub fn run<S: Source, K: Sink>(
     // late by less than a unit of time, and a comment names it.
     ensures nothing_late { result ≡ Status.Done → (asked : asking.Asked) (strict : Bool) → request_of (words_of words.now) ≡ Ok (ReadTrace asked strict)
         → IfSome (S.left source.old) (λ input.
-        (text : List ℕ) × Appends (K.written sink.old) (K.written sink.new) text × NothingLate asked (past_of (trace_of input)) text) }
+        (text : List ℕ) × Appends (K.written sink.old) (K.written sink.new) text × HidesNothing asked.in_parts asked (past_of (trace_of input)) text) }
 
     // It is read again by the definition of documents, within the limits, as just its jobs and its runs, in their order.
     ensures read_again { result ≡ Status.Done → (asked : asking.Asked) (strict : Bool) → request_of (words_of words.now) ≡ Ok (ReadTrace asked strict)
         → IfSome (S.left source.old) (λ input.
-        (text : List ℕ) × Appends (K.written sink.old) (K.written sink.new) text × IsReadAgain asked (past_of (trace_of input)) text) }
+        (text : List ℕ) × Appends (K.written sink.old) (K.written sink.new) text × IsReadSo asked.in_parts asked (past_of (trace_of input)) text) }
 
     // No job and no run of it is invented: each run is stretches of time that the trace shows of its job. And none is missing.
     ensures faithful { result ≡ Status.Done → (asked : asking.Asked) (strict : Bool) → request_of (words_of words.now) ≡ Ok (ReadTrace asked strict)
-        → IfSome (S.left source.old) (λ input. IsFaithful asked (past_of (trace_of input))) }
+        → IfSome (S.left source.old) (λ input. IsFaithfulSo asked.in_parts asked (past_of (trace_of input))) }
+
+    // In parts, a part that was written long ago says of its jobs what the whole trace says of them, and put together the parts are
+    // the one document that the trace would have without limits.
+    ensures whole { result ≡ Status.Done → (asked : asking.Asked) (strict : Bool) → request_of (words_of words.now) ≡ Ok (ReadTrace asked strict)
+        → IfSome (S.left source.old) (λ input. IsWholeSo asked.in_parts asked (past_of (trace_of input))) }
 {
     match read_words(alloc, words) {
         Ok(Request::Help) => deliver(HELP, Status::Done, sink),
@@ -106,10 +114,83 @@ fn run_trace<S: Source, K: Sink>(
     ensures answer { IfSome (S.left source.old) (λ input.
         Writes (Ok (ReadTrace (asked_read asked) strict)) input result (K.written sink.old) (K.written sink.new) (K.flushed sink.new)) }
 {
+    if asked.in_parts {
+        run_in_parts(alloc, asked, strict, source, sink)
+    } else {
+        run_whole(alloc, asked, strict, source, sink)
+    }
+}
+
+/// Reads a trace and writes its one document.
+fn run_whole<S: Source, K: Sink>(
+    alloc: Global,
+    asked: Asked,
+    strict: bool,
+    source: &mut S,
+    sink: &mut K,
+) -> Status
+    requires fit { IsFit (asked_read asked) }
+    requires whole { asked.in_parts ≡ false }
+    ensures source_later { S.faults source.old ≤ S.faults source.new }
+    ensures read_fault { result ≡ Status.ReadFault → Rose (S.faults source.old) (S.faults source.new) }
+    ensures no_fault_passed_over { result ≡ Status.Done → S.faults source.new ≡ S.faults source.old }
+    ensures read_to_its_end { IfSome (S.left source.old) (λ input. Leaves result input (S.left source.new) (S.faults source.old) (S.faults source.new)) }
+    ensures sink { IsEnded K.written K.flushed K.flushes K.faults result sink.old sink.new }
+    ensures answer { IfSome (S.left source.old) (λ input.
+        Writes (Ok (ReadTrace (asked_read asked) strict)) input result (K.written sink.old) (K.written sink.new) (K.flushed sink.new)) }
+{
     match read_trace(alloc, asked, source) {
         Ok(ended) => tell(alloc, &ended, strict, sink),
         Err(stopped) => tell_stopped(stopped, sink),
     }
+}
+
+/// Reads a trace and writes its parts, each as soon as it is whole.
+fn run_in_parts<S: Source, K: Sink>(
+    alloc: Global,
+    asked: Asked,
+    strict: bool,
+    source: &mut S,
+    sink: &mut K,
+) -> Status
+    requires fit { IsFit (asked_read asked) }
+    requires in_parts { asked.in_parts ≡ true }
+    ensures source_later { S.faults source.old ≤ S.faults source.new }
+    ensures read_fault { result ≡ Status.ReadFault → Rose (S.faults source.old) (S.faults source.new) }
+    ensures no_fault_passed_over { result ≡ Status.Done → S.faults source.new ≡ S.faults source.old }
+    ensures read_to_its_end { IfSome (S.left source.old) (λ input. Leaves result input (S.left source.new) (S.faults source.old) (S.faults source.new)) }
+    ensures sink { IsEnded K.written K.flushed K.flushes K.faults result sink.old sink.new }
+    ensures answer { IfSome (S.left source.old) (λ input.
+        Writes (Ok (ReadTrace (asked_read asked) strict)) input result (K.written sink.old) (K.written sink.new) (K.flushed sink.new)) }
+{
+    match tell_parts(alloc, asked, strict, source, sink) {
+        Ok(()) => deliver(b"", Status::Done, sink),
+        Err(halt) => tell_halt(&halt, sink),
+    }
+}
+
+/// Writes why a trace isn't told further, behind the parts that were written.
+fn tell_halt<K: Sink>(halt: &Halt, sink: &mut K) -> Status
+    ensures { TellsHalt K.written K.flushed K.flushes K.faults halt.now result sink.old sink.new }
+{
+    match halt {
+        Halt::WriteFault => Status::WriteFault,
+        Halt::ReadFault => deliver(READ_FAULT, Status::ReadFault, sink),
+        Halt::Memory => deliver(MEMORY, Status::Memory, sink),
+        Halt::Endless => deliver(TOO_LONG, Status::Refused, sink),
+        Halt::InForm { number, fault } => refuse(&form_line(*number, *fault), sink),
+        Halt::AtLine { number, cause } => refuse(&cause_line(*number, *cause), sink),
+        Halt::Limit { part, fault } => refuse(&part_line(*part, *fault), sink),
+        Halt::TooLong { part } => refuse(&long_part_line(*part), sink),
+        Halt::NoPlace { name, begin, late } => refuse(&place_line(name, *begin, *late), sink),
+    }
+}
+
+/// Writes why a trace is refused.
+fn refuse<K: Sink>(line: &ArrayString<LINE_BYTES>, sink: &mut K) -> Status
+    ensures { IsDelivered K.written K.flushed K.flushes K.faults line.now.bytes Status.Refused result sink.old sink.new }
+{
+    deliver(line.as_bytes(), Status::Refused, sink)
 }
 
 /// Writes why a trace wasn't read to what is known at its end.
@@ -120,12 +201,8 @@ fn tell_stopped<K: Sink>(stopped: Stopped, sink: &mut K) -> Status
         Stopped::ReadFault => deliver(READ_FAULT, Status::ReadFault, sink),
         Stopped::Memory => deliver(MEMORY, Status::Memory, sink),
         Stopped::TooLong => deliver(TOO_LONG, Status::Refused, sink),
-        Stopped::InForm { number, fault } => {
-            deliver(form_line(number, fault).as_bytes(), Status::Refused, sink)
-        }
-        Stopped::AtLine { number, cause } => {
-            deliver(cause_line(number, cause).as_bytes(), Status::Refused, sink)
-        }
+        Stopped::InForm { number, fault } => refuse(&form_line(number, fault), sink),
+        Stopped::AtLine { number, cause } => refuse(&cause_line(number, cause), sink),
     }
 }
 
@@ -136,9 +213,7 @@ fn tell<K: Sink>(alloc: Global, ended: &Ended, strict: bool, sink: &mut K) -> St
 {
     match document_text(alloc, ended, strict) {
         Ok(text) => deliver(&text, Status::Done, sink),
-        Err(NoText::Limit(fault)) => {
-            deliver(document_line(fault).as_bytes(), Status::Refused, sink)
-        }
+        Err(NoText::Limit(fault)) => refuse(&document_line(fault), sink),
         Err(NoText::TooLong) => deliver(TEXT_TOO_LONG, Status::Refused, sink),
         Err(NoText::Memory) => deliver(MEMORY, Status::Memory, sink),
     }

@@ -21,6 +21,9 @@ run t.0 0 200 100
 # 1 job written, none left out
 ";
 
+/// The first line of its only part: a job begins 100 units after the trace does.
+const PART: &[u8] = b"# part 1: jobs 1 to 1, from 100 to 1100, shift 100, the last\n";
+
 /// These words, each up to a blank.
 fn words(alloc: Global, line: &str) -> Result<Vec<String>, Memory> {
     let mut words = Vec::new(alloc);
@@ -54,6 +57,43 @@ fn a_trace_is_told_or_refused(rt: HostRuntime) -> Result<(), Fail> {
         ),
         (
             "--tasks t:10",
+            2,
+            Status::ReadFault,
+            b"# the input couldn't be read to its end; give it anew\nfailed\n".as_slice(),
+        ),
+    ];
+    for (line, failing, status, want) in cases {
+        let words = words(rt.alloc(), line)?;
+        let mut source = MemorySource::new(
+            TRACE.to_vec(rt.alloc())?,
+            100,
+            [failing].to_vec(rt.alloc())?,
+        );
+        let mut sink = MemorySink::with_room(rt.alloc(), 10_000, 50, Vec::new(rt.alloc()))?;
+        assert_eq!(rt;
+            run(rt.alloc(), &words, &mut source, &mut sink),
+            status,
+            "{line}"
+        );
+        assert_eq!(rt; sink.bytes(), want, "{line}");
+    }
+    Ok(())
+}
+
+#[test]
+fn a_trace_is_told_in_parts_or_refused(rt: HostRuntime) -> Result<(), Fail> {
+    let mut part = PART.to_vec(rt.alloc())?;
+    part.extend_from_slice(DOCUMENT)?;
+    let cases = [
+        ("--parts --tasks t:10", 0, Status::Done, part.as_slice()),
+        (
+            "--parts --tasks u:10",
+            0,
+            Status::Refused,
+            b"# line 4: no line names task 1 of --tasks; write its name as the trace has it\nfailed\n".as_slice(),
+        ),
+        (
+            "--parts --tasks t:10",
             2,
             Status::ReadFault,
             b"# the input couldn't be read to its end; give it anew\nfailed\n".as_slice(),

@@ -298,7 +298,7 @@ record AskedParts (unit khz : ℕ) (to : Option ℕ) (found : Result (List Task)
   pub to_is : to ≡ asked.to
   pub tasks_is : found ≡ Ok asked.tasks
 
-last_parts : (order begin lost : Result Bool WordFault) (found : Result (List Task) WordFault) (cpu unit khz : ℕ) (start from to : Option ℕ) (asked : Asked)
+last_parts : (order begin lost : Result Bool WordFault) (parts : Bool) (found : Result (List Task) WordFault) (cpu unit khz : ℕ) (start from to : Option ℕ) (asked : Asked)
     → (order >>= (λ o. begin >>= (λ b. lost >>= (λ l. found >>= (λ t. Ok (record {
       tasks = t;
       processor = cpu;
@@ -309,14 +309,14 @@ last_parts : (order begin lost : Result Bool WordFault) (found : Result (List Ta
       to = to;
       begin_at_run = b;
       cut_losses = l;
-      in_parts = false;
+      in_parts = parts;
     }))))))
     ≡ Ok asked → AskedParts unit khz to found asked
-last_parts (Err fault) begin lost found cpu unit khz start from to asked is = absurd cc
-last_parts (Ok o) (Err fault) lost found cpu unit khz start from to asked is = absurd cc
-last_parts (Ok o) (Ok b) (Err fault) found cpu unit khz start from to asked is = absurd cc
-last_parts (Ok o) (Ok b) (Ok l) (Err fault) cpu unit khz start from to asked is = absurd cc
-last_parts (Ok o) (Ok b) (Ok l) (Ok t) cpu unit khz start from to asked is = record { unit_is = cc; khz_is = cc; to_is = cc; tasks_is = cc }
+last_parts (Err fault) begin lost parts found cpu unit khz start from to asked is = absurd cc
+last_parts (Ok o) (Err fault) lost parts found cpu unit khz start from to asked is = absurd cc
+last_parts (Ok o) (Ok b) (Err fault) parts found cpu unit khz start from to asked is = absurd cc
+last_parts (Ok o) (Ok b) (Ok l) parts (Err fault) cpu unit khz start from to asked is = absurd cc
+last_parts (Ok o) (Ok b) (Ok l) parts (Ok t) cpu unit khz start from to asked is = record { unit_is = cc; khz_is = cc; to_is = cc; tasks_is = cc }
 
 record AllParts (us khz : Result ℕ WordFault) (to : Result (Option ℕ) WordFault) (tasks : ℕ → Result (List Task) WordFault) (asked : Asked) : Type 0 where
   pub number : ℕ
@@ -327,7 +327,7 @@ record AllParts (us khz : Result ℕ WordFault) (to : Result (Option ℕ) WordFa
   pub end_is : to ≡ Ok end
   pub rest : AskedParts (number * 1000) speed end (tasks (number * 1000)) asked
 
-all_parts : (cpu us khz : Result ℕ WordFault) (start from to : Result (Option ℕ) WordFault) (order : Option ℕ → Option ℕ → Result Bool WordFault) (begin lost : Result Bool WordFault)
+all_parts : (cpu us khz : Result ℕ WordFault) (start from to : Result (Option ℕ) WordFault) (order : Option ℕ → Option ℕ → Result Bool WordFault) (begin lost : Result Bool WordFault) (parts : Bool)
     (tasks : ℕ → Result (List Task) WordFault) (asked : Asked)
     → (cpu >>= (λ c. us >>= (λ u. khz >>= (λ k. start >>= (λ s. from >>= (λ f. to >>= (λ e. order f e >>= (λ o. begin >>= (λ b. lost >>= (λ l. tasks (u * 1000) >>= (λ t. Ok (record {
       tasks = t;
@@ -339,17 +339,17 @@ all_parts : (cpu us khz : Result ℕ WordFault) (start from to : Result (Option 
       to = e;
       begin_at_run = b;
       cut_losses = l;
-      in_parts = false;
+      in_parts = parts;
     }))))))))))))
     ≡ Ok asked → AllParts us khz to tasks asked
-all_parts (Err fault) us khz start from to order begin lost tasks asked is = absurd cc
-all_parts (Ok c) (Err fault) khz start from to order begin lost tasks asked is = absurd cc
-all_parts (Ok c) (Ok u) (Err fault) start from to order begin lost tasks asked is = absurd cc
-all_parts (Ok c) (Ok u) (Ok k) (Err fault) from to order begin lost tasks asked is = absurd cc
-all_parts (Ok c) (Ok u) (Ok k) (Ok s) (Err fault) to order begin lost tasks asked is = absurd cc
-all_parts (Ok c) (Ok u) (Ok k) (Ok s) (Ok f) (Err fault) order begin lost tasks asked is = absurd cc
-all_parts (Ok c) (Ok u) (Ok k) (Ok s) (Ok f) (Ok e) order begin lost tasks asked is =
-    record { number = u; speed = k; us_is = refl; khz_is = refl; end = e; end_is = refl; rest = last_parts (order f e) begin lost (tasks (u * 1000)) c (u * 1000) k s f e asked is }
+all_parts (Err fault) us khz start from to order begin lost parts tasks asked is = absurd cc
+all_parts (Ok c) (Err fault) khz start from to order begin lost parts tasks asked is = absurd cc
+all_parts (Ok c) (Ok u) (Err fault) start from to order begin lost parts tasks asked is = absurd cc
+all_parts (Ok c) (Ok u) (Ok k) (Err fault) from to order begin lost parts tasks asked is = absurd cc
+all_parts (Ok c) (Ok u) (Ok k) (Ok s) (Err fault) to order begin lost parts tasks asked is = absurd cc
+all_parts (Ok c) (Ok u) (Ok k) (Ok s) (Ok f) (Err fault) order begin lost parts tasks asked is = absurd cc
+all_parts (Ok c) (Ok u) (Ok k) (Ok s) (Ok f) (Ok e) order begin lost parts tasks asked is =
+    record { number = u; speed = k; us_is = refl; khz_is = refl; end = e; end_is = refl; rest = last_parts (order f e) begin lost parts (tasks (u * 1000)) c (u * 1000) k s f e asked is }
 
 weaker : (P Q : Task → Type 0) (tasks : List Task) → ((task : Task) → P task → Q task) → All P tasks → All Q tasks
 weaker P Q tasks so all = λ i d within. so _ (all i d within)
@@ -370,7 +370,7 @@ asked_fits given asked is =
     let parts = all_parts (whole_or 0 0 MAX_PROCESSOR (codes "--cpu") reasons.Processor (value (codes "--cpu"))) (whole_or 10 1 MAX_UNIT (codes "--us") reasons.Unit (value (codes "--us")))
     (whole_or 10000 1 MAX_NUMBER (codes "--khz") reasons.Speed (value (codes "--khz"))) (start_of (value (codes "--start"))) (time_of (codes "--from") (value (codes "--from")))
     (time_of (codes "--to") (value (codes "--to"))) ordered (only (codes "--begin") (codes "run") reasons.Begin (value (codes "--begin")))
-    (only (codes "--lost") (codes "cut") reasons.Lost (value (codes "--lost"))) (λ (unit : ℕ). tasks_asked unit (value (codes "--tasks"))) asked is in
+    (only (codes "--lost") (codes "cut") reasons.Lost (value (codes "--lost"))) (is_given (codes "--parts") given) (λ (unit : ℕ). tasks_asked unit (value (codes "--tasks"))) asked is in
     let unit = unit_between (value (codes "--us")) parts.number parts.us_is in
     let speed = speed_between (value (codes "--khz")) parts.speed parts.khz_is in
     let fine = subst (λ u. AreAsked u asked.tasks) parts.rest.unit_is (are_asked (parts.number * 1000) (value (codes "--tasks")) asked.tasks parts.rest.tasks_is) in

@@ -85,7 +85,7 @@ asked_by given = do
     to = to;
     begin_at_run = begin;
     cut_losses = lost;
-    in_parts = false;
+    in_parts = is_given (codes "--parts") given;
   })
 
 abbrev pub read_trace : Bool → Result Asked WordFault → Result Request WordFault

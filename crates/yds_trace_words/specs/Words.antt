@@ -36,7 +36,7 @@ ends_words name = bytes_eq name (codes "--help") || bytes_eq name (codes "--vers
 
 -- what has no value
 abbrev pub is_flag : List ℕ → Bool
-is_flag name = bytes_eq name (codes "--strict") || ends_words name
+is_flag name = bytes_eq name (codes "--parts") || bytes_eq name (codes "--strict") || ends_words name
 
 -- # Words
 

@@ -23,7 +23,7 @@ pub enum Request {
     Help,
     /// The line of `--version`.
     Version,
-    /// The document of a trace.
+    /// The document of a trace, or its parts.
     Trace {
         /// What is asked of it.
         asked: Asked,
@@ -72,6 +72,7 @@ fn asked_by<'a>(alloc: Global, given: &[Setting<'a>]) -> Result<Asked, NoRequest
     check_order(from, to)?;
     let begin_at_run = only(b"--begin", b"run", Reason::Begin, value(given, b"--begin"))?;
     let cut_losses = only(b"--lost", b"cut", Reason::Lost, value(given, b"--lost"))?;
+    let in_parts = value(given, b"--parts").is_some();
     let tasks = tasks_asked(alloc, unit * 1000, value(given, b"--tasks"))?;
     Ok(Asked {
         tasks,
@@ -83,7 +84,7 @@ fn asked_by<'a>(alloc: Global, given: &[Setting<'a>]) -> Result<Asked, NoRequest
         to,
         begin_at_run,
         cut_losses,
-        in_parts: false,
+        in_parts,
     })
 }
 

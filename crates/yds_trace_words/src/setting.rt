@@ -122,7 +122,7 @@ fn ends_words(name: &[u8]) -> bool
 fn is_flag(name: &[u8]) -> bool
     ensures { result ≡ spec.is_flag name.now }
 {
-    name == b"--strict".as_slice() || ends_words(name)
+    name == b"--parts".as_slice() || name == b"--strict".as_slice() || ends_words(name)
 }
 
 /// The value that this is set to.

@@ -33,8 +33,8 @@ fn words_ask(rt: HostRuntime) -> Result<(), Fail> {
         ("--help --nonsense", "help"),
         ("--cpu 1 --version", "version"),
         (
-            "--tasks a:16.667:2 --cpu=3 --strict --from 1.5 --to 9223372036.854775807 --start 600000 --begin run --lost=cut --us 1 --khz 7",
-            "Asked { tasks: [Task { label: [97], thread: Named([97]), deadline: 16667000, apart: 2000000 }], processor: 3, unit: 1000, khz: 7, start: Some(600000), from: Some(1500000000), to: Some(9223372036854775807), begin_at_run: true, cut_losses: true, in_parts: false } true",
+            "--tasks a:16.667:2 --cpu=3 --strict --from 1.5 --to 9223372036.854775807 --start 600000 --begin run --lost=cut --us 1 --khz 7 --parts",
+            "Asked { tasks: [Task { label: [97], thread: Named([97]), deadline: 16667000, apart: 2000000 }], processor: 3, unit: 1000, khz: 7, start: Some(600000), from: Some(1500000000), to: Some(9223372036854775807), begin_at_run: true, cut_losses: true, in_parts: true } true",
         ),
         (
             "--tasks 7=a\\,b:1,c\\:\\d:0.01",
@@ -89,6 +89,14 @@ fn words_are_refused_by_name(rt: HostRuntime) -> Result<(), Fail> {
         (
             "--cpu 8192",
             "# --cpu: no number of a processor; write a whole number from 0 to 8191\nfailed\n",
+        ),
+        (
+            "--parts --tasks a:1 --parts",
+            "# --parts: given twice; give it once\nfailed\n",
+        ),
+        (
+            "--parts=1",
+            "# --parts: it has no value; leave out the equals sign and what is behind it\nfailed\n",
         ),
         (
             "--strict=1",

@@ -1,5 +1,5 @@
 //! The texts that answer words alone.
-ghost use Rattle.std.specs.Prelude.{◌≡◌, ◌<◌, ◌≤◌, ◌++◌, length};
+ghost use Rattle.std.specs.Prelude.{◌≡◌, ◌<◌, ◌≤◌, ◌+◌, ◌++◌, length};
 ghost use Rattle.arrayvec.specs.ArrayString.{array_string_len};
 ghost use Rattle.yds_trace_words.specs.Texts as spec;
 ghost use Rattle.yds_trace_words.specs.Views.{fault_read};
@@ -29,6 +29,7 @@ thread is woken and ends where that leaves the processor to sleep.
   --to S         up to this time
   --begin run    jobs begin at their first run, and wake-ups aren't read
   --lost cut     goes on where events were lost, and leaves out the jobs that may have been open there
+  --parts        writes documents one behind the other, each as soon as it is whole, for a trace of any length
   --strict       fails where a job is left out for another reason than --from and --to
   --help         writes this
   --version      writes the version
@@ -63,11 +64,11 @@ pub fn fault_line(fault: &WordFault<'_>) -> ArrayString<LINE_BYTES>
     line
 }
 
-/// The first bytes of a word, as a comment shows them.
-fn push_shown(word: &[u8], line: &mut ArrayString<LINE_BYTES>)
-    requires { array_string_len line.old ≤ 2 }
+/// The first 64 bytes of a word, as a comment shows them.
+pub fn push_shown(word: &[u8], line: &mut ArrayString<LINE_BYTES>)
+    requires { array_string_len line.old ≤ 100 }
     ensures shown { line.new.bytes ≡ line.old.bytes ++ spec.shown_word word.now }
-    ensures short { array_string_len line.new ≤ 66 }
+    ensures short { array_string_len line.new ≤ array_string_len line.old + 64 }
 {
     let front = &word[..word.len().min(64)];
     for byte in front {

@@ -1,11 +1,15 @@
-use Rattle.yds_model.proofs.Common.{◌≡◌, ◌∙◌, sym, subst, Ok}
+use Rattle.yds_model.proofs.Common.{◌≡◌, ◌∙◌, ℕ, List, sym, subst, Option, Some, None, Ok}
 use Rattle.std.specs.Prelude.{IfSome}
+use Rattle.yds_model.specs.declared.status.Status.{Status}
+use Rattle.yds_model.specs.declared.status.Status.TheVariants as statuses
 use Rattle.yds_trace.specs.Views.{asked_read}
 use Rattle.yds_trace_words.specs.declared.request.Request.{Request as RequestMade}
 use Rattle.yds_trace_words.specs.Request.{Request, ReadTrace, request_of, IsFit, IsFitRequest}
 use Rattle.yds_trace_words.specs.Views.{words_of, request_read}
-use Rattle.yds_trace_run.specs.Endings.{Writes}
-use Rattle.yds_trace_run.proofs.Worth.{nothing_late, read_again, faithful}
+use Rattle.yds_trace_run.specs.FaultText.{memory_text}
+use Rattle.yds_trace_run.specs.Endings.{Writes, IsDelivered}
+use Rattle.yds_trace_run.proofs.Told.{ends_alone}
+use Rattle.yds_trace_run.proofs.Worth.{nothing_late, read_again, faithful, whole}
 use Rattle.yds_trace_run.proofs.running.run.Goals as goal
 
 pub returns-in-Ok-Trace-clause-nothing_late : goal.returns-in-Ok-Trace-clause-nothing_late
@@ -36,6 +40,35 @@ pub returns-in-Ok-Trace-clause-faithful : goal.returns-in-Ok-Trace-clause-faithf
 returns-in-Ok-Trace-clause-faithful g c = λ done asked strict same.
     let made = subst (λ (made : RequestMade). request_of (words_of c.args.words.now) ≡ Ok (request_read made)) c.in-Ok-Trace.field-0-is c.in-Ok-Trace.ensures.request in
     let joined : Ok (ReadTrace (asked_read c.in-Ok-Trace.asked) c.in-Ok-Trace.strict) ≡ Ok (ReadTrace asked strict) = sym made ∙ same in
+    let both : ReadTrace (asked_read c.in-Ok-Trace.asked) c.in-Ok-Trace.strict ≡ ReadTrace asked strict = cc in
     let one : asked_read c.in-Ok-Trace.asked ≡ asked = cc in
     let fit = subst (λ (made : RequestMade). IsFitRequest (request_read made)) c.in-Ok-Trace.field-0-is c.in-Ok-Trace.ensures.fit in
-    faithful asked (g.S.Source.left c.args.source.now) (subst IsFit one fit)
+    faithful asked strict (g.S.Source.left c.args.source.now) (g.K.Sink.written c.args.sink.now) (g.K.Sink.written c.run_trace.new.sink) (g.K.Sink.flushed c.run_trace.new.sink)
+    c.run_trace.result (subst IsFit one fit) done
+    (subst (λ (request : Request). IfSome (g.S.Source.left c.args.source.now) (λ input. Writes (Ok request) input c.run_trace.result (g.K.Sink.written c.args.sink.now)
+    (g.K.Sink.written c.run_trace.new.sink) (g.K.Sink.flushed c.run_trace.new.sink))) both c.run_trace.ensures.answer)
+
+pub returns-in-Ok-Trace-clause-whole : goal.returns-in-Ok-Trace-clause-whole
+returns-in-Ok-Trace-clause-whole g c = λ done asked strict same.
+    let made = subst (λ (made : RequestMade). request_of (words_of c.args.words.now) ≡ Ok (request_read made)) c.in-Ok-Trace.field-0-is c.in-Ok-Trace.ensures.request in
+    let joined : Ok (ReadTrace (asked_read c.in-Ok-Trace.asked) c.in-Ok-Trace.strict) ≡ Ok (ReadTrace asked strict) = sym made ∙ same in
+    let both : ReadTrace (asked_read c.in-Ok-Trace.asked) c.in-Ok-Trace.strict ≡ ReadTrace asked strict = cc in
+    let one : asked_read c.in-Ok-Trace.asked ≡ asked = cc in
+    let fit = subst (λ (made : RequestMade). IsFitRequest (request_read made)) c.in-Ok-Trace.field-0-is c.in-Ok-Trace.ensures.fit in
+    whole asked strict (g.S.Source.left c.args.source.now) (g.K.Sink.written c.args.sink.now) (g.K.Sink.written c.run_trace.new.sink) (g.K.Sink.flushed c.run_trace.new.sink)
+    c.run_trace.result (subst IsFit one fit) done
+    (subst (λ (request : Request). IfSome (g.S.Source.left c.args.source.now) (λ input. Writes (Ok request) input c.run_trace.result (g.K.Sink.written c.args.sink.now)
+    (g.K.Sink.written c.run_trace.new.sink) (g.K.Sink.flushed c.run_trace.new.sink))) both c.run_trace.ensures.answer)
+
+-- Where memory ran out before the trace was read, nothing was written but that.
+memory_writes : {K : Type 0} (written : K → Option (List ℕ)) (flushed : K → Option ℕ) (flushes faults : K → ℕ) (words : List (List ℕ)) (input : Option (List ℕ)) (ended : Status)
+    (old new : K) → IsDelivered written flushed flushes faults memory_text statuses.Memory ended old new
+    → IfSome input (λ bytes. Writes (request_of words) bytes ended (written old) (written new) (flushed new))
+memory_writes written flushed flushes faults words None ended old new delivered = tt
+memory_writes written flushed flushes faults words (Some bytes) ended old new delivered =
+    record { text = memory_text; status = statuses.Memory; is_text = ends_alone (request_of words) bytes memory_text; outcome = delivered.outcome }
+
+pub returns-in-Err-Memory-clause-answer : goal.returns-in-Err-Memory-clause-answer
+returns-in-Err-Memory-clause-answer g c =
+    memory_writes g.K.Sink.written g.K.Sink.flushed g.K.Sink.flushes g.K.Sink.faults (words_of c.args.words.now) (g.S.Source.left c.args.source.now) c.deliver-in-Err-Memory.result
+    c.args.sink.now c.deliver-in-Err-Memory.new.sink c.deliver-in-Err-Memory.ensures

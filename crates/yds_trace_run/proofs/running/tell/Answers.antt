@@ -1,4 +1,4 @@
-use Rattle.yds_model.proofs.Common.{◌≡◌, ◌∙◌, ◌<◌, ℕ, List, length, Bool, true, Option, Some, None, Err, subst, refl, ap, arith, rules, common_steps, lt-ltb, nat_lt, if◌then◌else◌}
+use Rattle.yds_model.proofs.Common.{◌≡◌, ◌∙◌, ◌<◌, ℕ, List, length, Bool, Option, Some, None, Err, subst, refl, ap, lt-ltb, if◌then◌else◌}
 use Rattle.yds_model.specs.declared.status.Status.TheVariants as statuses
 use Rattle.yds_model.specs.declared.limits.TheConstants.{MAX_INPUT}
 use Rattle.yds_kernel.specs.Parts.{or_else}
@@ -7,8 +7,8 @@ use Rattle.yds_trace_document.specs.Settled.{settled_of}
 use Rattle.yds_trace_document.specs.Limits.{limit_fault}
 use Rattle.yds_trace_text.specs.Text.{text_of}
 use Rattle.yds_trace_text.specs.declared.fault.NoText.{NoText}
-use Rattle.yds_trace_text.specs.Writing.{Gives, Writes, IsTooLong}
-use Rattle.yds_trace_run.specs.Fault.{TraceFault, OfDocument, OfText, of_document, of_text, document_fault}
+use Rattle.yds_trace_text.specs.Writing.{Gives, IsTooLong}
+use Rattle.yds_trace_run.specs.Fault.{OfDocument, OfText, of_document, of_text, document_fault}
 use Rattle.yds_trace_run.specs.FaultText.{fault_text}
 use Rattle.yds_kernel.specs.Event.{Said}
 use Rattle.yds_trace.specs.Asked.{Asked}
@@ -19,12 +19,11 @@ limited asked strict past fault is = ap (λ (limit : Option DocumentFault). or_e
 
 pub returns-in-Err-Limit : goal.returns-in-Err-Limit
 returns-in-Err-Limit g c =
-    let line : c.as_bytes.result.now ≡ fault_text (OfDocument c.in-Err-Limit.fault) = first_of (search rules, grind (arith, common_steps)) in
     record {
-      text = c.as_bytes.result.now;
+      text = c.document_line.result.bytes;
       status = statuses.Refused;
-      delivered = c.deliver-in-Err-Limit.ensures;
-      says = λ asked past known. (OfDocument c.in-Err-Limit.fault, limited asked c.args.strict past c.in-Err-Limit.fault (subst (λ (none : NoText). Gives c.args.strict asked (settled_of asked past) (Err none)) c.in-Err-Limit.field-0-is (c.in-Err-Limit.ensures asked past known)), line);
+      delivered = c.refuse.ensures;
+      says = λ asked past known. (OfDocument c.in-Err-Limit.fault, limited asked c.args.strict past c.in-Err-Limit.fault (subst (λ (none : NoText). Gives c.args.strict asked (settled_of asked past) (Err none)) c.in-Err-Limit.field-0-is (c.in-Err-Limit.ensures asked past known)), c.document_line.ensures);
     }
 
 too_long : (text : List ℕ) → MAX_INPUT < length text → of_text text ≡ Some OfText

@@ -3,8 +3,8 @@ use Rattle.yds_trace.specs.Past.{up_to}
 use Rattle.yds_trace.proofs.Forgetting.{followed_forgets}
 use Rattle.yds_trace.proofs.pass.Pass.forget.Goals as goal
 
-pub returns : goal.returns
-returns c = λ asked past before at later. record {
+pub returns-clause-stands : goal.returns-clause-stands
+returns-clause-stands c = λ asked past before at later. record {
   same_asked = at.same_asked;
   lines = at.lines;
   counted = record {

@@ -2,10 +2,10 @@ use Rattle.yds_trace.specs.Views.{asked_read}
 use Rattle.yds_trace_run.proofs.Told.{told_writes, stopped_writes, no_read_fault}
 use Rattle.yds_trace_run.proofs.Plain.{plain}
 use Rattle.yds_trace_run.proofs.Left.{leaves_nothing, leaves_as_stopped}
-use Rattle.yds_trace_run.proofs.running.run_trace.Goals as goal
+use Rattle.yds_trace_run.proofs.running.run_whole.Goals as goal
 
 pub tell-requires : goal.tell-requires
-tell-requires g c = plain (asked_read c.args.asked) c.in-Ok.ended c.requires c.in-Ok.ensures.known
+tell-requires g c = plain (asked_read c.args.asked) c.in-Ok.ended c.requires.fit c.in-Ok.ensures.known
 
 pub returns-in-Ok-clause-read_fault : goal.returns-in-Ok-clause-read_fault
 returns-in-Ok-clause-read_fault g c = λ fault.
@@ -15,12 +15,12 @@ returns-in-Ok-clause-read_fault g c = λ fault.
 pub returns-in-Ok-clause-answer : goal.returns-in-Ok-clause-answer
 returns-in-Ok-clause-answer g c =
     told_writes g.K.Sink.written g.K.Sink.flushed g.K.Sink.flushes g.K.Sink.faults (asked_read c.args.asked) c.args.strict (g.S.Source.left c.args.source.now) c.in-Ok.ended
-    c.tell.result c.args.sink.now c.tell.new.sink c.in-Ok.ensures.read c.tell.ensures
+    c.tell.result c.args.sink.now c.tell.new.sink c.requires.whole c.in-Ok.ensures.read c.tell.ensures
 
 pub returns-in-Err-clause-answer : goal.returns-in-Err-clause-answer
 returns-in-Err-clause-answer g c =
     stopped_writes g.K.Sink.written g.K.Sink.flushed g.K.Sink.flushes g.K.Sink.faults (asked_read c.args.asked) c.args.strict (g.S.Source.left c.args.source.now) c.in-Err.stopped
-    c.tell_stopped.result c.args.sink.now c.tell_stopped.new.sink c.in-Err.ensures.stopped c.tell_stopped.ensures
+    c.tell_stopped.result c.args.sink.now c.tell_stopped.new.sink c.requires.whole c.in-Err.ensures.stopped c.tell_stopped.ensures
 
 pub returns-in-Ok-clause-read_to_its_end : goal.returns-in-Ok-clause-read_to_its_end
 returns-in-Ok-clause-read_to_its_end g c =

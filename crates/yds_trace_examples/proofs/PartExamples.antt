@@ -1,0 +1,83 @@
+-- Where a part of a trace may end. Jobs of `t` and of another thread wait; each is due 100 after its begin.
+use Rattle.yds_model.proofs.Common.{◌≡◌, ℕ, List, [], ◌∷◌, map, codes, reverse, Bool, false, Option, Some, None, refl}
+use Rattle.yds_kernel.specs.declared.state.State.TheVariants as states
+use Rattle.yds_kernel.specs.Event.{Switch, WakeUp, Said}
+use Rattle.yds_trace.specs.Asked.{Named, Task, Asked}
+use Rattle.yds_trace.specs.Document.{Judged}
+use Rattle.yds_trace.specs.Parts.{waiting_from, is_settled, place_among}
+use Rattle.yds_trace_examples.proofs.Lines.{t, other, idle, line, woken, comes, sleeps, marker, task, asked}
+
+-- # Two tasks
+
+abbrev other_task : Task
+other_task = record { label = codes "other"; thread = Named (codes "other"); deadline = 100; apart = 0 }
+
+-- wake-ups of `t` less than so long after its job's begin go on with that job
+abbrev both_tasks : ℕ → Asked
+both_tasks apart = record asked { tasks = record task { apart = apart } ∷ other_task ∷ [] }
+
+abbrev other_woken : ℕ → Said
+other_woken time = line 3 time (WakeUp other)
+
+-- `t` leaves its processor, and goes on later
+abbrev gives_way : ℕ → ℕ → Said
+gives_way processor time = line processor time (Switch t states.GoesOn idle)
+
+-- # Tests
+
+abbrev waiting : Asked → List Said → List Judged
+waiting asked lines = waiting_from asked (reverse lines) 0
+
+abbrev place : Asked → List Said → Option ℕ
+place asked lines = place_among asked (reverse lines) (waiting asked lines)
+
+-- of each job that waits, whether it is settled
+abbrev settled : Asked → List Said → List Bool
+settled asked lines = map (is_settled asked (reverse lines)) (waiting asked lines)
+
+-- # A place
+
+-- The job of `t` has ended, and its window is over, when the next one begins: the part ends there.
+at_the_next_begin : place asked (woken 1000 ∷ comes 0 1020 ∷ sleeps 0 1040 ∷ woken 1200 ∷ []) ≡ Some 1200
+at_the_next_begin = refl
+
+-- Near miss: no job begins behind it.
+no_begin_behind : place asked (woken 1000 ∷ comes 0 1020 ∷ sleeps 0 1040 ∷ marker 0 1200 ∷ []) ≡ None
+no_begin_behind = refl
+
+-- # A wake-up may still go on with it
+
+-- A wake-up from 1050 on begins another job. The trace has come that far, so what is known of this one stays.
+over_apart : place (both_tasks 50) (woken 1000 ∷ comes 0 1002 ∷ sleeps 0 1010 ∷ other_woken 1020 ∷ marker 0 1050 ∷ []) ≡ Some 1020
+over_apart = refl
+
+-- Near miss: a nanosecond earlier it has ended, and isn't settled.
+within_apart : settled (both_tasks 50) (woken 1000 ∷ comes 0 1002 ∷ sleeps 0 1010 ∷ other_woken 1020 ∷ marker 0 1049 ∷ []) ≡ false ∷ false ∷ []
+within_apart = refl
+
+no_place_within_apart : place (both_tasks 50) (woken 1000 ∷ comes 0 1002 ∷ sleeps 0 1010 ∷ other_woken 1020 ∷ marker 0 1049 ∷ []) ≡ None
+no_place_within_apart = refl
+
+-- For a wake-up then goes on with it.
+goes_on : settled (both_tasks 50) (woken 1000 ∷ comes 0 1002 ∷ sleeps 0 1010 ∷ other_woken 1020 ∷ woken 1049 ∷ marker 0 1200 ∷ []) ≡ false ∷ false ∷ []
+goes_on = refl
+
+-- # An open job before it
+
+-- Near miss: `t` is preempted before the other's job begins, and may run again.
+open_before : place (both_tasks 0) (woken 1000 ∷ comes 0 1002 ∷ gives_way 0 1010 ∷ other_woken 1020 ∷ marker 0 1200 ∷ []) ≡ None
+open_before = refl
+
+-- Nor does it serve that the job ends later: it has a run behind the place.
+ended_behind : place (both_tasks 0) (woken 1000 ∷ comes 0 1002 ∷ gives_way 0 1010 ∷ other_woken 1020 ∷ comes 0 1030 ∷ sleeps 0 1040 ∷ []) ≡ None
+ended_behind = refl
+
+-- # An open window before it
+
+-- Behind the job from 1200 to 1240 the processor is quiet at 1250, but its window is open until 1300: the part ends before it.
+at_the_closed_one : place (both_tasks 0) (woken 1000 ∷ comes 0 1020 ∷ sleeps 0 1040 ∷ woken 1200 ∷ comes 0 1220 ∷ sleeps 0 1240 ∷ other_woken 1250 ∷ []) ≡ Some 1200
+at_the_closed_one = refl
+
+-- Without a closed place a quiet one serves.
+at_the_quiet_one : place (both_tasks 0) (woken 1200 ∷ comes 0 1220 ∷ sleeps 0 1240 ∷ other_woken 1250 ∷ []) ≡ Some 1250
+at_the_quiet_one = refl

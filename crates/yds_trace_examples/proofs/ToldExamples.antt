@@ -1,0 +1,113 @@
+-- What small traces are told as. A unit of time is 10 nanoseconds, and a job is due 100 after its begin.
+use Rattle.yds_model.proofs.Common.{◌≡◌, ℕ, List, [], ◌∷◌, ◌++◌, codes, flat_map, reverse, Bool, true, false, Option, Some, None, refl}
+use Rattle.std.specs.Fmt.{digits}
+use Rattle.yds_kernel.specs.declared.fault.Reason.TheVariants as forms
+use Rattle.yds_kernel.specs.Event.{Said}
+use Rattle.yds_trace.specs.declared.cut.Cut.{Cut}
+use Rattle.yds_trace.specs.declared.fault.Cause.TheVariants as causes
+use Rattle.yds_trace.specs.Asked.{Asked}
+use Rattle.yds_trace.specs.Parts.{no_cut, cut_at, part_fault}
+use Rattle.yds_trace_document.specs.declared.fault.DocumentFault.TheVariants as faults
+use Rattle.yds_trace_text.specs.Text.{comment, unit_comment}
+use Rattle.yds_trace_text.specs.PartText.{part_text}
+use Rattle.yds_trace_parts.specs.Told.{InForm, AtLine, OfDocument, Told, told_of}
+use Rattle.yds_trace_examples.proofs.Lines.{woken, comes, sleeps, marker, lost, asked}
+
+abbrev two_jobs : List Said
+two_jobs = woken 1000 ∷ comes 0 1020 ∷ sleeps 0 1040 ∷ woken 1200 ∷ comes 0 1210 ∷ sleeps 0 1230 ∷ []
+
+-- # The texts of two parts
+
+-- what is written when the first part is
+abbrev cut : Cut
+cut = record { boundary = 1200; decided = 1230; parts = 1; jobs = 1; due = 1100 }
+
+cut_behind_the_first : cut_at asked (reverse two_jobs) no_cut (Some 1200) ≡ cut
+cut_behind_the_first = refl
+
+abbrev lines : List (List ℕ) → List ℕ
+lines texts = flat_map (λ text. text ++ 10 ∷ []) texts
+
+first_part : part_text asked (reverse two_jobs) no_cut (Some 1200) ≡ lines (codes "# part 1: jobs 1 to 1, from 0 to 10, shift 0"
+    ∷ codes "# CPU 0 of a kernel trace; time 0 is 0.000001000 s"
+    ∷ codes "# time unit 0 us, speed unit 1 kHz, work unit 0 cycles"
+    ∷ codes "job t.0 0 10 10"
+    ∷ codes "ticks 1"
+    ∷ codes "run t.0 2 4 5"
+    ∷ codes "# 1 job written, none left out" ∷ [])
+unfolding digits comment unit_comment
+first_part = refl
+
+last_part : part_text asked (reverse two_jobs) cut None ≡ lines (codes "# part 2: jobs 2 to 2, from 20 to 30, shift 20, the last"
+    ∷ codes "# CPU 0 of a kernel trace; time 0 is 0.000001200 s"
+    ∷ codes "# time unit 0 us, speed unit 1 kHz, work unit 0 cycles"
+    ∷ codes "job t.1 0 10 10"
+    ∷ codes "ticks 1"
+    ∷ codes "run t.1 1 3 5"
+    ∷ codes "# 1 job written, none left out" ∷ [])
+unfolding digits comment unit_comment
+last_part = refl
+
+-- near miss: so few lines are one part
+abbrev whole_text : List ℕ
+whole_text = lines (codes "# part 1: jobs 1 to 2, from 0 to 30, shift 0, the last"
+    ∷ codes "# CPU 0 of a kernel trace; time 0 is 0.000001000 s"
+    ∷ codes "# time unit 0 us, speed unit 1 kHz, work unit 0 cycles"
+    ∷ codes "job t.0 0 10 10"
+    ∷ codes "job t.1 20 30 10"
+    ∷ codes "ticks 1"
+    ∷ codes "run t.0 2 4 5"
+    ∷ codes "run t.1 21 23 5"
+    ∷ codes "# 2 jobs written, none left out" ∷ [])
+
+told_as_one : told_of asked false (record { said = two_jobs; fault = None }) ≡ record { text = whole_text; halt = None }
+unfolding digits comment unit_comment
+told_as_one = refl
+
+-- # Halts
+
+abbrev told : Asked → Bool → List Said → Told
+told asked strict lines = told_of asked strict (record { said = lines; fault = None })
+
+-- No part is whole before the line whose form is refused.
+in_form : told_of asked false (record { said = two_jobs; fault = Some (record { line = 7; column = 3; reason = forms.Time }) })
+    ≡ record { text = []; halt = Some (InForm (record { line = 7; column = 3; reason = forms.Time })) }
+in_form = refl
+
+-- A line that is refused comes before it, and lines behind one aren't looked at.
+at_a_line : told_of asked false (record { said = woken 1000 ∷ woken 900 ∷ woken 800 ∷ []; fault = Some (record { line = 4; column = 3; reason = forms.Time }) })
+    ≡ record { text = []; halt = Some (AtLine 2 causes.TimeGoesBack) }
+at_a_line = refl
+
+-- Without a wake-up the trace as a whole is refused, at its last line.
+without_a_wake_up : told asked false (comes 0 1020 ∷ sleeps 0 1040 ∷ []) ≡ record { text = []; halt = Some (AtLine 2 causes.NoWakeUp) }
+without_a_wake_up = refl
+
+no_line_at_all : told asked false [] ≡ record { text = []; halt = Some (AtLine 0 causes.NoLine) }
+no_line_at_all = refl
+
+-- The first job ran on another processor, and was in time: with `strict` it may not be missed.
+abbrev one_moved : List Said
+one_moved = woken 1000 ∷ comes 1 1020 ∷ sleeps 1 1030 ∷ woken 1200 ∷ comes 0 1210 ∷ sleeps 0 1230 ∷ []
+
+one_missed : told asked true one_moved ≡ record { text = []; halt = Some (OfDocument 1 (faults.Missed 0)) }
+unfolding digits
+one_missed = refl
+
+-- near miss: without `strict` it may
+abbrev one_halt : Told → Option ℕ
+one_halt told = elim told.halt [ None ↦ None | Some halt ↦ Some 1 ]
+
+one_left_out : one_halt (told asked false one_moved) ≡ None
+unfolding digits comment unit_comment
+one_left_out = refl
+
+-- # Behind a written part
+
+-- A line of another processor came before the part was written. Events that were lost since the last line of processor 0 reach back before that.
+reaches_back : part_fault asked (reverse (two_jobs ++ marker 1 1240 ∷ [])) (record cut { decided = 1240 }) (lost 0) ≡ Some causes.PartWritten
+reaches_back = refl
+
+-- near miss: the part was written at that last line
+begins_there : part_fault asked (reverse (two_jobs ++ marker 1 1240 ∷ [])) cut (lost 0) ≡ None
+begins_there = refl

@@ -1,0 +1,114 @@
+-- What is told of more lines begins with what is told of fewer, and a halt stays.
+use Rattle.yds_model.proofs.Common.{◌≡◌, ℕ, List, [], ◌∷◌, ◌++◌, Bool, Option, Some, None, refl, sym, ap, ◌∙◌, append_assoc, append-nil}
+use Rattle.yds_kernel.specs.Event.{Said}
+use Rattle.yds_kernel.specs.declared.fault.Reason.{Reason}
+use Rattle.yds_model.specs.Fields.{Fault}
+use Rattle.yds_trace.specs.declared.cut.Cut.{Cut}
+use Rattle.yds_trace.specs.Asked.{Asked}
+use Rattle.yds_trace.specs.Parts.{cut_after, place_of}
+use Rattle.yds_trace_text.specs.PartText.{part_text}
+use Rattle.yds_trace_parts.specs.Laws.{Begins}
+use Rattle.yds_trace_parts.specs.Told.{Halt, line_halt, part_halt, with_part, told_behind, told_with, told_next, told_after, end_halt, told_last, told_at_end}
+
+begins_so : (text : List ℕ) → Begins text text
+begins_so text = record { more = []; is = sym (append-nil text) }
+
+pub begins_on : (first second third : List ℕ) → Begins first second → Begins second third → Begins first third
+begins_on first second third one two = record {
+  more = one.more ++ two.more;
+  is = two.is ∙ ap (λ (front : List ℕ). front ++ two.more) one.is ∙ append_assoc first one.more two.more;
+}
+
+-- # A line more
+
+with_part_begins : (text : List ℕ) (halt : Option Halt) (part : List ℕ) → Begins text (with_part text halt part).text
+with_part_begins text (Some halt) part = begins_so text
+with_part_begins text None part = record { more = part; is = refl }
+
+behind_begins : (asked : Asked) (strict : Bool) (past : List Said) (cut : Cut) (place : Option ℕ) (text : List ℕ) → Begins text (told_behind asked strict past cut place text).text
+behind_begins asked strict past cut (Some time) text = with_part_begins text (part_halt asked strict past cut (Some time)) (part_text asked past cut (Some time))
+behind_begins asked strict past cut None text = begins_so text
+
+with_begins : (asked : Asked) (strict : Bool) (past : List Said) (said : Said) (text : List ℕ) (halt : Option Halt) → Begins text (told_with asked strict past said text halt).text
+with_begins asked strict past said text (Some halt) = begins_so text
+with_begins asked strict past said text None =
+    behind_begins asked strict (said ∷ past) (cut_after asked past) (place_of asked (said ∷ past) (cut_after asked past)) text
+
+next_by : (asked : Asked) (strict : Bool) (past : List Said) (said : Said) (text : List ℕ) (halt : Option Halt) →
+    Begins text (told_next asked strict past said (record { text = text; halt = halt })).text
+next_by asked strict past said text (Some halt) = begins_so text
+next_by asked strict past said text None = with_begins asked strict past said text (line_halt asked past said)
+
+pub one_begins : (asked : Asked) (strict : Bool) (past : List Said) (said : Said) → Begins (told_after asked strict past).text (told_after asked strict (said ∷ past)).text
+one_begins asked strict past said = next_by asked strict past said (told_after asked strict past).text (told_after asked strict past).halt
+
+-- more lines
+pub lines_begin : (asked : Asked) (strict : Bool) (more past : List Said) → Begins (told_after asked strict past).text (told_after asked strict (more ++ past)).text
+lines_begin asked strict [] past = begins_so (told_after asked strict past).text
+lines_begin asked strict (said ∷ more) past =
+    begins_on (told_after asked strict past).text (told_after asked strict (more ++ past)).text (told_after asked strict (said ∷ more ++ past)).text
+    (lines_begin asked strict more past) (one_begins asked strict (more ++ past) said)
+
+-- and the end
+last_begins : (asked : Asked) (strict : Bool) (past : List Said) (text : List ℕ) (halt : Option Halt) → Begins text (told_last asked strict past text halt).text
+last_begins asked strict past text (Some halt) = begins_so text
+last_begins asked strict past text None =
+    with_part_begins text (part_halt asked strict past (cut_after asked past) None) (part_text asked past (cut_after asked past) None)
+
+end_by : (asked : Asked) (strict : Bool) (past : List Said) (form : Option (Fault Reason)) (text : List ℕ) (halt : Option Halt) →
+    Begins text (told_at_end asked strict past form (record { text = text; halt = halt })).text
+end_by asked strict past form text (Some halt) = begins_so text
+end_by asked strict past form text None = last_begins asked strict past text (end_halt asked past form)
+
+pub end_begins : (asked : Asked) (strict : Bool) (past : List Said) (form : Option (Fault Reason)) →
+    Begins (told_after asked strict past).text (told_at_end asked strict past form (told_after asked strict past)).text
+end_begins asked strict past form = end_by asked strict past form (told_after asked strict past).text (told_after asked strict past).halt
+
+-- # A halt stays
+
+next_halted : (asked : Asked) (strict : Bool) (past : List Said) (said : Said) (text : List ℕ) (halt : Option Halt) (found : Halt) → halt ≡ Some found →
+    told_next asked strict past said (record { text = text; halt = halt }) ≡ record { text = text; halt = halt }
+next_halted asked strict past said text (Some halt) found is = refl
+next_halted asked strict past said text None found is = cc
+
+pub halted : (asked : Asked) (strict : Bool) (more past : List Said) (found : Halt) → (told_after asked strict past).halt ≡ Some found →
+    told_after asked strict (more ++ past) ≡ told_after asked strict past
+halted asked strict [] past found is = refl
+halted asked strict (said ∷ more) past found is =
+    ap (told_next asked strict (more ++ past) said) (halted asked strict more past found is)
+    ∙ next_halted asked strict (more ++ past) said (told_after asked strict past).text (told_after asked strict past).halt found is
+
+end_halted_by : (asked : Asked) (strict : Bool) (past : List Said) (form : Option (Fault Reason)) (text : List ℕ) (halt : Option Halt) (found : Halt) → halt ≡ Some found →
+    told_at_end asked strict past form (record { text = text; halt = halt }) ≡ record { text = text; halt = halt }
+end_halted_by asked strict past form text (Some halt) found is = refl
+end_halted_by asked strict past form text None found is = cc
+
+pub end_halted : (asked : Asked) (strict : Bool) (past : List Said) (form : Option (Fault Reason)) (found : Halt) → (told_after asked strict past).halt ≡ Some found →
+    told_at_end asked strict past form (told_after asked strict past) ≡ told_after asked strict past
+end_halted asked strict past form found is = end_halted_by asked strict past form (told_after asked strict past).text (told_after asked strict past).halt found is
+
+-- # A line that halts adds nothing
+
+with_part_text : (text : List ℕ) (halt : Option Halt) (part : List ℕ) (found : Halt) → (with_part text halt part).halt ≡ Some found → (with_part text halt part).text ≡ text
+with_part_text text (Some halt) part found is = refl
+with_part_text text None part found is = cc
+
+behind_text : (asked : Asked) (strict : Bool) (past : List Said) (cut : Cut) (place : Option ℕ) (text : List ℕ) (found : Halt) →
+    (told_behind asked strict past cut place text).halt ≡ Some found → (told_behind asked strict past cut place text).text ≡ text
+behind_text asked strict past cut (Some time) text found is = with_part_text text (part_halt asked strict past cut (Some time)) (part_text asked past cut (Some time)) found is
+behind_text asked strict past cut None text found is = refl
+
+with_text : (asked : Asked) (strict : Bool) (past : List Said) (said : Said) (text : List ℕ) (halt : Option Halt) (found : Halt) →
+    (told_with asked strict past said text halt).halt ≡ Some found → (told_with asked strict past said text halt).text ≡ text
+with_text asked strict past said text (Some halt) found is = refl
+with_text asked strict past said text None found is =
+    behind_text asked strict (said ∷ past) (cut_after asked past) (place_of asked (said ∷ past) (cut_after asked past)) text found is
+
+next_text : (asked : Asked) (strict : Bool) (past : List Said) (said : Said) (text : List ℕ) (halt : Option Halt) (found : Halt) →
+    (told_next asked strict past said (record { text = text; halt = halt })).halt ≡ Some found → (told_next asked strict past said (record { text = text; halt = halt })).text ≡ text
+next_text asked strict past said text (Some halt) found is = refl
+next_text asked strict past said text None found is = with_text asked strict past said text (line_halt asked past said) found is
+
+pub halting_text : (asked : Asked) (strict : Bool) (past : List Said) (said : Said) (found : Halt) → (told_after asked strict (said ∷ past)).halt ≡ Some found →
+    (told_after asked strict (said ∷ past)).text ≡ (told_after asked strict past).text
+halting_text asked strict past said found is = next_text asked strict past said (told_after asked strict past).text (told_after asked strict past).halt found is

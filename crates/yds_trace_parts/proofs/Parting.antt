@@ -1,0 +1,59 @@
+-- What the code finds of a part is what the definitions say of it.
+use Rattle.yds_model.proofs.Common.{◌≡◌, ◌≤◌, ◌+◌, ℕ, List, length, Bool, false, nat_lt, nat_le, Option, Some, None, Ok, if◌then◌else◌, sym, ap, subst, ◌∙◌, arith, nat_tests, leb-true, le-leb}
+use Rattle.std.specs.Prelude.{Vec}
+use Rattle.std.specs.declared.alloc.Global.{Global}
+use Rattle.yds_model.specs.declared.limits.TheConstants.{MAX_INPUT}
+use Rattle.yds_kernel.specs.Event.{Said}
+use Rattle.yds_kernel.specs.Parts.{or_else, capped}
+use Rattle.yds_trace.specs.declared.cut.Cut.{Cut}
+use Rattle.yds_trace.specs.Asked.{Asked}
+use Rattle.yds_trace.specs.Document.{Judged}
+use Rattle.yds_trace.specs.Parts.{with_part}
+use Rattle.yds_trace_document.specs.declared.fault.DocumentFault.{DocumentFault}
+use Rattle.yds_trace_document.specs.declared.part.Part.{Part as PartKept}
+use Rattle.yds_trace_document.specs.PartKept.{IsPart}
+use Rattle.yds_trace_document.specs.Settled.{Settled}
+use Rattle.yds_trace_document.specs.Views.{judged_list}
+use Rattle.yds_trace_text.specs.PartText.{part_text}
+use Rattle.yds_trace_text.specs.Writing.{WritesPart}
+use Rattle.yds_trace_parts.specs.Told.{Halt, OfText, next_number, of_document, of_text}
+use Rattle.yds_trace_parts.specs.declared.halt.Halt.{Halt as HaltKept}
+use Rattle.yds_trace_parts.specs.declared.halt.Halt.TheVariants as kept
+use Rattle.yds_trace_parts.specs.declared.part.Whole.{Whole}
+use Rattle.yds_trace_parts.specs.Telling.{IsHaltFor, IsText, IsWhole}
+
+-- # A text
+
+-- memory may be wanting at any time
+pub memory_halts : (found : Option Halt) (halt : HaltKept) → halt ≡ kept.Memory → IsHaltFor found halt
+memory_halts found halt is = subst (λ (one : HaltKept). IsHaltFor found one) (sym is) tt
+
+-- not longer than it may be
+short_test : (a b : ℕ) → b ≤ a → nat_lt a b ≡ false
+short_test a b short = grind (arith, nat_tests)
+
+-- A text that was written is the one that the definitions say.
+pub text_is : (asked : Asked) (strict : Bool) (past : List Said) (cut : Cut) (until : Option ℕ) (text : Vec ℕ Global) → WritesPart strict asked past cut until (Ok text) →
+    IsText asked strict past cut until text.items
+text_is asked strict past cut until text is = record {
+  fits = ap (λ (fault : Option DocumentFault). or_else (of_document (next_number cut) fault) (of_text (next_number cut) (part_text asked past cut until))) is.without_fault
+      ∙ ap (λ (long : Bool). if long then Some (OfText (next_number cut)) else None)
+      (short_test MAX_INPUT (length (part_text asked past cut until)) (subst (λ (one : List ℕ). length one ≤ MAX_INPUT) is.exact is.short));
+  says = is.exact;
+}
+
+-- # A whole part
+
+-- And so is the part that it is the text of.
+pub whole_is : (asked : Asked) (strict : Bool) (past : List Said) (cut : Cut) (time : ℕ) (whole : Whole) (part : PartKept) (jobs : List Judged) →
+    IsText asked strict past cut (Some time) whole.text.items → whole.cut ≡ with_part past time jobs cut → jobs ≡ judged_list part.settled.judged.items →
+    IsPart asked past cut (Some time) part → IsWhole asked strict past cut time whole
+whole_is asked strict past cut time whole part jobs text made same is = record {
+  fits = text.fits;
+  text = text.says;
+  cut_is = made ∙ ap (λ (one : List Judged). with_part past time one cut) (same ∙ ap (λ (settled : Settled). settled.judged) is.settled);
+}
+
+-- A count that was capped before is capped once.
+pub capped_twice : (a b : ℕ) → capped (a + capped b) ≡ capped (a + b)
+capped_twice a b = grind (arith, nat_le, leb-true, le-leb)

@@ -1,0 +1,144 @@
+use Rattle.yds_model.proofs.Common.{◌≡◌, ◌+◌, ◌∙◌, length, Ok, refl, sym, arith, err_from_is_err_and}
+use Rattle.yds_trace.specs.Views.{asked_read}
+use Rattle.yds_trace_reading.proofs.Draining.{rest_same, rest_of, nothing_left}
+use Rattle.yds_trace_reading.proofs.Passing.{counts_on}
+use Rattle.yds_trace_parts.specs.declared.halt.Halt.{Halt as HaltKept}
+use Rattle.yds_trace_parts.proofs.Driven.{at_begin, nothing_written, one_more, not_taken, piece_cut, end_not_told, end_told, end_cut, read_failed, too_many_bytes, too_many_lines, room_behind, plain_behind}
+use Rattle.yds_trace_parts.proofs.Ending.{own_halt, own_line, tells_halt, tells_read_fault, tells_write_fault, tells_all}
+use Rattle.yds_trace_parts.proofs.driver.tell.Goals as goal
+
+-- # What the calls need
+
+pub take_line-requires : goal.take_line-requires
+take_line-requires g c =
+    room_behind (asked_read c.args.asked) c.args.strict (g.S.Source.left c.args.source.now) _ _ _ _ _ _ c.requires c.loop-lines.invariant.behind
+    (omega (arith, c.loop-lines-test.true))
+
+pub end-requires : goal.end-requires
+end-requires g c =
+    plain_behind (asked_read c.args.asked) c.args.strict (g.S.Source.left c.args.source.now) _ _ _ _ _ _ c.requires c.loop-lines.invariant.behind
+    (omega (arith, c.loop-lines-test.true))
+
+-- # Lines
+
+pub loop-lines-init : goal.loop-lines-init
+loop-lines-init g c = record {
+  behind = at_begin (asked_read c.args.asked) c.args.strict (g.S.Source.left c.args.source.now) _ _ (g.K.Sink.written c.args.sink.now) c.in_ok-reader.ensures c.in_ok-telling.ensures;
+  read = refl;
+  wrote = refl;
+  flushed = refl;
+  flushes = refl;
+}
+
+pub loop-lines-preserved : goal.loop-lines-preserved
+loop-lines-preserved g c =
+    let known = c.loop-lines.invariant.behind in
+    let number : c.advance.new.self.number ≡ length known.past + 1 = omega (arith, c.in-Line.ensures.advances.next, known.number, known.many) in
+    record {
+      behind = one_more (asked_read c.args.asked) c.args.strict _ _ _ _ _ _ _ _ _ _ _ _ _ _ known c.in-Line.ensures.advances c.in-Line.ensures.counts
+          (c.in_ok-piece-in-Line.ensures.said (asked_read c.args.asked) c.args.strict known.past known.stands number)
+          (c.in_ok-piece-in-Line.ensures.adds (asked_read c.args.asked) c.args.strict known.past known.stands number)
+          c.in_ok-put-in-Line.ensures.puts.delivers.0;
+      read = c.in-Line.ensures.advances.no_fault ∙ c.loop-lines.invariant.read;
+      wrote = c.in_ok-put-in-Line.ensures.puts.delivers.1 ∙ c.loop-lines.invariant.wrote;
+      flushed = c.in_ok-put-in-Line.ensures.puts.flushed_stays ∙ c.loop-lines.invariant.flushed;
+      flushes = c.in_ok-put-in-Line.ensures.puts.flushes_stay ∙ c.loop-lines.invariant.flushes;
+    }
+
+-- # How it ends
+
+pub returns-in_err-reader : goal.returns-in_err-reader
+returns-in_err-reader g c =
+    let told = err_from_is_err_and c.from_residual.result c.from_residual.ensures.1 in
+    rw (told.1, told.2)
+    (tells_halt g.S.Source.left g.S.Source.faults g.K.Sink.written g.K.Sink.flushed g.K.Sink.flushes g.K.Sink.faults (asked_read c.args.asked) c.args.strict _ _ _ _ _ tt refl refl refl refl
+    (nothing_written (asked_read c.args.asked) c.args.strict (g.S.Source.left c.args.source.now) (g.K.Sink.written c.args.sink.now)) (rest_same (g.S.Source.left c.args.source.now)))
+
+pub returns-in_err-telling : goal.returns-in_err-telling
+returns-in_err-telling g c =
+    let told = err_from_is_err_and c.from_residual-in_err-telling.result c.from_residual-in_err-telling.ensures.1 in
+    rw (told.1, told.2)
+    (tells_halt g.S.Source.left g.S.Source.faults g.K.Sink.written g.K.Sink.flushed g.K.Sink.flushes g.K.Sink.faults (asked_read c.args.asked) c.args.strict _ _ _ _ _ tt refl refl refl refl
+    (nothing_written (asked_read c.args.asked) c.args.strict (g.S.Source.left c.args.source.now) (g.K.Sink.written c.args.sink.now)) (rest_same (g.S.Source.left c.args.source.now)))
+
+pub returns-in_err-piece-in-Line : goal.returns-in_err-piece-in-Line
+returns-in_err-piece-in-Line g c =
+    let told = err_from_is_err_and c.from_residual-in_err-piece-in-Line.result c.from_residual-in_err-piece-in-Line.ensures.1 in
+    let known = c.loop-lines.invariant.behind in
+    let number : c.advance.new.self.number ≡ length known.past + 1 = omega (arith, c.in-Line.ensures.advances.next, known.number, known.many) in
+    let why = c.in_err-piece-in-Line.ensures.halts (asked_read c.args.asked) c.args.strict known.past known.stands number in
+    rw (told.1, told.2)
+    (tells_halt g.S.Source.left g.S.Source.faults g.K.Sink.written g.K.Sink.flushed g.K.Sink.flushes g.K.Sink.faults (asked_read c.args.asked) c.args.strict _ _ _ _ _ (own_line (asked_read c.args.asked) c.args.strict known.past _ _ _ why)
+    (c.in-Line.ensures.advances.no_fault ∙ c.loop-lines.invariant.read) c.loop-lines.invariant.wrote c.loop-lines.invariant.flushed c.loop-lines.invariant.flushes
+    (not_taken (asked_read c.args.asked) c.args.strict (g.S.Source.left c.args.source.now) _ _ _ _ _ _ _ _ _ _ _ known c.in-Line.ensures.advances why)
+    (rest_of _ _ _ (counts_on (g.S.Source.left c.args.source.now) _ _ _ _ c.loop-lines.invariant.behind.counts c.in-Line.ensures.counts)))
+
+pub returns-in_err-put-in-Line : goal.returns-in_err-put-in-Line
+returns-in_err-put-in-Line g c =
+    let told = err_from_is_err_and c.from_residual-in_err-put-in-Line.result c.from_residual-in_err-put-in-Line.ensures.1 in
+    let known = c.loop-lines.invariant.behind in
+    let number : c.advance.new.self.number ≡ length known.past + 1 = omega (arith, c.in-Line.ensures.advances.next, known.number, known.many) in
+    rw (told.1, told.2)
+    (tells_write_fault g.S.Source.left g.S.Source.faults g.K.Sink.written g.K.Sink.flushed g.K.Sink.flushes g.K.Sink.faults (asked_read c.args.asked) c.args.strict _ _ _ _ _ c.loop-lines.invariant.wrote c.in_err-put-in-Line.ensures.puts.delivers.1
+    (c.in-Line.ensures.advances.no_fault ∙ c.loop-lines.invariant.read)
+    (c.in_err-put-in-Line.ensures.puts.flushed_stays ∙ c.loop-lines.invariant.flushed) (c.in_err-put-in-Line.ensures.puts.flushes_stay ∙ c.loop-lines.invariant.flushes)
+    (piece_cut (asked_read c.args.asked) c.args.strict (g.S.Source.left c.args.source.now) _ _ _ _ _ _ _ _ _ _ _ _ known c.in-Line.ensures.advances
+    (c.in_ok-piece-in-Line.ensures.adds (asked_read c.args.asked) c.args.strict known.past known.stands number) c.in_err-put-in-Line.ensures.puts.delivers.0)
+    (rest_of _ _ _ (counts_on (g.S.Source.left c.args.source.now) _ _ _ _ c.loop-lines.invariant.behind.counts c.in-Line.ensures.counts)))
+
+pub returns-in_err-text-in-End : goal.returns-in_err-text-in-End
+returns-in_err-text-in-End g c =
+    let told = err_from_is_err_and c.from_residual-in_err-text-in-End.result c.from_residual-in_err-text-in-End.ensures.1 in
+    let known = c.loop-lines.invariant.behind in
+    let why = c.in_err-text-in-End.ensures.halts (asked_read c.args.asked) c.args.strict known.past known.stands (sym known.many) in
+    rw (told.1, told.2)
+    (tells_halt g.S.Source.left g.S.Source.faults g.K.Sink.written g.K.Sink.flushed g.K.Sink.flushes g.K.Sink.faults (asked_read c.args.asked) c.args.strict _ _ _ _ _ (own_halt _ _ why)
+    (c.in-End.ensures.advances.no_fault ∙ c.loop-lines.invariant.read) c.loop-lines.invariant.wrote c.loop-lines.invariant.flushed c.loop-lines.invariant.flushes
+    (end_not_told (asked_read c.args.asked) c.args.strict (g.S.Source.left c.args.source.now) _ _ _ _ _ _ _ known c.in-End.ensures.advances.at_end why)
+    (rest_of _ _ _ (counts_on (g.S.Source.left c.args.source.now) _ _ _ _ c.loop-lines.invariant.behind.counts c.in-End.ensures.counts)))
+
+pub returns-in_err-write_all-in-End : goal.returns-in_err-write_all-in-End
+returns-in_err-write_all-in-End g c =
+    let told = err_from_is_err_and c.from_residual-in_err-write_all-in-End.result c.from_residual-in_err-write_all-in-End.ensures.1 in
+    let known = c.loop-lines.invariant.behind in
+    rw (told.1, told.2)
+    (tells_write_fault g.S.Source.left g.S.Source.faults g.K.Sink.written g.K.Sink.flushed g.K.Sink.flushes g.K.Sink.faults (asked_read c.args.asked) c.args.strict _ _ _ _ _ c.loop-lines.invariant.wrote c.in_err-write_all-in-End.ensures.puts.delivers.1
+    (c.in-End.ensures.advances.no_fault ∙ c.loop-lines.invariant.read)
+    (c.in_err-write_all-in-End.ensures.puts.flushed_stays ∙ c.loop-lines.invariant.flushed) (c.in_err-write_all-in-End.ensures.puts.flushes_stay ∙ c.loop-lines.invariant.flushes)
+    (end_cut (asked_read c.args.asked) c.args.strict (g.S.Source.left c.args.source.now) _ _ _ _ _ _ _ _ known c.in-End.ensures.advances.at_end
+    (c.in_ok-text-in-End.ensures.sound (asked_read c.args.asked) c.args.strict known.past known.stands (sym known.many))
+    (c.in_ok-text-in-End.ensures.told (asked_read c.args.asked) c.args.strict known.past known.stands (sym known.many))
+    (rw c.deref.ensures.value at c.in_err-write_all-in-End.ensures.puts.delivers.0))
+    (rest_of _ _ _ (counts_on (g.S.Source.left c.args.source.now) _ _ _ _ c.loop-lines.invariant.behind.counts c.in-End.ensures.counts)))
+
+pub returns-in-End : goal.returns-in-End
+returns-in-End g c =
+    let known = c.loop-lines.invariant.behind in
+    tells_all g.S.Source.left g.S.Source.faults g.K.Sink.written g.K.Sink.flushed g.K.Sink.flushes g.K.Sink.faults (asked_read c.args.asked) c.args.strict _ _ _ _
+    (c.in-End.ensures.advances.no_fault ∙ c.loop-lines.invariant.read) (c.in_ok-write_all-in-End.ensures.puts.delivers.1 ∙ c.loop-lines.invariant.wrote)
+    (c.in_ok-write_all-in-End.ensures.puts.flushed_stays ∙ c.loop-lines.invariant.flushed) (c.in_ok-write_all-in-End.ensures.puts.flushes_stay ∙ c.loop-lines.invariant.flushes)
+    (end_told (asked_read c.args.asked) c.args.strict (g.S.Source.left c.args.source.now) _ _ _ _ _ _ _ _ known c.in-End.ensures.advances.at_end
+    (c.in_ok-text-in-End.ensures.sound (asked_read c.args.asked) c.args.strict known.past known.stands (sym known.many))
+    (c.in_ok-text-in-End.ensures.told (asked_read c.args.asked) c.args.strict known.past known.stands (sym known.many))
+    (rw c.deref.ensures.value at c.in_ok-write_all-in-End.ensures.puts.delivers.0))
+    (nothing_left {A = Unit {0}} {E = HaltKept} (g.S.Source.left c.args.source.now) _ _ (Ok tt) (counts_on (g.S.Source.left c.args.source.now) _ _ _ _ known.counts c.in-End.ensures.counts) c.in-End.ensures.advances.none_left)
+    (rest_of _ _ _ (counts_on (g.S.Source.left c.args.source.now) _ _ _ _ c.loop-lines.invariant.behind.counts c.in-End.ensures.counts))
+
+pub returns-in-Failed : goal.returns-in-Failed
+returns-in-Failed g c =
+    tells_read_fault g.S.Source.left g.S.Source.faults g.K.Sink.written g.K.Sink.flushed g.K.Sink.flushes g.K.Sink.faults (asked_read c.args.asked) c.args.strict _ _ _ _ _ c.loop-lines.invariant.read c.in-Failed.ensures.advances c.loop-lines.invariant.wrote c.loop-lines.invariant.flushed c.loop-lines.invariant.flushes
+    (read_failed (asked_read c.args.asked) c.args.strict (g.S.Source.left c.args.source.now) _ _ _ _ _ _ c.loop-lines.invariant.behind)
+    (rest_of _ _ _ (counts_on (g.S.Source.left c.args.source.now) _ _ _ _ c.loop-lines.invariant.behind.counts c.in-Failed.ensures.counts))
+
+pub returns-in-TooLong : goal.returns-in-TooLong
+returns-in-TooLong g c =
+    tells_halt g.S.Source.left g.S.Source.faults g.K.Sink.written g.K.Sink.flushed g.K.Sink.flushes g.K.Sink.faults (asked_read c.args.asked) c.args.strict _ _ _ _ _ tt
+    (c.in-TooLong.ensures.advances.no_fault ∙ c.loop-lines.invariant.read) c.loop-lines.invariant.wrote c.loop-lines.invariant.flushed c.loop-lines.invariant.flushes
+    (too_many_bytes (asked_read c.args.asked) c.args.strict (g.S.Source.left c.args.source.now) _ _ _ _ _ _ _ _ c.loop-lines.invariant.behind c.in-TooLong.ensures.counts c.in-TooLong.ensures.advances.counted)
+    (rest_of _ _ _ (counts_on (g.S.Source.left c.args.source.now) _ _ _ _ c.loop-lines.invariant.behind.counts c.in-TooLong.ensures.counts))
+
+pub returns : goal.returns
+returns g c =
+    tells_halt g.S.Source.left g.S.Source.faults g.K.Sink.written g.K.Sink.flushed g.K.Sink.flushes g.K.Sink.faults (asked_read c.args.asked) c.args.strict _ _ _ _ _ tt c.loop-lines.invariant.read c.loop-lines.invariant.wrote c.loop-lines.invariant.flushed c.loop-lines.invariant.flushes
+    (too_many_lines (asked_read c.args.asked) c.args.strict (g.S.Source.left c.args.source.now) _ _ _ _ _ _ c.loop-lines.invariant.behind (omega (arith, c.loop-lines-test.false)))
+    (rest_of _ _ _ c.loop-lines.invariant.behind.counts)

@@ -1,0 +1,7 @@
+pub mod Told
+pub mod Place
+pub mod Telling
+pub mod Plain
+pub mod Saying
+pub mod Driving
+pub mod Laws

@@ -1,0 +1,96 @@
+//! Why a trace isn't told further.
+ghost use Rattle.std.specs.Prelude.{◌≡◌};
+ghost use Rattle.yds_trace_parts.specs.Telling.{halt_of_text};
+
+use std::alloc::AllocError;
+use yds_kernel::LineFault;
+use yds_model::Memory;
+use yds_port::WriteFault;
+use yds_trace::Cause;
+use yds_trace_document::DocumentFault;
+use yds_trace_text::NoText;
+
+/// Why a trace isn't told further. The parts that were whole before that are written.
+#[derive(Debug, Drop)]
+pub enum Halt {
+    /// The line of this number is refused by its form.
+    InForm {
+        number: u64,
+        fault: LineFault,
+    },
+    /// The line of this number can't stand behind those before it, or the trace as a whole tells nothing, at its last line.
+    AtLine {
+        number: u64,
+        cause: Cause,
+    },
+    /// The part of this number passes a limit of documents.
+    Limit {
+        part: u64,
+        fault: DocumentFault,
+    },
+    /// The text of the part of this number is longer than a document may be.
+    TooLong {
+        part: u64,
+    },
+    /// More jobs or stretches wait than may, and there is no place to cut. This job has been open longest, or is the first that
+    /// waits: its begin on the trace's clock, and by how much it is known to be late, in nanoseconds.
+    NoPlace {
+        name: Vec<u8>,
+        begin: u64,
+        late: Option<u64>,
+    },
+    /// The trace has as many bytes as 64 bits count, or as many lines as are told.
+    Endless,
+    /// A read failed.
+    ReadFault,
+    /// A write failed.
+    WriteFault,
+    /// Out of memory.
+    Memory,
+}
+
+impl From<Memory> for Halt {
+    ghost use Rattle.std.specs.Prelude.{◌≡◌};
+    ghost use Rattle.yds_trace_parts.specs.declared.halt.Halt.TheVariants as spec;
+
+    ghost from_gives = { λ _ halt. halt ≡ spec.Memory };
+
+    fn from(_error: Memory) -> Halt {
+        Halt::Memory
+    }
+}
+
+impl From<AllocError> for Halt {
+    ghost use Rattle.std.specs.Prelude.{◌≡◌};
+    ghost use Rattle.yds_trace_parts.specs.declared.halt.Halt.TheVariants as spec;
+
+    ghost from_gives = { λ _ halt. halt ≡ spec.Memory };
+
+    fn from(_error: AllocError) -> Halt {
+        Halt::Memory
+    }
+}
+
+impl From<WriteFault> for Halt {
+    ghost use Rattle.std.specs.Prelude.{◌≡◌};
+    ghost use Rattle.yds_trace_parts.specs.declared.halt.Halt.TheVariants as spec;
+
+    ghost from_gives = { λ _ halt. halt ≡ spec.WriteFault };
+
+    fn from(_error: WriteFault) -> Halt {
+        Halt::WriteFault
+    }
+}
+
+impl Halt {
+    /// Why the text of the part of this number isn't written.
+    pub(crate) fn of_text(part: u64, fault: NoText) -> Halt
+        ensures { result ≡ halt_of_text part fault }
+    {
+        match fault {
+            NoText::Limit(fault) => Halt::Limit { part, fault },
+            NoText::TooLong => Halt::TooLong { part },
+            NoText::Memory => Halt::Memory,
+        }
+    }
+}

@@ -1,0 +1,27 @@
+//! What holds of what a trace is told as.
+ghost use Rattle.yds_trace_parts.specs.Laws.{FewLinesAreOnePart, HaltsStay, HaltsWriteNothing, PartsFollow, ToldGrows};
+
+/// What is told of more lines begins with what is told of fewer.
+pub fn told_grows()
+    ensures { ToldGrows }
+{}
+
+/// Where it halts, that stays, and no text is told of the lines behind.
+pub fn halts_stay()
+    ensures { HaltsStay }
+{}
+
+/// The line at which it halts adds no text.
+pub fn halts_write_nothing()
+    ensures { HaltsWriteNothing }
+{}
+
+/// A part that passes no limit follows the parts before it.
+pub fn parts_follow()
+    ensures { PartsFollow }
+{}
+
+/// A trace of fewer lines than it is looked for a part behind is one part.
+pub fn few_lines_are_one_part()
+    ensures { FewLinesAreOnePart }
+{}

@@ -1,0 +1,124 @@
+//! What no clause says: that two parts are written, each as soon as it is whole, and what is left of them behind a fault.
+ghost use Rattle.std.specs.Prelude.{IfOk};
+ghost use Rattle.yds_trace.specs.Views.{asked_read};
+ghost use Rattle.yds_trace_parts.specs.Plain.{IsGranted};
+
+use crate::{Halt, tell_parts};
+use std::alloc::{AllocError, Global};
+use std::test::Fail;
+use yds_port::{MemorySink, MemorySource};
+use yds_trace::{Asked, Task, Which};
+
+/// How many jobs are in the trace: behind the last line of them, line 4,096, it is looked for a part, and more than 2,000 wait.
+const JOBS: u64 = 2_048;
+
+/// Of the thread's first run it isn't known whether its job ran before, so that one is left out.
+const FIRST: &[u8] = b"# part 1: jobs 1 to 2046, from 20 to 40930, shift 0\n";
+
+const BOTH: &[u8] = b"\
+# part 1: jobs 1 to 2046, from 20 to 40930, shift 0
+# part 2: jobs 2047 to 2047, from 40940 to 40950, shift 40940, the last
+";
+
+/// The jobs of `t` on processor 0, each due 10 microseconds after its first run.
+fn asked(alloc: Global) -> Result<Asked, AllocError>
+    ensures { IfOk result (λ asked. IsGranted (asked_read asked)) }
+{
+    let task = Task {
+        label: b"t".to_vec(alloc)?,
+        thread: Which::Named(b"t".to_vec(alloc)?),
+        deadline: 10_000,
+        apart: 0,
+    };
+    Ok(Asked {
+        tasks: vec![in alloc; task]?,
+        processor: 0,
+        unit: 1_000,
+        khz: 1_000,
+        start: Some(1_000_000),
+        from: None,
+        to: None,
+        begin_at_run: true,
+        cut_losses: false,
+        in_parts: true,
+    })
+}
+
+/// A switch at this microsecond of second 5, from one thread to another.
+fn push_switch(
+    text: &mut Vec<u8>,
+    alloc: Global,
+    micros: u64,
+    from: &str,
+    to: &str,
+) -> Result<(), AllocError> {
+    let line = format!(in alloc;
+        "  x-1 [000] d..2. 5.{micros}: sched_switch: prev_comm={from} prev_prio=120 prev_state=S ==> next_comm={to} next_prio=120\n"
+    )?;
+    text.extend_from_slice(line.as_bytes())
+}
+
+/// The lines of these jobs, each of 10 microseconds, one begun every 20.
+fn trace(alloc: Global) -> Result<Vec<u8>, AllocError> {
+    let mut text = Vec::new(alloc);
+    for number in 0..JOBS {
+        let begin = 100_000 + 20 * number;
+        push_switch(
+            &mut text,
+            alloc,
+            begin,
+            "swapper prev_pid=0",
+            "t next_pid=7",
+        )?;
+        push_switch(
+            &mut text,
+            alloc,
+            begin + 10,
+            "t prev_pid=7",
+            "swapper next_pid=0",
+        )?;
+    }
+    Ok(text)
+}
+
+/// The lines that say which part it is.
+fn heads(alloc: Global, text: &[u8]) -> Result<Vec<u8>, AllocError> {
+    let mut heads = Vec::new(alloc);
+    for line in text.split(|byte| *byte == b'\n') {
+        if line.starts_with(b"# part ") {
+            heads.extend_from_slice(line)?;
+            heads.push(b'\n')?;
+        }
+    }
+    Ok(heads)
+}
+
+/// A letter for how it ended.
+fn letter(told: &Result<(), Halt>) -> u8 {
+    match told {
+        Ok(()) => b'.',
+        Err(Halt::ReadFault) => b'r',
+        Err(Halt::WriteFault) => b'w',
+        Err(_) => b'?',
+    }
+}
+
+#[test]
+fn parts_are_written_as_they_are_whole(rt: HostRuntime) -> Result<(), Fail> {
+    let alloc = rt.alloc();
+    // The read or the write of this number fails, and the fourth read would tell the end.
+    let cases = [
+        (0, 0, b'.', BOTH),
+        (0, 2, b'w', FIRST),
+        (4, 0, b'r', FIRST),
+        (1, 0, b'r', b"".as_slice()),
+    ];
+    for (read, write, end, parts) in cases {
+        let mut source = MemorySource::new(trace(alloc)?, 1_000_000, [read].to_vec(alloc)?);
+        let mut sink = MemorySink::with_room(alloc, 200_000, 200_000, [write].to_vec(alloc)?)?;
+        let told = tell_parts(alloc, asked(alloc)?, false, &mut source, &mut sink);
+        assert_eq!(rt; letter(&told), end);
+        assert_eq!(rt; heads(alloc, sink.bytes())?.as_slice(), parts);
+    }
+    Ok(())
+}

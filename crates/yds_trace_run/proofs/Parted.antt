@@ -1,0 +1,278 @@
+-- From what was told in parts to what was written.
+use Rattle.yds_model.proofs.Common.{◌≡◌, ◌≢◌, ℕ, ◌<◌, ◌≤◌, ◌⊎◌, inl, inr, List, [], ◌++◌, append_assoc, append-nil, Bool, true, Option, Some, None, Ok, Err, refl, sym, ap, subst, ◌∙◌, arith, cases_lt}
+use Rattle.std.specs.Prelude.{IfSome}
+use Rattle.std.specs.Io.KnownBytes.{Appends}
+use Rattle.yds_model.specs.declared.status.Status.{Status}
+use Rattle.yds_model.specs.declared.status.Status.TheVariants as statuses
+use Rattle.yds_port.specs.Count.{Rose, next_count}
+use Rattle.yds_port.specs.Sink.{AppendsFront}
+use Rattle.yds_kernel.specs.Text.{trace_of}
+use Rattle.yds_trace.specs.Asked.{Asked}
+use Rattle.yds_trace_reading.specs.Reading.{IsReadOut}
+use Rattle.yds_trace_parts.specs.declared.halt.Halt.{Halt as HaltKept}
+use Rattle.yds_trace_parts.specs.declared.halt.Halt.TheVariants as halts
+use Rattle.yds_trace_parts.specs.Told.{Halt, InForm, AtLine, OfDocument, OfText, NoPlace, told_after, told_of}
+use Rattle.yds_trace_parts.specs.Driving.{WritesSome, Writes as WritesParts}
+use Rattle.yds_trace_words.specs.Request.{ReadTrace}
+use Rattle.yds_trace_run.specs.FaultText.{halt_text, too_long_text, memory_text, read_fault_text}
+use Rattle.yds_trace_run.specs.Answer.{IsTold, IsUncounted, WasWritten, EndsWith}
+use Rattle.yds_trace_run.specs.Endings.{Outcome, Writes, IsDelivered, IsEnded, Leaves, TellsHalt, halted_text, halted_status}
+use Rattle.yds_trace_run.proofs.Left.{leaves_read_out, leaves_failed}
+
+-- # One text behind another
+
+appends_more : (old mid new : Option (List ℕ)) (first second : List ℕ) → Appends old mid first → Appends mid new second → Appends old new (first ++ second)
+appends_more None mid new first second before behind = tt
+appends_more (Some xs) None new first second before behind = absurd before
+appends_more (Some xs) (Some ys) None first second before behind = absurd behind
+appends_more (Some xs) (Some ys) (Some zs) first second before behind =
+    behind ∙ ap (λ (front : List ℕ). front ++ second) before ∙ append_assoc xs first second
+
+front_more : (old mid new : Option (List ℕ)) (first second : List ℕ) → Appends old mid first → AppendsFront second mid new → AppendsFront (first ++ second) old new
+front_more old mid new first second before behind = record {
+  front = first ++ behind.front;
+  rest = behind.rest;
+  is_front = ap (λ (text : List ℕ). first ++ text) behind.is_front ∙ sym (append_assoc first behind.front behind.rest);
+  appended = appends_more old mid new first behind.front before behind.appended;
+}
+
+front_of_front : (text more : List ℕ) (old new : Option (List ℕ)) → AppendsFront text old new → AppendsFront (text ++ more) old new
+front_of_front text more old new is = record {
+  front = is.front;
+  rest = is.rest ++ more;
+  is_front = ap (λ (one : List ℕ). one ++ more) is.is_front ∙ append_assoc is.front is.rest more;
+  appended = is.appended;
+}
+
+outcome_more : (ended : Status) (first text : List ℕ) (status : Status) (old mid new : Option (List ℕ)) (flushed : Option ℕ) → Appends old mid first → Outcome ended text status mid new flushed
+    → Outcome ended (first ++ text) status old new flushed
+outcome_more statuses.WriteFault first text status old mid new flushed before behind = front_more old mid new first text before behind
+outcome_more statuses.Done first text status old mid new flushed before behind =
+    record { said = behind.said; whole = appends_more old mid new first text before behind.whole; all_flushed = behind.all_flushed }
+outcome_more statuses.No first text status old mid new flushed before behind =
+    record { said = behind.said; whole = appends_more old mid new first text before behind.whole; all_flushed = behind.all_flushed }
+outcome_more statuses.Usage first text status old mid new flushed before behind =
+    record { said = behind.said; whole = appends_more old mid new first text before behind.whole; all_flushed = behind.all_flushed }
+outcome_more statuses.Refused first text status old mid new flushed before behind =
+    record { said = behind.said; whole = appends_more old mid new first text before behind.whole; all_flushed = behind.all_flushed }
+outcome_more statuses.ReadFault first text status old mid new flushed before behind =
+    record { said = behind.said; whole = appends_more old mid new first text before behind.whole; all_flushed = behind.all_flushed }
+outcome_more statuses.Memory first text status old mid new flushed before behind =
+    record { said = behind.said; whole = appends_more old mid new first text before behind.whole; all_flushed = behind.all_flushed }
+
+-- # What was written
+
+module _ (asked : Asked) (strict : Bool) (bytes : List ℕ) (in_parts : asked.in_parts ≡ true) where
+  told_so : (text : List ℕ) (status : Status) → IsTold true asked strict (trace_of bytes) text status → IsTold asked.in_parts asked strict (trace_of bytes) text status
+  told_so text status is = subst (λ (b : Bool). IsTold b asked strict (trace_of bytes) text status) (sym in_parts) is
+
+  -- behind the parts of some lines
+  ends_so : (old mid : Option (List ℕ)) (comment : List ℕ) (some : WritesSome asked strict bytes old mid)
+      → EndsWith (Ok (ReadTrace asked strict)) bytes ((told_after asked strict some.past).text ++ comment) comment
+  ends_so old mid comment some = record {
+    before = (told_after asked strict some.past).text;
+    stands = subst (λ (b : Bool). WasWritten b asked strict (trace_of bytes) (told_after asked strict some.past).text) (sym in_parts)
+        (record { past = some.past; behind = some.behind; front = some.front; goes_on = some.goes_on; says = refl });
+    says = refl;
+  }
+
+  -- a text with this status, behind what was told
+  refused_so : (halt : Halt) (ended : Status) (old mid new : Option (List ℕ)) (flushed : Option ℕ) → (told_of asked strict (trace_of bytes)).halt ≡ Some halt
+      → Appends old mid (told_of asked strict (trace_of bytes)).text → Outcome ended (halt_text halt) statuses.Refused mid new flushed
+      → Writes (Ok (ReadTrace asked strict)) bytes ended old new flushed
+  refused_so halt ended old mid new flushed first before behind = record {
+    text = (told_of asked strict (trace_of bytes)).text ++ halt_text halt;
+    status = statuses.Refused;
+    is_text = inl (told_so ((told_of asked strict (trace_of bytes)).text ++ halt_text halt) statuses.Refused (record { halt = halt; first = first; says = refl }));
+    outcome = outcome_more ended (told_of asked strict (trace_of bytes)).text (halt_text halt) statuses.Refused old mid new flushed before behind;
+  }
+
+  -- A write failed: a front of all that is told.
+  failed_so : (halt : Option Halt) (ended : Status) (old new : Option (List ℕ)) (flushed : Option ℕ) → (told_of asked strict (trace_of bytes)).halt ≡ halt
+      → ended ≡ statuses.WriteFault → AppendsFront (told_of asked strict (trace_of bytes)).text old new → Writes (Ok (ReadTrace asked strict)) bytes ended old new flushed
+  failed_so None ended old new flushed is failed front = record {
+    text = (told_of asked strict (trace_of bytes)).text;
+    status = statuses.Done;
+    is_text = inl (told_so (told_of asked strict (trace_of bytes)).text statuses.Done (record { sound = is; says = refl }));
+    outcome = subst (λ (one : Status). Outcome one (told_of asked strict (trace_of bytes)).text statuses.Done old new flushed) (sym failed) front;
+  }
+  failed_so (Some halt) ended old new flushed is failed front = record {
+    text = (told_of asked strict (trace_of bytes)).text ++ halt_text halt;
+    status = statuses.Refused;
+    is_text = inl (told_so ((told_of asked strict (trace_of bytes)).text ++ halt_text halt) statuses.Refused (record { halt = halt; first = is; says = refl }));
+    outcome = subst (λ (one : Status). Outcome one ((told_of asked strict (trace_of bytes)).text ++ halt_text halt) statuses.Refused old new flushed) (sym failed)
+        (front_of_front (told_of asked strict (trace_of bytes)).text (halt_text halt) old new front);
+  }
+
+  done_so : (ended : Status) (old mid new : Option (List ℕ)) (flushed : Option ℕ) → WritesParts asked strict bytes (Ok tt) old mid
+      → Outcome ended [] statuses.Done mid new flushed → Writes (Ok (ReadTrace asked strict)) bytes ended old new flushed
+  done_so ended old mid new flushed drives outcome = record {
+    text = (told_of asked strict (trace_of bytes)).text;
+    status = statuses.Done;
+    is_text = inl (told_so (told_of asked strict (trace_of bytes)).text statuses.Done (record { sound = drives.told; says = refl }));
+    outcome = subst (λ (text : List ℕ). Outcome ended text statuses.Done old new flushed) (append-nil (told_of asked strict (trace_of bytes)).text)
+        (outcome_more ended (told_of asked strict (trace_of bytes)).text [] statuses.Done old mid new flushed drives.appended outcome);
+  }
+
+  module _ {K : Type 0} (written : K → Option (List ℕ)) (flushed : K → Option ℕ) (flushes faults : K → ℕ) where
+    halted_so : (halt : HaltKept) (ended : Status) (old mid new : K) → WritesParts asked strict bytes (Err halt) (written old) (written mid)
+        → TellsHalt written flushed flushes faults halt ended mid new → Writes (Ok (ReadTrace asked strict)) bytes ended (written old) (written new) (flushed new)
+    halted_so (halts.InForm number fault) ended old mid new drives tells =
+        refused_so (InForm (record { line = number; column = fault.column; reason = fault.reason })) ended (written old) (written mid) (written new) (flushed new) drives.told drives.appended tells.outcome
+    halted_so (halts.AtLine number cause) ended old mid new drives tells =
+        refused_so (AtLine number cause) ended (written old) (written mid) (written new) (flushed new) drives.told drives.appended tells.outcome
+    halted_so (halts.Limit part fault) ended old mid new drives tells =
+        refused_so (OfDocument part fault) ended (written old) (written mid) (written new) (flushed new) drives.told drives.appended tells.outcome
+    halted_so (halts.TooLong part) ended old mid new drives tells =
+        refused_so (OfText part) ended (written old) (written mid) (written new) (flushed new) drives.told drives.appended tells.outcome
+    halted_so (halts.NoPlace name begin late) ended old mid new drives tells =
+        refused_so (NoPlace name.items begin late) ended (written old) (written mid) (written new) (flushed new) drives.told drives.appended tells.outcome
+    halted_so halts.Endless ended old mid new drives tells = record {
+      text = (told_after asked strict drives.1.past).text ++ too_long_text;
+      status = statuses.Refused;
+      is_text = inr (record { long = subst (λ (b : Bool). IsUncounted b bytes) (sym in_parts) drives.0; refused = refl; ends = ends_so (written old) (written mid) too_long_text drives.1 });
+      outcome = outcome_more ended (told_after asked strict drives.1.past).text too_long_text statuses.Refused (written old) (written mid) (written new) (flushed new) drives.1.appended tells.outcome;
+    }
+    halted_so halts.ReadFault ended old mid new drives tells = record {
+      text = (told_after asked strict drives.past).text ++ read_fault_text;
+      status = statuses.ReadFault;
+      is_text = ends_so (written old) (written mid) read_fault_text drives;
+      outcome = outcome_more ended (told_after asked strict drives.past).text read_fault_text statuses.ReadFault (written old) (written mid) (written new) (flushed new) drives.appended tells.outcome;
+    }
+    halted_so halts.Memory ended old mid new drives tells = record {
+      text = (told_after asked strict drives.past).text ++ memory_text;
+      status = statuses.Memory;
+      is_text = ends_so (written old) (written mid) memory_text drives;
+      outcome = outcome_more ended (told_after asked strict drives.past).text memory_text statuses.Memory (written old) (written mid) (written new) (flushed new) drives.appended tells.outcome;
+    }
+    halted_so halts.WriteFault ended old mid new drives tells =
+        failed_so (told_of asked strict (trace_of bytes)).halt ended (written old) (written new) (flushed new) refl tells.0
+        (subst (λ (one : K). AppendsFront (told_of asked strict (trace_of bytes)).text (written old) (written one)) (sym tells.1) drives)
+
+-- # Halts
+
+write_failed : (halt : HaltKept) → (halt ≡ halts.WriteFault) ⊎ (halt ≢ halts.WriteFault)
+write_failed halts.WriteFault = inl refl
+write_failed (halts.InForm number fault) = inr (λ same. absurd cc)
+write_failed (halts.AtLine number cause) = inr (λ same. absurd cc)
+write_failed (halts.Limit part fault) = inr (λ same. absurd cc)
+write_failed (halts.TooLong part) = inr (λ same. absurd cc)
+write_failed (halts.NoPlace name begin late) = inr (λ same. absurd cc)
+write_failed halts.Endless = inr (λ same. absurd cc)
+write_failed halts.ReadFault = inr (λ same. absurd cc)
+write_failed halts.Memory = inr (λ same. absurd cc)
+
+status_not_done : (halt : HaltKept) → halted_status halt ≢ statuses.Done
+status_not_done (halts.InForm number fault) done = absurd cc
+status_not_done (halts.AtLine number cause) done = absurd cc
+status_not_done (halts.Limit part fault) done = absurd cc
+status_not_done (halts.TooLong part) done = absurd cc
+status_not_done (halts.NoPlace name begin late) done = absurd cc
+status_not_done halts.Endless done = absurd cc
+status_not_done halts.ReadFault done = absurd cc
+status_not_done halts.WriteFault done = absurd cc
+status_not_done halts.Memory done = absurd cc
+
+status_of_read : (halt : HaltKept) → halted_status halt ≡ statuses.ReadFault → halt ≡ halts.ReadFault
+status_of_read (halts.InForm number fault) is = absurd cc
+status_of_read (halts.AtLine number cause) is = absurd cc
+status_of_read (halts.Limit part fault) is = absurd cc
+status_of_read (halts.TooLong part) is = absurd cc
+status_of_read (halts.NoPlace name begin late) is = absurd cc
+status_of_read halts.Endless is = absurd cc
+status_of_read halts.ReadFault is = refl
+status_of_read halts.WriteFault is = absurd cc
+status_of_read halts.Memory is = absurd cc
+
+module _ {K : Type 0} (written : K → Option (List ℕ)) (flushed : K → Option ℕ) (flushes faults : K → ℕ) where
+  pub done_writes : (asked : Asked) (strict : Bool) (input : Option (List ℕ)) (ended : Status) (old mid new : K) → asked.in_parts ≡ true
+      → IfSome input (λ bytes. WritesParts asked strict bytes (Ok tt) (written old) (written mid)) → IsDelivered written flushed flushes faults [] statuses.Done ended mid new
+      → IfSome input (λ bytes. Writes (Ok (ReadTrace asked strict)) bytes ended (written old) (written new) (flushed new))
+  done_writes asked strict None ended old mid new in_parts drives delivered = tt
+  done_writes asked strict (Some bytes) ended old mid new in_parts drives delivered =
+      done_so asked strict bytes in_parts ended (written old) (written mid) (written new) (flushed new) drives delivered.outcome
+
+  pub halted_writes : (asked : Asked) (strict : Bool) (input : Option (List ℕ)) (halt : HaltKept) (ended : Status) (old mid new : K) → asked.in_parts ≡ true
+      → IfSome input (λ bytes. WritesParts asked strict bytes (Err halt) (written old) (written mid)) → TellsHalt written flushed flushes faults halt ended mid new
+      → IfSome input (λ bytes. Writes (Ok (ReadTrace asked strict)) bytes ended (written old) (written new) (flushed new))
+  halted_writes asked strict None halt ended old mid new in_parts drives tells = tt
+  halted_writes asked strict (Some bytes) halt ended old mid new in_parts drives tells =
+      halted_so asked strict bytes in_parts written flushed flushes faults halt ended old mid new drives tells
+
+  -- # What becomes of the sink
+
+  same_count : (before now : ℕ) → before ≤ now → (before < now → ⊥) → now ≡ before
+  same_count before now later never = elim (cases_lt before now) [
+    | inl less ↦ absurd (never less)
+    | inr not_less ↦ omega (arith, later, not_less)
+  ]
+
+  -- what comes behind the parts, where none of their writes failed
+  pub delivered_behind : (text : List ℕ) (status ended : Status) (old mid new : K) → faults old ≤ faults mid → (faults old < faults mid → ⊥) → flushes mid ≡ flushes old
+      → IsDelivered written flushed flushes faults text status ended mid new → IsEnded written flushed flushes faults ended old new
+  delivered_behind text status ended old mid new later never stays delivered =
+      let same : faults mid ≡ faults old = same_count (faults old) (faults mid) later never in
+      record {
+        later = subst (λ (count : ℕ). count ≤ faults new) same delivered.later;
+        counted = λ failed. subst (λ (count : ℕ). Rose count (faults new)) same (delivered.counted failed);
+        told = λ more. delivered.told (subst (λ (count : ℕ). count < faults new) (sym same) more);
+        flushed_once = λ whole. delivered.flushed_once whole ∙ ap next_count stays;
+      }
+
+  other_halt : (halt : HaltKept) (ended : Status) (mid new : K) → halt ≢ halts.WriteFault → TellsHalt written flushed flushes faults halt ended mid new
+      → IsDelivered written flushed flushes faults (halted_text halt) (halted_status halt) ended mid new
+  other_halt halts.WriteFault ended mid new other tells = absurd (other refl)
+  other_halt (halts.InForm number fault) ended mid new other tells = tells
+  other_halt (halts.AtLine number cause) ended mid new other tells = tells
+  other_halt (halts.Limit part fault) ended mid new other tells = tells
+  other_halt (halts.TooLong part) ended mid new other tells = tells
+  other_halt (halts.NoPlace name begin late) ended mid new other tells = tells
+  other_halt halts.Endless ended mid new other tells = tells
+  other_halt halts.ReadFault ended mid new other tells = tells
+  other_halt halts.Memory ended mid new other tells = tells
+
+  pub halted_ended : (halt : HaltKept) (ended : Status) (old mid new : K) → faults old ≤ faults mid → (halt ≡ halts.WriteFault → Rose (faults old) (faults mid))
+      → (faults old < faults mid → halt ≡ halts.WriteFault) → flushes mid ≡ flushes old → TellsHalt written flushed flushes faults halt ended mid new
+      → IsEnded written flushed flushes faults ended old new
+  halted_ended halt ended old mid new later counted told stays tells = elim (write_failed halt) [
+    | inl failed ↦
+        let nothing = subst (λ (one : HaltKept). TellsHalt written flushed flushes faults one ended mid new) failed tells in
+        record {
+          later = subst (λ (one : K). faults old ≤ faults one) (sym nothing.1) later;
+          counted = λ _. subst (λ (one : K). Rose (faults old) (faults one)) (sym nothing.1) (counted failed);
+          told = λ _. nothing.0;
+          flushed_once = λ whole. absurd (whole nothing.0);
+        }
+    | inr other ↦
+        delivered_behind (halted_text halt) (halted_status halt) ended old mid new later (λ more. other (told more)) stays (other_halt halt ended mid new other tells)
+  ]
+
+  -- # How it ends
+
+  said_so : (halt : HaltKept) (ended : Status) (mid new : K) → TellsHalt written flushed flushes faults halt ended mid new → (ended ≡ halted_status halt) ⊎ (ended ≡ statuses.WriteFault)
+  said_so halt ended mid new tells = elim (write_failed halt) [
+    | inl failed ↦ inr (subst (λ (one : HaltKept). TellsHalt written flushed flushes faults one ended mid new) failed tells).0
+    | inr other ↦ (other_halt halt ended mid new other tells).said
+  ]
+
+  pub halted_not_done : (halt : HaltKept) (ended : Status) (mid new : K) → TellsHalt written flushed flushes faults halt ended mid new → ended ≢ statuses.Done
+  halted_not_done halt ended mid new tells done = elim (said_so halt ended mid new tells) [
+    | inl same ↦ status_not_done halt (sym same ∙ done)
+    | inr failed ↦ let both : statuses.WriteFault ≡ statuses.Done = sym failed ∙ done in absurd cc
+  ]
+
+  pub halted_read_fault : (halt : HaltKept) (ended : Status) (mid new : K) → TellsHalt written flushed flushes faults halt ended mid new → ended ≡ statuses.ReadFault → halt ≡ halts.ReadFault
+  halted_read_fault halt ended mid new tells fault = elim (said_so halt ended mid new tells) [
+    | inl same ↦ status_of_read halt (sym same ∙ fault)
+    | inr failed ↦ let both : statuses.WriteFault ≡ statuses.ReadFault = sym failed ∙ fault in absurd cc
+  ]
+
+  pub halted_leaves : (input left : Option (List ℕ)) (halt : HaltKept) (ended : Status) (mid new : K) (faults_before faults_now : ℕ)
+      → (halt ≢ halts.WriteFault → IfSome input (λ bytes. IsReadOut bytes left faults_before faults_now)) → TellsHalt written flushed flushes faults halt ended mid new
+      → IfSome input (λ bytes. Leaves ended bytes left faults_before faults_now)
+  halted_leaves input left halt ended mid new faults_before faults_now out tells = elim (write_failed halt) [
+    | inl failed ↦
+        let nothing = subst (λ (one : HaltKept). TellsHalt written flushed flushes faults one ended mid new) failed tells in
+        leaves_failed input left ended faults_before faults_now nothing.0
+    | inr other ↦ leaves_read_out input left ended faults_before faults_now (halted_not_done halt ended mid new tells) (out other)
+  ]

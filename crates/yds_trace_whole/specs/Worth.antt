@@ -1,0 +1,53 @@
+-- What the parts of a trace are worth to whoever asked for them: no late job is hidden in them, each is faithful to the trace, and each is read
+-- again as a document of its own.
+use Rattle.std.specs.Prelude.{◌≡◌, ℕ, ◌<◌, ◌≤◌, List, length, Bool, Some, None}
+use Rattle.std.specs.List.{All, Contains}
+use Rattle.yds_model.specs.declared.limits.TheConstants.{MAX_INPUT}
+use Rattle.yds_model.specs.Feasible.{IsFeasible}
+use Rattle.yds_kernel.specs.Event.{Said}
+use Rattle.yds_trace.specs.Asked.{Asked}
+use Rattle.yds_trace.specs.Document.{Judged, all_judged}
+use Rattle.yds_trace_laws.specs.AsSlots.{jobs_read, slots_read}
+use Rattle.yds_trace_laws.specs.InUnits.{document_in, AreOf}
+use Rattle.yds_trace_laws.specs.Faithful.{AreFaithful}
+use Rattle.yds_trace_document.specs.Part.{part_limit_fault}
+use Rattle.yds_trace_text.specs.Text.{late_comment}
+use Rattle.yds_trace_again.specs.Again.{IsReadAs}
+use Rattle.yds_trace_again.specs.Holds.{Holds}
+use Rattle.yds_trace_whole.specs.Parts.{Part, parts_of}
+
+-- # No late job is hidden
+
+-- the slots of the part's document are feasible
+abbrev pub IsPartFeasible : Part → Type 0
+IsPartFeasible part = IsFeasible (jobs_read part.settled.document.jobs) (slots_read part.settled.document.runs)
+
+-- A part has this job, and the text has a comment that names it, in the part's times.
+pub record IsNamedIn (parts : List Part) (text : List ℕ) (one : Judged) : Type 0 where
+  pub part : Part
+  pub is_there : Contains parts part
+  pub has : Contains part.settled.judged one
+  pub named : Holds text (late_comment part.settled.units one)
+
+-- Where a job is known to be late, it is late by less than a unit of time, and a comment of the text names it.
+abbrev pub IsToldLateIn : Asked → List Part → List ℕ → Judged → Type 0
+IsToldLateIn asked parts text one = (by : ℕ) → one.late ≡ Some by → (by < asked.unit) × IsNamedIn parts text one
+
+-- Where the slots of each part's document are feasible, that holds of each job of the whole trace.
+abbrev pub NothingLateInParts : Asked → List Said → List ℕ → Type 0
+NothingLateInParts asked past text = All IsPartFeasible (parts_of asked past) → All (IsToldLateIn asked (parts_of asked past) text) (all_judged asked past)
+
+-- # Each part is faithful
+
+-- The part's jobs are jobs of the whole trace, its document is made of them, and no job and no run of it is invented, and none is missing.
+pub record IsFaithfulPart (asked : Asked) (past : List Said) (part : Part) : Type 0 where
+  pub of_trace : AreOf asked past part.settled.judged
+  pub document_is : part.settled.document ≡ document_in part.settled.units part.settled.judged
+  pub faithful : AreFaithful asked part.settled.units part.settled.judged
+
+-- # Each part is read again
+
+-- Where a part passes no limit and isn't too long, its text is read as just its document.
+abbrev pub IsReadPart : Bool → Part → Type 0
+IsReadPart strict part =
+    part_limit_fault strict part.cut part.settled ≡ None → length part.text ≤ MAX_INPUT → IsReadAs part.settled.document part.text
