@@ -3,10 +3,9 @@
     python3 checks/built.py [FOLDER]
 
 `rt ci` leaves each program in the folder out of its crate, so nothing is proved a second time. The programs answer each
-stored row and trace, byte for byte (examples/check.sh, examples/check-traces.sh). Then the commands of README.md and of
-the manual are typed with them, as a reader types them (packaging/typed.py), all but the trace of an hour. FOLDER is
-another folder that has the programs yds_cli and yds_trace. The last line is 'N passed, M failed'; the status is 1 where
-M isn't 0.
+stored row and trace, byte for byte (examples/check.sh, examples/check-traces.sh). Then the commands of README.md are
+typed with them, as a reader types them (packaging/typed.py). FOLDER is another folder that has the programs yds_cli and
+yds_trace. The last line is 'N passed, M failed'; the status is 1 where M isn't 0.
 """
 
 import os
@@ -19,7 +18,6 @@ from gate import ROOT, Command, run_all
 
 CRATES = {"yds_cli": "yds_cli", "yds_trace": "yds_trace_cli"}
 """The programs, and the crate that each is built of."""
-HOUR = "Long traces and many machines"
 
 
 def programs(words: List[str]) -> Dict[str, Path]:
@@ -43,12 +41,10 @@ def lay_out(folder: Path, found: Dict[str, Path]) -> None:
 
 def checks(folder: Path) -> List[Command]:
     """What is run with these."""
-    pages = [str(ROOT / "README.md"), str(ROOT / "docs" / "manual.md")]
-    typed = [sys.executable, "packaging/typed.py", "--leave-out", HOUR, "--shared", str(folder / "share"), *pages]
     return [
         ["sh", "examples/check.sh", str(folder / "bin" / "yds_cli")],
         ["sh", "examples/check-traces.sh", str(folder / "bin" / "yds_trace")],
-        typed,
+        [sys.executable, "packaging/typed.py", "--shared", str(folder / "share"), str(ROOT / "README.md")],
     ]
 
 
