@@ -3,7 +3,7 @@
     python3 robustness/broken.py [SEED] [TRACES] [YDS_TRACE] [YDS_CLI]
 
 It draws TRACES traces (1,000) by drawn.py, in five formats, many with late jobs, every third with the word --parts; and
-of each 50 one by long.py, of several parts. Of each, bytes of one or two lines are replaced by bytes that no trace has
+of each 100 one by long.py, of several parts. Of each, bytes of one or two lines are replaced by bytes that no trace has
 there, or a line feed is lost, three times. A yes is a document that `yds_cli audit` finds feasible and of which no job is
 left out; in parts each of them. What is held:
 
@@ -27,6 +27,7 @@ from typing import List, Tuple
 
 import long
 from drawn import plain
+from second import Told
 from trace import told
 
 GARBAGE = b"\x00\x01\x07\x1b\x7f\x80\xff~^"
@@ -82,10 +83,9 @@ class Programs:
         return all(self.audit(part) == b"feasible\n" for part in parts if part)
 
 
-def fault_of(programs: Programs, words: List[str], trace: bytes, was_yes: bool) -> str:
-    """What isn't as it should be with the answer to a broken trace; nothing where all is."""
+def fault_of(programs: Programs, words: List[str], trace: bytes, said: Told, was_yes: bool) -> str:
+    """What isn't as it should be with the answer to a broken trace, of which the second reading says this; nothing where all is."""
     written, status = programs.read(words, trace)
-    said = told(words, trace)
     if (written, status) != (said.text.encode(), said.status):
         return "the second reading differs"
     if status and not written.endswith(b"\nfailed\n"):
@@ -99,8 +99,8 @@ def fault_of(programs: Programs, words: List[str], trace: bytes, was_yes: bool) 
 
 def unbroken(seed: int, number: int) -> Tuple[str, List[str], bytes]:
     """The trace of this number: what it is, its words and its text."""
-    if number % 50 == 49:
-        long_one = long.drawn(seed, number // 50)
+    if number % 100 == 99:
+        long_one = long.drawn(seed, number // 100)
         return f"long {long_one.shows}", long_one.words, long_one.trace
     it = plain(seed, number)
     return f"format {it.form}", [*it.words, "--parts"] if number % 3 == 1 else it.words, it.trace
@@ -122,8 +122,9 @@ def main(given: List[str]) -> int:
         counts["unbroken with a yes" if was_yes else "unbroken without one"] += 1
         for _ in range(BREAKS):
             trace = broken(draw, whole)
-            fault = fault_of(programs, words, trace, was_yes)
-            counts[f"broken, status {told(words, trace).status}"] += 1
+            said = told(words, trace)
+            fault = fault_of(programs, words, trace, said, was_yes)
+            counts[f"broken, status {said.status}"] += 1
             passed, failed = passed + int(not fault), failed + int(bool(fault))
             if fault:
                 print(f"FAILED: {fault}: trace {number} of seed {seed}, words {words!r}")

@@ -74,6 +74,7 @@ class Drawing:
         self.begun = self.time
         self.lines: List[bytes] = []
         self.woken: Dict[bytes, int] = {}
+        self.wakes: List[Tuple[bytes, int]] = []
         self.spans: List[Tuple[bytes, int, int]] = []
         self.options: Options = {}
         self.wishes = [self.wish(place, name) for place, name in enumerate(self.listed)]
@@ -155,6 +156,7 @@ class Drawing:
         self.write(self.draw.randrange(self.processors), event, text)
         if name in self.listed:
             self.woken.setdefault(name, self.time)
+            self.wakes.append((name, self.time))
 
     def step(self) -> None:
         """Something happens."""
@@ -484,7 +486,16 @@ def often_woken(it: Drawing) -> None:
     it.ask(0.2)
     for wish in it.wishes:
         wish.apart = it.draw.choice([MILLISECOND, 5 * MILLISECOND, 40 * MILLISECOND])
+        if it.draw.random() < 0.7:
+            wish.apart = exact_apart(it, wish) or wish.apart
     it.options.pop("--begin", None)
+
+
+def exact_apart(it: Drawing, wish: Wish) -> int:
+    """How long after the begin of the thread's first job the first wake-up behind that job came, or a nanosecond beside it."""
+    own = [(begin, end) for name, begin, end in it.spans if name == wish.name]
+    later = [time for name, time in it.wakes if name == wish.name and own and time >= own[0][1]]
+    return max(0, later[0] - own[0][0] + it.draw.choice([0, 0, 0, 1, -1])) if later else 0
 
 
 def at_run(it: Drawing) -> None:

@@ -182,7 +182,7 @@ class Drawing:
         self.it.odds = {"jitter": 0.2, "rewoken": 0.05, "overrun": 0.01, "short": 0.05, "speed": 0.05, "sleep": 0.02, "move": 0.002, "noise": 0.05}
         self.size = draw.randrange(7_000, 22_000)
         self.options: Dict[str, Optional[str]] = {"--parts": None, "--lost": "cut"}
-        self.apart = draw.choice([0, 0, 0, 50_000])
+        self.apart = draw.choice([0, 0, 0, 50_000, 9 * base // 10, 5 * base // 2])
         self.edits: List[Callable[[List[bytes]], None]] = []
         if draw.random() < 0.3:
             self.options["--us"] = draw.choice(["1", "5", "50"])

@@ -553,6 +553,7 @@ class Job:
     wakes: int = 0
     missing: bool = False
     again: int = 0
+    just_apart: bool = False
 
 
 class Follower:
@@ -576,6 +577,8 @@ class Follower:
     def stir(self, time: int) -> None:
         """A wake-up, or a first run where jobs begin at one, with no job open."""
         last = self.jobs[-1] if self.state() == "ended" else None
+        if last is not None and time - last.begin == self.apart > 0:
+            last.just_apart = True
         if last is not None and time - last.begin < self.apart:
             if last.known:
                 last.state = "open"

@@ -125,6 +125,7 @@ def in_job(one: Judged, unit: int) -> Iterator[str]:
         "a job that is preempted": any(before.end < behind.begin for before, behind in pairs),
         "a job that goes on after a sleep": one.job.again > 0,
         "a job with several wake-ups": one.job.wakes > 0,
+        "a job that is followed just APART after its begin": one.job.just_apart,
         "late by nothing": late == 0,
         "late by 1 ns": late == 1,
         "late by less than a unit": late is not None and 0 < late < unit,
@@ -145,7 +146,7 @@ def things(words: List[str], trace: bytes, said: Told) -> Set[str]:
     """What is in a trace, its words and what is said of it."""
     found = {f"status {said.status}", *in_words(words), *in_trace(trace)}
     if said.kind:
-        found.add(said.kind)
+        found.update({said.kind, said.kind.replace("part document", "document")})
     documents = list(said.parts) if said.document is None else [said.document]
     if documents:
         found.update(in_text(said.text))

@@ -153,6 +153,13 @@ class JobsTest(unittest.TestCase):
                 "slot a 0 1 1",
                 "point 10 9",
             ): "line 5, column 1: a point behind a slot; put all points before the slots",
+            (
+                "# part 1: jobs 1 to 1, from 0 to 9, shift 0",
+                "job a 0 9 4",
+                "# part 2: jobs 2 to 2, from 20 to 29, shift 20, the last",
+                "job b 0 9 4",
+            ): "line 3: another part begins here, behind that of line 1, and its times count from another time 0; give one "
+            "part at a time: yds-parts --split makes a file of each",
         }
         for text, told in cases.items():
             self.assertEqual(call("jobs", given="\n".join(text).encode()), (1, "", f"yds-jobs: {told}\n"))

@@ -12,7 +12,7 @@ import sys
 from fractions import Fraction
 from typing import BinaryIO, Dict, Iterable, Iterator, List, NamedTuple, Optional, Sequence, Tuple, Union
 
-from yds._heads import MOST_BYTES
+from yds._heads import MOST_BYTES, read_head
 
 STANDARD_INPUT = "-"
 _FIELD = re.compile(r"[^ \t]+")
@@ -206,11 +206,12 @@ def fraction(line: Line, fields: Sequence[str], place: int) -> Tuple[int, int]:
 
 
 class Rows:
-    """The rows of a document's lines, in their order. An answer of no, two units, and a wrong number are faults."""
+    """The rows of a document's lines, in their order. An answer of no, two units, two parts, and a wrong number are faults."""
 
     def __init__(self, source: Iterable[Line] = ()) -> None:
         self._source = source
         self._ticks: Optional[int] = None
+        self._part: Optional[Line] = None
         self.units = Units()
 
     def __iter__(self) -> Iterator[Row]:
@@ -228,10 +229,23 @@ class Rows:
         if kind[0] == "#":
             if " unit " in line.text:
                 self.units.take(line)
+            if line.text.startswith("# part "):
+                self._take_head(line)
             return Comment(line, line.text.lstrip(" \t"))
         if kind in _NO:
             raise line.fault(f"the input is an answer of no: {printable(line.text)}")
         return self._row(line, kind, fields)
+
+    def _take_head(self, line: Line) -> None:
+        """The head line of a part. The times of another one count from another time 0."""
+        if read_head(line.text.encode("latin-1", "replace") + b"\n") is None:
+            return
+        if self._part is not None:
+            raise line.fault(
+                f"another part begins here, behind that of line {self._part.number}, and its times count from another "
+                "time 0; give one part at a time: yds-parts --split makes a file of each"
+            )
+        self._part = line
 
     def _row(self, line: Line, kind: str, fields: List[str]) -> Row:
         if kind == "slot":
