@@ -3,7 +3,7 @@
     python3 robustness/long.py [SEED] [TRACES] [YDS_TRACE] [YDS_CLI]
     python3 robustness/long.py one SEED NUMBER         writes the trace of this number, and its words to standard error
 
-It draws TRACES traces (50) of some 6,000 to 40,000 lines: periodic threads with deadlines that are shorter than their
+It draws TRACES traces (50) of some 1,000 to 60,000 lines: periodic threads with deadlines that are shorter than their
 periods, equal or longer, jobs that are preempted, overrun, wait, sleep within a period or move. Each trace shows one
 thing more, which goes round by its number (SHOWN): a thread that hangs or starves, losses and threads that reach back
 behind a part that was written, faults of lines and of documents in a later part, thousands of stretches, `--from` and

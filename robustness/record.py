@@ -4,9 +4,9 @@
 
 rt-app runs three threads with periods of 16.667, 10 and 5 ms for S seconds (3), on all processors, while an instance of
 tracefs of its own records their switches and wake-ups and those of all other threads; nothing else of the machine's
-tracing is touched. The text of the trace, or FILE's, is read by yds_trace as a whole, for each processor; as a whole in
+tracing is touched. The text of the trace, or FILE's, is read by yds_trace as a whole, for each processor. As a whole in
 parts, for each processor, and in pieces of 1,000 lines, with several words, it is read by yds_trace and by the second
-reading of trace.py: the two have to write the same text, byte for byte, and end with the same status.
+reading (second.py and parted.py): the two have to write the same text, byte for byte, and end with the same status.
 
 It needs root, a kernel that lets it mount tracefs and make an instance there, and rt-app (Debian: rt-app). Where one of
 them isn't there, it says so and ends with status 77. Status 1: the readings differ. Status 0: they agree. YDS_TRACE is

@@ -1,7 +1,7 @@
 """second.py: the second reading of a kernel's trace, for trace.py, parted.py and the scripts that stand on them.
 
 It takes the words and the trace, and gives the document with each of its lines. It keeps the whole trace in memory, and
-looks back in it for each thing that it wants to know. What a line says it takes from lines.py. It shares no code with the
+looks back in it for each thing that it needs to know. What a line says it takes from lines.py. It shares no code with the
 crates; the texts of `--help` and `--version` alone it takes from their source.
 """
 
