@@ -41,6 +41,12 @@ pub record Asked : Type 0 where
   pub cut_losses : Bool
   -- it is told in parts, documents one after another
   pub in_parts : Bool
+  -- each processor has documents of its own
+  pub everywhere : Bool
+
+-- the same, asked of this processor
+abbrev pub on : ℕ → Asked → Asked
+on processor asked = record asked { processor = processor }
 
 abbrev pub task_at : Asked → ℕ → Task
 task_at asked number = slice_index_or asked.tasks number no_task

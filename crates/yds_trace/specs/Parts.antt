@@ -2,7 +2,7 @@
 --
 -- A part has the waiting jobs that begin before a quiet instant: each of them is settled, and none of their runs comes after it. So all runs of
 -- the parts behind come after those of this one.
-use Rattle.std.specs.Prelude.{ℕ, ◌+◌, ◌%◌, List, [], ◌∷◌, map, filter, length, sum_by, count_by, max, Bool, true, false, not, ◌==◌, ◌&&◌, ◌||◌, nat_lt, nat_le, if◌then◌else◌, Option, Some, None, is_some}
+use Rattle.std.specs.Prelude.{ℕ, zero, suc, ◌+◌, ◌%◌, List, [], ◌∷◌, ◌++◌, map, filter, length, sum_by, count_by, max, Bool, true, false, not, ◌==◌, ◌&&◌, ◌||◌, nat_lt, nat_le, if◌then◌else◌, Option, Some, None, is_some}
 use Rattle.std.specs.List.{list_any, list_all}
 use Rattle.yds_kernel.specs.declared.loss.Since.TheVariants as since
 use Rattle.yds_kernel.specs.Event.{Said, Stamped, Lost, Nothing, Event, Happening, Switch}
@@ -13,12 +13,23 @@ use Rattle.yds_trace.specs.declared.fault.Cause.TheVariants as causes
 use Rattle.yds_trace.specs.declared.job.End.{End}
 use Rattle.yds_trace.specs.declared.job.End.TheVariants as ends
 use Rattle.yds_trace.specs.declared.limits.TheConstants.{LOOK_EVERY, PART_JOBS, PART_STRETCHES, WAITING_JOBS, WAITING_STRETCHES}
-use Rattle.yds_trace.specs.Asked.{Asked, task_at, task_of}
+use Rattle.yds_trace.specs.Asked.{Asked, task_at, task_of, on}
 use Rattle.yds_trace.specs.Past.{last_time, lost_since, is_loss, whole_since, has_switched, up_to}
 use Rattle.yds_trace.specs.Jobs.{Job, known_after}
 use Rattle.yds_trace.specs.Late.{last_asked}
 use Rattle.yds_trace.specs.Document.{Judged, all_judged, stands}
 use Rattle.yds_trace.specs.Faults.{has_wake_up}
+
+-- # Which jobs a document has
+
+-- The job has run on this processor.
+abbrev pub has_run_on : ℕ → Job → Bool
+has_run_on processor job = list_any (λ stretch. stretch.processor == processor) job.stretches
+
+-- Where each processor has documents of its own, they have the jobs that ran on it, and those of processor 0 also the jobs that ran on none.
+abbrev pub belongs : Asked → Judged → Bool
+belongs asked judged =
+    not asked.everywhere || has_run_on asked.processor judged.job || (asked.processor == 0 && length judged.job.stretches == 0)
 
 -- # Which jobs wait
 
@@ -72,25 +83,25 @@ is_done_by asked past time judged = is_settled asked past judged && (not (stands
 abbrev pub is_written : Judged → Bool
 is_written judged = stands judged || is_some judged.late
 
--- Its window, if it is written, is over by this time.
-abbrev pub is_closed_by : ℕ → Judged → Bool
-is_closed_by time judged = not (is_written judged) || nat_le judged.due time
+-- Its window, if it is written here, is over by this time.
+abbrev pub is_closed_by : Asked → ℕ → Judged → Bool
+is_closed_by asked time judged = not (belongs asked judged && is_written judged) || nat_le judged.due time
 
 -- the test holds for each of these jobs that begins before this time
 abbrev pub each_before : (Judged → Bool) → ℕ → List Judged → Bool
 each_before test time jobs = list_all (λ judged. begins_from time judged || test judged) jobs
 
--- A job that is written begins before this time.
-abbrev pub has_written : ℕ → List Judged → Bool
-has_written time jobs = list_any (λ judged. begins_before time judged && is_written judged) jobs
+-- A job begins before this time; with one processor it is to be written.
+abbrev pub has_job : Asked → ℕ → List Judged → Bool
+has_job asked time jobs = list_any (λ judged. begins_before time judged && (asked.everywhere || is_written judged)) jobs
 
 -- at this time the processor is quiet: the waiting jobs that begin before it may be a part
 abbrev pub is_quiet : Asked → List Said → List Judged → ℕ → Bool
-is_quiet asked past waiting time = has_written time waiting && each_before (is_done_by asked past time) time waiting
+is_quiet asked past waiting time = has_job asked time waiting && each_before (is_done_by asked past time) time waiting
 
 -- and no window is open
 abbrev pub is_closed : Asked → List Said → List Judged → ℕ → Bool
-is_closed asked past waiting time = is_quiet asked past waiting time && each_before (is_closed_by time) time waiting
+is_closed asked past waiting time = is_quiet asked past waiting time && each_before (is_closed_by asked time) time waiting
 
 -- the last of these times for which the test holds
 abbrev pub last_where : (ℕ → Bool) → List ℕ → Option ℕ
@@ -136,8 +147,12 @@ abbrev pub is_before_end : Option ℕ → Judged → Bool
 is_before_end None judged = true
 is_before_end (Some time) judged = begins_before time judged
 
+-- those of these jobs that the part has
+abbrev pub of_part : Asked → Option ℕ → List Judged → List Judged
+of_part asked until jobs = filter (belongs asked) (filter (is_before_end until) jobs)
+
 abbrev pub part_until : Asked → List Said → Cut → Option ℕ → List Judged
-part_until asked past cut until = filter (is_before_end until) (waiting asked past cut)
+part_until asked past cut until = of_part asked until (waiting asked past cut)
 
 -- where the part ends that is written behind these lines, if one is
 abbrev pub place_of : Asked → List Said → Cut → Option ℕ
@@ -148,11 +163,16 @@ abbrev pub greatest_due : ℕ → List Judged → ℕ
 greatest_due due [] = due
 greatest_due due (judged ∷ jobs) = greatest_due (if is_written judged then max due judged.due else due) jobs
 
+-- A part that has no job isn't written: the jobs behind it are just those that begin at its end or later.
+abbrev pub parts_with : ℕ → List Judged → ℕ
+parts_with parts [] = parts
+parts_with parts (judged ∷ jobs) = capped (parts + 1)
+
 abbrev pub with_part : List Said → ℕ → List Judged → Cut → Cut
 with_part past time part cut = record {
   boundary = time;
   decided = last_time past;
-  parts = capped (cut.parts + 1);
+  parts = parts_with cut.parts part;
   jobs = capped (cut.jobs + count_by is_written part);
   due = greatest_due cut.due part;
 }
@@ -189,3 +209,34 @@ changes_parts asked past cut Nothing = false
 -- what a line is refused for, behind these parts
 abbrev pub part_fault : Asked → List Said → Cut → Said → Option Cause
 part_fault asked past cut said = if changes_parts asked past cut said then Some causes.PartWritten else None
+
+-- # Processors
+
+-- the number behind that of the processor of which a line tells
+abbrev pub next_processor : Said → ℕ
+next_processor (Stamped event) = event.processor + 1
+next_processor (Lost processor reach) = processor + 1
+next_processor Nothing = 0
+
+-- Processor 0 has documents in any case, and each one up to the greatest of which a line tells.
+abbrev pub processor_count : List Said → ℕ
+processor_count [] = 1
+processor_count (said ∷ past) = max (next_processor said) (processor_count past)
+
+-- 0, 1, .., so many of them
+abbrev pub first_numbers : ℕ → List ℕ
+first_numbers zero = []
+first_numbers (suc n) = first_numbers n ++ n ∷ []
+
+-- the processors that have documents
+abbrev pub processors_of : Asked → List Said → List ℕ
+processors_of asked past = if asked.everywhere then first_numbers (processor_count past) else asked.processor ∷ []
+
+-- The line changes a part that was written, of one of these processors.
+abbrev pub changes_one : Asked → List Said → Said → List ℕ → Bool
+changes_one asked past said processors =
+    list_any (λ processor. changes_parts (on processor asked) past (cut_after (on processor asked) past) said) processors
+
+-- what a line is refused for, behind the parts of all processors
+abbrev pub parts_fault : Asked → List Said → Said → Option Cause
+parts_fault asked past said = if changes_one asked past said (processors_of asked (said ∷ past)) then Some causes.PartWritten else None

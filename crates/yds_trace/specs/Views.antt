@@ -46,4 +46,5 @@ asked_read asked = record {
   begin_at_run = asked.begin_at_run;
   cut_losses = asked.cut_losses;
   in_parts = asked.in_parts;
+  everywhere = asked.everywhere;
 }

@@ -45,4 +45,6 @@ pub struct Asked {
     pub cut_losses: bool,
     /// Whether it is told in parts, documents one after another.
     pub in_parts: bool,
+    /// Whether each processor has documents of its own, and not just `processor`.
+    pub everywhere: bool,
 }

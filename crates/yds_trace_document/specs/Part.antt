@@ -1,5 +1,5 @@
 -- What is settled of the jobs of a part: as that of a document, with times of its own.
-use Rattle.std.specs.Prelude.{ℕ, ◌+◌, ◌-◌, ◌*◌, ◌/◌, List, [], ◌∷◌, filter, length, Bool, ◌==◌, ◌&&◌, nat_lt, if◌then◌else◌, Option, None, unwrap_or}
+use Rattle.std.specs.Prelude.{ℕ, ◌+◌, ◌-◌, ◌*◌, ◌/◌, List, [], ◌∷◌, map, filter, length, Bool, ◌==◌, ◌&&◌, ◌||◌, nat_lt, if◌then◌else◌, Option, None, unwrap_or}
 use Rattle.std.specs.List.{filter_map}
 use Rattle.yds_kernel.specs.Event.{Said}
 use Rattle.yds_trace.specs.Asked.{Task, Asked}
@@ -7,7 +7,7 @@ use Rattle.yds_trace.specs.Past.{first_time}
 use Rattle.yds_trace.specs.WrittenTime.{Units}
 use Rattle.yds_trace.specs.Document.{Judged, judged_of, written_of, all_runs}
 use Rattle.yds_trace.specs.declared.cut.Cut.{Cut}
-use Rattle.yds_trace.specs.Parts.{begins_from, is_before_end, part_until}
+use Rattle.yds_trace.specs.Parts.{begins_from, of_part, part_until}
 use Rattle.yds_trace_document.specs.declared.fault.DocumentFault.{DocumentFault}
 use Rattle.yds_trace_document.specs.Settled.{Settled}
 use Rattle.yds_trace_document.specs.Limits.{limit_fault, missed_fault}
@@ -34,14 +34,15 @@ part_units asked past part = shifted (whole_zero asked past) asked (shift_of ask
 
 -- # Jobs
 
-abbrev pub is_in_part : Cut → Option ℕ → Judged → Bool
-is_in_part cut until judged = begins_from cut.boundary judged && is_before_end until judged
+-- the waiting jobs of each of these tasks, from this number on
+abbrev pub waiting_by_task : Asked → List Said → Cut → ℕ → List Task → List (List Judged)
+waiting_by_task asked past cut number [] = []
+waiting_by_task asked past cut number (task ∷ tasks) =
+    filter (begins_from cut.boundary) (judged_of asked past number) ∷ waiting_by_task asked past cut (number + 1) tasks
 
--- the part's jobs of each of these tasks, from this number on
-abbrev pub part_by_task : Asked → List Said → Cut → Option ℕ → ℕ → List Task → List (List Judged)
-part_by_task asked past cut until number [] = []
-part_by_task asked past cut until number (task ∷ tasks) =
-    filter (is_in_part cut until) (judged_of asked past number) ∷ part_by_task asked past cut until (number + 1) tasks
+-- the part's jobs of each task
+abbrev pub part_by_task : Asked → List Said → Cut → Option ℕ → List (List Judged)
+part_by_task asked past cut until = map (of_part asked until) (waiting_by_task asked past cut 0 asked.tasks)
 
 -- these jobs in these units
 abbrev pub settled_in : Units → List (List Judged) → List Judged → Settled
@@ -58,13 +59,13 @@ settled_in units by_task part = record {
 -- what is settled of the part that ends at this time, or of the last one
 abbrev pub part_of : Asked → List Said → Cut → Option ℕ → Settled
 part_of asked past cut until =
-    settled_in (part_units asked past (part_until asked past cut until)) (part_by_task asked past cut until 0 asked.tasks)
+    settled_in (part_units asked past (part_until asked past cut until)) (part_by_task asked past cut until)
     (part_until asked past cut until)
 
 -- # Limits
 
--- The last part may be without a job, where there are others.
-abbrev pub part_limit_fault : Bool → Cut → Settled → Option DocumentFault
-part_limit_fault strict cut settled =
-    if nat_lt 0 cut.parts && (length settled.document.jobs == 0) then (if strict then missed_fault settled.judged else None)
+-- A part may be without a job: the last one, where there are others, and each where each processor has its own.
+abbrev pub part_limit_fault : Asked → Bool → Cut → Settled → Option DocumentFault
+part_limit_fault asked strict cut settled =
+    if (asked.everywhere || nat_lt 0 cut.parts) && (length settled.document.jobs == 0) then (if strict then missed_fault settled.judged else None)
     else limit_fault strict settled

@@ -1,16 +1,16 @@
 -- What the code gives of the jobs that wait, and of a part.
-use Rattle.std.specs.Prelude.{◌≡◌, ℕ, List, filter, Vec, Bool, true, nat_lt, Option, Some, None}
+use Rattle.std.specs.Prelude.{◌≡◌, ℕ, List, Vec, Bool, true, nat_lt, Option, Some, None}
 use Rattle.std.specs.declared.alloc.Global.{Global}
 use Rattle.yds_kernel.specs.Event.{Said}
 use Rattle.yds_trace.specs.declared.cut.Cut.{Cut}
 use Rattle.yds_trace.specs.Asked.{Asked}
 use Rattle.yds_trace.specs.Document.{Judged}
-use Rattle.yds_trace.specs.Parts.{is_before_end, waiting, part_until}
+use Rattle.yds_trace.specs.Parts.{of_part, waiting, part_until}
 use Rattle.yds_trace_document.specs.declared.judged.Judged.{Judged as JudgedKept}
 use Rattle.yds_trace_document.specs.declared.part.Part.{Part as PartKept}
 use Rattle.yds_trace_document.specs.declared.part.Waiting.{Waiting as WaitingKept}
 use Rattle.yds_trace_document.specs.Settled.{with_capped_works}
-use Rattle.yds_trace_document.specs.Part.{shift_of, part_by_task, part_of}
+use Rattle.yds_trace_document.specs.Part.{shift_of, waiting_by_task, part_of}
 use Rattle.yds_trace_document.specs.Views.{judged_items, judged_list, judged_lists, settled_read}
 
 abbrev pub is_before : Option ℕ → ℕ → Bool
@@ -19,12 +19,12 @@ is_before (Some until) time = nat_lt time until
 
 -- these are the jobs that wait behind these lines
 pub record IsWaiting (asked : Asked) (past : List Said) (cut : Cut) (kept : WaitingKept) : Type 0 where
-  pub by_task : judged_lists kept.by_task.items ≡ part_by_task asked past cut None 0 asked.tasks
+  pub by_task : judged_lists kept.by_task.items ≡ waiting_by_task asked past cut 0 asked.tasks
   pub judged : judged_list kept.judged.items ≡ waiting asked past cut
 
--- those of a task's jobs that begin before this time
-abbrev pub items_until : Option ℕ → Vec JudgedKept Global → List Judged
-items_until until judged = filter (is_before_end until) (judged_items judged)
+-- those of a task's jobs that the part has
+abbrev pub items_of_part : Asked → Option ℕ → Vec JudgedKept Global → List Judged
+items_of_part asked until judged = of_part asked until (judged_items judged)
 
 -- it is the part of these lines that ends at this time, or the last one
 pub record IsPart (asked : Asked) (past : List Said) (cut : Cut) (until : Option ℕ) (part : PartKept) : Type 0 where

@@ -1,6 +1,6 @@
 -- What a trace is told as in parts: the texts of those that were whole, one behind the other, and where that ended before the trace did.
-use Rattle.std.specs.Prelude.{ℕ, ◌+◌, List, [], ◌∷◌, ◌++◌, length, Bool, not, ◌&&◌, nat_lt, if◌then◌else◌, Option, Some, None}
-use Rattle.std.specs.List.{find}
+use Rattle.std.specs.Prelude.{ℕ, ◌+◌, List, [], ◌∷◌, ◌++◌, length, Bool, not, ◌&&◌, ◌||◌, nat_lt, if◌then◌else◌, Option, Some, None}
+use Rattle.std.specs.List.{find, list_any}
 use Rattle.yds_model.specs.declared.limits.TheConstants.{MAX_INPUT}
 use Rattle.yds_model.specs.Fields.{Fault}
 use Rattle.yds_kernel.specs.declared.fault.Reason.{Reason}
@@ -9,12 +9,13 @@ use Rattle.yds_kernel.specs.Parts.{or_else, capped}
 use Rattle.yds_kernel.specs.Text.{Trace}
 use Rattle.yds_trace.specs.declared.fault.Cause.{Cause}
 use Rattle.yds_trace.specs.declared.fault.Cause.TheVariants as causes
-use Rattle.yds_trace.specs.Asked.{Asked}
+use Rattle.yds_trace.specs.Asked.{Asked, on}
 use Rattle.yds_trace.specs.Document.{Judged}
 use Rattle.yds_trace.specs.Faults.{said_fault, whole_fault}
 use Rattle.yds_trace.specs.declared.cut.Cut.{Cut}
-use Rattle.yds_trace.specs.Parts.{cut_after, part_fault, waiting, place_of, is_settled, is_due, is_too_much, may_write}
+use Rattle.yds_trace.specs.Parts.{cut_after, part_until, parts_fault, processors_of, waiting, place_of, is_settled, is_due, is_too_much, may_write}
 use Rattle.yds_trace_document.specs.declared.fault.DocumentFault.{DocumentFault}
+use Rattle.yds_trace_document.specs.declared.fault.DocumentFault.TheVariants as faults
 use Rattle.yds_trace_document.specs.Part.{part_of, part_limit_fault}
 use Rattle.yds_trace_text.specs.PartText.{part_text}
 use Rattle.yds_trace_reading.specs.LineFault.{past_of}
@@ -47,7 +48,7 @@ at_line number (Some cause) = Some (AtLine number cause)
 -- why this line isn't taken, behind these
 abbrev pub line_halt : Asked → List Said → Said → Option Halt
 line_halt asked past said =
-    at_line (length past + 1) (or_else (said_fault asked past said) (part_fault asked past (cut_after asked past) said))
+    at_line (length past + 1) (or_else (said_fault asked past said) (parts_fault asked past said))
 
 -- # A part
 
@@ -65,16 +66,33 @@ of_text part text = if nat_lt MAX_INPUT (length text) then Some (OfText part) el
 -- why the part that ends at this time, or the last one, isn't written
 abbrev pub part_halt : Asked → Bool → List Said → Cut → Option ℕ → Option Halt
 part_halt asked strict past cut until =
-    or_else (of_document (next_number cut) (part_limit_fault strict cut (part_of asked past cut until)))
+    or_else (of_document (next_number cut) (part_limit_fault asked strict cut (part_of asked past cut until)))
     (of_text (next_number cut) (part_text asked past cut until))
 
--- with this part, or with the reason why it isn't written
-abbrev pub with_part : List ℕ → Option Halt → List ℕ → Told
-with_part text (Some halt) part = record { text = text; halt = Some halt }
-with_part text None part = record { text = text ++ part; halt = None }
+-- # Pieces of the text
 
-abbrev pub part_told : Asked → Bool → List Said → Cut → Option ℕ → List ℕ → Told
-part_told asked strict past cut until text = with_part text (part_halt asked strict past cut until) (part_text asked past cut until)
+-- What is behind some lines: a piece of the text, or why there is none.
+abbrev pub no_piece : Told
+no_piece = record { text = []; halt = None }
+
+abbrev pub halted : Halt → Told
+halted halt = record { text = []; halt = Some halt }
+
+-- one behind the other, or the first reason
+abbrev pub both : Told → Told → Told
+both first second = elim first.halt [
+  | Some halt ↦ halted halt
+  | None ↦ elim second.halt [ Some halt ↦ halted halt | None ↦ record { text = first.text ++ second.text; halt = None } ]
+]
+
+-- this text, or why it isn't written
+abbrev pub piece_unless : Option Halt → List ℕ → Told
+piece_unless (Some halt) text = halted halt
+piece_unless None text = record { text = text; halt = None }
+
+-- the part that ends at this time, or the last one
+abbrev pub part_piece : Asked → Bool → List Said → Cut → Option ℕ → Told
+part_piece asked strict past cut until = piece_unless (part_halt asked strict past cut until) (part_text asked past cut until)
 
 -- # Too much waits
 
@@ -96,17 +114,36 @@ waiting_halt asked past cut =
     if not (is_due past && is_too_much (waiting asked past cut)) then None
     else (if may_write asked past then no_place (open_longest asked past (waiting asked past cut)) else Some (AtLine (length past) causes.NoWakeUp))
 
+-- # Behind a line
+
+-- A part without a job isn't written.
+abbrev pub piece_with : Asked → Bool → List Said → Cut → ℕ → List Judged → Told
+piece_with asked strict past cut time [] = no_piece
+piece_with asked strict past cut time (judged ∷ part) = part_piece asked strict past cut (Some time)
+
+-- what is written of one processor behind these lines, where a part ends at this time
+abbrev pub piece_at : Asked → Bool → List Said → Cut → Option ℕ → Told
+piece_at asked strict past cut (Some time) = piece_with asked strict past cut time (part_until asked past cut (Some time))
+piece_at asked strict past cut None = record { text = []; halt = waiting_halt asked past cut }
+
+abbrev pub piece_of : Asked → Bool → List Said → Cut → Told
+piece_of asked strict past cut = piece_at asked strict past cut (place_of asked past cut)
+
+-- what is written behind this line of these processors, one after another
+abbrev pub pieces : Asked → Bool → List Said → Said → List ℕ → Told
+pieces asked strict past said [] = no_piece
+pieces asked strict past said (processor ∷ more) =
+    both (piece_of (on processor asked) strict (said ∷ past) (cut_after (on processor asked) past)) (pieces asked strict past said more)
+
 -- # Lines
 
--- behind lines that were all taken, where the parts so far end at this cut and have this text
-abbrev pub told_behind : Asked → Bool → List Said → Cut → Option ℕ → List ℕ → Told
-told_behind asked strict past cut (Some time) text = part_told asked strict past cut (Some time) text
-told_behind asked strict past cut None text = record { text = text; halt = waiting_halt asked past cut }
+-- with this piece behind, or with the reason why there is none
+abbrev pub with_piece : List ℕ → Told → Told
+with_piece text piece = record { text = text ++ piece.text; halt = piece.halt }
 
 abbrev pub told_with : Asked → Bool → List Said → Said → List ℕ → Option Halt → Told
 told_with asked strict past said text (Some halt) = record { text = text; halt = Some halt }
-told_with asked strict past said text None =
-    told_behind asked strict (said ∷ past) (cut_after asked past) (place_of asked (said ∷ past) (cut_after asked past)) text
+told_with asked strict past said text None = with_piece text (pieces asked strict past said (processors_of asked (said ∷ past)))
 
 -- A line more. Where it ended before, it has ended.
 abbrev pub told_next : Asked → Bool → List Said → Said → Told → Told
@@ -122,17 +159,37 @@ told_after asked strict (said ∷ past) = told_next asked strict past said (told
 
 -- # The whole trace
 
+-- the last parts of these processors, one after another
+abbrev pub last_pieces : Asked → Bool → List Said → List ℕ → Told
+last_pieces asked strict past [] = no_piece
+last_pieces asked strict past (processor ∷ more) =
+    both (part_piece (on processor asked) strict past (cut_after (on processor asked) past) None) (last_pieces asked strict past more)
+
+-- A document of this processor has a job.
+abbrev pub has_written : Asked → List Said → Cut → Bool
+has_written asked past cut = nat_lt 0 cut.jobs || nat_lt 0 (length (part_of asked past cut None).document.jobs)
+
+-- Where each processor has documents of its own, one of them has to have a job.
+abbrev pub no_job_halt : Asked → List Said → List ℕ → Option Halt
+no_job_halt asked past processors =
+    if asked.everywhere && not (list_any (λ processor. has_written (on processor asked) past (cut_after (on processor asked) past)) processors)
+    then Some (OfDocument 1 faults.NoJob) else None
+
 abbrev pub in_form : Option (Fault Reason) → Option Halt
 in_form None = None
 in_form (Some fault) = Some (InForm fault)
 
--- why the last part isn't written behind lines that were all taken: a line behind them whose form is refused, or what the whole trace is refused for
+-- why no last part is written behind lines that were all taken: a line behind them whose form is refused, or what the whole trace is refused for
 abbrev pub end_halt : Asked → List Said → Option (Fault Reason) → Option Halt
 end_halt asked past form = or_else (in_form form) (at_line (length past) (whole_fault asked past))
 
+-- the last parts, or why there is none
+abbrev pub last_piece : Asked → Bool → List Said → List ℕ → Told
+last_piece asked strict past processors = both (last_pieces asked strict past processors) (piece_unless (no_job_halt asked past processors) [])
+
 abbrev pub told_last : Asked → Bool → List Said → List ℕ → Option Halt → Told
 told_last asked strict past text (Some halt) = record { text = text; halt = Some halt }
-told_last asked strict past text None = part_told asked strict past (cut_after asked past) None text
+told_last asked strict past text None = with_piece text (last_piece asked strict past (processors_of asked past))
 
 abbrev pub told_at_end : Asked → Bool → List Said → Option (Fault Reason) → Told → Told
 told_at_end asked strict past form told = elim told.halt [

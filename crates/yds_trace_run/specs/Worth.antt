@@ -1,18 +1,19 @@
 -- What a document, or documents in parts, are worth to whoever asked for them: no late job is hidden, each is read again, and each is faithful.
-use Rattle.std.specs.Prelude.{◌≡◌, ℕ, ◌<◌, List, Bool, true, false, Some}
+use Rattle.std.specs.Prelude.{◌≡◌, ℕ, ◌<◌, List, map, filter, Bool, true, false, Some}
 use Rattle.std.specs.List.{All, flat_map}
 use Rattle.yds_model.specs.Feasible.{IsFeasible}
 use Rattle.yds_kernel.specs.Event.{Said}
-use Rattle.yds_trace.specs.Asked.{Asked}
+use Rattle.yds_trace.specs.Asked.{Asked, on}
 use Rattle.yds_trace.specs.Document.{Judged, all_judged, units_of, document_of}
+use Rattle.yds_trace.specs.Parts.{belongs, processors_of}
 use Rattle.yds_trace_laws.specs.AsSlots.{jobs_read, slots_read}
 use Rattle.yds_trace_laws.specs.Faithful.{IsFaithful}
 use Rattle.yds_trace_text.specs.Text.{late_comment}
 use Rattle.yds_trace_again.specs.Again.{IsReadAs, IsReadAgain}
 use Rattle.yds_trace_again.specs.Holds.{Holds}
-use Rattle.yds_trace_whole.specs.Parts.{Part, parts_of, judged_in_parts}
+use Rattle.yds_trace_whole.specs.Parts.{Part, parts_of, written_parts, parts_on, judged_in_parts}
 use Rattle.yds_trace_whole.specs.Whole.{whole_document, put_together}
-use Rattle.yds_trace_whole.specs.Worth.{NothingLateInParts, IsFaithfulPart}
+use Rattle.yds_trace_whole.specs.Worth.{NothingLateAnywhere, IsFaithfulPart, BelongsTo, without_reason}
 
 -- Where a job is known to be late, it is late by less than a unit of time, and a comment of the text names it.
 abbrev pub IsToldLate : Asked → List Said → List ℕ → Judged → Type 0
@@ -28,7 +29,7 @@ NothingLate asked past text =
 
 abbrev pub HidesNothing : Bool → Asked → List Said → List ℕ → Type 0
 HidesNothing false asked past text = NothingLate asked past text
-HidesNothing true asked past text = NothingLateInParts asked past text
+HidesNothing true asked past text = NothingLateAnywhere asked past
 
 -- The text is that of the parts, one behind the other, and each of them is read again as its document.
 pub record ArePartsReadAgain (parts : List Part) (text : List ℕ) : Type 0 where
@@ -37,18 +38,25 @@ pub record ArePartsReadAgain (parts : List Part) (text : List ℕ) : Type 0 wher
 
 abbrev pub IsReadSo : Bool → Asked → List Said → List ℕ → Type 0
 IsReadSo false asked past text = IsReadAgain asked past text
-IsReadSo true asked past text = ArePartsReadAgain (parts_of asked past) text
+IsReadSo true asked past text = ArePartsReadAgain (written_parts asked past) text
 
 abbrev pub IsFaithfulSo : Bool → Asked → List Said → Type 0
 IsFaithfulSo false asked past = IsFaithful asked past
-IsFaithfulSo true asked past = All (IsFaithfulPart asked past) (parts_of asked past)
+IsFaithfulSo true asked past = All (λ processor. All (IsFaithfulPart (on processor asked) past) (parts_of (on processor asked) past)) (processors_of asked past)
 
--- The jobs of the parts, one part after another, are those of the whole trace; and put together, the parts are the one document that it would
--- have without limits.
-pub record AreTheWhole (asked : Asked) (past : List Said) : Type 0 where
-  pub same_jobs : judged_in_parts (parts_of asked past) ≡ all_judged asked past
-  pub same_document : put_together (parts_of asked past) ≡ whole_document asked past
+-- Of the parts that are written, those of this processor are its parts by itself. Their jobs, one part after another, are those of the whole trace
+-- that belong to it; and put together, they are the one document that it would have without limits.
+pub record AreTheWhole (asked : Asked) (past : List Said) (processor : ℕ) : Type 0 where
+  pub own : parts_on processor (written_parts asked past) ≡ parts_of (on processor asked) past
+  pub same_jobs : judged_in_parts (parts_of (on processor asked) past) ≡ filter (belongs (on processor asked)) (all_judged (on processor asked) past)
+  pub same_document : put_together (parts_of (on processor asked) past) ≡ whole_document (on processor asked) past
+
+-- It is so of each processor. On each the same jobs are judged, and each job belongs to one.
+pub record AreWhole (asked : Asked) (past : List Said) : Type 0 where
+  pub each : All (AreTheWhole asked past) (processors_of asked past)
+  pub same_jobs : (processor : ℕ) → map without_reason (all_judged (on processor asked) past) ≡ map without_reason (all_judged asked past)
+  pub belong : All (λ judged. BelongsTo asked judged (processors_of asked past)) (all_judged asked past)
 
 abbrev pub IsWholeSo : Bool → Asked → List Said → Type 0
 IsWholeSo false asked past = Unit {0}
-IsWholeSo true asked past = AreTheWhole asked past
+IsWholeSo true asked past = AreWhole asked past

@@ -26,19 +26,23 @@ last_deadline (job ∷ jobs) = max job.deadline (last_deadline jobs)
 abbrev pub windows_text : Cut → List ℕ
 windows_text cut = if nat_lt cut.boundary cut.due then codes ", windows open" else []
 
+-- where each processor has documents of its own
+abbrev pub processor_text : Asked → List ℕ
+processor_text asked = if asked.everywhere then codes ", cpu " ++ decimal asked.processor else []
+
 abbrev pub last_text : Bool → List ℕ
 last_text last = if last then codes ", the last" else []
 
 -- Jobs are numbered from the first part on, and times are those of the whole.
-abbrev pub part_line : Cut → Bool → ℕ → List Written → List ℕ
-part_line cut last shift jobs =
+abbrev pub part_line : Asked → Cut → Bool → ℕ → List Written → List ℕ
+part_line asked cut last shift jobs =
     comment (codes "part " ∷ decimal (capped (cut.parts + 1)) ∷ codes ": jobs " ∷ decimal (capped (cut.jobs + 1))
     ∷ codes " to " ∷ decimal (capped (cut.jobs + length jobs)) ∷ codes ", from " ∷ decimal (capped (shift + first_release jobs))
     ∷ codes " to " ∷ decimal (capped (shift + last_deadline jobs))
-    ∷ codes ", shift " ∷ decimal shift ∷ windows_text cut ∷ last_text last ∷ [])
+    ∷ codes ", shift " ∷ decimal shift ∷ processor_text asked ∷ windows_text cut ∷ last_text last ∷ [])
 
 abbrev pub part_settled_text : Asked → Cut → Bool → ℕ → Settled → List ℕ
-part_settled_text asked cut last shift settled = part_line cut last shift settled.document.jobs ++ settled_text asked settled
+part_settled_text asked cut last shift settled = part_line asked cut last shift settled.document.jobs ++ settled_text asked settled
 
 -- the text of the part that ends at this time, or of the last one
 abbrev pub part_text : Asked → List Said → Cut → Option ℕ → List ℕ

@@ -1,11 +1,12 @@
 -- The parts put together: one document, in the times of the whole trace.
-use Rattle.std.specs.Prelude.{ℕ, ◌+◌, List, [], ◌∷◌, ◌++◌, map, length, Bool, not, ◌&&◌, if◌then◌else◌}
-use Rattle.std.specs.List.{flat_map, filter_map}
+use Rattle.std.specs.Prelude.{ℕ, ◌+◌, List, [], ◌∷◌, ◌++◌, map, filter, length, Bool, not, ◌&&◌, if◌then◌else◌}
+use Rattle.std.specs.List.{flat_map}
 use Rattle.yds_kernel.specs.Event.{Said}
 use Rattle.yds_trace.specs.Asked.{Asked}
 use Rattle.yds_trace.specs.WrittenTime.{Units, Run}
-use Rattle.yds_trace.specs.Document.{Judged, all_judged, stands, Written, written_of, Placed, all_runs, Document}
-use Rattle.yds_trace.specs.Parts.{is_written}
+use Rattle.yds_trace.specs.Document.{Judged, all_judged, stands, Written, Placed, Document}
+use Rattle.yds_trace.specs.Parts.{belongs, is_written}
+use Rattle.yds_trace_laws.specs.InUnits.{document_in}
 use Rattle.yds_trace_document.specs.Part.{whole_zero}
 use Rattle.yds_trace_whole.specs.Parts.{Part}
 
@@ -15,13 +16,9 @@ use Rattle.yds_trace_whole.specs.Parts.{Part}
 abbrev pub whole_units : Asked → List Said → Units
 whole_units asked past = record { zero = whole_zero asked past; time = asked.unit; speed = asked.khz }
 
--- the document of all jobs in these units
-abbrev pub document_in : Units → List Judged → Document
-document_in units judged = record { jobs = filter_map (written_of units) judged; runs = all_runs (filter_map (written_of units) judged) }
-
--- one document of the whole trace, whatever its length
+-- one document of the whole trace, whatever its length, with the jobs that belong to it
 abbrev pub whole_document : Asked → List Said → Document
-whole_document asked past = document_in (whole_units asked past) (all_judged asked past)
+whole_document asked past = document_in (whole_units asked past) (filter (belongs asked) (all_judged asked past))
 
 -- # A part in the times of the whole
 

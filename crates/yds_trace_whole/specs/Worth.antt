@@ -1,12 +1,13 @@
 -- What the parts of a trace are worth to whoever asked for them: no late job is hidden in them, each is faithful to the trace, and each is read
 -- again as a document of its own.
-use Rattle.std.specs.Prelude.{◌≡◌, ℕ, ◌<◌, ◌≤◌, List, length, Bool, Some, None}
+use Rattle.std.specs.Prelude.{◌≡◌, ℕ, ◌<◌, ◌≤◌, List, filter, length, Bool, true, Some, None}
 use Rattle.std.specs.List.{All, Contains}
 use Rattle.yds_model.specs.declared.limits.TheConstants.{MAX_INPUT}
 use Rattle.yds_model.specs.Feasible.{IsFeasible}
 use Rattle.yds_kernel.specs.Event.{Said}
-use Rattle.yds_trace.specs.Asked.{Asked}
+use Rattle.yds_trace.specs.Asked.{Asked, on}
 use Rattle.yds_trace.specs.Document.{Judged, all_judged}
+use Rattle.yds_trace.specs.Parts.{belongs, processors_of}
 use Rattle.yds_trace_laws.specs.AsSlots.{jobs_read, slots_read}
 use Rattle.yds_trace_laws.specs.InUnits.{document_in, AreOf}
 use Rattle.yds_trace_laws.specs.Faithful.{AreFaithful}
@@ -22,20 +23,49 @@ use Rattle.yds_trace_whole.specs.Parts.{Part, parts_of}
 abbrev pub IsPartFeasible : Part → Type 0
 IsPartFeasible part = IsFeasible (jobs_read part.settled.document.jobs) (slots_read part.settled.document.runs)
 
--- A part has this job, and the text has a comment that names it, in the part's times.
-pub record IsNamedIn (parts : List Part) (text : List ℕ) (one : Judged) : Type 0 where
+-- One of the parts has this job, and its text has a comment that names it, in the part's times.
+pub record IsNamedIn (parts : List Part) (one : Judged) : Type 0 where
   pub part : Part
   pub is_there : Contains parts part
   pub has : Contains part.settled.judged one
-  pub named : Holds text (late_comment part.settled.units one)
+  pub named : Holds part.text (late_comment part.settled.units one)
 
--- Where a job is known to be late, it is late by less than a unit of time, and a comment of the text names it.
-abbrev pub IsToldLateIn : Asked → List Part → List ℕ → Judged → Type 0
-IsToldLateIn asked parts text one = (by : ℕ) → one.late ≡ Some by → (by < asked.unit) × IsNamedIn parts text one
+-- Where a job is known to be late, it is late by less than a unit of time, and a comment of a part names it.
+abbrev pub IsToldLateIn : Asked → List Part → Judged → Type 0
+IsToldLateIn asked parts one = (by : ℕ) → one.late ≡ Some by → (by < asked.unit) × IsNamedIn parts one
 
--- Where the slots of each part's document are feasible, that holds of each job of the whole trace.
-abbrev pub NothingLateInParts : Asked → List Said → List ℕ → Type 0
-NothingLateInParts asked past text = All IsPartFeasible (parts_of asked past) → All (IsToldLateIn asked (parts_of asked past) text) (all_judged asked past)
+-- Where the slots of each part's document are feasible, that holds of each job of the whole trace that belongs to the processor.
+abbrev pub NothingLateInParts : Asked → List Said → Type 0
+NothingLateInParts asked past = All IsPartFeasible (parts_of asked past) → All (IsToldLateIn asked (parts_of asked past)) (filter (belongs asked) (all_judged asked past))
+
+-- # On all processors
+
+-- all but the reason, which differs from processor to processor
+abbrev pub without_reason : Judged → Judged
+without_reason judged = record judged { reason = None }
+
+-- One of these processors has the job.
+pub record BelongsTo (asked : Asked) (one : Judged) (processors : List ℕ) : Type 0 where
+  pub processor : ℕ
+  pub is_there : Contains processors processor
+  pub has : belongs (on processor asked) one ≡ true
+
+-- One of the processors has the job in a part, and names it there.
+pub record IsNamedSomewhere (asked : Asked) (past : List Said) (one : Judged) : Type 0 where
+  pub processor : ℕ
+  pub is_there : Contains (processors_of asked past) processor
+  -- as it is judged on that processor
+  pub there : Judged
+  pub same_job : without_reason there ≡ without_reason one
+  pub named : IsNamedIn (parts_of (on processor asked) past) there
+
+abbrev pub IsToldLateSomewhere : Asked → List Said → Judged → Type 0
+IsToldLateSomewhere asked past one = (by : ℕ) → one.late ≡ Some by → (by < asked.unit) × IsNamedSomewhere asked past one
+
+-- Where the slots of each document are feasible, each job of the trace that is known to be late is late by less than a unit, and named.
+abbrev pub NothingLateAnywhere : Asked → List Said → Type 0
+NothingLateAnywhere asked past =
+    All (λ processor. All IsPartFeasible (parts_of (on processor asked) past)) (processors_of asked past) → All (IsToldLateSomewhere asked past) (all_judged asked past)
 
 -- # Each part is faithful
 
@@ -48,6 +78,6 @@ pub record IsFaithfulPart (asked : Asked) (past : List Said) (part : Part) : Typ
 -- # Each part is read again
 
 -- Where a part passes no limit and isn't too long, its text is read as just its document.
-abbrev pub IsReadPart : Bool → Part → Type 0
-IsReadPart strict part =
-    part_limit_fault strict part.cut part.settled ≡ None → length part.text ≤ MAX_INPUT → IsReadAs part.settled.document part.text
+abbrev pub IsReadPart : Asked → Bool → Part → Type 0
+IsReadPart asked strict part =
+    part_limit_fault asked strict part.cut part.settled ≡ None → length part.text ≤ MAX_INPUT → IsReadAs part.settled.document part.text
