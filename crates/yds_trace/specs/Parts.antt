@@ -232,6 +232,10 @@ first_numbers (suc n) = first_numbers n ++ n ∷ []
 abbrev pub processors_of : Asked → List Said → List ℕ
 processors_of asked past = if asked.everywhere then first_numbers (processor_count past) else asked.processor ∷ []
 
+-- these, and one of which no line tells yet: all such are alike
+abbrev pub watched_of : Asked → List Said → List ℕ
+watched_of asked past = if asked.everywhere then first_numbers (processor_count past + 1) else asked.processor ∷ []
+
 -- The line changes a part that was written, of one of these processors.
 abbrev pub changes_one : Asked → List Said → Said → List ℕ → Bool
 changes_one asked past said processors =
@@ -239,4 +243,4 @@ changes_one asked past said processors =
 
 -- what a line is refused for, behind the parts of all processors
 abbrev pub parts_fault : Asked → List Said → Said → Option Cause
-parts_fault asked past said = if changes_one asked past said (processors_of asked (said ∷ past)) then Some causes.PartWritten else None
+parts_fault asked past said = if changes_one asked past said (watched_of asked (said ∷ past)) then Some causes.PartWritten else None
