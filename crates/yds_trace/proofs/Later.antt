@@ -46,14 +46,14 @@ there_either asked past cut other event Loss = refl
 there_either asked past cut other event Marker = refl
 there_either asked past cut other event Other = refl
 
-pub changes_later : (asked : Asked) (past : List Said) (cut other : Cut) (said : Said) →
+pub later_changes : (asked : Asked) (past : List Said) (cut other : Cut) (said : Said) →
     changes_parts asked past (later cut other) said ≡ (changes_parts asked past cut said || changes_parts asked past other said)
-changes_later asked past cut other (Stamped event) =
+later_changes asked past cut other (Stamped event) =
     let time : ℕ = lost_since event.processor since.ItsLastLine past in
     ap₂ (λ (lost there : Bool). lost || there)
     (ap (λ (early : Bool). is_loss event.happening && early) (before_either time cut.decided other.decided)
     ∙ and_either (is_loss event.happening) (reaches_back cut time) (reaches_back other time)) (there_either asked past cut other event event.happening)
     ∙ crossed (is_loss event.happening && reaches_back cut time) (is_loss event.happening && reaches_back other time)
     (was_there_before asked past cut event event.happening) (was_there_before asked past other event event.happening)
-changes_later asked past cut other (Lost processor reach) = before_either (lost_since processor reach past) cut.decided other.decided
-changes_later asked past cut other Nothing = refl
+later_changes asked past cut other (Lost processor reach) = before_either (lost_since processor reach past) cut.decided other.decided
+later_changes asked past cut other Nothing = refl

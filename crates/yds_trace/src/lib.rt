@@ -35,8 +35,8 @@ pub use job::{End, Job, Leaving, Standing, Stretch, Turn};
 pub use kept::Kept;
 pub use known::Known;
 pub use limits::{
-    LOOK_EVERY, MAX_DEADLINE, MAX_PROCESSOR, MAX_TIME, MAX_TOUCHES, NO_PROCESSOR, PART_JOBS,
-    PART_STRETCHES, WAITING_JOBS, WAITING_STRETCHES,
+    LOOK_EVERY, MAX_DEADLINE, MAX_PROCESSOR, MAX_TIME, MAX_TOUCHES, PART_JOBS, PART_STRETCHES,
+    WAITING_JOBS, WAITING_STRETCHES,
 };
 pub use pass::Pass;
 pub use reason::Reason;

@@ -3,9 +3,6 @@
 /// The greatest number of a processor: no kernel has more.
 pub const MAX_PROCESSOR: u64 = 8_191;
 
-/// A processor of which no trace tells.
-pub const NO_PROCESSOR: u64 = 8_192;
-
 /// The greatest time of a trace in nanoseconds, some 292 years: a deadline after it still fits 64 bits.
 pub const MAX_TIME: u64 = 9_223_372_036_854_775_807;
 
