@@ -1,20 +1,19 @@
 -- Of a trace's jobs only the reasons depend on the processor that is asked for. Each job belongs to a processor, and none to one of which no line
 -- tells.
-use Rattle.yds_model.proofs.Common.{◌≡◌, ◌≢◌, ◌∙◌, ℕ, zero, suc, ◌+◌, ◌<◌, ◌≤◌, ◌==◌, ◌&&◌, ◌||◌, max, List, [], ◌∷◌, ◌++◌, map, filter, length, Bool, true, false, not, nat_lt, nat_le, cond, if◌then◌else◌, Option, Some, None, is_some, is_none, refl, sym, ap, ap₂, subst, arith, inl, inr, cases_lt, eq-eqb, ne_eqb, fun_ext, map-append, All, All-from_recursion, Contains-append_left, Contains-push}
+use Rattle.yds_model.proofs.Common.{◌≡◌, ◌∙◌, ℕ, zero, suc, ◌+◌, ◌<◌, ◌≤◌, ◌==◌, ◌&&◌, ◌||◌, max, List, [], ◌∷◌, ◌++◌, map, filter, length, Bool, true, false, not, nat_le, cond, if◌then◌else◌, Option, Some, None, is_none, refl, sym, ap, ap₂, subst, arith, inl, inr, cases_lt, eq-eqb, ne_eqb, fun_ext, map-append, All-from_recursion, Contains-append_left, Contains-push}
 use Rattle.std.specs.List.{AllByRecursion, Contains, list_any, enumerate_from}
 use Rattle.yds_kernel.specs.Parts.{or_else, capped}
 use Rattle.yds_kernel.specs.Event.{Said}
 use Rattle.yds_trace.specs.declared.cut.Cut.{Cut}
 use Rattle.yds_trace.specs.declared.job.Stretch.{Stretch}
-use Rattle.yds_trace.specs.declared.reason.Reason.{Reason}
 use Rattle.yds_trace.specs.declared.reason.Reason.TheVariants as reasons
 use Rattle.yds_trace.specs.Asked.{Task, Asked, on, task_at, is_after_from}
 use Rattle.yds_trace.specs.Jobs.{Job}
 use Rattle.yds_trace.specs.Late.{last_asked, due, is_open, lateness}
 use Rattle.yds_trace.specs.Document.{Judged, is_lost, is_elsewhere, is_of_unknown_speed, reaches_to, named, began_before, jobs_of, judged, judged_of, judged_from, put_in, in_order, all_judged, stands}
-use Rattle.yds_trace.specs.Parts.{has_run_on, belongs, begin_of, begins_from, waiting_from, ended_by, is_done_by, is_written, is_closed_by, each_before, has_job, is_quiet, is_closed, last_where, place_among, is_much, is_due, may_write, waiting, is_before_end, part_until, place_of, with_part, cut_at, cut_after, next_processor, processor_count, first_numbers, processors_of}
+use Rattle.yds_trace.specs.Parts.{has_run_on, belongs, begin_of, begins_from, waiting_from, ended_by, is_written, is_closed_by, each_before, has_job, is_quiet, is_closed, last_where, place_among, is_much, is_due, may_write, waiting, is_before_end, part_until, place_of, with_part, cut_at, cut_after, next_processor, processor_count, first_numbers, processors_of}
 use Rattle.yds_trace.proofs.OnProcessor.{jobs_of_on, is_settled_on, may_write_on}
-use Rattle.yds_trace_laws.specs.Processors.{without_reason, JobsAreTheSame, BelongsTo, EachJobBelongs, IsIdle, AreUnseen, UnseenAreTheSame}
+use Rattle.yds_trace_laws.specs.Processors.{without_reason, JobsAreTheSame, BelongsTo, EachJobBelongs, IsIdle, UnseenAreTheSame}
 use Rattle.yds_trace_laws.proofs.Ordered.{filter-all}
 use Rattle.yds_trace_laws.proofs.Runs.{all_weaker}
 use Rattle.yds_trace_laws.proofs.Sharing.{Ran}

@@ -1,14 +1,13 @@
 -- Each job ran where a line of the trace tells of the processor.
-use Rattle.yds_model.proofs.Common.{◌≡◌, ◌∙◌, ℕ, suc, ◌+◌, ◌&&◌, true, sym, ◌<◌, ◌≤◌, max, List, [], ◌∷◌, map, Bool, not, if◌then◌else◌, Option, Some, None, arith, All-from_recursion}
+use Rattle.yds_model.proofs.Common.{◌≡◌, ◌∙◌, ℕ, ◌+◌, ◌&&◌, true, sym, ◌<◌, ◌≤◌, max, List, [], ◌∷◌, map, Bool, not, if◌then◌else◌, Option, Some, None, arith, All-from_recursion}
 use Rattle.std.specs.List.{AllByRecursion, enumerate_from}
-use Rattle.yds_kernel.specs.declared.loss.Since.TheVariants as since
 use Rattle.yds_kernel.specs.Event.{Happening, Switch, WakeUp, Speed, Loss, Marker, Other, Event, Said, Stamped, Lost, Nothing}
 use Rattle.yds_trace.specs.declared.job.Stretch.{Stretch}
 use Rattle.yds_trace.specs.declared.job.Standing.{Standing}
 use Rattle.yds_trace.specs.declared.job.Leaving.{Leaving}
 use Rattle.yds_trace.specs.Asked.{Task, Asked, task_at, is_of}
 use Rattle.yds_trace.specs.Past.{counts, is_first_switch, stayed, up_to_time, up_to, speed_after}
-use Rattle.yds_trace.specs.Jobs.{Job, Known, wakes_up, leaving_at, after_event, known_after}
+use Rattle.yds_trace.specs.Jobs.{Job, Known, leaving_at, after_event, known_after}
 use Rattle.yds_trace.specs.Document.{Judged, closed, jobs_of, began_before, judged, judged_of, judged_from, all_judged}
 use Rattle.yds_trace.specs.Parts.{next_processor, processor_count}
 use Rattle.yds_trace_laws.specs.Processors.{RanWhereTold, EachRanWhereTold}
