@@ -84,6 +84,7 @@ fn asked(alloc: Global) -> Result<Asked, AllocError> {
         begin_at_run: false,
         cut_losses: false,
         in_parts: false,
+        everywhere: false,
     })
 }
 
