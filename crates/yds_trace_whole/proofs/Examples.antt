@@ -55,6 +55,7 @@ asked = record {
   begin_at_run = false;
   cut_losses = true;
   in_parts = true;
+  everywhere = false;
 }
 
 -- # Two parts

@@ -31,6 +31,7 @@ asked = record {
   begin_at_run = false;
   cut_losses = false;
   in_parts = true;
+  everywhere = false;
 }
 
 -- It is woken at 1000, comes at 1020, and sleeps at this time.
