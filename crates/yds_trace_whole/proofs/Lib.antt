@@ -12,3 +12,4 @@ pub mod Everywhere
 pub mod Several
 mod Examples
 mod LateExamples
+mod ProcessorExamples
