@@ -42,6 +42,7 @@ asked = record {
   begin_at_run = false;
   cut_losses = false;
   in_parts = false;
+  everywhere = false;
 }
 
 abbrev just_this : Document

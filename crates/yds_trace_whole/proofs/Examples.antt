@@ -55,6 +55,7 @@ asked = record {
   begin_at_run = false;
   cut_losses = true;
   in_parts = true;
+  everywhere = false;
 }
 
 -- # Two parts
@@ -127,7 +128,12 @@ taken = refl
 kept : KeepsParts asked apart
 kept = (refl, (refl, (refl, (refl, (refl, (refl, (refl, tt)))))))
 
--- Near miss: behind a part that was written at 2300, events were lost since 1040. The first job's end isn't known then.
+-- Behind a part that was written at 2300 events may be lost since then: what the part says of its jobs stays so.
+lost_since_then : part_fault asked apart (cut_by apart 2000) (Lost 0 since.ItsLastLine) ≡ None
+unfolding digits
+lost_since_then = refl
+
+-- Near miss: they were lost since 1040. The first job's end isn't known then.
 not_kept : part_fault asked (reverse (woken 1000 t ∷ preempted 1020 idle t ∷ sleeps 1040 t idle ∷ Stamped (record { processor = 1; time = 2300; happening = Marker }) ∷ []))
     (cut_by apart 2000) (Lost 0 since.ItsLastLine) ≡ Some causes.PartWritten
 unfolding digits

@@ -8,6 +8,8 @@ pub mod Later
 pub mod Ranked
 pub mod Together
 pub mod Worth
+pub mod Everywhere
 pub mod Several
 mod Examples
 mod LateExamples
+mod ProcessorExamples
