@@ -8,7 +8,7 @@ use Rattle.yds_trace.specs.declared.shown.ShownTask.{ShownTask}
 use Rattle.yds_trace.specs.declared.shown.Shown.{Shown}
 use Rattle.yds_trace.specs.Asked.{Asked, task_at}
 use Rattle.yds_trace.specs.Document.{Judged, stands}
-use Rattle.yds_trace.specs.Parts.{is_over, is_written}
+use Rattle.yds_trace.specs.Parts.{belongs, is_over, is_written}
 use Rattle.yds_trace_document.specs.declared.judged.Judged.{Judged as JudgedKept}
 use Rattle.yds_trace_document.specs.Kept.{last_of}
 use Rattle.yds_trace_document.specs.Views.{judged_read}
@@ -33,12 +33,12 @@ is_settled asked shown judged =
 -- # What is known of the jobs that begin before a time
 
 pub record Front : Type 0 where
-  pub written : Bool
+  pub some : Bool
   pub done : Option ℕ
   pub due : ℕ
 
 abbrev pub front_read : FrontKept → Front
-front_read front = record { written = front.written; done = front.done; due = front.due }
+front_read front = record { some = front.some; done = front.done; due = front.due }
 
 abbrev pub end_of : End → Option ℕ
 end_of (ends.Ended end) = Some end
@@ -52,11 +52,11 @@ both None second = None
 both (Some first) None = None
 both (Some first) (Some second) = Some (max first second)
 
-abbrev pub with_job : Bool → Judged → Front → Front
-with_job settled judged front = record {
-  written = front.written || is_written judged;
+abbrev pub with_job : Asked → Bool → Judged → Front → Front
+with_job asked settled judged front = record {
+  some = front.some || (asked.everywhere || is_written judged);
   done = both front.done (done_from settled judged);
-  due = if is_written judged then max front.due judged.due else front.due;
+  due = if belongs asked judged && is_written judged then max front.due judged.due else front.due;
 }
 
 -- that time has come
@@ -65,7 +65,7 @@ has_come time None = false
 has_come time (Some done) = nat_le done time
 
 abbrev pub is_quiet_at : ℕ → Front → Bool
-is_quiet_at time front = front.written && has_come time front.done
+is_quiet_at time front = front.some && has_come time front.done
 
 -- # Places
 
@@ -89,19 +89,19 @@ pub record Walk : Type 0 where
   pub before : ℕ
 
 abbrev pub start : Walk
-start = record { front = record { written = false; done = Some 0; due = 0 }; places = record { quiet = None; closed = None }; before = 0 }
+start = record { front = record { some = false; done = Some 0; due = 0 }; places = record { quiet = None; closed = None }; before = 0 }
 
 -- Jobs that begin together are before none of each other.
-abbrev pub stepped : Bool → Judged → Walk → Walk
-stepped settled judged at = record {
-  front = with_job settled judged at.front;
+abbrev pub stepped : Asked → Bool → Judged → Walk → Walk
+stepped asked settled judged at = record {
+  front = with_job asked settled judged at.front;
   places = if nat_lt at.before judged.job.begin then with_place at.front judged.job.begin at.places else at.places;
   before = if nat_lt at.before judged.job.begin then judged.job.begin else at.before;
 }
 
 abbrev pub walk : Asked → Shown → List Judged → Walk → Walk
 walk asked shown [] at = at
-walk asked shown (judged ∷ jobs) at = walk asked shown jobs (stepped (is_settled asked shown judged) judged at)
+walk asked shown (judged ∷ jobs) at = walk asked shown jobs (stepped asked (is_settled asked shown judged) judged at)
 
 -- # The job that has been open longest
 

@@ -5,6 +5,8 @@ use Rattle.yds_trace.specs.declared.pass.Pass.{Pass}
 use Rattle.yds_trace.specs.Asked.{Asked, IsAsked, IsWithin}
 use Rattle.yds_trace.specs.Faults.{first_fault}
 use Rattle.yds_trace.specs.Kept.{IsAtBehind}
+use Rattle.yds_trace.specs.declared.shown.Shown.{Shown}
+use Rattle.yds_trace.specs.Shown.{IsShown}
 use Rattle.yds_trace_laws.specs.Laws.{IsReached}
 use Rattle.yds_trace_parts.specs.declared.limits.TheConstants.{MOST_LINES}
 
@@ -34,3 +36,11 @@ pub record HasRoom (boundary : ℕ) (pass : Pass) : Type 0 where
   pub number : ℕ
   pub of_some : IsOfSome number boundary pass
   pub room : number < MOST_LINES
+
+-- And this is shown of it.
+pub record IsPlainLook (pass : Pass) (shown : Shown) : Type 0 where
+  pub number : ℕ
+  pub boundary : ℕ
+  pub of_some : IsOfSome number boundary pass
+  pub few : number ≤ MOST_LINES
+  pub shows : IsShown of_some.asked of_some.past boundary shown

@@ -1,6 +1,5 @@
 -- What became of a line, by what it says.
-use Rattle.std.specs.Prelude.{◌≡◌, ℕ, List, ◌∷◌, Bool, Option, Result, Ok, Err, Vec}
-use Rattle.std.specs.declared.alloc.Global.{Global}
+use Rattle.std.specs.Prelude.{◌≡◌, ℕ, List, ◌∷◌, Bool, Result, Ok, Err}
 use Rattle.yds_model.specs.Fields.{Spot}
 use Rattle.yds_kernel.specs.declared.fault.Reason.{Reason}
 use Rattle.yds_kernel.specs.Event.{Said}
@@ -18,7 +17,7 @@ IsSaid asked strict past (Ok line) now = IsTelling asked strict (line ∷ past) 
 IsSaid asked strict past (Err spot) now = ⊥
 
 -- And the text has this piece more.
-abbrev pub IsAdded : Asked → Bool → List Said → Result Said (Spot Reason) → Option (Vec ℕ Global) → Type 0
+abbrev pub IsAdded : Asked → Bool → List Said → Result Said (Spot Reason) → List ℕ → Type 0
 IsAdded asked strict past (Ok line) piece = Adds asked strict past (line ∷ past) piece
 IsAdded asked strict past (Err spot) piece = ⊥
 

@@ -1,19 +1,23 @@
 -- What is kept while a trace is told in parts, and what a line makes of it.
-use Rattle.std.specs.Prelude.{◌≡◌, ℕ, ⊤, List, [], ◌++◌, Bool, true, Option, Some, None, Vec}
-use Rattle.std.specs.declared.alloc.Global.{Global}
+use Rattle.std.specs.Prelude.{◌≡◌, ℕ, ◌+◌, ◌≤◌, ⊤, List, [], ◌∷◌, ◌++◌, map, Bool, true, false, Option, Some, None}
+use Rattle.std.specs.List.{All, list_any}
 use Rattle.yds_kernel.specs.Event.{Said}
 use Rattle.yds_trace.specs.declared.cut.Cut.{Cut}
-use Rattle.yds_trace.specs.Asked.{Asked}
+use Rattle.yds_trace.specs.Asked.{Asked, on}
 use Rattle.yds_trace.specs.Kept.{IsAtBehind, told_to_forget}
-use Rattle.yds_trace.specs.Parts.{cut_at, cut_after, place_of, waiting, is_due, is_much, may_write}
+use Rattle.yds_trace.specs.Parts.{cut_at, cut_after, place_of, waiting, with_part, is_due, is_much, may_write, changes_parts, processor_count, processors_of, first_numbers}
+use Rattle.yds_trace.specs.declared.pass.Pass.{Pass}
 use Rattle.yds_trace_text.specs.declared.fault.NoText.{NoText}
 use Rattle.yds_trace_text.specs.declared.fault.NoText.TheVariants as texts
 use Rattle.yds_trace_text.specs.PartText.{part_text}
 use Rattle.yds_trace_parts.specs.declared.halt.Halt.{Halt as HaltKept}
 use Rattle.yds_trace_parts.specs.declared.halt.Halt.TheVariants as kept
-use Rattle.yds_trace_parts.specs.declared.part.Whole.{Whole}
+use Rattle.yds_trace_parts.specs.declared.part.Piece.{Piece}
+use Rattle.yds_trace_parts.specs.declared.part.Last.{Last}
+use Rattle.yds_trace_parts.specs.declared.processors.Processor.{Processor}
+use Rattle.yds_trace_parts.specs.declared.processors.Pieces.{Pieces}
 use Rattle.yds_trace_parts.specs.declared.telling.Telling.{Telling}
-use Rattle.yds_trace_parts.specs.Told.{Halt, InForm, AtLine, OfDocument, OfText, NoPlace, part_halt, waiting_halt, told_after}
+use Rattle.yds_trace_parts.specs.Told.{Halt, InForm, AtLine, OfDocument, OfText, NoPlace, Told, no_piece, both, part_halt, part_piece, piece_at, piece_of, has_written, last_piece, line_halt, told_after}
 
 -- # Reasons
 
@@ -55,50 +59,128 @@ pub record IsText (asked : Asked) (strict : Bool) (past : List Said) (cut : Cut)
   pub fits : part_halt asked strict past cut until ≡ None
   pub says : text ≡ part_text asked past cut until
 
--- the whole part that ends at this time
-pub record IsWhole (asked : Asked) (strict : Bool) (past : List Said) (cut : Cut) (time : ℕ) (whole : Whole) : Type 0 where
-  pub fits : part_halt asked strict past cut (Some time) ≡ None
-  pub text : whole.text.items ≡ part_text asked past cut (Some time)
-  pub cut_is : whole.cut ≡ cut_at asked past cut (Some time)
+-- this text, and no halt
+abbrev pub text_alone : List ℕ → Told
+text_alone text = record { text = text; halt = None }
 
--- it is written behind these lines
-pub record IsNext (asked : Asked) (strict : Bool) (past : List Said) (cut : Cut) (whole : Whole) : Type 0 where
-  pub time : ℕ
-  pub place : place_of asked past cut ≡ Some time
-  pub is : IsWhole asked strict past cut time whole
+-- what is written where a part ends at this time, and what was written then
+pub record IsPieceAt (asked : Asked) (strict : Bool) (past : List Said) (cut : Cut) (until : Option ℕ) (piece : Piece) : Type 0 where
+  pub written : piece_at asked strict past cut until ≡ text_alone piece.text.items
+  pub cut_is : piece.cut ≡ cut_at asked past cut until
 
--- what is written behind these lines, if a part is
-abbrev pub MakesPart : Asked → Bool → List Said → Cut → Option Whole → Type 0
-MakesPart asked strict past cut None = (place_of asked past cut ≡ None) × (waiting_halt asked past cut ≡ None)
-MakesPart asked strict past cut (Some whole) = IsNext asked strict past cut whole
-
--- why none is written
-abbrev pub place_halt : Asked → Bool → List Said → Cut → Option ℕ → Option Halt
-place_halt asked strict past cut (Some time) = part_halt asked strict past cut (Some time)
-place_halt asked strict past cut None = waiting_halt asked past cut
+-- what is written of the processor behind these lines, and what was written then
+abbrev pub IsPiece : Asked → Bool → List Said → Cut → Piece → Type 0
+IsPiece asked strict past cut piece = IsPieceAt asked strict past cut (place_of asked past cut) piece
 
 abbrev pub HaltsBehind : Asked → Bool → List Said → Cut → HaltKept → Type 0
-HaltsBehind asked strict past cut halt = IsHaltFor (place_halt asked strict past cut (place_of asked past cut)) halt
+HaltsBehind asked strict past cut halt = IsHaltFor (piece_of asked strict past cut).halt halt
 
--- the text of the last part
-abbrev pub IsLast : Asked → Bool → List Said → Cut → List ℕ → Type 0
-IsLast asked strict past cut text = IsText asked strict past cut None text
+-- what was written of a processor that has no job
+abbrev pub without_job_at : List Said → Cut → Option ℕ → Cut
+without_job_at past cut None = cut
+without_job_at past cut (Some time) = with_part past time [] cut
+
+abbrev pub unseen_at : Asked → List Said → Option Cut → Option Cut
+unseen_at asked past None = None
+unseen_at asked past (Some cut) = Some (without_job_at past cut (place_of asked past cut))
+
+-- the text of the last part of the processor, and whether it has a job in any
+pub record IsLast (asked : Asked) (strict : Bool) (past : List Said) (cut : Cut) (last : Last) : Type 0 where
+  pub written : part_piece asked strict past cut None ≡ text_alone last.text.items
+  pub some : last.has_job ≡ has_written asked past cut
+
+-- # All processors
+
+-- what is written of these processors behind these lines, one after another
+abbrev pub pieces_at : Asked → Bool → List Said → List Processor → Told
+pieces_at asked strict past [] = no_piece
+pieces_at asked strict past (one ∷ more) = both (piece_of (on one.number asked) strict past one.cut) (pieces_at asked strict past more)
+
+-- what was written then
+abbrev pub with_piece_at : Asked → List Said → Processor → Processor
+with_piece_at asked past one =
+    record { number = one.number; cut = cut_at (on one.number asked) past one.cut (place_of (on one.number asked) past one.cut) }
+
+pub record ArePieces (asked : Asked) (strict : Bool) (past : List Said) (processors : List Processor) (pieces : Pieces) : Type 0 where
+  pub written : pieces_at asked strict past processors ≡ text_alone pieces.text.items
+  pub processors_are : pieces.processors.items ≡ map (with_piece_at asked past) processors
+
+-- the last parts of these processors, one after another
+abbrev pub last_at : Asked → Bool → List Said → List Processor → Told
+last_at asked strict past [] = no_piece
+last_at asked strict past (one ∷ more) = both (part_piece (on one.number asked) strict past one.cut None) (last_at asked strict past more)
+
+-- One of them has a job.
+abbrev pub one_has_written : Asked → List Said → List Processor → Bool
+one_has_written asked past processors = list_any (λ one. has_written (on one.number asked) past one.cut) processors
+
+pub record AreLast (asked : Asked) (strict : Bool) (past : List Said) (processors : List Processor) (last : Last) : Type 0 where
+  pub written : last_at asked strict past processors ≡ text_alone last.text.items
+  pub some : last.has_job ≡ one_has_written asked past processors
+
+-- It stands for these lines, with a processor that may be another.
+pub record IsTurned (asked : Asked) (past : List Said) (boundary : ℕ) (pass : Pass) : Type 0 where
+  pub processor : ℕ
+  pub stands : IsAtBehind (on processor asked) past boundary pass
 
 -- # What is kept
 
--- What is kept stands for these lines, and nothing was refused.
-pub record IsTelling (asked : Asked) (strict : Bool) (past : List Said) (telling : Telling) : Type 0 where
-  pub stands : IsAtBehind asked past telling.cut.boundary telling.pass
-  -- The pass was told to forget the jobs of the parts that are written.
-  pub forgets : told_to_forget telling.pass ≡ telling.cut.boundary
-  pub same_cut : telling.cut ≡ cut_after asked past
+-- the number behind this one
+abbrev pub next_of : Option ℕ → ℕ
+next_of None = 0
+next_of (Some number) = number + 1
+
+-- the first processors, so many, with what was written of each
+abbrev pub each_of : (ℕ → Cut) → ℕ → List Processor
+each_of cuts count = map (λ number. record { number = number; cut = cuts number }) (first_numbers count)
+
+abbrev pub cut_on : Asked → List Said → ℕ → Cut
+cut_on asked past processor = cut_after (on processor asked) past
+
+abbrev pub told_on : Asked → List Said → ℕ → Processor
+told_on asked past processor = record { number = processor; cut = cut_on asked past processor }
+
+-- what was written of each processor of which no line tells, where each has documents of its own
+abbrev pub IsUnseen : Asked → List Said → Option Cut → Type 0
+IsUnseen asked past None = asked.everywhere ≡ false
+IsUnseen asked past (Some cut) = (asked.everywhere ≡ true) × ((processor : ℕ) → processor_count past ≤ processor → cut_on asked past processor ≡ cut)
+
+abbrev pub cuts_of : List Processor → Option Cut → List Cut
+cuts_of processors None = map (λ one. one.cut) processors
+cuts_of processors (Some cut) = cut ∷ map (λ one. one.cut) processors
+
+-- A line changes a part of one of these just where it changes one of this.
+abbrev pub IsLatest : List Cut → Cut → Type 0
+IsLatest cuts latest = (asked : Asked) (past : List Said) (said : Said) → changes_parts asked past latest said ≡ list_any (λ cut. changes_parts asked past cut said) cuts
+
+abbrev pub NoneBefore : ℕ → List Cut → Type 0
+NoneBefore time cuts = All (λ cut. time ≤ cut.boundary) cuts
+
+-- What is kept of the processors of these lines stands for what was written up to lines before.
+pub record IsWritten (asked : Asked) (strict : Bool) (past seen : List Said) (telling : Telling) : Type 0 where
+  pub processors_are : telling.processors.items ≡ map (told_on asked past) (processors_of asked seen)
+  pub unseen_is : IsUnseen asked past telling.unseen
+  pub latest_is : IsLatest (cuts_of telling.processors.items telling.unseen) telling.latest
+  -- The pass was told to forget no job that a part still to come may have.
+  pub forgets : NoneBefore (told_to_forget telling.pass) (telling.latest ∷ cuts_of telling.processors.items telling.unseen)
   pub same_strict : telling.strict ≡ strict
   pub goes_on : (told_after asked strict past).halt ≡ None
 
-abbrev pub bytes_of : Option (Vec ℕ Global) → List ℕ
-bytes_of None = []
-bytes_of (Some text) = text.items
+-- What is kept stands for these lines, and nothing was refused.
+pub record IsTelling (asked : Asked) (strict : Bool) (past : List Said) (telling : Telling) : Type 0 where
+  pub stands : IsAtBehind asked past (told_to_forget telling.pass) telling.pass
+  pub is_written : IsWritten asked strict past past telling
+
+-- And this line was taken, behind which nothing was written yet.
+pub record IsTaken (asked : Asked) (strict : Bool) (past : List Said) (said : Said) (telling : Telling) : Type 0 where
+  pub stands : IsAtBehind asked (said ∷ past) (told_to_forget telling.pass) telling.pass
+  pub is_written : IsWritten asked strict past (said ∷ past) telling
+  pub sound : line_halt asked past said ≡ None
 
 -- With a line more the text has this piece more.
-abbrev pub Adds : Asked → Bool → List Said → List Said → Option (Vec ℕ Global) → Type 0
-Adds asked strict before now piece = (told_after asked strict now).text ≡ (told_after asked strict before).text ++ bytes_of piece
+abbrev pub Adds : Asked → Bool → List Said → List Said → List ℕ → Type 0
+Adds asked strict before now piece = (told_after asked strict now).text ≡ (told_after asked strict before).text ++ piece
+
+-- the text behind the last line
+abbrev pub IsEnd : Asked → Bool → List Said → List ℕ → Type 0
+IsEnd asked strict past text = last_piece asked strict past (processors_of asked past) ≡ text_alone text

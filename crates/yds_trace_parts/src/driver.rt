@@ -1,14 +1,14 @@
 //! A source of lines and a sink of parts.
-ghost use Rattle.std.specs.Prelude.{◌≡◌, ◌≢◌, ◌+◌, ◌≤◌, ◌<◌, ℕ, List, ◌∷◌, [], Bool, Err, Ok, Some, None, IfSome, IfOk, IfErr, OnOk, IsErr, length};
+ghost use Rattle.std.specs.Prelude.{◌≡◌, ◌≢◌, ◌+◌, ◌≤◌, ◌<◌, List, [], Bool, Err, Some, IfSome, IfOk, IfErr, OnOk, length};
 ghost use Rattle.yds_port.specs.Count.{Rose};
 ghost use Rattle.yds_kernel.specs.Event as trace;
 ghost use Rattle.yds_kernel_text.specs.Reading.{said_by};
 ghost use Rattle.yds_trace.specs.Asked as asking;
+ghost use Rattle.yds_trace.specs.Kept.{told_to_forget};
 ghost use Rattle.yds_trace.specs.Views.{asked_read};
 ghost use Rattle.yds_trace_reading.specs.Reading.{IsReadOut};
-ghost use Rattle.yds_port.specs.Sink.{Puts};
 ghost use Rattle.yds_trace_parts.specs.Plain.{HasRoom, IsGranted};
-ghost use Rattle.yds_trace_parts.specs.Telling.{IsTelling, bytes_of};
+ghost use Rattle.yds_trace_parts.specs.Telling.{IsTelling};
 ghost use Rattle.yds_trace_parts.specs.Saying.{IsSaid, IsAdded, IsNotSaid};
 ghost use Rattle.yds_trace_parts.specs.Driving.{Writes, Tells};
 
@@ -17,7 +17,7 @@ use crate::limits::MOST_LINES;
 use crate::telling::Telling;
 use std::alloc::Global;
 use yds_kernel_text::{Advance, TraceReader};
-use yds_port::{Sink, Source, WriteFault, write_all};
+use yds_port::{Sink, Source, write_all};
 use yds_trace::Asked;
 use yds_trace_reading::drain;
 
@@ -70,8 +70,8 @@ fn tell<S: Source, K: Sink>(
     for lines in 0..MOST_LINES {
         match reader.advance(source) {
             Advance::Line => {
-                let piece = take_line(alloc, &reader, &mut telling)?;
-                put(piece, sink)?;
+                let pieces = take_line(alloc, &reader, &mut telling)?;
+                write_all(sink, &pieces)?;
             }
             Advance::End => {
                 let text = telling.end(alloc, lines)?;
@@ -85,17 +85,17 @@ fn tell<S: Source, K: Sink>(
     Err(Halt::Endless)
 }
 
-/// Takes the line that was given last. It gives the text of the part that is whole with it, if one is.
+/// Takes the line that was given last. It gives the texts of the parts that are whole with it.
 fn take_line(
     alloc: Global,
     reader: &TraceReader,
     telling: &mut Telling,
-) -> Result<Option<Vec<u8>>, Halt>
-    requires { HasRoom telling.old.cut.boundary telling.old.pass }
+) -> Result<Vec<u8>, Halt>
+    requires { HasRoom (told_to_forget telling.old.pass) telling.old.pass }
     ensures said { (asked : asking.Asked) (strict : Bool) (past : List trace.Said) → IsTelling asked strict past telling.old → reader.now.number ≡ length past + 1
         → OnOk result (IsSaid asked strict past (said_by reader.now) telling.new) }
     ensures adds { (asked : asking.Asked) (strict : Bool) (past : List trace.Said) → IsTelling asked strict past telling.old → reader.now.number ≡ length past + 1
-        → IfOk result (IsAdded asked strict past (said_by reader.now)) }
+        → IfOk result (λ piece. IsAdded asked strict past (said_by reader.now) piece.items) }
     ensures halts { (asked : asking.Asked) (strict : Bool) (past : List trace.Said) → IsTelling asked strict past telling.old → reader.now.number ≡ length past + 1
         → IfErr result (IsNotSaid asked strict past reader.now.number (said_by reader.now)) }
 {
@@ -103,17 +103,5 @@ fn take_line(
     match reader.said() {
         Ok(said) => telling.take(alloc, number, said),
         Err(fault) => Err(Halt::InForm { number, fault }),
-    }
-}
-
-/// Writes the text of a part, if there is one.
-fn put<K: Sink>(piece: Option<Vec<u8>>, sink: &mut K) -> Result<(), WriteFault>
-    ensures puts { Puts K.written K.flushed K.flushes K.faults result (bytes_of piece) sink.old sink.new }
-    ensures later { K.faults sink.old ≤ K.faults sink.new }
-    ensures counted { K.faults sink.old < K.faults sink.new → IsErr result }
-{
-    match piece {
-        Some(text) => write_all(sink, &text),
-        None => Ok(()),
     }
 }

@@ -12,11 +12,14 @@ mod laws;
 mod limits;
 mod part;
 mod place;
+mod processors;
 mod telling;
 
 pub use driver::tell_parts;
 pub use halt::Halt;
-pub use laws::{few_lines_are_one_part, halts_stay, halts_write_nothing, parts_follow, told_grows};
+pub use laws::{
+    few_lines_are_one_part, halts_stay, halts_write_nothing, parts_end, parts_follow, told_grows,
+};
 pub use limits::MOST_LINES;
 
 #[cfg(test)]

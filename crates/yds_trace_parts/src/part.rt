@@ -1,9 +1,8 @@
-//! The part that is written behind a line, if one is, and the last one.
-ghost use Rattle.std.specs.Prelude.{◌≡◌, ◌≤◌, List, length, Bool, true, false, None, Some, IfOk, IfErr, count_by};
+//! What is written of a processor behind a line, and its last part.
+ghost use Rattle.std.specs.Prelude.{◌≡◌, ◌≤◌, List, [], length, Bool, true, false, None, Some, IfOk, IfErr, count_by};
 ghost use Rattle.yds_kernel.specs.Event as trace;
 ghost use Rattle.yds_kernel.specs.Parts.{capped};
 ghost use Rattle.yds_trace.specs.Asked as asking;
-ghost use Rattle.yds_trace.specs.Kept.{IsAtBehind, IsEnough};
 ghost use Rattle.yds_trace.specs.Past.{last_time};
 ghost use Rattle.yds_trace.specs.Parts as parts;
 ghost use Rattle.yds_trace.specs.Shown.{IsShown};
@@ -11,56 +10,34 @@ ghost use Rattle.yds_trace.specs.Views.{asked_read};
 ghost use Rattle.yds_trace_document.specs.Kept as kept;
 ghost use Rattle.yds_trace_document.specs.PartKept.{IsWaiting, IsPart};
 ghost use Rattle.yds_trace_document.specs.Views.{judged_read, judged_list};
-ghost use Rattle.yds_trace_parts.specs.Plain.{IsPlainPass};
-ghost use Rattle.yds_trace_parts.specs.Told.{part_halt, next_number};
-ghost use Rattle.yds_trace_parts.specs.Telling.{IsHaltFor, IsText, IsWhole, IsLast, Looks, MakesPart, HaltsBehind};
+ghost use Rattle.yds_trace_parts.specs.Told.{part_halt, piece_at, has_written, next_number};
+ghost use Rattle.yds_trace_parts.specs.Telling.{IsHaltFor, IsText, text_alone, IsPieceAt, IsPiece, IsLast, Looks, HaltsBehind, without_job_at};
 
 use crate::halt::Halt;
 use crate::place::{is_much, is_too_much, open_longest, place_among};
 use std::alloc::Global;
-use yds_trace::{Asked, Cause, Cut, Kept, LOOK_EVERY, PART_JOBS, PART_STRETCHES, Pass, Shown};
+use yds_trace::{Asked, Cause, Cut, Shown};
 use yds_trace_document::{Judged, Part, Waiting, judge_waiting, settle_part};
 use yds_trace_text::part_text;
 
-/// The text of a part, and what is written with it.
+/// What is written of a processor behind a line, and what was written then.
 #[derive(Debug, Drop)]
-pub(crate) struct Whole {
+pub(crate) struct Piece {
+    /// The text of a part; empty where none is written.
     pub text: Vec<u8>,
     pub cut: Cut,
 }
 
-/// The part that is written behind the line of this number, if one is.
-pub(crate) fn next_part(
-    alloc: Global,
-    pass: &Pass,
-    cut: Cut,
-    strict: bool,
-    number: u64,
-) -> Result<Option<Whole>, Halt>
-    requires { IsPlainPass cut.boundary pass.now }
-    ensures made { (asked : asking.Asked) (past : List trace.Said) → IsAtBehind asked past cut.boundary pass.now → number ≡ length past
-        → IfOk result (MakesPart asked strict past cut) }
-    ensures halts { (asked : asking.Asked) (past : List trace.Said) → IsAtBehind asked past cut.boundary pass.now → number ≡ length past
-        → IfErr result (HaltsBehind asked strict past cut) }
-{
-    if number % LOOK_EVERY != 0 || is_little(pass.kept()) {
-        return Ok(None);
-    }
-    let shown = pass.shown(alloc)?;
-    let may_write = pass.may_write();
-    shown_part(alloc, pass.asked(), &shown, may_write, cut, strict, number)
+/// The last part of a processor.
+#[derive(Debug, Drop)]
+pub(crate) struct Last {
+    pub text: Vec<u8>,
+    /// Whether it has a job, or a part before it has.
+    pub has_job: bool,
 }
 
-/// Whether so little is kept that no part is to be written.
-fn is_little(amount: Kept) -> bool
-    ensures { (asked : asking.Asked) (past : List trace.Said) (cut : Cut) → IsEnough asked past cut.boundary amount → result ≡ true
-        → parts.is_much (parts.waiting asked past cut) ≡ false }
-{
-    amount.jobs <= PART_JOBS && amount.stretches <= PART_STRETCHES
-}
-
-/// The part of what is shown, behind a line where it is looked for one.
-fn shown_part(
+/// What is written behind the line of this number, where it is looked for a part.
+pub(crate) fn next_piece(
     alloc: Global,
     asked: &Asked,
     shown: &Shown,
@@ -68,28 +45,44 @@ fn shown_part(
     cut: Cut,
     strict: bool,
     number: u64,
-) -> Result<Option<Whole>, Halt>
+) -> Result<Piece, Halt>
     requires { kept.IsPlainShown asked.now shown.now }
     ensures made { (past : List trace.Said) → IsShown (asked_read asked.now) past cut.boundary shown.now → number ≡ length past
-        → parts.is_due past ≡ true → may_write ≡ parts.may_write (asked_read asked.now) past → IfOk result (MakesPart (asked_read asked.now) strict past cut) }
+        → parts.is_due past ≡ true → may_write ≡ parts.may_write (asked_read asked.now) past → IfOk result (IsPiece (asked_read asked.now) strict past cut) }
     ensures halts { (past : List trace.Said) → IsShown (asked_read asked.now) past cut.boundary shown.now → number ≡ length past
         → parts.is_due past ≡ true → may_write ≡ parts.may_write (asked_read asked.now) past → IfErr result (HaltsBehind (asked_read asked.now) strict past cut) }
 {
     let waiting = judge_waiting(alloc, asked, shown, cut.boundary)?;
     if !is_much(&waiting.judged) {
-        return Ok(None);
+        return Ok(no_piece(alloc, cut));
     }
     if !may_write {
-        return without_wake_up(number, &waiting.judged);
+        return without_wake_up(alloc, number, &waiting.judged, cut);
     }
-    place_part(alloc, asked, shown, waiting, cut, strict)
+    place_piece(alloc, asked, shown, waiting, cut, strict)
+}
+
+/// No text, and what was written stays.
+fn no_piece(alloc: Global, cut: Cut) -> Piece
+    ensures text { result.text.items ≡ [] }
+    ensures same { result.cut ≡ cut }
+{
+    Piece {
+        text: Vec::new(alloc),
+        cut,
+    }
 }
 
 /// That too much waits, where no task has been woken.
-fn without_wake_up(number: u64, waiting: &[Judged<'_>]) -> Result<Option<Whole>, Halt>
-    ensures made { (asked : asking.Asked) (strict : Bool) (past : List trace.Said) (cut : Cut) → judged_list waiting.now ≡ parts.waiting asked past cut
-        → parts.may_write asked past ≡ false → IfOk result (MakesPart asked strict past cut) }
-    ensures halts { (asked : asking.Asked) (strict : Bool) (past : List trace.Said) (cut : Cut) → judged_list waiting.now ≡ parts.waiting asked past cut
+fn without_wake_up(
+    alloc: Global,
+    number: u64,
+    waiting: &[Judged<'_>],
+    cut: Cut,
+) -> Result<Piece, Halt>
+    ensures made { (asked : asking.Asked) (strict : Bool) (past : List trace.Said) → judged_list waiting.now ≡ parts.waiting asked past cut
+        → parts.may_write asked past ≡ false → IfOk result (IsPiece asked strict past cut) }
+    ensures halts { (asked : asking.Asked) (strict : Bool) (past : List trace.Said) → judged_list waiting.now ≡ parts.waiting asked past cut
         → parts.may_write asked past ≡ false → parts.is_due past ≡ true → number ≡ length past → IfErr result (HaltsBehind asked strict past cut) }
 {
     if is_too_much(waiting) {
@@ -98,32 +91,29 @@ fn without_wake_up(number: u64, waiting: &[Judged<'_>]) -> Result<Option<Whole>,
             cause: Cause::NoWakeUp,
         })
     } else {
-        Ok(None)
+        Ok(no_piece(alloc, cut))
     }
 }
 
 /// The part of what waits, or that there is no place where it may end.
-fn place_part(
+fn place_piece(
     alloc: Global,
     asked: &Asked,
     shown: &Shown,
     waiting: Waiting<'_>,
     cut: Cut,
     strict: bool,
-) -> Result<Option<Whole>, Halt>
+) -> Result<Piece, Halt>
     requires has_unit { 1 ≤ asked.now.unit }
     requires has_speed_unit { 1 ≤ asked.now.khz }
     ensures made { (past : List trace.Said) → IsShown (asked_read asked.now) past cut.boundary shown.now → IsWaiting (asked_read asked.now) past cut waiting.entry
-        → Looks (asked_read asked.now) past cut → IfOk result (MakesPart (asked_read asked.now) strict past cut) }
+        → Looks (asked_read asked.now) past cut → IfOk result (IsPiece (asked_read asked.now) strict past cut) }
     ensures halts { (past : List trace.Said) → IsShown (asked_read asked.now) past cut.boundary shown.now → IsWaiting (asked_read asked.now) past cut waiting.entry
         → Looks (asked_read asked.now) past cut → IfErr result (HaltsBehind (asked_read asked.now) strict past cut) }
 {
     match place_among(asked, shown, &waiting.judged) {
-        Some(time) => {
-            let whole = whole_part(alloc, asked, shown, waiting, cut, strict, time)?;
-            Ok(Some(whole))
-        }
-        None => no_place(alloc, asked, shown, &waiting.judged),
+        Some(time) => whole_piece(alloc, asked, shown, waiting, cut, strict, time),
+        None => no_place(alloc, asked, shown, &waiting.judged, cut),
     }
 }
 
@@ -133,18 +123,19 @@ fn no_place(
     asked: &Asked,
     shown: &Shown,
     waiting: &[Judged<'_>],
-) -> Result<Option<Whole>, Halt>
-    ensures made { (strict : Bool) (past : List trace.Said) (cut : Cut) → IsShown (asked_read asked.now) past cut.boundary shown.now
+    cut: Cut,
+) -> Result<Piece, Halt>
+    ensures made { (strict : Bool) (past : List trace.Said) → IsShown (asked_read asked.now) past cut.boundary shown.now
         → judged_list waiting.now ≡ parts.waiting (asked_read asked.now) past cut → Looks (asked_read asked.now) past cut
         → parts.place_among (asked_read asked.now) past (parts.waiting (asked_read asked.now) past cut) ≡ None
-        → IfOk result (MakesPart (asked_read asked.now) strict past cut) }
-    ensures halts { (strict : Bool) (past : List trace.Said) (cut : Cut) → IsShown (asked_read asked.now) past cut.boundary shown.now
+        → IfOk result (IsPiece (asked_read asked.now) strict past cut) }
+    ensures halts { (strict : Bool) (past : List trace.Said) → IsShown (asked_read asked.now) past cut.boundary shown.now
         → judged_list waiting.now ≡ parts.waiting (asked_read asked.now) past cut → Looks (asked_read asked.now) past cut
         → parts.place_among (asked_read asked.now) past (parts.waiting (asked_read asked.now) past cut) ≡ None
         → IfErr result (HaltsBehind (asked_read asked.now) strict past cut) }
 {
     if !is_too_much(waiting) {
-        return Ok(None);
+        return Ok(no_piece(alloc, cut));
     }
     match open_longest(asked, shown, waiting) {
         Some(judged) => Err(Halt::NoPlace {
@@ -152,12 +143,12 @@ fn no_place(
             begin: judged.job.begin,
             late: judged.late,
         }),
-        None => Ok(None),
+        None => Ok(no_piece(alloc, cut)),
     }
 }
 
 /// The part that ends at this time.
-fn whole_part(
+fn whole_piece(
     alloc: Global,
     asked: &Asked,
     shown: &Shown,
@@ -165,49 +156,90 @@ fn whole_part(
     cut: Cut,
     strict: bool,
     time: u64,
-) -> Result<Whole, Halt>
+) -> Result<Piece, Halt>
     requires has_unit { 1 ≤ asked.now.unit }
     requires has_speed_unit { 1 ≤ asked.now.khz }
     ensures made { (past : List trace.Said) → IsShown (asked_read asked.now) past cut.boundary shown.now → IsWaiting (asked_read asked.now) past cut waiting.entry
-        → IfOk result (IsWhole (asked_read asked.now) strict past cut time) }
+        → IfOk result (IsPieceAt (asked_read asked.now) strict past cut (Some time)) }
     ensures halts { (past : List trace.Said) → IsShown (asked_read asked.now) past cut.boundary shown.now → IsWaiting (asked_read asked.now) past cut waiting.entry
-        → IfErr result (IsHaltFor (part_halt (asked_read asked.now) strict past cut (Some time))) }
+        → IfErr result (IsHaltFor (piece_at (asked_read asked.now) strict past cut (Some time)).halt) }
 {
     let part = settle_part(alloc, asked, shown.first, waiting, Some(time))?;
-    let text = text_of(alloc, asked, cut, strict, Some(time), &part)?;
+    let text = text_with_job(alloc, asked, cut, strict, time, &part)?;
     let cut = cut_with(cut, time, shown.last, &part.settled.judged);
-    Ok(Whole { text, cut })
+    Ok(Piece { text, cut })
 }
 
-/// The text of the last part.
-pub(crate) fn last_part(alloc: Global, pass: &Pass, cut: Cut, strict: bool) -> Result<Vec<u8>, Halt>
-    requires { IsPlainPass cut.boundary pass.now }
-    ensures made { (asked : asking.Asked) (past : List trace.Said) → IsAtBehind asked past cut.boundary pass.now
-        → IfOk result (λ text. IsLast asked strict past cut text.items) }
-    ensures halts { (asked : asking.Asked) (past : List trace.Said) → IsAtBehind asked past cut.boundary pass.now
-        → IfErr result (IsHaltFor (part_halt asked strict past cut None)) }
+/// The text of a part that ends at this time; a part without a job has none.
+fn text_with_job(
+    alloc: Global,
+    asked: &Asked,
+    cut: Cut,
+    strict: bool,
+    time: u64,
+    part: &Part<'_>,
+) -> Result<Vec<u8>, Halt>
+    ensures made { (past : List trace.Said) → IsPart (asked_read asked.now) past cut (Some time) part.now
+        → IfOk result (λ text. piece_at (asked_read asked.now) strict past cut (Some time) ≡ text_alone text.items) }
+    ensures halts { (past : List trace.Said) → IsPart (asked_read asked.now) past cut (Some time) part.now
+        → IfErr result (IsHaltFor (piece_at (asked_read asked.now) strict past cut (Some time)).halt) }
 {
-    let shown = pass.shown(alloc)?;
-    last_shown(alloc, pass.asked(), &shown, cut, strict)
+    if part.settled.judged.is_empty() {
+        return Ok(Vec::new(alloc));
+    }
+    text_of(alloc, asked, cut, strict, Some(time), part)
 }
 
-/// The text of the last part of what is shown.
-fn last_shown(
+/// What was written of a processor that has no job, behind a line where it is looked for a part.
+pub(crate) fn without_job(
+    alloc: Global,
+    asked: &Asked,
+    shown: &Shown,
+    may_write: bool,
+    cut: Cut,
+) -> Result<Cut, Halt>
+    requires { kept.IsPlainShown asked.now shown.now }
+    ensures made { (past : List trace.Said) → IsShown (asked_read asked.now) past cut.boundary shown.now → parts.is_due past ≡ true
+        → may_write ≡ parts.may_write (asked_read asked.now) past
+        → IfOk result (λ next. next ≡ without_job_at past cut (parts.place_of (asked_read asked.now) past cut)) }
+    ensures halts { IfErr result (IsHaltFor None) }
+{
+    let waiting = judge_waiting(alloc, asked, shown, cut.boundary)?;
+    if !may_write || !is_much(&waiting.judged) {
+        return Ok(cut);
+    }
+    match place_among(asked, shown, &waiting.judged) {
+        Some(time) => Ok(cut_with(cut, time, shown.last, &[])),
+        None => Ok(cut),
+    }
+}
+
+/// The last part of a processor.
+pub(crate) fn last_part(
     alloc: Global,
     asked: &Asked,
     shown: &Shown,
     cut: Cut,
     strict: bool,
-) -> Result<Vec<u8>, Halt>
+) -> Result<Last, Halt>
     requires { kept.IsPlainShown asked.now shown.now }
     ensures made { (past : List trace.Said) → IsShown (asked_read asked.now) past cut.boundary shown.now
-        → IfOk result (λ text. IsLast (asked_read asked.now) strict past cut text.items) }
+        → IfOk result (IsLast (asked_read asked.now) strict past cut) }
     ensures halts { (past : List trace.Said) → IsShown (asked_read asked.now) past cut.boundary shown.now
         → IfErr result (IsHaltFor (part_halt (asked_read asked.now) strict past cut None)) }
 {
     let waiting = judge_waiting(alloc, asked, shown, cut.boundary)?;
     let part = settle_part(alloc, asked, shown.first, waiting, None)?;
-    text_of(alloc, asked, cut, strict, None, &part)
+    let text = text_of(alloc, asked, cut, strict, None, &part)?;
+    let has_job = has_written(cut, &part);
+    Ok(Last { text, has_job })
+}
+
+/// Whether a job is written in the last part, or in one before it.
+fn has_written(cut: Cut, part: &Part<'_>) -> bool
+    ensures { (asked : asking.Asked) (past : List trace.Said) → IsPart asked past cut None part.now → result ≡ has_written asked past cut }
+{
+    cut.jobs > 0 || !part.settled.jobs.is_empty()
 }
 
 /// The text of a part that ends at this time, or of the last one.
@@ -245,9 +277,19 @@ fn cut_with(cut: Cut, time: u64, last: u64, part: &[Judged<'_>]) -> Cut
     Cut {
         boundary: time,
         decided: last,
-        parts: next_number(cut),
+        parts: parts_with(cut, part),
         jobs: cut.jobs.saturating_add(written(part)),
         due: greatest_due(cut.due, part),
+    }
+}
+
+/// How many parts there are with this one: one without a job isn't written.
+fn parts_with(cut: Cut, part: &[Judged<'_>]) -> u64
+    ensures { result ≡ parts.parts_with cut.parts (judged_list part.now) }
+{
+    match part.first() {
+        Some(_) => next_number(cut),
+        None => cut.parts,
     }
 }
 

@@ -14,7 +14,7 @@ ghost use Rattle.yds_trace_parts.specs.Place as spec;
 ghost use Rattle.yds_trace_parts.specs.Told as told;
 
 use yds_trace::{Asked, End, PART_JOBS, PART_STRETCHES, Shown, WAITING_JOBS, WAITING_STRETCHES};
-use yds_trace_document::Judged;
+use yds_trace_document::{Judged, belongs};
 
 /// How many stretches these jobs have, at most the greatest number of 64 bits.
 fn stretches_of(waiting: &[Judged<'_>]) -> u64
@@ -97,11 +97,11 @@ fn is_settled(asked: &Asked, shown: &Shown, judged: &Judged<'_>) -> bool
 /// What is known of the jobs that begin before a time.
 #[derive(Clone, Copy, Debug)]
 struct Front {
-    /// Whether one of them is written.
-    written: bool,
+    /// Whether there is one; with one processor, one that is written.
+    some: bool,
     /// From when on each of them is done, if each will be.
     done: Option<u64>,
-    /// From when on no window of those that are written is open.
+    /// From when on no window of those that are written here is open.
     due: u64,
 }
 
@@ -133,14 +133,14 @@ fn both(first: Option<u64>, second: Option<u64>) -> Option<u64>
 
 impl Front {
     /// With a job more.
-    fn with(self, settled: bool, judged: &Judged<'_>) -> Front
-        ensures { spec.front_read result ≡ spec.with_job settled (judged_read judged.now) (spec.front_read self) }
+    fn with(self, asked: &Asked, settled: bool, judged: &Judged<'_>) -> Front
+        ensures { spec.front_read result ≡ spec.with_job (asked_read asked.now) settled (judged_read judged.now) (spec.front_read self) }
     {
         let written = judged.reason.is_none() || judged.late.is_some();
         Front {
-            written: self.written || written,
+            some: self.some || asked.everywhere || written,
             done: both(self.done, done_from(settled, judged)),
-            due: if written {
+            due: if written && belongs(asked, judged) {
                 self.due.max(judged.due)
             } else {
                 self.due
@@ -153,7 +153,7 @@ impl Front {
         ensures { result ≡ spec.is_quiet_at time (spec.front_read self) }
     {
         match self.done {
-            Some(done) => self.written && done <= time,
+            Some(done) => self.some && done <= time,
             None => false,
         }
     }
@@ -192,7 +192,7 @@ fn places_among(asked: &Asked, shown: &Shown, waiting: &[Judged<'_>]) -> Places
     ensures { spec.places_read result ≡ (spec.walk (asked_read asked.now) shown.now (judged_list waiting.now) spec.start).places }
 {
     let mut front = Front {
-        written: false,
+        some: false,
         done: Some(0),
         due: 0,
     };
@@ -207,7 +207,7 @@ fn places_among(asked: &Asked, shown: &Shown, waiting: &[Judged<'_>]) -> Places
             places = places.with(front, begin);
             before = begin;
         }
-        front = front.with(is_settled(asked, shown, judged), judged);
+        front = front.with(asked, is_settled(asked, shown, judged), judged);
     }
     places
 }

@@ -1,29 +1,40 @@
 //! What is kept while a trace is told in parts.
-ghost use Rattle.std.specs.Prelude.{◌≡◌, ◌+◌, List, [], ◌∷◌, length, None, Bool, IfOk, OnOk, IfErr};
+ghost use Rattle.std.specs.Prelude.{◌≡◌, ◌+◌, List, [], ◌∷◌, length, None, Bool, ℕ, IfOk, OnOk, IfErr};
 ghost use Rattle.yds_kernel.specs.Event as trace;
 ghost use Rattle.yds_kernel.specs.Parts.{or_else};
 ghost use Rattle.yds_kernel.specs.Views.{said_read};
 ghost use Rattle.yds_trace.specs.Asked as asking;
 ghost use Rattle.yds_trace.specs.Faults.{said_fault, whole_fault};
-ghost use Rattle.yds_trace.specs.Kept.{IsAtBehind, told_to_forget};
-ghost use Rattle.yds_trace.specs.Parts.{part_fault};
+ghost use Rattle.yds_trace.specs.Kept.{IsAtBehind, IsEnough, told_to_forget};
+ghost use Rattle.yds_trace.specs.Parts as parts;
 ghost use Rattle.yds_trace.specs.Views.{asked_read};
 ghost use Rattle.yds_trace_parts.specs.Plain.{HasRoom, IsPlainPass};
-ghost use Rattle.yds_trace_parts.specs.Telling.{IsTelling, IsHaltFor, IsLast, Adds};
-ghost use Rattle.yds_trace_parts.specs.Told.{told_after, at_line, part_halt};
+ghost use Rattle.yds_trace_parts.specs.Telling.{IsTelling, IsTaken, IsHaltFor, IsEnd, Adds};
+ghost use Rattle.yds_trace_parts.specs.Told.{told_after, at_line, last_piece};
 
 use crate::halt::Halt;
-use crate::part::{last_part, next_part};
+use crate::processors::{
+    Pieces, Processor, first_processor, grow, last_pieces, latest_of, least_boundary, next_pieces,
+    processor_of, unseen_behind,
+};
 use std::alloc::Global;
 use yds_kernel::Said;
 use yds_model::Memory;
-use yds_trace::{Asked, Cut, NO_CUT, Pass, Refused};
+use yds_trace::{
+    Asked, Cut, Kept, LOOK_EVERY, NO_CUT, PART_JOBS, PART_STRETCHES, Pass, Refused,
+};
+use yds_trace_document::DocumentFault;
 
 /// What is known of the tasks behind some lines, and what was written of them.
 #[derive(Debug, Drop)]
 pub(crate) struct Telling {
     pub pass: Pass,
-    pub cut: Cut,
+    /// The processors that have documents.
+    pub processors: Vec<Processor>,
+    /// What was written of each processor of which no line tells, where each has documents of its own.
+    pub unseen: Option<Cut>,
+    /// What changes a part of one of these changes one of this.
+    pub latest: Cut,
     /// Whether no job may be left out for another reason than `from` and `to`.
     pub strict: bool,
 }
@@ -33,54 +44,120 @@ impl Telling {
     pub(crate) fn new(alloc: Global, asked: Asked, strict: bool) -> Result<Telling, Memory>
         ensures { IfOk result (λ telling. IsTelling (asked_read asked) strict [] telling) }
     {
+        let first = Processor {
+            number: first_processor(&asked),
+            cut: NO_CUT,
+        };
+        let unseen = if asked.everywhere {
+            Some(NO_CUT)
+        } else {
+            None
+        };
         Ok(Telling {
             pass: Pass::new(alloc, asked)?,
-            cut: NO_CUT,
+            processors: vec![in alloc; first]?,
+            unseen,
+            latest: NO_CUT,
             strict,
         })
     }
 
-    /// Takes what the line of this number says. It gives the text of the part that is whole with it, if one is.
+    /// Takes what the line of this number says. It gives the texts of the parts that are whole with it.
     pub(crate) fn take(
         &mut self,
         alloc: Global,
         number: u64,
         said: Said<'_>,
-    ) -> Result<Option<Vec<u8>>, Halt>
-        requires { HasRoom self.old.cut.boundary self.old.pass }
+    ) -> Result<Vec<u8>, Halt>
+        requires { HasRoom (told_to_forget self.old.pass) self.old.pass }
         ensures told { (asked : asking.Asked) (strict : Bool) (past : List trace.Said) → IsTelling asked strict past self.old → number ≡ length past + 1
             → OnOk result (IsTelling asked strict (said_read said.entry ∷ past) self.new) }
         ensures adds { (asked : asking.Asked) (strict : Bool) (past : List trace.Said) → IsTelling asked strict past self.old → number ≡ length past + 1
-            → IfOk result (Adds asked strict past (said_read said.entry ∷ past)) }
+            → IfOk result (λ piece. Adds asked strict past (said_read said.entry ∷ past) piece.items) }
         ensures halts { (asked : asking.Asked) (strict : Bool) (past : List trace.Said) → IsTelling asked strict past self.old → number ≡ length past + 1
             → IfErr result (IsHaltFor (told_after asked strict (said_read said.entry ∷ past)).halt) }
     {
-        take_line(alloc, &mut self.pass, self.cut, number, said)?;
-        match next_part(alloc, &self.pass, self.cut, self.strict, number)? {
-            Some(whole) => {
-                self.pass.forget(whole.cut.boundary);
-                self.cut = whole.cut;
-                Ok(Some(whole.text))
-            }
-            None => Ok(None),
+        let told = processor_of(&said);
+        take_line(alloc, &mut self.pass, self.latest, number, said)?;
+        grow(&mut self.processors, self.unseen, told)?;
+        if number % LOOK_EVERY != 0 || is_little(self.pass.kept()) {
+            return Ok(Vec::new(alloc));
         }
+        self.write(alloc, number)
     }
 
-    /// Ends behind the last line, which has this number. It gives the text of the last part.
-    pub(crate) fn end(&self, alloc: Global, number: u64) -> Result<Vec<u8>, Halt>
-        requires { IsPlainPass self.now.cut.boundary self.now.pass }
-        ensures told { (asked : asking.Asked) (strict : Bool) (past : List trace.Said) → IsTelling asked strict past self.now → number ≡ length past
-            → IfOk result (λ text. IsLast asked strict past self.now.cut text.items) }
-        ensures sound { (asked : asking.Asked) (strict : Bool) (past : List trace.Said) → IsTelling asked strict past self.now → number ≡ length past
+    /// Writes the parts that are whole behind the line of this number, where it is looked for parts. It gives their texts.
+    fn write(&mut self, alloc: Global, number: u64) -> Result<Vec<u8>, Halt>
+        requires { IsPlainPass (told_to_forget self.old.pass) self.old.pass }
+        ensures told { (asked : asking.Asked) (strict : Bool) (past : List trace.Said) (said : trace.Said) → IsTaken asked strict past said self.old
+            → number ≡ length past + 1 → parts.is_due (said ∷ past) ≡ true → OnOk result (IsTelling asked strict (said ∷ past) self.new) }
+        ensures adds { (asked : asking.Asked) (strict : Bool) (past : List trace.Said) (said : trace.Said) → IsTaken asked strict past said self.old
+            → number ≡ length past + 1 → parts.is_due (said ∷ past) ≡ true → IfOk result (λ piece. Adds asked strict past (said ∷ past) piece.items) }
+        ensures halts { (asked : asking.Asked) (strict : Bool) (past : List trace.Said) (said : trace.Said) → IsTaken asked strict past said self.old
+            → number ≡ length past + 1 → parts.is_due (said ∷ past) ≡ true → IfErr result (IsHaltFor (told_after asked strict (said ∷ past)).halt) }
+    {
+        let shown = self.pass.shown(alloc)?;
+        let asked = self.pass.asked().processor;
+        let Pieces { text, processors } = next_pieces(
+            alloc,
+            &mut self.pass,
+            &self.processors,
+            &shown,
+            self.strict,
+            number,
+        )?;
+        let next = processors.len() as u64;
+        self.unseen = unseen_behind(alloc, &mut self.pass, self.unseen, next, &shown)?;
+        self.processors = processors;
+        self.pass.turn_to(asked);
+        self.latest = latest_of(&self.processors, self.unseen);
+        let least = least_boundary(&self.processors, self.unseen, self.latest.boundary);
+        self.pass.forget(least);
+        Ok(text)
+    }
+
+    /// Ends behind the last line, which has this number. It gives the texts of the last parts.
+    pub(crate) fn end(&mut self, alloc: Global, number: u64) -> Result<Vec<u8>, Halt>
+        requires { IsPlainPass (told_to_forget self.old.pass) self.old.pass }
+        ensures told { (asked : asking.Asked) (strict : Bool) (past : List trace.Said) → IsTelling asked strict past self.old → number ≡ length past
+            → IfOk result (λ text. IsEnd asked strict past text.items) }
+        ensures sound { (asked : asking.Asked) (strict : Bool) (past : List trace.Said) → IsTelling asked strict past self.old → number ≡ length past
             → OnOk result (whole_fault asked past ≡ None) }
-        ensures halts { (asked : asking.Asked) (strict : Bool) (past : List trace.Said) → IsTelling asked strict past self.now → number ≡ length past
-            → IfErr result (IsHaltFor (or_else (at_line number (whole_fault asked past)) (part_halt asked strict past self.now.cut None))) }
+        ensures halts { (asked : asking.Asked) (strict : Bool) (past : List trace.Said) → IsTelling asked strict past self.old → number ≡ length past
+            → IfErr result (IsHaltFor (or_else (at_line number (whole_fault asked past)) (last_piece asked strict past (parts.processors_of asked past)).halt)) }
     {
         match self.pass.check_whole() {
-            Ok(()) => last_part(alloc, &self.pass, self.cut, self.strict),
+            Ok(()) => self.write_last(alloc),
             Err(cause) => Err(Halt::AtLine { number, cause }),
         }
     }
+
+    /// Writes the last parts. It gives their texts.
+    fn write_last(&mut self, alloc: Global) -> Result<Vec<u8>, Halt>
+        requires { IsPlainPass (told_to_forget self.old.pass) self.old.pass }
+        ensures told { (asked : asking.Asked) (strict : Bool) (past : List trace.Said) → IsTelling asked strict past self.old
+            → IfOk result (λ text. IsEnd asked strict past text.items) }
+        ensures halts { (asked : asking.Asked) (strict : Bool) (past : List trace.Said) → IsTelling asked strict past self.old
+            → IfErr result (IsHaltFor (last_piece asked strict past (parts.processors_of asked past)).halt) }
+    {
+        let shown = self.pass.shown(alloc)?;
+        let last = last_pieces(alloc, &mut self.pass, &self.processors, &shown, self.strict)?;
+        if self.unseen.is_some() && !last.has_job {
+            return Err(Halt::Limit {
+                part: 1,
+                fault: DocumentFault::NoJob,
+            });
+        }
+        Ok(last.text)
+    }
+}
+
+/// Whether so little is kept that no part is to be written.
+fn is_little(amount: Kept) -> bool
+    ensures { (asked : asking.Asked) (past : List trace.Said) (boundary : ℕ) → IsEnough asked past boundary amount → result ≡ true
+        → parts.is_much (parts.waiting_from asked past boundary) ≡ false }
+{
+    amount.jobs <= PART_JOBS && amount.stretches <= PART_STRETCHES
 }
 
 /// Takes what the line of this number says, behind the parts that were written.
@@ -91,12 +168,14 @@ fn take_line(
     number: u64,
     said: Said<'_>,
 ) -> Result<(), Halt>
-    ensures stands { (asked : asking.Asked) (past : List trace.Said) → IsAtBehind asked past cut.boundary pass.old
-        → OnOk result (IsAtBehind asked (said_read said.entry ∷ past) cut.boundary pass.new) }
-    ensures sound { (asked : asking.Asked) (past : List trace.Said) → IsAtBehind asked past cut.boundary pass.old
-        → OnOk result (or_else (said_fault asked past (said_read said.entry)) (part_fault asked past cut (said_read said.entry)) ≡ None) }
+    ensures stands { (asked : asking.Asked) (past : List trace.Said) (boundary : ℕ) → IsAtBehind asked past boundary pass.old
+        → OnOk result (IsAtBehind asked (said_read said.entry ∷ past) boundary pass.new) }
+    ensures taken { (asked : asking.Asked) (past : List trace.Said) (boundary : ℕ) → IsAtBehind asked past boundary pass.old
+        → OnOk result (said_fault asked past (said_read said.entry) ≡ None) }
+    ensures unchanged { (asked : asking.Asked) (past : List trace.Said) → IsAtBehind asked past cut.boundary pass.old
+        → OnOk result (parts.part_fault asked past cut (said_read said.entry) ≡ None) }
     ensures halts { (asked : asking.Asked) (past : List trace.Said) → IsAtBehind asked past cut.boundary pass.old
-        → IfErr result (IsHaltFor (at_line number (or_else (said_fault asked past (said_read said.entry)) (part_fault asked past cut (said_read said.entry))))) }
+        → IfErr result (IsHaltFor (at_line number (or_else (said_fault asked past (said_read said.entry)) (parts.part_fault asked past cut (said_read said.entry))))) }
     ensures forgets { OnOk result (told_to_forget pass.new ≡ told_to_forget pass.old) }
 {
     let changes = pass.check_parts(&said, cut);

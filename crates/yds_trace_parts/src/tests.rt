@@ -41,6 +41,7 @@ fn asked(alloc: Global) -> Result<Asked, AllocError>
         begin_at_run: true,
         cut_losses: false,
         in_parts: true,
+        everywhere: false,
     })
 }
 
