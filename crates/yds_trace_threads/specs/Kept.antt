@@ -13,6 +13,7 @@ use Rattle.yds_trace.specs.declared.limits.TheConstants.{MAX_PROCESSOR}
 use Rattle.yds_trace.specs.Past.{last_time}
 use Rattle.yds_trace.specs.Faults.{has_stamp}
 use Rattle.yds_trace_threads.specs.declared.act.Deed.{Deed}
+use Rattle.yds_trace_threads.specs.declared.act.Holder.{Holder}
 use Rattle.yds_trace_threads.specs.declared.kept.Kept.{Kept}
 use Rattle.yds_trace_threads.specs.declared.threads.Threads.{Threads}
 use Rattle.yds_trace_threads.specs.declared.processors.Processors.{Processors}
@@ -72,16 +73,19 @@ facts_behind name deed facts = record {
 abbrev pub facts_with : ℕ → Facts → Facts
 facts_with time facts = record facts { ran = capped (facts.ran + time) }
 
--- what is kept of a thread that did this and ran for so long beside it
-abbrev pub facts_of : List Act → (ℕ → ℕ) → ℕ → Facts
-facts_of acts more pid = record {
+-- what is kept of a thread that did this itself, and ran for so long beside it
+abbrev pub facts_from : ℕ → ℕ → List Act → Facts
+facts_from pid more mine = record {
   pid = pid;
-  name = name_of (own pid acts);
-  ran = capped (ran_in (own pid acts) + more pid);
-  wake_ups = capped (wake_ups_in (own pid acts));
-  switches = capped (switches_in (own pid acts));
-  woken = is_woken (own pid acts);
+  name = name_of mine;
+  ran = capped (ran_in mine + more);
+  wake_ups = capped (wake_ups_in mine);
+  switches = capped (switches_in mine);
+  woken = is_woken mine;
 }
+
+abbrev pub facts_of : List Act → (ℕ → ℕ) → ℕ → Facts
+facts_of acts more pid = facts_from pid (more pid) (own pid acts)
 
 -- # All threads
 
@@ -119,7 +123,6 @@ abbrev pub held_by : ℕ → List (Option Holder) → Option Holder
 held_by processor holders = slice_index_or holders processor None
 
 pub record IsProcessors (past : List Said) (processors : Processors) : Type 0 where
-  pub many : length processors.holders.items ≡ PROCESSORS
   pub held : (processor : ℕ) → processor < PROCESSORS → held_by processor processors.holders.items ≡ holder processor past
   pub last : processors.last ≡ last_time past
   pub stamped : processors.stamped ≡ has_stamp past

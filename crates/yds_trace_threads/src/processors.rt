@@ -1,12 +1,5 @@
 //! Who has each processor, and the trace's last time.
-ghost use Rattle.std.specs.Prelude.{◌≡◌, ℕ, ◌<◌, List, [], ◌∷◌, None, OnOk, IfOk};
-ghost use Rattle.yds_kernel.specs.Event.{Said, Stamped, Lost};
-ghost use Rattle.yds_kernel.specs.Views.{event_read};
-ghost use Rattle.yds_kernel.specs.declared.loss.Since.{Since};
-ghost use Rattle.yds_trace.specs.declared.limits.TheConstants.{MAX_PROCESSOR};
-ghost use Rattle.yds_trace.specs.Past.{last_time};
-ghost use Rattle.yds_trace_threads.specs.Acts.{holder, had};
-ghost use Rattle.yds_trace_threads.specs.Kept.{IsProcessors};
+ghost use Rattle.std.specs.Prelude.{◌≡◌, ◌≤◌, vec_len};
 
 use crate::act::Holder;
 use std::alloc::Global;
@@ -26,9 +19,18 @@ pub(crate) struct Processors {
     pub last: u64,
     /// Whether there was one.
     pub stamped: bool,
+    pub ghost many: { vec_len holders ≡ PROCESSORS },
 }
 
 impl Processors {
+    ghost use Rattle.std.specs.Prelude.{◌≡◌, ℕ, ◌≤◌, List, [], ◌∷◌, IfOk};
+    ghost use Rattle.yds_kernel.specs.Event.{Said, Stamped, Lost};
+    ghost use Rattle.yds_kernel.specs.Views.{event_read};
+    ghost use Rattle.yds_kernel.specs.declared.loss.Since.{Since};
+    ghost use Rattle.yds_trace.specs.declared.limits.TheConstants.{MAX_PROCESSOR};
+    ghost use Rattle.yds_trace_threads.specs.Acts.{holder, had};
+    ghost use Rattle.yds_trace_threads.specs.Kept.{IsProcessors};
+
     /// Before the first line.
     pub(crate) fn new(alloc: Global) -> Result<Processors, Memory>
         ensures { IfOk result (IsProcessors []) }

@@ -1,12 +1,12 @@
 //! What is kept of the lines so far.
-ghost use Rattle.std.specs.Prelude.{◌≡◌, ℕ, List, [], ◌∷◌, Some, None, OnOk, IfOk, IfErr};
+ghost use Rattle.std.specs.Prelude.{◌≡◌, ◌≤◌, List, [], ◌∷◌, Some, None, OnOk, IfOk, IfErr};
 ghost use Rattle.yds_kernel.specs.Event.{Said as SaidSpec, Stamped};
 ghost use Rattle.yds_kernel.specs.Views.{event_read, said_read};
 ghost use Rattle.yds_trace.specs.declared.limits.TheConstants.{MAX_PROCESSOR};
 ghost use Rattle.yds_trace.specs.Passing.{IsRefusedFor};
 ghost use Rattle.yds_trace_threads.specs.Acts.{acts};
 ghost use Rattle.yds_trace_threads.specs.Faults.{said_fault, whole_fault};
-ghost use Rattle.yds_trace_threads.specs.Table.{table_of};
+ghost use Rattle.yds_trace_threads.specs.Table.{still, table_of};
 ghost use Rattle.yds_trace_threads.specs.Kept.{IsTally, IsThreads, IsProcessors, no_more};
 
 use crate::act::Deed;

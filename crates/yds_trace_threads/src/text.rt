@@ -33,7 +33,7 @@ pub(crate) fn table_text(alloc: Global, threads: Threads) -> Result<Vec<u8>, Mem
 
 /// These threads, who ran longest first, and of those that ran as long the lesser number first.
 fn in_order_of_time(kept: Vec<Kept>) -> Result<Vec<Kept>, Memory>
-    ensures { IfOk result (λ rows. map row_read rows.items ≡ spec.rows_in_order (map row_read kept.entry.items)) }
+    ensures { IfOk result (λ rows. map row_read rows.items ≡ spec.rows_in_order (map row_read kept.items)) }
 {
     let mut rows = kept;
     rows.sort_by_key(|row| row.pid)?;

@@ -1,5 +1,5 @@
 //! What is kept of the threads so far.
-ghost use Rattle.std.specs.Prelude.{◌≡◌, ℕ, List, [], ◌∷◌, OnOk, IfOk};
+ghost use Rattle.std.specs.Prelude.{ℕ, List, [], ◌++◌, OnOk, IfOk};
 ghost use Rattle.yds_kernel.specs.Views.{thread_read};
 ghost use Rattle.yds_trace_threads.specs.Acts.{Act, act_of};
 ghost use Rattle.yds_trace_threads.specs.Threads.{with_thread, threads_of};
