@@ -31,10 +31,10 @@ use Rattle.yds_trace_run.specs.Answer.{AreParts, IsTold}
 use Rattle.yds_trace_run.specs.Endings.{IsText, Outcome, Writes}
 use Rattle.yds_trace_laws.proofs.Processors.{jobs_are_the_same, each_job_belongs}
 use Rattle.yds_trace_whole.specs.Parts.{written_parts}
-use Rattle.yds_trace_whole.proofs.Worth.{faithful_parts, each_part_is_read}
+use Rattle.yds_trace_whole.proofs.Worth.{parts_are_faithful}
 use Rattle.yds_trace_whole.proofs.Parting.{parts_are_the_whole}
 use Rattle.yds_trace_whole.proofs.Together.{parts_make_the_document}
-use Rattle.yds_trace_whole.proofs.Processors.{all_parts_are_kept, parts_are_of_processors, nothing_late_anywhere}
+use Rattle.yds_trace_whole.proofs.Everywhere.{all_parts_are_kept, parts_are_of_processors, nothing_is_late_anywhere, each_part_is_read}
 use Rattle.yds_trace_run.specs.Worth.{NothingLate, HidesNothing, ArePartsReadAgain, IsReadSo, IsFaithfulSo, IsWholeSo}
 use Rattle.yds_trace_run.proofs.InParts.{no_fault, IsToldAs, told_as}
 
@@ -100,7 +100,7 @@ hides_nothing : (in_parts : Bool) (asked : Asked) (strict : Bool) (trace : Trace
 hides_nothing false asked strict trace text fit told = told_late asked (past_of trace) text fit.plain told.says
 hides_nothing true asked strict trace text fit told =
     let parts = told_parts asked strict trace text told in
-    nothing_late_anywhere asked (past_of trace) fit.plain parts.sound parts.keeps
+    nothing_is_late_anywhere asked (past_of trace) fit.plain parts.sound parts.keeps
 
 pub nothing_late : (asked : Asked) (strict : Bool) (input old new : Option (List ℕ)) (flushed : Option ℕ) (ended : Status) → IsFit asked → ended ≡ statuses.Done
     → IfSome input (λ bytes. Writes (Ok (ReadTrace asked strict)) bytes ended old new flushed)
@@ -161,7 +161,7 @@ faithful_so true asked strict trace text fit told =
     let parts = told_parts asked strict trace text told in
     λ i d within.
     let processor = get_or (processors_of asked past) i d in
-    faithful_parts (on processor asked) past (fit_on processor asked fit.plain) (sound_on processor asked past parts.sound) (all_parts_are_kept asked past parts.keeps i d within)
+    parts_are_faithful (on processor asked) past (fit_on processor asked fit.plain) (sound_on processor asked past parts.sound) (all_parts_are_kept asked past parts.keeps i d within)
 
 pub faithful : (asked : Asked) (strict : Bool) (input old new : Option (List ℕ)) (flushed : Option ℕ) (ended : Status) → IsFit asked → ended ≡ statuses.Done
     → IfSome input (λ bytes. Writes (Ok (ReadTrace asked strict)) bytes ended old new flushed) → IfSome input (λ bytes. IsFaithfulSo asked.in_parts asked (past_of (trace_of bytes)))
