@@ -2,7 +2,7 @@
 
     python3 checks/test_everywhere.py
 
-It is that of `yds_trace --cpu all` in robustness/second.py and parted.py. Where a part is cut, it is looked for one behind
+It is that of `yds_trace --cpu all` in robustness/second.py and parted.py. In the cases of cuts, a part is looked for behind
 each 8th line, and two jobs are much. The last line is 'N passed, M failed'.
 """
 
@@ -10,7 +10,6 @@ import sys
 import unittest
 from pathlib import Path
 from typing import List, Sequence
-from unittest import mock
 
 ROOT = Path(__file__).resolve().parent.parent
 sys.path.insert(0, str(ROOT / "robustness"))
@@ -18,7 +17,7 @@ sys.path.insert(0, str(ROOT / "robustness"))
 import parted  # noqa: E402
 from second import asked_by  # noqa: E402
 
-SMALL = {"LOOK": 8, "PART_JOBS": 1, "MOST_WAITING": 3}
+SMALL = parted.Limits(8, 1, 100, 3, 100)
 """Less is looked at than the program does, so that a case can be read."""
 PIDS = {"swapper": 0, "a": 10, "b": 11, "c": 12}
 UNITS = "# time unit 10 us, speed unit 10000 kHz, work unit 100 cycles"
@@ -51,9 +50,14 @@ def job(processor: int, time: int, name: str) -> List[str]:
     return [wake(processor, time, name), switch(processor, time + 100, "swapper", "R", name), switch(processor, time + 1100, name, "S", "swapper")]
 
 
-def told(lines: Sequence[str], *more: str) -> List[str]:
+def told(lines: Sequence[str], *more: str, limits: parted.Limits = parted.FULL) -> List[str]:
     """The lines that are written of a trace."""
-    return parted.told_in_parts(("\n".join(lines) + "\n").encode(), asked_by([*WORDS, "--cpu", "all", *more]))[0].text.splitlines()
+    return parted.told_in_parts(("\n".join(lines) + "\n").encode(), asked_by([*WORDS, "--cpu", "all", *more]), limits)[0].text.splitlines()
+
+
+def cut_small(lines: Sequence[str], *more: str) -> List[str]:
+    """The same, where a part is looked for behind each 8th line."""
+    return told(lines, *more, limits=SMALL)
 
 
 class Belonging(unittest.TestCase):
@@ -179,7 +183,6 @@ class Processors(unittest.TestCase):
         self.assertEqual(text.splitlines()[0], "# part 1: jobs 1 to 1, from 200 to 350, shift 0, the last")
 
 
-@mock.patch.multiple(parted, **SMALL)
 class Cuts(unittest.TestCase):
     """Where a processor's documents are cut."""
 
@@ -191,7 +194,7 @@ class Cuts(unittest.TestCase):
 
     def heads(self, lines: Sequence[str]) -> List[str]:
         """The head lines, and the last two lines where the trace halts."""
-        found = told(lines)
+        found = cut_small(lines)
         return [line for line in found if line.startswith("# part ") and ": jobs " in line] + (found[-2:] if found[-1] == "failed" else [])
 
     def test_each_processor_counts_its_parts_and_jobs_by_itself(self) -> None:
@@ -233,7 +236,7 @@ class Cuts(unittest.TestCase):
             wake(0, 0, "a"), switch(1, 100, "swapper", "R", "a"), switch(1, 200, "a", "R", "swapper"),
             switch(0, 300, "swapper", "R", "a"), switch(0, 400, "a", "S", "swapper"),
         ]
-        self.assertEqual(told([*moves, *job(0, 2000, "b")])[:6], [
+        self.assertEqual(cut_small([*moves, *job(0, 2000, "b")])[:6], [
             "# part 1: jobs 1 to 0, from 0 to 0, shift 0, cpu 0",
             "# CPU 0 of a kernel trace; time 0 is 5.000000000 s",
             UNITS,
@@ -246,12 +249,11 @@ class Cuts(unittest.TestCase):
     def test_a_job_within_apart_is_not_settled(self) -> None:
         """With 4 ms for a, the job a.0 may go on until 4 ms, also for the processor on which it didn't run."""
         lines = [*self.FIRST, wake(1, 3900, "a"), *job(1, 3900, "a")[1:], *job(0, 6000, "b")]
-        text = parted.told_in_parts(("\n".join(lines) + "\n").encode(), asked_by(["--tasks", "a:1.5:4,b:1.5", *WORDS[2:], "--cpu", "all"]))[0].text
+        text = parted.told_in_parts(("\n".join(lines) + "\n").encode(), asked_by(["--tasks", "a:1.5:4,b:1.5", *WORDS[2:], "--cpu", "all"]), SMALL)[0].text
         heads = [line for line in text.splitlines() if line.startswith("# part ")]
         self.assertEqual([head for head in heads if "the last" not in head], [])
 
 
-@mock.patch.multiple(parted, **SMALL)
 class Faults(unittest.TestCase):
     """What a trace of several processors is refused for."""
 
@@ -259,7 +261,7 @@ class Faults(unittest.TestCase):
 
     def end(self, lines: Sequence[str], *more: str) -> List[str]:
         """The last two lines."""
-        return told(lines, *more)[-2:]
+        return cut_small(lines, *more)[-2:]
 
     def test_a_loss_of_one_processor_reaches_into_the_part_of_another(self) -> None:
         """Processor 1 has a line at 3.1 ms, and the part of 0 was written behind 3.2 ms."""
@@ -279,7 +281,7 @@ class Faults(unittest.TestCase):
             switch(0, 3000, "b", "S", "swapper"), other(0, 3100), other(0, 3100), other(0, 3200),
         ]
         self.assertEqual(self.end([*overlap, "CPU:5 [LOST 3 EVENTS]"]), [f"# line 9: {self.WRITTEN}", "failed"])
-        self.assertNotIn(self.WRITTEN, "".join(told([*overlap, "##### CPU 0 buffer started ####"])))
+        self.assertNotIn(self.WRITTEN, "".join(cut_small([*overlap, "##### CPU 0 buffer started ####"])))
 
     def test_a_thread_that_was_there(self) -> None:
         """b leaves processor 2, which hasn't switched: it had it since the trace's begin, before both cuts."""
@@ -291,7 +293,7 @@ class Faults(unittest.TestCase):
         hangs = [wake(0, 0, "a"), switch(1, 100, "swapper", "R", "a")]
         many = [line for time in (2000, 4000, 6000) for line in job(0, time, "b")]
         lines = [*hangs, *many, *[other(0, 8000)] * 5]
-        self.assertEqual(told(lines), [
+        self.assertEqual(cut_small(lines), [
             "# no part can end, since the processor is never quiet; look at job a.0, begun at 5.000000000 s, known to be late by 6.500000 ms:"
             " choose --from and --to around it, or leave its task out",
             "failed",
@@ -303,8 +305,8 @@ class Faults(unittest.TestCase):
         then = [switch(1, 300, "b", "R", "swapper"), switch(2, 400, "swapper", "R", "b"), switch(2, 500, "b", "S", "swapper"), switch(0, 600, "a", "S", "swapper")]
         lines = [*first, *then, *job(0, 2000, "a"), *[other(0, 8000)] * 5]
         strict = "it doesn't stand as it is, and --strict is given; leave that out, or choose --from and --to around the job"
-        self.assertEqual(told(lines, "--strict"), [f"# part 1: found job 1: {strict}", "failed"])
-        self.assertEqual(told(lines)[0], "# part 1: jobs 1 to 1, from 0 to 150, shift 0, cpu 0")
+        self.assertEqual(cut_small(lines, "--strict"), [f"# part 1: found job 1: {strict}", "failed"])
+        self.assertEqual(cut_small(lines)[0], "# part 1: jobs 1 to 1, from 0 to 150, shift 0, cpu 0")
 
     def test_no_processor_has_a_job(self) -> None:
         """Parts without a job may have been written before: of those it is told at the end, and no last part is written."""
@@ -315,7 +317,7 @@ class Faults(unittest.TestCase):
         last = [wake(0, 2000, "b"), other(0, 2100), other(0, 2200)]
         why = ("no job can be written, and a document without jobs is feasible; choose another processor by --cpu,"
                " or a longer time by --from and --to")
-        found = told([*moves, *last])
+        found = cut_small([*moves, *last])
         self.assertEqual([line for line in found if line.startswith("# part ")], [
             "# part 1: jobs 1 to 0, from 0 to 0, shift 0, cpu 0",
             "# part 1: jobs 1 to 0, from 0 to 0, shift 0, cpu 1",

@@ -15,10 +15,21 @@ from second import (
     is_loss, is_stamped, judge_jobs, line_fault, line_of, milliseconds, shown_by,
 )
 
-# Behind each line of a multiple of LOOK it is looked whether a part is to be written: where more than PART_JOBS jobs or
-# PART_STRETCHES stretches wait. More than MOST_WAITING and MOST_STRETCHES may not wait.
-LOOK, PART_JOBS, PART_STRETCHES = 1_024, 2_000, 25_000
-MOST_WAITING, MOST_STRETCHES = 4_000, 50_000
+
+class Limits(NamedTuple):
+    """When a part is looked for: behind each line of a multiple of `look`, where more than so many jobs or stretches wait; and how many may wait at most."""
+
+    look: int
+    jobs: int
+    stretches: int
+    most_jobs: int
+    most_stretches: int
+
+
+FULL = Limits(1_024, 2_000, 25_000, 4_000, 50_000)
+"""Those of the program."""
+SMALL = Limits(32, 24, 300, 64, 700)
+"""Others, by which a trace of 500 lines has several parts: planted.py and everywhere.py build a program that has these."""
 
 
 class Kept:
@@ -95,6 +106,7 @@ class Parts:
     """
 
     asked: Asked
+    limits: Limits = FULL
     number: int = 0
     greatest: int = 0
     is_torn: bool = False
@@ -313,7 +325,7 @@ class Parts:
         """What is written of a processor behind this line. One of which no line has told is no fault."""
         jobs, stretches = self.how_much(cut)
         may_write = self.asked.at_run or self.is_woken
-        if may_write and (jobs > PART_JOBS or stretches > PART_STRETCHES):
+        if may_write and (jobs > self.limits.jobs or stretches > self.limits.stretches):
             by_task = self.waiting(processor, cut)
             place = self.place(in_order(by_task), processor)
             if place is not None:
@@ -321,7 +333,7 @@ class Parts:
                 if not any(mine):
                     return Piece(replace(cut, boundary=place, decided=self.lines.last))
                 return self.part(processor, cut, mine, place)
-        if is_told and (jobs > MOST_WAITING or stretches > MOST_STRETCHES):
+        if is_told and (jobs > self.limits.most_jobs or stretches > self.limits.most_stretches):
             if not may_write:
                 raise line_fault(self.number, "unwoken")
             raise self.no_place(in_order(self.waiting(processor, cut)))
@@ -414,15 +426,15 @@ def read_all(parts: Parts, trace: bytes) -> None:
             _, column, reason = said.decode().split(" ")
             raise Wrong(f"line {number}, column {column}: {FORMS[reason]}", 3, f"form: {reason}")
         parts.take(line_of(said))
-        if parts.number % LOOK == 0:
+        if parts.number % parts.limits.look == 0:
             parts.look()
     parts.check_whole()
     parts.end()
 
 
-def told_in_parts(trace: bytes, asked: Asked) -> Tuple[Told, Parts]:
+def told_in_parts(trace: bytes, asked: Asked, limits: Limits = FULL) -> Tuple[Told, Parts]:
     """What is written of a trace in parts, and what was read of it."""
-    parts = Parts(asked)
+    parts = Parts(asked, limits)
     try:
         read_all(parts, trace)
     except Wrong as wrong:
