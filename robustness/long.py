@@ -456,11 +456,16 @@ class Programs(NamedTuple):
 
 def faults_of(programs: Programs, it: Drawn, said: Told, parts: Parts) -> Iterator[str]:
     """What isn't as it should be."""
+    yield from faults_of_text(programs, it, said)
+    if said.status == 0 and not same_whole(said.text, parts):
+        yield "the parts aren't the whole"
+
+
+def faults_of_text(programs: Programs, it: Drawn, said: Told) -> Iterator[str]:
+    """What isn't as it should be of the text, and of each part as yds_cli reads it."""
     done = subprocess.run([programs.tracer, *it.words], input=it.trace, capture_output=True, check=False)
     if (done.stdout, done.returncode) != (said.text.encode(), said.status):
         yield f"the readings differ: status {done.returncode}, and {said.status}"
-    if said.status == 0 and not same_whole(said.text, parts):
-        yield "the parts aren't the whole"
     found = documents(said.text)
     if said.status and (len(found) > len(said.parts) or not said.parts):
         found = found[:-1]

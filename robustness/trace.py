@@ -27,7 +27,7 @@ from pathlib import Path
 from typing import Dict, Iterator, List, NamedTuple, Set, Tuple
 
 from drawn import drawn, mistaken
-from parted import told_in_parts
+from parted import SMALL, told_in_parts
 from second import Asks, CAUSES, FLAGS, FORMS, HELPS, Judged, MOST_TEXT, Told, VALUES, Wrong, asked_by, whole_document
 
 
@@ -255,6 +255,17 @@ def lay_out(top: Path) -> Path:
     source.mkdir(parents=True)
     (source / "main.rt").write_text(DRIVER, encoding="utf-8")
     return source.parent
+
+
+def shorten(top: Path) -> None:
+    """Gives the crates that were laid out the smaller limits of parts."""
+    file = top / "crates" / "yds_trace" / "src" / "limits.rt"
+    text = file.read_text(encoding="utf-8")
+    names = ("LOOK_EVERY", "PART_JOBS", "PART_STRETCHES", "WAITING_JOBS", "WAITING_STRETCHES")
+    for name, value in zip(names, SMALL):
+        text, count = re.subn(rf"(pub const {name}: u64 =) [0-9_]+;", rf"\g<1> {value};", text)
+        assert count == 1
+    file.write_text(text, encoding="utf-8")
 
 
 # So many cases are a run of the small program: `rt` takes half a second for each run, and at most 1 MiB of its output.
