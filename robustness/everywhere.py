@@ -29,7 +29,7 @@ import sys
 import tempfile
 from collections import Counter
 from pathlib import Path
-from typing import Callable, Iterator, List, Set, Tuple
+from typing import Callable, Dict, Iterator, List, Set, Tuple
 
 import long
 from long import Drawn, Programs, Row, Run, documents, put_together
@@ -311,20 +311,22 @@ def of_processor(text: str, processor: int) -> str:
     return "".join(part for head, part in heads if head is not None and int(head[4]) == processor)
 
 
-def belonging(parts: Parts, processor: int) -> Set[str]:
-    """The names of the jobs of the whole trace that belong to a processor: each that has run there, and 0 has those that have run nowhere."""
-    asked, shown = parts.asked, parts.shown()
+def belonging(parts: Parts, processor: int) -> Dict[str, bool]:
+    """The jobs of the whole trace that belong to a processor, and whether their begins are known. Each that has run there does, and those
+    that have run nowhere belong to processor 0."""
     judged: List[Judged] = []
     for number, follower in enumerate(parts.followers):
-        judged += judge_jobs(number, parts.jobs(follower), shown, asked)
-    return {one.name for one in judged if any(ran.processor == processor for ran in one.job.ran) or (processor == 0 and not one.job.ran)}
+        judged += judge_jobs(number, parts.jobs(follower), parts.shown(), parts.asked)
+    places = {one.name: {ran.processor for ran in one.job.ran} or {0} for one in judged}
+    return {one.name: one.job.known for one in judged if processor in places[one.name]}
 
 
-def rows_of(text: str, names: Set[str]) -> Tuple[List[Row], List[Run], List[str]]:
-    """The jobs, runs and late jobs of a text of parts that have these names."""
+def rows_of(text: str, mine: Dict[str, bool]) -> Tuple[List[Row], List[Run], List[str]]:
+    """These jobs of a text of parts, with their runs, and those that are told to be late. Where a begin isn't known, a release tells nothing."""
     jobs, runs = put_together(text)
     late = re.findall(r"^# (?:late|not ended)[^:]*: ([^ ,]+)", text, re.M)
-    return [row for row in jobs if row[0] in names], [run for run in runs if run[0] in names], [name for name in late if name in names]
+    known = [(name, release, due, work) if mine[name] else (name, None, 0, work) for name, release, due, work in jobs if name in mine]
+    return known, [run for run in runs if run[0] in mine], [name for name in late if name in mine]
 
 
 def of_one(trace: bytes, parts: Parts, said: Told) -> Iterator[str]:
@@ -332,10 +334,10 @@ def of_one(trace: bytes, parts: Parts, said: Told) -> Iterator[str]:
     for processor in parts.processors():
         alone, _ = told_in_parts(trace, asked_of(parts.asked, processor), parts.limits)
         if alone.status == 0:
-            names = belonging(parts, processor)
-            mine = of_processor(said.text, processor)
-            jobs, runs = put_together(mine)
-            if {name for name, _, _, _ in jobs} - names or rows_of(mine, names) != rows_of(alone.text, names):
+            mine = belonging(parts, processor)
+            text = of_processor(said.text, processor)
+            written = {name for name, _, _, _ in put_together(text)[0]}
+            if not written <= set(mine) or rows_of(text, mine) != rows_of(alone.text, mine):
                 yield f"the parts of processor {processor} aren't those of --cpu {processor} --parts, but for the jobs that belong to others"
             yield ""
 
