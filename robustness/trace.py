@@ -27,7 +27,7 @@ from pathlib import Path
 from typing import Dict, Iterator, List, NamedTuple, Set, Tuple
 
 from drawn import drawn, mistaken
-from parted import told_in_parts
+from parted import SMALL, told_in_parts
 from second import Asks, CAUSES, FLAGS, FORMS, HELPS, Judged, MOST_TEXT, Told, VALUES, Wrong, asked_by, whole_document
 
 
@@ -257,13 +257,33 @@ def lay_out(top: Path) -> Path:
     return source.parent
 
 
-# So many cases are a run of the small program: `rt` takes half a second for each run, and at most 1 MiB of its output.
-BUNDLE = 300
+def shorten(top: Path) -> None:
+    """Gives the crates that were laid out the smaller limits of parts."""
+    file = top / "crates" / "yds_trace" / "src" / "limits.rt"
+    text = file.read_text(encoding="utf-8")
+    names = ("LOOK_EVERY", "PART_JOBS", "PART_STRETCHES", "WAITING_JOBS", "WAITING_STRETCHES")
+    for name, value in zip(names, SMALL):
+        text, count = re.subn(rf"(pub const {name}: u64 =) [0-9_]+;", rf"\g<1> {value};", text)
+        assert count == 1
+    file.write_text(text, encoding="utf-8")
+
+
+# So many cases, and so many bytes of their texts, are a run of the small program: `rt` takes half a second for each run, and
+# at most 1 MiB of its output.
+BUNDLE, BYTES = 300, 600_000
 
 
 def bundles(cases: List[Case]) -> List[List[Case]]:
-    """The cases, so many at a time, of which the text isn't longer than `rt` takes."""
-    return [cases[at : at + BUNDLE] for at in range(0, len(cases), BUNDLE)]
+    """The cases, so many at a time."""
+    found: List[List[Case]] = []
+    size = BYTES
+    for case in cases:
+        if size + len(case.text) > BYTES or len(found[-1]) == BUNDLE:
+            found.append([])
+            size = 0
+        found[-1].append(case)
+        size += len(case.text)
+    return found
 
 
 def write_bundle(cases: List[Case], file: Path) -> None:
@@ -291,10 +311,12 @@ def try_laid_out(crate: Path, cases: List[Case]) -> "Tuple[List[int], str]":
     told = re.split(r"^== ([0-9]{4})\n", done.stdout, flags=re.M)
     texts = {int(number): text for number, text in zip(told[1::2], told[2::2])}
     wrong: List[int] = []
+    before = 0
     for number, part in enumerate(parts):
         written = re.findall(r"(?:.*\n)*?status [0-9]+\n", texts.get(number, ""))
         wanted = answers_of(part)
-        wrong += [number * BUNDLE + at for at, text in enumerate(wanted) if at >= len(written) or written[at] != text]
+        wrong += [before + at for at, text in enumerate(wanted) if at >= len(written) or written[at] != text]
+        before += len(part)
     return wrong, done.stdout + done.stderr
 
 
