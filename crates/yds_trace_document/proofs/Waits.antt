@@ -1,5 +1,5 @@
 -- The jobs that wait are those that are shown and begin at the boundary or later.
-use Rattle.yds_model.proofs.Common.{◌≡◌, ℕ, suc, ◌+◌, ◌<◌, ◌≤◌, ◌&&◌, Bool, true, false, cond, List, [], ◌∷◌, ◌++◌, map, filter, length, get_or, ◌∙◌, refl, sym, ap, ap₂, subst, arith, nat_le, cond_both, lt-leb, All, All-head, All-tail, filter-append, map-append, append_assoc, length_push, get_or_at, enumerate_from, Option, None}
+use Rattle.yds_model.proofs.Common.{◌≡◌, ℕ, suc, ◌+◌, ◌<◌, ◌≤◌, ◌&&◌, Bool, true, false, cond, List, [], ◌∷◌, ◌++◌, map, filter, length, get_or, ◌∙◌, refl, sym, ap, ap₂, subst, arith, nat_le, cond_both, lt-leb, All, All-head, All-tail, filter-append, map-append, append_assoc, length_push, get_or_at, enumerate_from, Option}
 use Rattle.yds_kernel.specs.Event.{Said}
 use Rattle.yds_trace.specs.declared.cut.Cut.{Cut}
 use Rattle.yds_trace.specs.declared.shown.ShownTask.{ShownTask}
@@ -21,10 +21,6 @@ use Rattle.yds_trace_document.proofs.Same.{map_same, one_same}
 use Rattle.yds_trace_document.proofs.Sorting.{Rises, map_cond, filter_in_order, rises_in_order, rises_filter}
 
 -- # Filters
-
-pub filter_same : {A : Type 0} (p q : A → Bool) → ((x : A) → p x ≡ q x) → (xs : List A) → filter p xs ≡ filter q xs
-filter_same p q each [] = refl
-filter_same {A} p q each (x ∷ xs) = ap₂ (λ (b : Bool) (l : List A). cond b (x ∷ l) l) (each x) (filter_same p q each xs)
 
 cond_filter : {A : Type 0} (q : A → Bool) (b c : Bool) (x : A) (xs ys : List A) → q x ≡ c → ys ≡ filter q xs →
     cond (b && c) (x ∷ ys) ys ≡ filter q (cond b (x ∷ xs) xs)
