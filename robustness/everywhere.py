@@ -5,7 +5,7 @@
     python3 robustness/everywhere.py --alone [SEED] [TRACES]       the second reading of short traces alone
     python3 robustness/everywhere.py one SEED NUMBER [--short]     writes the trace of this number, and its words to standard error
 
-It draws TRACES traces (50) of some 9,000 to 30,000 lines: periodic threads at home on two to four processors, of which
+It draws TRACES traces (50) of some 9,000 to 30,000 lines: periodic threads at home on one to four processors, of which
 some move. Each trace shows one thing more, which goes round by its number (SHOWN): threads that starve or hang, a
 processor that comes late or has no listed thread, losses and threads that reach back behind a part of another
 processor, faults of lines and documents in a later part, `--from` and `--to`. What is held of each:
@@ -47,7 +47,7 @@ class Drawing(long.Drawing):
     def __init__(self, draw: random.Random, scale: int = 1) -> None:
         super().__init__(draw, scale)
         base = draw.choice([300_000, 1_000_000, 2_000_000])
-        self.processors = draw.choice([2, 2, 3, 4])
+        self.processors = draw.choice([1, 2, 2, 2, 3, 4])
         periods = draw.choice([[1, 1], [1, 1, 5], [1, 2, 3], [1, 1, 2, 7], [1, 2, 2, 3, 5]])
         share = draw.choice([0.2, 0.4, 0.8])
         factor = draw.choice([0.5, 0.5, 1.0, 1.5])
@@ -141,10 +141,9 @@ def starves_nowhere(it: Drawing) -> None:
 def crowded(it: Drawing) -> None:
     """On one processor a job has always run and isn't over, and so it has no place; the others have."""
     one = it.tasks[0]
-    for task in it.tasks[1:]:
+    for task in it.tasks[1:] if it.processors > 1 else []:
         task.home = task.place = it.draw.randrange(1, it.processors)
     slow = Task(len(it.tasks), one.period, 0.9, 1.0, one.home)
-    slow.apart = 0
     it.tasks.append(slow)
     it.it.events.append((it.it.events[0][0] + one.period // 2, len(it.tasks) - 1, True))
     one.busy = 6 * one.period // 10

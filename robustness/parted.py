@@ -133,9 +133,13 @@ class Parts:
             self.asked_on[processor] = replace(self.asked, processor=processor)
         return self.asked_on[processor]
 
-    def processors(self, told: int = 0) -> List[int]:
-        """Those that have documents; `told` is one of which the next line tells."""
-        return list(range(max(self.greatest, told) + 1)) if self.asked.everywhere else [self.asked.processor]
+    def processors(self) -> List[int]:
+        """Those that have documents."""
+        return list(range(self.greatest + 1)) if self.asked.everywhere else [self.asked.processor]
+
+    def watched(self) -> List[Cut]:
+        """How each processor is cut, and one of which no line tells yet."""
+        return [*self.cuts.values(), self.idle] if self.asked.everywhere else list(self.cuts.values())
 
     def cut_of(self, processor: int) -> Cut:
         """How a processor is cut."""
@@ -204,8 +208,9 @@ class Parts:
         return "lost" if not self.asked.cut and is_behind and (self.is_lost_within(line) or self.is_torn) else None
 
     def part_cause(self, line: Line) -> Optional[str]:
-        """It tells of a loss, or of a thread that was there, since a time before a part that was written, of any processor."""
-        cuts = [self.cut_of(processor) for processor in self.processors(line.processor)]
+        """It tells of a loss, or of a thread that was there, since a time before a part that was written, of any processor. A cut at which
+        nothing is written counts, too."""
+        cuts = self.watched()
         if is_loss(line) and any(self.lines.lost_since(line) < cut.decided for cut in cuts):
             return "part written"
         if line.kind != "switch" or self.asked.task_of(line.threads[0]) is None or self.counted.has_switched(line.processor):
@@ -385,16 +390,17 @@ class Parts:
 
     def end(self) -> None:
         """The last part of each processor. At least one document of all has a job."""
-        found = {processor: self.last_jobs(processor) for processor in self.processors()}
-        if self.asked.everywhere and not any(document.rows for document in self.written):
-            if all(one.reason and one.late is None for mine in found.values() for jobs in mine for one in jobs):
-                self.check(Document([], 0, self.asked), f"part {self.cut_of(0).parts + 1}", False)
-        for piece in [self.part(processor, self.cut_of(processor), mine, None) for processor, mine in found.items()]:
+        found = [self.last_part(processor, self.cut_of(processor)) for processor in self.processors()]
+        documents = [*self.written, *(piece.document for piece in found if piece.document is not None)]
+        if self.asked.everywhere and not any(document.rows for document in documents):
+            self.check(documents[0], "part 1", False)
+        for piece in found:
             self.put(piece)
 
-    def last_jobs(self, processor: int) -> List[List[Judged]]:
-        """Those of each task that a processor's last part has."""
-        return [[one for one in all_of if self.belongs(one, processor)] for all_of in self.waiting(processor, self.cut_of(processor))]
+    def last_part(self, processor: int, cut: Cut) -> Piece:
+        """That of a processor."""
+        mine = [[one for one in all_of if self.belongs(one, processor)] for all_of in self.waiting(processor, cut)]
+        return self.part(processor, cut, mine, None)
 
     # The whole
 

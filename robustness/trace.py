@@ -6,9 +6,9 @@
 It draws TRACES traces (1,000) by drawn.py, each with words, and with words that have a mistake: five formats; threads
 that sleep, are preempted, wait, starve and move among processors, with odd names; changes of speed at the stamp of a
 switch; fronts that are cut off, lost events, missing switches, each fault of a line, of its form, of a whole trace and
-of a document; `--from` and `--to`; deadlines that are missed by a nanosecond; and one in eight in parts, of which such
-small traces have one (long.py draws those that have more). The second reading is second.py, and parted.py for parts. It
-shares no code with the crates.
+of a document; `--from` and `--to`; deadlines that are missed by a nanosecond; and one in eight in parts, and one in
+eight of all processors, of which such small traces have one part each (long.py and everywhere.py draw those that have
+more). The second reading is second.py, and parted.py for parts. It shares no code with the crates.
 
 PROGRAM is the program that was built (build/yds_trace, where there is one). Without it a small program over the crate
 `yds_trace_run` does the same on each trace, and `rt try` builds it, unproved. Before the last line it tells how many
@@ -56,7 +56,7 @@ def told(words: List[str], trace: bytes) -> Told:
 REASONS = ["before from", "events lost", "a switch is missing", "its begin isn't in the trace", "ran on another processor", "frequency not known"]
 WANTED = [
     *(f"format {form}" for form in ("kernel", "short", "raw", "perf", "perfetto")),
-    *(f"option {word}" for word in VALUES + FLAGS), "option APART", "a task by its number", "a value behind an equals sign",
+    *(f"option {word}" for word in VALUES + FLAGS), "option --cpu all", "option APART", "a task by its number", "a value behind an equals sign",
     *(f"form: {reason}" for reason in FORMS),
     *(f"line: {cause}" for cause in CAUSES if cause not in ("none", "unwoken", "part written")),
     *(f"whole: {cause}" for cause in ("none", "lost", "a task unseen", "unwoken")),
@@ -81,6 +81,8 @@ def in_words(words: List[str]) -> Iterator[str]:
             yield f"option {name}"
         if name in VALUES and "=" in word:
             yield "a value behind an equals sign"
+    if "--cpu=all" in words or ("--cpu", "all") in zip(words, words[1:]):
+        yield "option --cpu all"
     listed = next((word for word in words if re.search(r":[0-9.]+(,|$)", word)), "")
     if re.search(r":[0-9.]+:[0-9.]+(,|$)", listed):
         yield "option APART"
