@@ -1,5 +1,5 @@
 //! The run of the program.
-ghost use Rattle.std.specs.Prelude.{◌≡◌, ◌≢◌, ◌⊎◌, ◌<◌, ◌≤◌, ℕ, List, Ok, IfSome, Bool, true, false};
+ghost use Rattle.std.specs.Prelude.{◌≡◌, ◌≢◌, ◌⊎◌, ◌<◌, ◌≤◌, ℕ, List, [], Ok, IfSome, Bool, true, false};
 ghost use Rattle.std.specs.Io.KnownBytes.{Appends};
 ghost use Rattle.yds_port.specs.Count.{Rose, next_count};
 ghost use Rattle.yds_kernel.specs.Text.{trace_of};
@@ -96,7 +96,6 @@ pub fn run<S: Source, K: Sink>(
         Ok(Request::Version) => deliver(VERSION, Status::Done, sink),
         Ok(Request::Trace { asked, strict }) => run_trace(alloc, asked, strict, source, sink),
         Ok(Request::Threads) => run_threads(alloc, keys, source, sink),
-        Ok(Request::Threads) => run_threads(alloc, keys, source, sink),
         Err(NoRequest::Fault(fault)) => {
             deliver(fault_line(&fault).as_bytes(), Status::Usage, sink)
         }
@@ -171,7 +170,7 @@ fn run_in_parts<S: Source, K: Sink>(
         Writes (Ok (ReadTrace (asked_read asked) strict)) input result (K.written sink.old) (K.written sink.new) (K.flushed sink.new)) }
 {
     match tell_parts(alloc, asked, strict, source, sink) {
-        Ok(()) => deliver(b"", Status::Done, sink),
+        Ok(()) => finish(sink),
         Err(halt) => tell_halt(&halt, sink),
     }
 }
@@ -192,7 +191,7 @@ fn run_threads<S: Source, K: Sink>(
         Writes (Ok ListThreads) input result (K.written sink.old) (K.written sink.new) (K.flushed sink.new)) }
 {
     match tell_threads(alloc, keys, source, sink) {
-        Ok(()) => deliver(b"", Status::Done, sink),
+        Ok(()) => finish(sink),
         Err(halt) => tell_no_threads(halt, sink),
     }
 }
@@ -213,6 +212,13 @@ fn tell_no_threads<K: Sink>(halt: threads::Halt, sink: &mut K) -> Status
             tell_stopped(Stopped::AtLine { number, cause }, sink)
         }
     }
+}
+
+/// Flushes the sink behind what was written whole.
+fn finish<K: Sink>(sink: &mut K) -> Status
+    ensures { IsDelivered K.written K.flushed K.flushes K.faults [] Status.Done result sink.old sink.new }
+{
+    deliver(b"", Status::Done, sink)
 }
 
 /// Writes why a trace isn't told further, behind the parts that were written.

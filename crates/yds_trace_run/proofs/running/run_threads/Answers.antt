@@ -25,8 +25,8 @@ same_end one other same = cc
 
 pub returns-in-Ok-clause-answer : goal.returns-in-Ok-clause-answer
 returns-in-Ok-clause-answer g c =
-    threads_write g.K.Sink.written g.K.Sink.flushed g.K.Sink.flushes g.K.Sink.faults (g.S.Source.left c.args.source.now) c.deliver.result
-    c.args.sink.now c.tell_threads.new.sink c.deliver.new.sink c.in-Ok.ensures.told c.deliver.ensures
+    threads_write g.K.Sink.written g.K.Sink.flushed g.K.Sink.flushes g.K.Sink.faults (g.S.Source.left c.args.source.now) c.finish.result
+    c.args.sink.now c.tell_threads.new.sink c.finish.new.sink c.in-Ok.ensures.told c.finish.ensures
 
 pub returns-in-Err-clause-answer : goal.returns-in-Err-clause-answer
 returns-in-Err-clause-answer g c =
@@ -35,8 +35,8 @@ returns-in-Err-clause-answer g c =
 
 pub returns-in-Ok-clause-sink : goal.returns-in-Ok-clause-sink
 returns-in-Ok-clause-sink g c =
-    delivered_behind g.K.Sink.written g.K.Sink.flushed g.K.Sink.flushes g.K.Sink.faults [] statuses.Done c.deliver.result c.args.sink.now c.tell_threads.new.sink c.deliver.new.sink
-    c.in-Ok.ensures.sink_later (λ more. not_failed halts.WriteFault (c.in-Ok.ensures.sink_rose more)) c.in-Ok.ensures.flushes_stay c.deliver.ensures
+    delivered_behind g.K.Sink.written g.K.Sink.flushed g.K.Sink.flushes g.K.Sink.faults [] statuses.Done c.finish.result c.args.sink.now c.tell_threads.new.sink c.finish.new.sink
+    c.in-Ok.ensures.sink_later (λ more. not_failed halts.WriteFault (c.in-Ok.ensures.sink_rose more)) c.in-Ok.ensures.flushes_stay c.finish.ensures
 
 pub returns-in-Err-clause-sink : goal.returns-in-Err-clause-sink
 returns-in-Err-clause-sink g c =
@@ -46,7 +46,7 @@ returns-in-Err-clause-sink g c =
 
 pub returns-in-Ok-clause-read_to_its_end : goal.returns-in-Ok-clause-read_to_its_end
 returns-in-Ok-clause-read_to_its_end g c =
-    leaves_nothing (g.S.Source.left c.args.source.now) (g.S.Source.left c.tell_threads.new.source) c.deliver.result _ _ c.in-Ok.ensures.none_left
+    leaves_nothing (g.S.Source.left c.args.source.now) (g.S.Source.left c.tell_threads.new.source) c.finish.result _ _ c.in-Ok.ensures.none_left
 
 pub returns-in-Err-clause-read_to_its_end : goal.returns-in-Err-clause-read_to_its_end
 returns-in-Err-clause-read_to_its_end g c =
