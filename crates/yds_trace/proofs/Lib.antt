@@ -11,3 +11,5 @@ pub mod Forgetting
 pub mod Copying
 pub mod Enough
 pub mod Written
+pub mod OnProcessor
+pub mod Later

@@ -206,6 +206,10 @@ changes_parts asked past cut (Stamped event) =
 changes_parts asked past cut (Lost processor reach) = reaches_back cut (lost_since processor reach past)
 changes_parts asked past cut Nothing = false
 
+-- Behind both of these: a line changes its parts where it changes those of one of them.
+abbrev pub later : Cut → Cut → Cut
+later cut other = record cut { boundary = max cut.boundary other.boundary; decided = max cut.decided other.decided }
+
 -- what a line is refused for, behind these parts
 abbrev pub part_fault : Asked → List Said → Cut → Said → Option Cause
 part_fault asked past cut said = if changes_parts asked past cut said then Some causes.PartWritten else None

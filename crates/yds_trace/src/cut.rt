@@ -1,4 +1,6 @@
 //! What was written of a trace that is told in parts.
+ghost use Rattle.std.specs.Prelude.{◌≡◌};
+ghost use Rattle.yds_trace.specs.Parts.{later};
 
 /// The parts that were written up to a line. Times are nanoseconds of the trace's clock.
 #[derive(Clone, Copy, Debug, PartialEq, Eq)]
@@ -23,3 +25,18 @@ pub const NO_CUT: Cut = Cut {
     jobs: 0,
     due: 0,
 };
+
+impl Cut {
+    /// Behind both cuts: a line changes its parts where it changes those of one of them.
+    pub fn later(self, other: Cut) -> Cut
+        ensures { result ≡ later self other }
+    {
+        Cut {
+            boundary: self.boundary.max(other.boundary),
+            decided: self.decided.max(other.decided),
+            parts: self.parts,
+            jobs: self.jobs,
+            due: self.due,
+        }
+    }
+}

@@ -159,6 +159,15 @@ impl Pass {
         self.counted.boundary = boundary;
     }
 
+    /// Asks for another processor.
+    pub fn turn_to(&mut self, processor: u64)
+        ensures stands { (asked : asking.Asked) (past : List trace.Said) (boundary : ℕ) → IsAtBehind asked past boundary self.old
+            → IsAtBehind (asking.on processor asked) past boundary self.new }
+        ensures forgets { told_to_forget self.new ≡ told_to_forget self.old }
+    {
+        self.asked.processor = processor;
+    }
+
     /// Takes what the next line says, and forgets no job.
     fn take_said(&mut self, alloc: Global, said: Said<'_>) -> Result<(), Refused>
         ensures taken { (asked : asking.Asked) (past : List trace.Said) → IsStanding asked past self.old

@@ -71,6 +71,7 @@ fn asked(alloc: Global) -> Result<Asked, AllocError> {
         begin_at_run: false,
         cut_losses: false,
         in_parts: false,
+        everywhere: false,
     })
 }
 
@@ -353,6 +354,49 @@ fn a_line_that_changes_parts_is_refused(rt: HostRuntime) -> Result<(), Fail> {
     assert_eq!(rt; pass.check_parts(&comes(5, 60_000), cut), Ok(()));
     assert_eq!(rt; pass.check_parts(&lost(0), NO_CUT), Ok(()));
     Ok(())
+}
+
+#[test]
+fn another_processor_has_the_same_jobs(rt: HostRuntime) -> Result<(), Fail> {
+    let alloc = rt.alloc();
+    let lines = [
+        woken(10_000),
+        comes(1, 12_000),
+        leaves(1, 40_000, State::Sleeps),
+    ];
+    let mut pass = pass_over(alloc, asked(alloc)?, &lines)?;
+    pass.turn_to(1);
+    assert_eq!(rt; pass.asked().processor, 1);
+    let shown = pass.shown(alloc)?;
+    assert_eq!(rt; shown.tasks.len(), 1);
+    let task = &shown.tasks[0];
+    assert_eq!(rt; task.jobs.len(), 1);
+    let job = &task.jobs[0];
+    assert_eq!(rt; job.end, End::Ended(40_000));
+    Ok(())
+}
+
+#[test]
+fn a_later_cut_is_behind_both(rt: HostRuntime) {
+    let one = Cut {
+        boundary: 40_000,
+        decided: 50_000,
+        parts: 1,
+        jobs: 2,
+        due: 45_000,
+    };
+    let other = Cut {
+        boundary: 30_000,
+        decided: 60_000,
+        parts: 3,
+        jobs: 4,
+        due: 35_000,
+    };
+    let both = Cut {
+        decided: 60_000,
+        ..one
+    };
+    assert_eq!(rt; one.later(other), both);
 }
 
 #[test]

@@ -1,5 +1,5 @@
 -- Works that are capped at 64 bits are refused as those that are whole, and what isn't refused isn't capped.
-use Rattle.yds_model.proofs.Common.{◌≡◌, ℕ, suc, ◌+◌, ◌≤◌, ◌==◌, ◌&&◌, Bool, true, false, not, cond, List, [], ◌∷◌, map, length, ◌∙◌, refl, ap, ap₂, arith, nat_lt, nat_le, eqb-true, leb-true, le-leb, ltb-false, Option, Some, None, option_map, position, prefix_len, length-map, if◌then◌else◌}
+use Rattle.yds_model.proofs.Common.{◌≡◌, ℕ, suc, ◌+◌, ◌≤◌, ◌==◌, ◌&&◌, ◌||◌, Bool, true, false, not, cond, List, [], ◌∷◌, map, length, ◌∙◌, refl, ap, ap₂, arith, nat_lt, nat_le, eqb-true, leb-true, le-leb, ltb-false, Option, Some, None, option_map, position, prefix_len, length-map, if◌then◌else◌}
 use Rattle.yds_model.specs.declared.limits.TheConstants.{MAX_JOBS, MAX_SLOTS, MAX_WORK}
 use Rattle.yds_kernel.specs.Parts.{capped, or_else}
 use Rattle.yds_trace.specs.Document.{Written}
@@ -7,6 +7,7 @@ use Rattle.yds_trace_document.specs.declared.fault.DocumentFault.{DocumentFault}
 use Rattle.yds_trace_document.specs.declared.fault.DocumentFault.TheVariants as faults
 use Rattle.yds_trace_document.specs.Settled.{Settled, with_capped_work, with_capped_works}
 use Rattle.yds_trace.specs.declared.cut.Cut.{Cut}
+use Rattle.yds_trace.specs.Asked.{Asked}
 use Rattle.yds_trace_document.specs.Part.{part_limit_fault}
 use Rattle.yds_trace_document.specs.Limits.{fault_if, is_long_name, is_beyond, is_heavy, job_fault, speed_fault, missed_fault, limit_fault}
 use Rattle.yds_trace_document.proofs.Lists.{position_map}
@@ -119,13 +120,14 @@ within_caps strict settled none =
 
 -- # The same of a part
 
-abbrev part_shaped : Bool → Cut → Settled → Bool → Option DocumentFault → Option DocumentFault
-part_shaped strict cut settled none limit = if nat_lt 0 cut.parts && none then (if strict then missed_fault settled.judged else None) else limit
+abbrev part_shaped : Asked → Bool → Cut → Settled → Bool → Option DocumentFault → Option DocumentFault
+part_shaped asked strict cut settled none limit =
+    if (asked.everywhere || nat_lt 0 cut.parts) && none then (if strict then missed_fault settled.judged else None) else limit
 
-pub part_limits_same : (strict : Bool) (cut : Cut) (settled : Settled) →
-    part_limit_fault strict cut (with_capped_works settled) ≡ part_limit_fault strict cut settled
-part_limits_same strict cut settled =
-    ap₂ (part_shaped strict cut settled) (ap (λ (n : ℕ). n == 0) (length-map settled.document.jobs with_capped_work)) (limits_same strict settled)
+pub part_limits_same : (asked : Asked) (strict : Bool) (cut : Cut) (settled : Settled) →
+    part_limit_fault asked strict cut (with_capped_works settled) ≡ part_limit_fault asked strict cut settled
+part_limits_same asked strict cut settled =
+    ap₂ (part_shaped asked strict cut settled) (ap (λ (n : ℕ). n == 0) (length-map settled.document.jobs with_capped_work)) (limits_same strict settled)
 
 no_jobs : (jobs : List Written) → (length jobs == 0) ≡ true → map with_capped_work jobs ≡ jobs
 no_jobs [] none = refl
@@ -139,6 +141,7 @@ within_one strict true false cut settled is none = within_caps strict settled no
 within_one strict false true cut settled is none = within_caps strict settled none
 within_one strict false false cut settled is none = within_caps strict settled none
 
-pub part_within_caps : (strict : Bool) (cut : Cut) (settled : Settled) → part_limit_fault strict cut settled ≡ None → with_capped_works settled ≡ settled
-part_within_caps strict cut settled none =
-    within_one strict (nat_lt 0 cut.parts) (length settled.document.jobs == 0) cut settled refl none
+pub part_within_caps : (asked : Asked) (strict : Bool) (cut : Cut) (settled : Settled) → part_limit_fault asked strict cut settled ≡ None →
+    with_capped_works settled ≡ settled
+part_within_caps asked strict cut settled none =
+    within_one strict (asked.everywhere || nat_lt 0 cut.parts) (length settled.document.jobs == 0) cut settled refl none

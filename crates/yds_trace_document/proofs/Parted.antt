@@ -21,7 +21,7 @@ capped_same units by_task judged =
     ∙ ap (in_order (λ (placed : Placed). placed.run.from)) (runs_same 0 (filter_map (written_of units) judged)))
 
 pub in_line : (asked : Asked) (past : List Said) (cut : Cut) (until : Option ℕ) (by_task : List (List Judged)) →
-    by_task ≡ part_by_task asked past cut until 0 asked.tasks → in_order begin_of (together by_task) ≡ part_until asked past cut until
+    by_task ≡ part_by_task asked past cut until → in_order begin_of (together by_task) ≡ part_until asked past cut until
 in_line asked past cut until by_task are = ap (λ (l : List (List Judged)). in_order begin_of (together l)) are ∙ part_in_order asked past cut until
 
 zero_same : (asked : Asked) (past : List Said) (first : ℕ) → first ≡ first_time 0 past → unwrap_or asked.from first ≡ whole_zero asked past
@@ -37,11 +37,11 @@ abbrev made_of : Asked → List (List Judged) → List Judged → ℕ → ℕ �
 made_of asked by_task judged origin shift = with_capped_works (settled_in (shifted origin asked shift) by_task judged)
 
 pub part_same : (asked : Asked) (past : List Said) (cut : Cut) (until : Option ℕ) (first shift : ℕ) (by_task : List (List Judged)) (judged : List Judged) →
-    first ≡ first_time 0 past → by_task ≡ part_by_task asked past cut until 0 asked.tasks → judged ≡ part_until asked past cut until →
+    first ≡ first_time 0 past → by_task ≡ part_by_task asked past cut until → judged ≡ part_until asked past cut until →
     shift ≡ shift_from (unwrap_or asked.from first) asked.unit judged →
     capped_in (shifted (unwrap_or asked.from first) asked shift) by_task judged ≡ with_capped_works (part_of asked past cut until)
 part_same asked past cut until first shift by_task judged is lists are so =
     capped_same (shifted (unwrap_or asked.from first) asked shift) by_task judged
     ∙ ap₂ (λ (l : List (List Judged)) (part : List Judged). made_of asked l part (unwrap_or asked.from first) shift) lists are
-    ∙ ap₂ (made_of asked (part_by_task asked past cut until 0 asked.tasks) (part_until asked past cut until)) (zero_same asked past first is)
+    ∙ ap₂ (made_of asked (part_by_task asked past cut until) (part_until asked past cut until)) (zero_same asked past first is)
     (so ∙ shift_same asked past cut until first judged is are)

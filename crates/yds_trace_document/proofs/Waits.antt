@@ -1,5 +1,5 @@
 -- The jobs that wait are those that are shown and begin at the boundary or later.
-use Rattle.yds_model.proofs.Common.{◌≡◌, ℕ, suc, ◌+◌, ◌<◌, ◌≤◌, ◌&&◌, Bool, true, false, cond, List, [], ◌∷◌, ◌++◌, map, filter, length, get_or, ◌∙◌, refl, sym, ap, ap₂, subst, arith, nat_le, cond_both, lt-leb, All, All-head, All-tail, filter-append, map-append, append_assoc, length_push, get_or_at, enumerate_from, Option, None}
+use Rattle.yds_model.proofs.Common.{◌≡◌, ℕ, suc, ◌+◌, ◌<◌, ◌≤◌, ◌&&◌, Bool, true, false, cond, List, [], ◌∷◌, ◌++◌, map, filter, length, get_or, ◌∙◌, refl, sym, ap, ap₂, subst, arith, nat_le, cond_both, lt-leb, All, All-head, All-tail, filter-append, map-append, append_assoc, length_push, get_or_at, enumerate_from, Option}
 use Rattle.yds_kernel.specs.Event.{Said}
 use Rattle.yds_trace.specs.declared.cut.Cut.{Cut}
 use Rattle.yds_trace.specs.declared.shown.ShownTask.{ShownTask}
@@ -9,10 +9,10 @@ use Rattle.yds_trace.specs.Jobs.{Job}
 use Rattle.yds_trace.specs.Shown.{IsShownTask}
 use Rattle.yds_trace.specs.Views.{job_read}
 use Rattle.yds_trace.specs.Document.{Judged, judged, judged_of, judged_from, jobs_of, began_before, put_in, in_order, all_judged}
-use Rattle.yds_trace.specs.Parts.{begins_from, is_before_end, waiting, part_until}
+use Rattle.yds_trace.specs.Parts.{belongs, begins_from, is_before_end, of_part, waiting, part_until}
 use Rattle.yds_trace_document.specs.Kept.{Within, within_of, judged_at, judged_jobs, shown_task, shown_tasks, begin_of, together}
-use Rattle.yds_trace_document.specs.Part.{is_in_part, part_by_task}
-use Rattle.yds_trace_document.specs.PartKept.{items_until}
+use Rattle.yds_trace_document.specs.Part.{waiting_by_task, part_by_task}
+use Rattle.yds_trace_document.specs.PartKept.{items_of_part}
 use Rattle.std.specs.Prelude.{Vec}
 use Rattle.std.specs.declared.alloc.Global.{Global}
 use Rattle.yds_trace_document.specs.declared.judged.Judged.{Judged as JudgedKept}
@@ -21,10 +21,6 @@ use Rattle.yds_trace_document.proofs.Same.{map_same, one_same}
 use Rattle.yds_trace_document.proofs.Sorting.{Rises, map_cond, filter_in_order, rises_in_order, rises_filter}
 
 -- # Filters
-
-pub filter_same : {A : Type 0} (p q : A → Bool) → ((x : A) → p x ≡ q x) → (xs : List A) → filter p xs ≡ filter q xs
-filter_same p q each [] = refl
-filter_same {A} p q each (x ∷ xs) = ap₂ (λ (b : Bool) (l : List A). cond b (x ∷ l) l) (each x) (filter_same p q each xs)
 
 cond_filter : {A : Type 0} (q : A → Bool) (b c : Bool) (x : A) (xs ys : List A) → q x ≡ c → ys ≡ filter q xs →
     cond (b && c) (x ∷ ys) ys ≡ filter q (cond b (x ∷ xs) xs)
@@ -40,14 +36,6 @@ filter_of_map p f [] = refl
 filter_of_map {A} {B} p f (x ∷ xs) =
     map_cond f (p (f x)) (x ∷ filter (λ y. p (f y)) xs) (filter (λ y. p (f y)) xs)
     ∙ ap (λ (l : List B). cond (p (f x)) (f x ∷ l) l) (filter_of_map p f xs)
-
-filter_all : {A : Type 0} (xs : List A) → filter (λ x. true) xs ≡ xs
-filter_all [] = refl
-filter_all {A} (x ∷ xs) = ap (λ (l : List A). x ∷ l) (filter_all xs)
-
-and_true : (b : Bool) → (b && true) ≡ b
-and_true true = refl
-and_true false = refl
 
 -- # One task
 
@@ -81,7 +69,7 @@ kept_left within number task before boundary forgotten jobs earlier =
 
 shown_same : (asked : Asked) (past : List Said) (cut : Cut) (number : ℕ) (task : Task) (shown : ShownTask) → task_at asked number ≡ task →
     IsShownTask asked past cut.boundary number shown →
-    shown_task (within_of asked (last_time past)) cut.boundary number task shown ≡ filter (is_in_part cut None) (judged_of asked past number)
+    shown_task (within_of asked (last_time past)) cut.boundary number task shown ≡ filter (begins_from cut.boundary) (judged_of asked past number)
 shown_same asked past cut number task shown is known =
     ap₂ (λ (before : Bool) (first : ℕ). filter (begins_from cut.boundary)
     (judged_jobs (within_of asked (last_time past)) number task before first (map job_read shown.jobs.items))) known.before known.as_many
@@ -95,14 +83,13 @@ shown_same asked past cut number task shown is known =
     (map_same (judged_at (within_of asked (last_time past)) number (task_at asked number) (began_before (jobs_of asked past number)))
     (judged asked past number (began_before (jobs_of asked past number)))
     (one_same asked past number (began_before (jobs_of asked past number))) (enumerate_from 0 (jobs_of asked past number)))
-    ∙ filter_same (begins_from cut.boundary) (is_in_part cut None) (λ one. sym (and_true (begins_from cut.boundary one))) (judged_of asked past number)
 
 -- # All tasks
 
 tasks_shown : (asked : Asked) (past : List Said) (cut : Cut) (front tasks : List Task) (shown : List ShownTask) → asked.tasks ≡ front ++ tasks →
     length shown ≡ length tasks →
     ((i : ℕ) (d : ShownTask) → i < length tasks → IsShownTask asked past cut.boundary (length front + i) (get_or shown i d)) →
-    shown_tasks (within_of asked (last_time past)) cut.boundary (length front) tasks shown ≡ part_by_task asked past cut None (length front) tasks
+    shown_tasks (within_of asked (last_time past)) cut.boundary (length front) tasks shown ≡ waiting_by_task asked past cut (length front) tasks
 tasks_shown asked past cut front [] shown is same each = refl
 tasks_shown asked past cut front (task ∷ tasks) [] is same each = absurd (omega arith)
 tasks_shown asked past cut front (task ∷ tasks) (one ∷ shown) is same each =
@@ -114,62 +101,67 @@ tasks_shown asked past cut front (task ∷ tasks) (one ∷ shown) is same each =
     let later : (i : ℕ) (d : ShownTask) → i < length tasks → IsShownTask asked past cut.boundary (length (front ++ task ∷ []) + i) (get_or shown i d) =
     λ i d within. subst (λ (n : ℕ). IsShownTask asked past cut.boundary n (get_or shown i d))
     (let e : length front + suc i ≡ length (front ++ task ∷ []) + i = omega (arith, counted) in e) (each (suc i) d (omega arith)) in
-    let rest = subst (λ (n : ℕ). shown_tasks (within_of asked (last_time past)) cut.boundary n tasks shown ≡ part_by_task asked past cut None n tasks)
+    let rest = subst (λ (n : ℕ). shown_tasks (within_of asked (last_time past)) cut.boundary n tasks shown ≡ waiting_by_task asked past cut n tasks)
     counted (tasks_shown asked past cut (front ++ task ∷ []) tasks shown (is ∙ sym (append_assoc front (task ∷ []) tasks)) (omega (arith, same)) later) in
     ap₂ (λ (some : List Judged) (more : List (List Judged)). some ∷ more) (shown_same asked past cut (length front) task one here first) rest
 
 pub all_shown : (asked : Asked) (past : List Said) (cut : Cut) (shown : List ShownTask) → length shown ≡ length asked.tasks →
     ((i : ℕ) (d : ShownTask) → i < length asked.tasks → IsShownTask asked past cut.boundary i (get_or shown i d)) →
-    shown_tasks (within_of asked (last_time past)) cut.boundary 0 asked.tasks shown ≡ part_by_task asked past cut None 0 asked.tasks
+    shown_tasks (within_of asked (last_time past)) cut.boundary 0 asked.tasks shown ≡ waiting_by_task asked past cut 0 asked.tasks
 all_shown asked past cut shown same each =
     tasks_shown asked past cut [] asked.tasks shown refl same
     (λ i d within. subst (λ (n : ℕ). IsShownTask asked past cut.boundary n (get_or shown i d)) (let e : i ≡ 0 + i = omega arith in e) (each i d within))
 
--- # A part's jobs in order of begin
+-- # The waiting jobs in order of begin
 
-together_part : (asked : Asked) (past : List Said) (cut : Cut) (until : Option ℕ) (number : ℕ) (tasks : List Task) →
-    together (part_by_task asked past cut until number tasks) ≡ filter (is_in_part cut until) (judged_from asked past number tasks)
-together_part asked past cut until number [] = refl
-together_part asked past cut until number (task ∷ tasks) =
-    ap (λ (more : List Judged). filter (is_in_part cut until) (judged_of asked past number) ++ more) (together_part asked past cut until (number + 1) tasks)
-    ∙ sym (filter-append (is_in_part cut until) (judged_of asked past number) (judged_from asked past (number + 1) tasks))
-
-pub part_in_order : (asked : Asked) (past : List Said) (cut : Cut) (until : Option ℕ) →
-    in_order begin_of (together (part_by_task asked past cut until 0 asked.tasks)) ≡ part_until asked past cut until
-part_in_order asked past cut until =
-    ap (in_order begin_of) (together_part asked past cut until 0 asked.tasks)
-    ∙ sym (filter_in_order begin_of (is_in_part cut until) (judged_from asked past 0 asked.tasks))
-    ∙ filter_both (begins_from cut.boundary) (is_before_end until) (all_judged asked past)
+together_waiting : (asked : Asked) (past : List Said) (cut : Cut) (number : ℕ) (tasks : List Task) →
+    together (waiting_by_task asked past cut number tasks) ≡ filter (begins_from cut.boundary) (judged_from asked past number tasks)
+together_waiting asked past cut number [] = refl
+together_waiting asked past cut number (task ∷ tasks) =
+    ap (λ (more : List Judged). filter (begins_from cut.boundary) (judged_of asked past number) ++ more) (together_waiting asked past cut (number + 1) tasks)
+    ∙ sym (filter-append (begins_from cut.boundary) (judged_of asked past number) (judged_from asked past (number + 1) tasks))
 
 pub waiting_in_order : (asked : Asked) (past : List Said) (cut : Cut) →
-    in_order begin_of (together (part_by_task asked past cut None 0 asked.tasks)) ≡ waiting asked past cut
-waiting_in_order asked past cut = part_in_order asked past cut None ∙ filter_all (waiting asked past cut)
+    in_order begin_of (together (waiting_by_task asked past cut 0 asked.tasks)) ≡ waiting asked past cut
+waiting_in_order asked past cut =
+    ap (in_order begin_of) (together_waiting asked past cut 0 asked.tasks)
+    ∙ sym (filter_in_order begin_of (begins_from cut.boundary) (judged_from asked past 0 asked.tasks))
 
--- # A part's jobs of each task
+-- # Those of a part
 
-task_until : (cut : Cut) (until : Option ℕ) (jobs : List Judged) →
-    filter (is_before_end until) (filter (is_in_part cut None) jobs) ≡ filter (is_in_part cut until) jobs
-task_until cut until jobs =
-    sym (filter_both (is_in_part cut None) (is_before_end until) jobs)
-    ∙ filter_same (λ one. is_in_part cut None one && is_before_end until one) (is_in_part cut until)
-    (λ one. ap (λ (b : Bool). b && is_before_end until one) (and_true (begins_from cut.boundary one))) jobs
+pub of_part_append : (asked : Asked) (until : Option ℕ) (jobs more : List Judged) → of_part asked until (jobs ++ more) ≡ of_part asked until jobs ++ of_part asked until more
+of_part_append asked until jobs more =
+    ap (filter (belongs asked)) (filter-append (is_before_end until) jobs more)
+    ∙ filter-append (belongs asked) (filter (is_before_end until) jobs) (filter (is_before_end until) more)
 
-tasks_until : (asked : Asked) (past : List Said) (cut : Cut) (until : Option ℕ) (number : ℕ) (tasks : List Task) →
-    map (filter (is_before_end until)) (part_by_task asked past cut None number tasks) ≡ part_by_task asked past cut until number tasks
-tasks_until asked past cut until number [] = refl
-tasks_until asked past cut until number (task ∷ tasks) =
-    ap₂ (λ (some : List Judged) (more : List (List Judged)). some ∷ more) (task_until cut until (judged_of asked past number))
-    (tasks_until asked past cut until (number + 1) tasks)
+of_part_together : (asked : Asked) (until : Option ℕ) (by_task : List (List Judged)) →
+    together (map (of_part asked until) by_task) ≡ of_part asked until (together by_task)
+of_part_together asked until [] = refl
+of_part_together asked until (jobs ∷ by_task) =
+    ap (λ (more : List Judged). of_part asked until jobs ++ more) (of_part_together asked until by_task)
+    ∙ sym (of_part_append asked until jobs (together by_task))
 
-items_of : (until : Option ℕ) (by_task : List (Vec JudgedKept Global)) → map (items_until until) by_task ≡ map (filter (is_before_end until)) (judged_lists by_task)
-items_of until [] = refl
-items_of until (judged ∷ by_task) = ap (λ (more : List (List Judged)). items_until until judged ∷ more) (items_of until by_task)
+of_part_in_order : (asked : Asked) (until : Option ℕ) (jobs : List Judged) → of_part asked until (in_order begin_of jobs) ≡ in_order begin_of (of_part asked until jobs)
+of_part_in_order asked until jobs =
+    ap (filter (belongs asked)) (filter_in_order begin_of (is_before_end until) jobs)
+    ∙ filter_in_order begin_of (belongs asked) (filter (is_before_end until) jobs)
 
-pub all_until : (asked : Asked) (past : List Said) (cut : Cut) (until : Option ℕ) (by_task : List (Vec JudgedKept Global)) →
-    judged_lists by_task ≡ part_by_task asked past cut None 0 asked.tasks →
-    map (items_until until) by_task ≡ part_by_task asked past cut until 0 asked.tasks
-all_until asked past cut until by_task are =
-    items_of until by_task ∙ ap (map (filter (is_before_end until))) are ∙ tasks_until asked past cut until 0 asked.tasks
+pub part_in_order : (asked : Asked) (past : List Said) (cut : Cut) (until : Option ℕ) →
+    in_order begin_of (together (part_by_task asked past cut until)) ≡ part_until asked past cut until
+part_in_order asked past cut until =
+    ap (in_order begin_of) (of_part_together asked until (waiting_by_task asked past cut 0 asked.tasks))
+    ∙ sym (of_part_in_order asked until (together (waiting_by_task asked past cut 0 asked.tasks)))
+    ∙ ap (of_part asked until) (waiting_in_order asked past cut)
+
+items_of : (asked : Asked) (until : Option ℕ) (by_task : List (Vec JudgedKept Global)) →
+    map (items_of_part asked until) by_task ≡ map (of_part asked until) (judged_lists by_task)
+items_of asked until [] = refl
+items_of asked until (judged ∷ by_task) = ap (λ (more : List (List Judged)). items_of_part asked until judged ∷ more) (items_of asked until by_task)
+
+pub all_of_part : (asked : Asked) (past : List Said) (cut : Cut) (until : Option ℕ) (by_task : List (Vec JudgedKept Global)) →
+    judged_lists by_task ≡ waiting_by_task asked past cut 0 asked.tasks →
+    map (items_of_part asked until) by_task ≡ part_by_task asked past cut until
+all_of_part asked past cut until by_task are = items_of asked until by_task ∙ ap (map (of_part asked until)) are
 
 -- # What is known of each that waits
 

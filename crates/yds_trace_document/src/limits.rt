@@ -1,7 +1,8 @@
 //! The limits of a document.
-ghost use Rattle.std.specs.Prelude.{◌≡◌, position};
+ghost use Rattle.std.specs.Prelude.{◌≡◌, ◌||◌, nat_lt, position};
 ghost use Rattle.std.specs.List.{list_any};
 ghost use Rattle.yds_trace.specs.Document as document;
+ghost use Rattle.yds_trace.specs.Views.{asked_read};
 ghost use Rattle.yds_trace_document.specs.Limits as spec;
 ghost use Rattle.yds_trace_document.specs.Part as part;
 ghost use Rattle.yds_trace_document.specs.Views.{units_read, run_read, judged_read, judged_list, written_read, written_list, settled_read};
@@ -13,7 +14,7 @@ use crate::settlement::Settled;
 use crate::units::Units;
 use crate::written::Written;
 use yds_model::limits::{MAX_JOBS, MAX_RUN_SPEED, MAX_SLOTS, MAX_TIME, MAX_WORK};
-use yds_trace::{Cut, Reason, Stretch};
+use yds_trace::{Asked, Cut, Reason, Stretch};
 
 /// The first cause for which what is settled isn't written as a document, if there is one. With `strict` no job may be missed.
 /// It takes no memory.
@@ -43,11 +44,16 @@ pub fn limit_fault(strict: bool, settled: &Settled<'_>) -> Option<DocumentFault>
 }
 
 /// The first cause for which what is settled of a part isn't written behind the parts of this cut. The last one may be without a
-/// job where there are others. It takes no memory.
-pub fn part_limit_fault(strict: bool, cut: Cut, settled: &Settled<'_>) -> Option<DocumentFault>
-    ensures { result ≡ part.part_limit_fault strict cut (settled_read settled.now) }
+/// job where there are others, and each one where each processor has its own. It takes no memory.
+pub fn part_limit_fault(
+    asked: &Asked,
+    strict: bool,
+    cut: Cut,
+    settled: &Settled<'_>,
+) -> Option<DocumentFault>
+    ensures { result ≡ part.part_limit_fault (asked_read asked.now) strict cut (settled_read settled.now) }
 {
-    if cut.parts == 0 || !settled.jobs.is_empty() {
+    if !may_be_empty(asked, cut) || !settled.jobs.is_empty() {
         return limit_fault(strict, settled);
     }
     if strict {
@@ -55,6 +61,13 @@ pub fn part_limit_fault(strict: bool, cut: Cut, settled: &Settled<'_>) -> Option
     } else {
         None
     }
+}
+
+/// Whether a part behind those of this cut may be without a job.
+fn may_be_empty(asked: &Asked, cut: Cut) -> bool
+    ensures { result ≡ asked.now.everywhere || nat_lt 0 cut.parts }
+{
+    asked.everywhere || cut.parts > 0
 }
 
 /// The first name, time or work of a job that is above its limit.

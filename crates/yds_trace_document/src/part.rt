@@ -1,5 +1,5 @@
 //! The jobs of a part, and what is settled of them.
-ghost use Rattle.std.specs.Prelude.{◌≡◌, ◌≤◌, ◌+◌, ◌*◌, List, IfOk, None, map, filter, length};
+ghost use Rattle.std.specs.Prelude.{◌≡◌, ◌≤◌, ◌+◌, ◌*◌, List, IfOk, map, filter, length};
 ghost use Rattle.std.specs.List.{All};
 ghost use Rattle.yds_kernel.specs.declared.limits.TheConstants.{MAX_U64};
 ghost use Rattle.yds_kernel.specs.Event.{Said};
@@ -7,7 +7,7 @@ ghost use Rattle.yds_trace.specs.declared.cut.Cut.{Cut};
 ghost use Rattle.yds_trace.specs.declared.limits.TheConstants.{MAX_DEADLINE};
 ghost use Rattle.yds_trace.specs.Asked as words;
 ghost use Rattle.yds_trace.specs.Past.{first_time};
-ghost use Rattle.yds_trace.specs.Parts.{begins_from, is_before_end, waiting};
+ghost use Rattle.yds_trace.specs.Parts as parts;
 ghost use Rattle.yds_trace.specs.Shown.{IsShown};
 ghost use Rattle.yds_trace.specs.Views.{task_read, asked_read};
 ghost use Rattle.yds_trace_document.specs.Kept as kept;
@@ -17,6 +17,7 @@ ghost use Rattle.yds_trace_document.specs.Views.{units_read, judged_list, judged
 
 use crate::judge::{Within, judge_jobs};
 use crate::judged::Judged;
+use crate::membership::belongs;
 use crate::settlement::{Settled, in_order_of_begins, settled_in};
 use crate::units::Units;
 use std::alloc::Global;
@@ -66,7 +67,7 @@ fn judge_by_task<'a>(
     requires { kept.IsPlainShown asked.now shown.now }
     ensures { (past : List Said) (cut : Cut) → cut.boundary ≡ boundary → IsShown (asked_read asked.entry.now) past boundary shown.entry.now
         → IfOk result (λ by_task. judged_lists by_task.items
-        ≡ spec.part_by_task (asked_read asked.entry.now) past cut None 0 (map task_read asked.entry.now.tasks.items)) }
+        ≡ spec.waiting_by_task (asked_read asked.entry.now) past cut 0 (map task_read asked.entry.now.tasks.items)) }
 {
     let within = Within {
         processor: asked.processor,
@@ -124,7 +125,7 @@ fn judge_shown<'a>(
 
 /// Those that begin at this time or later.
 fn begun_from<'a>(boundary: u64, mut jobs: Vec<Judged<'a>>) -> Vec<Judged<'a>>
-    ensures { judged_list result.items ≡ filter (begins_from boundary) (judged_list jobs.entry.items) }
+    ensures { judged_list result.items ≡ filter (parts.begins_from boundary) (judged_list jobs.entry.items) }
 {
     jobs.retain(|judged| judged.job.begin >= boundary);
     jobs
@@ -132,8 +133,8 @@ fn begun_from<'a>(boundary: u64, mut jobs: Vec<Judged<'a>>) -> Vec<Judged<'a>>
 
 /// The jobs that wait, in order of begin; those of one time in order of tasks.
 fn waiting_jobs<'a>(alloc: Global, by_task: &[Vec<Judged<'a>>]) -> Result<Vec<Judged<'a>>, Memory>
-    ensures { (asked : words.Asked) (past : List Said) (cut : Cut) → judged_lists by_task.now ≡ spec.part_by_task asked past cut None 0 asked.tasks
-        → IfOk result (λ jobs. judged_list jobs.items ≡ waiting asked past cut) }
+    ensures { (asked : words.Asked) (past : List Said) (cut : Cut) → judged_lists by_task.now ≡ spec.waiting_by_task asked past cut 0 asked.tasks
+        → IfOk result (λ jobs. judged_list jobs.items ≡ parts.waiting asked past cut) }
 {
     in_order_of_begins(alloc, by_task)
 }
@@ -150,23 +151,39 @@ fn is_before(until: Option<u64>, time: u64) -> bool
 
 /// Those that begin before a part's end.
 fn begun_before<'a>(until: Option<u64>, mut jobs: Vec<Judged<'a>>) -> Vec<Judged<'a>>
-    ensures { judged_list result.items ≡ filter (is_before_end until) (judged_list jobs.entry.items) }
+    ensures { judged_list result.items ≡ filter (parts.is_before_end until) (judged_list jobs.entry.items) }
 {
     jobs.retain(|judged| is_before(until, judged.job.begin));
     jobs
 }
 
-/// Those of each task that begin before a part's end.
-fn each_before<'a>(
+/// Those that belong to the documents of the processor that is asked for.
+fn belonging<'a>(asked: &Asked, mut jobs: Vec<Judged<'a>>) -> Vec<Judged<'a>>
+    ensures { judged_list result.items ≡ filter (parts.belongs (asked_read asked.now)) (judged_list jobs.entry.items) }
+{
+    jobs.retain(|judged| belongs(asked, judged));
+    jobs
+}
+
+/// Those that the part which ends at this time has, or the last one.
+fn of_part<'a>(asked: &Asked, until: Option<u64>, jobs: Vec<Judged<'a>>) -> Vec<Judged<'a>>
+    ensures { judged_list result.items ≡ parts.of_part (asked_read asked.now) until (judged_list jobs.entry.items) }
+{
+    belonging(asked, begun_before(until, jobs))
+}
+
+/// Those of each task that the part has.
+fn part_by_task<'a>(
     alloc: Global,
+    asked: &Asked,
     until: Option<u64>,
     by_task: Vec<Vec<Judged<'a>>>,
 ) -> Result<Vec<Vec<Judged<'a>>>, Memory>
-    ensures { IfOk result (λ some. judged_lists some.items ≡ map (made.items_until until) by_task.entry.items) }
+    ensures { IfOk result (λ some. judged_lists some.items ≡ map (made.items_of_part (asked_read asked.now) until) by_task.entry.items) }
 {
     let mut some = Vec::with_capacity(alloc, by_task.len())?;
     for jobs in by_task {
-        some.push(begun_before(until, jobs))?;
+        some.push(of_part(asked, until, jobs))?;
     }
     Ok(some)
 }
@@ -198,7 +215,7 @@ pub fn settle_part<'a>(
         → made.IsWaiting (asked_read asked.now) past cut waiting.entry
         → IfOk result (made.IsPart (asked_read asked.now) past cut until) }
 {
-    let by_task = each_before(alloc, until, waiting.by_task)?;
+    let by_task = part_by_task(alloc, asked, until, waiting.by_task)?;
     let judged = in_order_of_begins(alloc, &by_task)?;
     let zero = asked.from.unwrap_or(first);
     let shift = shift_from(zero, asked.unit, &judged);

@@ -65,7 +65,7 @@ abbrev pub task : Task
 task = record { label = codes "t"; thread = Named (codes "t"); deadline = 100; apart = 0 }
 
 abbrev pub of_task : Task → Asked
-of_task task = record { tasks = task ∷ []; processor = 0; unit = 10; khz = 1; start = Some 5; from = None; to = None; begin_at_run = false; cut_losses = false; in_parts = false }
+of_task task = record { tasks = task ∷ []; processor = 0; unit = 10; khz = 1; start = Some 5; from = None; to = None; begin_at_run = false; cut_losses = false; in_parts = false; everywhere = false }
 
 abbrev pub asked : Asked
 asked = of_task task
@@ -76,6 +76,10 @@ with_apart = of_task (record task { apart = 50 })
 
 abbrev pub at_run : Asked
 at_run = record asked { begin_at_run = true }
+
+-- each processor has documents of its own, and those of this one are looked at
+abbrev pub of_each : ℕ → Asked
+of_each processor = record asked { processor = processor; everywhere = true }
 
 abbrev pub up_to : ℕ → Asked
 up_to time = record asked { to = Some time }

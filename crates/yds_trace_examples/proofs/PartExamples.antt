@@ -1,11 +1,33 @@
 -- Where a part of a trace may end. Jobs of `t` and of another thread wait; each is due 100 after its begin.
-use Rattle.yds_model.proofs.Common.{◌≡◌, ℕ, List, [], ◌∷◌, map, codes, reverse, Bool, false, Option, Some, None, refl}
+use Rattle.yds_model.proofs.Common.{◌≡◌, ℕ, List, [], ◌∷◌, map, filter, list_any, codes, reverse, Bool, true, false, Option, Some, None, refl}
 use Rattle.yds_kernel.specs.declared.state.State.TheVariants as states
 use Rattle.yds_kernel.specs.Event.{Switch, WakeUp, Said}
 use Rattle.yds_trace.specs.Asked.{Named, Task, Asked}
-use Rattle.yds_trace.specs.Document.{Judged}
-use Rattle.yds_trace.specs.Parts.{waiting_from, is_settled, place_among}
-use Rattle.yds_trace_examples.proofs.Lines.{t, other, idle, line, woken, comes, sleeps, marker, task, asked}
+use Rattle.yds_trace.specs.Document.{Judged, all_judged}
+use Rattle.yds_trace.specs.Parts.{belongs, waiting_from, is_settled, place_among}
+use Rattle.yds_trace_examples.proofs.Lines.{t, other, idle, line, woken, comes, sleeps, preempted, marker, task, asked, of_each}
+
+-- # Which documents have a job
+
+-- those of these processors that have the job of these lines
+abbrev documents_with : List Said → List ℕ
+documents_with lines = filter (λ processor. list_any (belongs (of_each processor)) (all_judged (of_each processor) (reverse lines))) (0 ∷ 1 ∷ 2 ∷ 3 ∷ [])
+
+-- The job ran on 1 and then on 2.
+on_both : documents_with (woken 1000 ∷ comes 1 1020 ∷ preempted 1 1030 ∷ comes 2 1040 ∷ sleeps 2 1050 ∷ []) ≡ 1 ∷ 2 ∷ []
+on_both = refl
+
+-- One that ran nowhere has its place in the documents of 0.
+ran_nowhere : documents_with (woken 1000 ∷ marker 1 1200 ∷ []) ≡ 0 ∷ []
+ran_nowhere = refl
+
+-- Near miss: it ran, if only on 1.
+not_of_the_first : documents_with (woken 1000 ∷ comes 1 1020 ∷ sleeps 1 1030 ∷ []) ≡ 1 ∷ []
+not_of_the_first = refl
+
+-- Where one processor is asked for, its documents have each job.
+of_one_processor : map (belongs asked) (all_judged asked (reverse (woken 1000 ∷ comes 1 1020 ∷ sleeps 1 1030 ∷ woken 1200 ∷ []))) ≡ true ∷ true ∷ []
+of_one_processor = refl
 
 -- # Two tasks
 
@@ -77,6 +99,10 @@ ended_behind = refl
 -- Behind the job from 1200 to 1240 the processor is quiet at 1250, but its window is open until 1300: the part ends before it.
 at_the_closed_one : place (both_tasks 0) (woken 1000 ∷ comes 0 1020 ∷ sleeps 0 1040 ∷ woken 1200 ∷ comes 0 1220 ∷ sleeps 0 1240 ∷ other_woken 1250 ∷ []) ≡ Some 1200
 at_the_closed_one = refl
+
+-- A window of a job that only 0 has isn't open for 1.
+closed_elsewhere : place (record (both_tasks 0) { processor = 1; everywhere = true }) (woken 1000 ∷ comes 0 1020 ∷ sleeps 0 1040 ∷ woken 1200 ∷ comes 0 1220 ∷ sleeps 0 1240 ∷ other_woken 1250 ∷ []) ≡ Some 1250
+closed_elsewhere = refl
 
 -- Without a closed place a quiet one serves.
 at_the_quiet_one : place (both_tasks 0) (woken 1200 ∷ comes 0 1220 ∷ sleeps 0 1240 ∷ other_woken 1250 ∷ []) ≡ Some 1250

@@ -11,7 +11,7 @@ use Rattle.yds_trace_document.specs.declared.fault.DocumentFault.TheVariants as 
 use Rattle.yds_trace_text.specs.Text.{comment, unit_comment}
 use Rattle.yds_trace_text.specs.PartText.{part_text}
 use Rattle.yds_trace_parts.specs.Told.{InForm, AtLine, OfDocument, Told, told_of}
-use Rattle.yds_trace_examples.proofs.Lines.{woken, comes, sleeps, marker, lost, asked}
+use Rattle.yds_trace_examples.proofs.Lines.{woken, comes, sleeps, marker, lost, asked, of_each}
 
 abbrev two_jobs : List Said
 two_jobs = woken 1000 ∷ comes 0 1020 ∷ sleeps 0 1040 ∷ woken 1200 ∷ comes 0 1210 ∷ sleeps 0 1230 ∷ []
@@ -47,6 +47,10 @@ last_part : part_text asked (reverse two_jobs) cut None ≡ lines (codes "# part
     ∷ codes "# 1 job written, none left out" ∷ [])
 unfolding digits comment unit_comment
 last_part = refl
+
+-- Where each processor has documents of its own, no job of these lines is one of processor 1: its boundary moves, and nothing is written.
+silent_cut : cut_at (of_each 1) (reverse two_jobs) no_cut (Some 1200) ≡ record { boundary = 1200; decided = 1230; parts = 0; jobs = 0; due = 0 }
+silent_cut = refl
 
 -- near miss: so few lines are one part
 abbrev whole_text : List ℕ
@@ -101,6 +105,44 @@ one_halt told = elim told.halt [ None ↦ None | Some halt ↦ Some 1 ]
 one_left_out : one_halt (told asked false one_moved) ≡ None
 unfolding digits comment unit_comment
 one_left_out = refl
+
+-- # Each processor
+
+-- Each processor up to 3, on which the wake-ups are, has a document, and each of the two jobs is in that of the processor on which it ran.
+abbrev texts_of_each : List ℕ
+texts_of_each = lines (codes "# part 1: jobs 1 to 1, from 20 to 30, shift 20, cpu 0, the last"
+    ∷ codes "# CPU 0 of a kernel trace; time 0 is 0.000001200 s"
+    ∷ codes "# time unit 0 us, speed unit 1 kHz, work unit 0 cycles"
+    ∷ codes "job t.1 0 10 10"
+    ∷ codes "ticks 1"
+    ∷ codes "run t.1 1 3 5"
+    ∷ codes "# 1 job written, none left out"
+    ∷ codes "# part 1: jobs 1 to 1, from 0 to 10, shift 0, cpu 1, the last"
+    ∷ codes "# CPU 1 of a kernel trace; time 0 is 0.000001000 s"
+    ∷ codes "# time unit 0 us, speed unit 1 kHz, work unit 0 cycles"
+    ∷ codes "job t.0 0 10 5"
+    ∷ codes "ticks 1"
+    ∷ codes "run t.0 2 3 5"
+    ∷ codes "# 1 job written, none left out"
+    ∷ codes "# part 1: jobs 1 to 0, from 0 to 0, shift 0, cpu 2, the last"
+    ∷ codes "# CPU 2 of a kernel trace; time 0 is 0.000001000 s"
+    ∷ codes "# time unit 0 us, speed unit 1 kHz, work unit 0 cycles"
+    ∷ codes "ticks 1"
+    ∷ codes "# 0 jobs written, none left out"
+    ∷ codes "# part 1: jobs 1 to 0, from 0 to 0, shift 0, cpu 3, the last"
+    ∷ codes "# CPU 3 of a kernel trace; time 0 is 0.000001000 s"
+    ∷ codes "# time unit 0 us, speed unit 1 kHz, work unit 0 cycles"
+    ∷ codes "ticks 1"
+    ∷ codes "# 0 jobs written, none left out" ∷ [])
+
+told_of_each : told (of_each 0) false one_moved ≡ record { text = texts_of_each; halt = None }
+unfolding digits comment unit_comment
+told_of_each = refl
+
+-- Near miss: the only job began before what is asked for. A part without a job is no fault, but no document at all would have one.
+none_of_each : told (record (of_each 0) { from = Some 1100 }) false (woken 1000 ∷ comes 0 1020 ∷ sleeps 0 1040 ∷ []) ≡ record { text = []; halt = Some (OfDocument 1 faults.NoJob) }
+unfolding digits comment unit_comment
+none_of_each = refl
 
 -- # Behind a written part
 

@@ -12,3 +12,5 @@ pub mod Faithful
 pub mod Sharing
 pub mod Units
 pub mod First
+pub mod Told
+pub mod Processors

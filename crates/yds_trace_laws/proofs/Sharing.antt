@@ -119,7 +119,7 @@ earlier_ran : (P : Stretch → Type 0) (time : ℕ) (jobs : List Job) → Ran P 
 earlier_ran P time [] all = tt
 earlier_ran P time (job ∷ jobs) all = (all.0, earlier_ran P time jobs all.1)
 
-lost_ran : (P : Stretch → Type 0) (time : ℕ) (jobs : List Job) → Ran P jobs → Ran P (lost_jobs time jobs)
+pub lost_ran : (P : Stretch → Type 0) (time : ℕ) (jobs : List Job) → Ran P jobs → Ran P (lost_jobs time jobs)
 lost_ran P time [] all = tt
 lost_ran P time (job ∷ jobs) all = (all.0, earlier_ran P time jobs all.1)
 
@@ -173,7 +173,7 @@ left_from_ran P wakes leaving known all new = first (stands_on leaving.processor
         (λ standing on. new (stretch_of leaving standing.since) (Came standing on (stands_there leaving.processor known.on standing on is) refl))
     first false is = second (is_none known.on && not leaving.has_switched && has_no_switch known.jobs) refl
 
-switch_ran : (P : Stretch → Type 0) (apart : ℕ) (wakes left came : Bool) (state : State) (leaving : Leaving) (known : Known) → Ran P known.jobs →
+pub switch_ran : (P : Stretch → Type 0) (apart : ℕ) (wakes left came : Bool) (state : State) (leaving : Leaving) (known : Known) → Ran P known.jobs →
     (left ≡ true → (stretch : Stretch) → IsLeft known leaving stretch → P stretch) → Ran P (after_switch apart wakes left came state leaving known).jobs
 switch_ran P apart wakes left came state leaving known all new =
     let gone : Ran P (left_if wakes left state leaving known).jobs = by left new in
@@ -188,7 +188,7 @@ switch_ran P apart wakes left came state leaving known all new =
 abbrev before_change : ℕ → ℕ → Option ℕ → Standing → Stretch
 before_change processor time khz standing = record { processor = processor; from = standing.since; to = time; khz = khz }
 
-speeds_ran : (P : Stretch → Type 0) (processor time : ℕ) (khz : Option ℕ) (known : Known) → Ran P known.jobs →
+pub speeds_ran : (P : Stretch → Type 0) (processor time : ℕ) (khz : Option ℕ) (known : Known) → Ran P known.jobs →
     ((standing : Standing) → known.on ≡ Some standing → standing.processor ≡ processor → P (before_change processor time khz standing)) → Ran P (speeds processor time khz known).jobs
 speeds_ran P processor time khz known all new = by known.on new
   where
@@ -240,7 +240,7 @@ elsewhere_on processor (Some other) standing is off same =
     let here : (other.processor == processor) ≡ true = eq-eqb other.processor processor (ap (λ (s : Standing). s.processor) one ∙ same) in
     true≢false (sym here ∙ off)
 
-switch_on : (apart : ℕ) (wakes left came : Bool) (state : State) (leaving : Leaving) (known : Known) (standing : Standing) →
+pub switch_on : (apart : ℕ) (wakes left came : Bool) (state : State) (leaving : Leaving) (known : Known) (standing : Standing) →
     (after_switch apart wakes left came state leaving known).on ≡ Some standing → IsOn known.on leaving.processor leaving.time (came ≡ true) standing
 switch_on apart wakes left true state leaving known standing is =
     let same : record { processor = leaving.processor; came = leaving.time; since = leaving.time } ≡ standing = cc is in
@@ -253,7 +253,7 @@ switch_on apart wakes false false state leaving known standing is = by (stands_o
     by true there some = absurd (vanished_off wakes known standing some)
     by false there some = Still some (elsewhere_on leaving.processor known.on standing some there)
 
-speeds_on : (processor time : ℕ) (khz : Option ℕ) (known : Known) (standing : Standing) → (speeds processor time khz known).on ≡ Some standing →
+pub speeds_on : (processor time : ℕ) (khz : Option ℕ) (known : Known) (standing : Standing) → (speeds processor time khz known).on ≡ Some standing →
     IsOn known.on processor time ((before : Standing) × (known.on ≡ Some before) × (before.processor ≡ processor)) standing
 speeds_on processor time khz known standing is = by known.on refl is
   where
@@ -456,7 +456,7 @@ it_switched processor before = rw (eq-eqb processor processor refl) refl
 abbrev NewAtSwitch : Asked → List Said → Event → Thread → ℕ → Stretch → Type 0
 NewAtSwitch asked past event previous n x = (is_of asked n previous ≡ true) × IsLeft (known_after asked n past) (leaving_at asked past event) x
 
-left_at : (known : Known) (leaving : Leaving) (x : Stretch) → IsLeft known leaving x → (x.processor ≡ leaving.processor) × (x.to ≡ leaving.time)
+pub left_at : (known : Known) (leaving : Leaving) (x : Stretch) → IsLeft known leaving x → (x.processor ≡ leaving.processor) × (x.to ≡ leaving.time)
 left_at known leaving x (Came standing on there is) = (ap (λ (s : Stretch). s.processor) is, ap (λ (s : Stretch). s.to) is)
 left_at known leaving x (Unseen first is) = (ap (λ (s : Stretch). s.processor) is, ap (λ (s : Stretch). s.to) is)
 
@@ -515,11 +515,11 @@ changed asked past event processor khz old order =
     (λ n x new. ap (λ (q : ℕ). has_switched q past) (sym new.there) ∙ old.switched n new.standing new.on)
     (λ n goes. ap (λ (q : ℕ). has_switched q past) (sym goes.2) ∙ old.switched n goes.0 goes.1)
 
-woken_known : (P : Stretch → Type 0) (b : Bool) (apart time : ℕ) (known : Known) → Ran P known.jobs → Ran P (if b then wakes_up apart time known else known).jobs
+pub woken_known : (P : Stretch → Type 0) (b : Bool) (apart time : ℕ) (known : Known) → Ran P known.jobs → Ran P (if b then wakes_up apart time known else known).jobs
 woken_known P true apart time known all = woken_ran P apart time known.woken known.jobs all
 woken_known P false apart time known all = all
 
-woken_on : (b : Bool) (apart time : ℕ) (known : Known) → (if b then wakes_up apart time known else known).on ≡ known.on
+pub woken_on : (b : Bool) (apart time : ℕ) (known : Known) → (if b then wakes_up apart time known else known).on ≡ known.on
 woken_on true apart time known = refl
 woken_on false apart time known = refl
 
@@ -713,7 +713,7 @@ closing asked past standing = record {
   khz = speed_after asked.start standing.processor (up_to asked.to past);
 }
 
-closed_ran : (P : Stretch → Type 0) (asked : Asked) (past : List Said) (known : Known) → Ran P known.jobs →
+pub closed_ran : (P : Stretch → Type 0) (asked : Asked) (past : List Said) (known : Known) → Ran P known.jobs →
     ((standing : Standing) → known.on ≡ Some standing → P (closing asked past standing)) → Ran P (closed asked past known)
 closed_ran P asked past known all new = by known.on new
   where

@@ -3,3 +3,4 @@ pub mod Faithful
 pub mod InUnits
 pub mod Laws
 pub mod Sharing
+pub mod Processors

@@ -1,4 +1,5 @@
 ghost use Rattle.yds_trace_laws.specs.Laws.{BeginsAreInTime, DocumentsAreFaithful, EndsAreKept, FeasibleMeansInTime, FrontsAreInfeasible, LatenessIsKept, NoneBeginsBefore, OrderIsKept, RunsHaveOwnUnits, SomeAreFaithful, SomeAreInTime, TasksHaveOwnTime, UnitsAreOwn, WorkNeedsASlot};
+ghost use Rattle.yds_trace_laws.specs.Processors.{EachJobBelongs, EachRanWhereTold, JobsAreTheSame, UnseenAreTheSame};
 
 /// A written time keeps order.
 pub fn order_is_kept()
@@ -68,4 +69,24 @@ pub fn units_are_own()
 /// No unit of time of a trace's document is in runs of two tasks.
 pub fn runs_have_own_units()
     ensures { RunsHaveOwnUnits }
+{}
+
+/// The same jobs are judged on each processor, and the same is said of them but for why one isn't written as it stands.
+pub fn jobs_are_the_same()
+    ensures { JobsAreTheSame }
+{}
+
+/// Each stretch of a job is on a processor of which a line tells.
+pub fn each_ran_where_told()
+    ensures { EachRanWhereTold }
+{}
+
+/// Each job belongs to a processor that has documents.
+pub fn each_job_belongs()
+    ensures { EachJobBelongs }
+{}
+
+/// Processors of which no line tells are alike: no job belongs to them, and nothing is written of them.
+pub fn unseen_are_the_same()
+    ensures { UnseenAreTheSame }
 {}

@@ -26,15 +26,15 @@ gives_same strict asked settled (Err faults.Memory) given = tt
 
 -- # Parts
 
-part_uncapped : (strict : Bool) (cut : Cut) (settled : Settled) → part_limit_fault strict cut (with_capped_works settled) ≡ None →
+part_uncapped : (asked : Asked) (strict : Bool) (cut : Cut) (settled : Settled) → part_limit_fault asked strict cut (with_capped_works settled) ≡ None →
     with_capped_works settled ≡ settled
-part_uncapped strict cut settled none = part_within_caps strict cut settled (sym (part_limits_same strict cut settled) ∙ none)
+part_uncapped asked strict cut settled none = part_within_caps asked strict cut settled (sym (part_limits_same asked strict cut settled) ∙ none)
 
 pub part_gives_same : (strict : Bool) (asked : Asked) (cut : Cut) (last : Bool) (shift : ℕ) (settled : Settled) (result : Result (Vec ℕ Global) NoText) →
     GivesPart strict asked cut last shift (with_capped_works settled) result → GivesPart strict asked cut last shift settled result
 part_gives_same strict asked cut last shift settled (Ok text) given =
-    subst (λ (made : Settled). IsPartText strict asked cut last shift made text.items) (part_uncapped strict cut settled given.without_fault) given
-part_gives_same strict asked cut last shift settled (Err (faults.Limit fault)) given = sym (part_limits_same strict cut settled) ∙ given
+    subst (λ (made : Settled). IsPartText strict asked cut last shift made text.items) (part_uncapped asked strict cut settled given.without_fault) given
+part_gives_same strict asked cut last shift settled (Err (faults.Limit fault)) given = sym (part_limits_same asked strict cut settled) ∙ given
 part_gives_same strict asked cut last shift settled (Err faults.TooLong) given =
-    subst (λ (made : Settled). IsPartTooLong strict asked cut last shift made) (part_uncapped strict cut settled given.without_fault) given
+    subst (λ (made : Settled). IsPartTooLong strict asked cut last shift made) (part_uncapped asked strict cut settled given.without_fault) given
 part_gives_same strict asked cut last shift settled (Err faults.Memory) given = tt

@@ -40,19 +40,19 @@ Writes strict asked past result = Gives strict asked (settled_of asked past) res
 
 -- behind these parts it is within the limits, and this is its text
 pub record IsPartText (strict : Bool) (asked : Asked) (cut : Cut) (last : Bool) (shift : ℕ) (settled : Settled) (text : List ℕ) : Type 0 where
-  pub without_fault : part_limit_fault strict cut settled ≡ None
+  pub without_fault : part_limit_fault asked strict cut settled ≡ None
   pub exact : text ≡ part_settled_text asked cut last shift settled
   pub short : length text ≤ MAX_INPUT
 
 -- it is within the limits, and its text is longer than a document may be
 pub record IsPartTooLong (strict : Bool) (asked : Asked) (cut : Cut) (last : Bool) (shift : ℕ) (settled : Settled) : Type 0 where
-  pub without_fault : part_limit_fault strict cut settled ≡ None
+  pub without_fault : part_limit_fault asked strict cut settled ≡ None
   pub long : MAX_INPUT < length (part_settled_text asked cut last shift settled)
 
 -- the text; or the first limit that it is beyond; or it is too long; or want of memory
 abbrev pub GivesPart : Bool → Asked → Cut → Bool → ℕ → Settled → Result (Vec ℕ Global) NoText → Type 0
 GivesPart strict asked cut last shift settled (Ok text) = IsPartText strict asked cut last shift settled text.items
-GivesPart strict asked cut last shift settled (Err (faults.Limit fault)) = part_limit_fault strict cut settled ≡ Some fault
+GivesPart strict asked cut last shift settled (Err (faults.Limit fault)) = part_limit_fault asked strict cut settled ≡ Some fault
 GivesPart strict asked cut last shift settled (Err faults.TooLong) = IsPartTooLong strict asked cut last shift settled
 GivesPart strict asked cut last shift settled (Err faults.Memory) = ⊤
 

@@ -49,7 +49,7 @@ fn limited_text(
 ) -> Result<Vec<u8>, NoText>
     ensures { GivesPart strict (asked_read asked.now) cut last part.now.shift (settled_read part.now.settled) result }
 {
-    if let Some(fault) = part_limit_fault(strict, cut, &part.settled) {
+    if let Some(fault) = part_limit_fault(asked, strict, cut, &part.settled) {
         return Err(NoText::Limit(fault));
     }
     match short_text(alloc, asked, cut, last, part) {
@@ -89,7 +89,15 @@ fn whole_text(
     ensures { IfOk result (λ text. text.items ≡ spec.part_settled_text (asked_read asked.now) cut last part.now.shift (settled_read part.now.settled)) }
 {
     let mut text = Vec::new(alloc);
-    put_part_line(alloc, cut, last, part.shift, &part.settled.jobs, &mut text)?;
+    put_part_line(
+        alloc,
+        asked,
+        cut,
+        last,
+        part.shift,
+        &part.settled.jobs,
+        &mut text,
+    )?;
     put_settled(alloc, asked, &part.settled, &mut text)?;
     Ok(text)
 }
@@ -104,13 +112,14 @@ fn capped_sum(number: u64, other: u64) -> u64
 /// The line that says which part it is, which jobs it has, and from when to when.
 fn put_part_line(
     alloc: Global,
+    asked: &Asked,
     cut: Cut,
     last: bool,
     shift: u64,
     jobs: &[Written<'_>],
     text: &mut Vec<u8>,
 ) -> Result<(), Memory>
-    ensures { OnOk result (text.new.items ≡ text.old.items ++ spec.part_line cut last shift (written_list jobs.now)) }
+    ensures { OnOk result (text.new.items ≡ text.old.items ++ spec.part_line (asked_read asked.now) cut last shift (written_list jobs.now)) }
 {
     let part = decimal(alloc, capped_sum(cut.parts, 1))?;
     let first = decimal(alloc, capped_sum(cut.jobs, 1))?;
@@ -118,6 +127,7 @@ fn put_part_line(
     let release = decimal(alloc, capped_sum(shift, first_release(jobs)))?;
     let deadline = decimal(alloc, capped_sum(shift, last_deadline(jobs)))?;
     let units = decimal(alloc, shift)?;
+    let processor = processor_text(alloc, asked)?;
     put_comment(
         &[
             b"part ".as_slice(),
@@ -132,11 +142,25 @@ fn put_part_line(
             deadline.as_slice(),
             b", shift ".as_slice(),
             units.as_slice(),
+            processor.as_slice(),
             windows_text(cut),
             last_text(last),
         ],
         text,
     )
+}
+
+/// Of which processor it is, in words, where each has documents of its own.
+fn processor_text(alloc: Global, asked: &Asked) -> Result<Vec<u8>, Memory>
+    ensures { IfOk result (λ text. text.items ≡ spec.processor_text (asked_read asked.now)) }
+{
+    if !asked.everywhere {
+        return Ok(Vec::new(alloc));
+    }
+    let number = decimal(alloc, asked.processor)?;
+    let mut text = Vec::from_slice(alloc, b", cpu ")?;
+    text.extend_from_slice(&number)?;
+    Ok(text)
 }
 
 /// Whether windows of the parts before reach into this one, in words.

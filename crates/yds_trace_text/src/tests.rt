@@ -41,6 +41,17 @@ ticks 1
 # 1 job written, 1 left out
 ";
 
+/// The text of the last part of processor 1, which has the job that ran there, where each processor has documents of its own.
+const PART_OF_ONE: &[u8] =
+    b"# part 2: jobs 4 to 4, from 600 to 700, shift 600, cpu 1, windows open, the last
+# CPU 1 of a kernel trace; time 0 is 5123.406623455 s
+# time unit 10 us, speed unit 10000 kHz, work unit 100 cycles
+job t.3 0 100 1000
+ticks 1
+run t.3 0 10 100
+# 1 job written, none left out
+";
+
 /// A stretch at 1,000,000 kHz from a time to another one, both counted from `BEGIN`.
 fn stretch(processor: u64, from: u32, to: u32) -> Stretch {
     Stretch {
@@ -84,6 +95,7 @@ fn asked(alloc: Global) -> Result<Asked, AllocError> {
         begin_at_run: false,
         cut_losses: false,
         in_parts: false,
+        everywhere: false,
     })
 }
 
@@ -214,6 +226,20 @@ fn the_text_of_a_part_is_the_one_written_by_hand(rt: HostRuntime) -> Result<(), 
     let known = shown(alloc)?;
     match part(alloc, &words, &known, None) {
         Ok(text) => assert_eq!(rt; text.as_slice(), PART),
+        Err(fault) => assert_eq!(rt; fault, NoText::Memory),
+    }
+    Ok(())
+}
+
+#[test]
+fn a_part_of_a_processor_has_the_jobs_that_ran_there(rt: HostRuntime) -> Result<(), Fail> {
+    let alloc = rt.alloc();
+    let mut words = asked(alloc)?;
+    words.processor = 1;
+    words.everywhere = true;
+    let known = shown(alloc)?;
+    match part(alloc, &words, &known, None) {
+        Ok(text) => assert_eq!(rt; text.as_slice(), PART_OF_ONE),
         Err(fault) => assert_eq!(rt; fault, NoText::Memory),
     }
     Ok(())

@@ -9,15 +9,15 @@ use Rattle.yds_trace_document.specs.Kept.{begin_of, together, capped_in}
 use Rattle.yds_trace_document.specs.Part.{shift_from, shifted, part_by_task}
 use Rattle.yds_trace_document.specs.declared.judged.Judged.{Judged as JudgedKept}
 use Rattle.yds_trace_document.specs.Views.{judged_list, judged_lists}
-use Rattle.yds_trace_document.proofs.Waits.{all_until}
+use Rattle.yds_trace_document.proofs.Waits.{all_of_part}
 use Rattle.yds_trace_document.proofs.Parted.{in_line, part_same, shift_same}
 use Rattle.yds_trace_document.proofs.part.settle_part.Goals as goal
 
 pub returns : goal.returns
 returns c past cut is are =
     let asked : Asked = asked_read c.args.asked.now in
-    let lists : judged_lists c.in_ok-by_task.by_task.items ≡ part_by_task asked past cut c.args.until 0 asked.tasks =
-    c.in_ok-by_task.ensures ∙ all_until asked past cut c.args.until c.args.waiting.by_task.items are.by_task in
+    let lists : judged_lists c.in_ok-by_task.by_task.items ≡ part_by_task asked past cut c.args.until =
+    c.in_ok-by_task.ensures ∙ all_of_part asked past cut c.args.until c.args.waiting.by_task.items are.by_task in
     let line : judged_list c.in_ok-judged.judged.items ≡ part_until asked past cut c.args.until =
     c.in_ok-judged.ensures
     ∙ ap (λ (l : List (Vec JudgedKept Global)). in_order begin_of (together (judged_lists l))) c.deref.ensures.value

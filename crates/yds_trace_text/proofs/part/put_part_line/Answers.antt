@@ -23,5 +23,6 @@ returns c =
     ∙ ap (λ (number : ℕ). decimal (capped (c.args.shift + number))) c.last_deadline.ensures)
     (next_same c.as_slice-11.ensures
     (next_same (c.as_slice-12.ensures.value ∙ c.in_ok-units.ensures)
-    (next_same c.windows_text.ensures (next_same c.last_text.ensures refl)))))))))))))))
+    (next_same (c.as_slice-13.ensures.value ∙ c.in_ok-processor.ensures)
+    (next_same c.windows_text.ensures (next_same c.last_text.ensures refl))))))))))))))))
     c.put_comment.ensures

@@ -1,10 +1,10 @@
 use Rattle.yds_model.proofs.Common.{◌∙◌, arith, nil_from_length}
 use Rattle.yds_trace.proofs.Closing.{made_more, made_all}
-use Rattle.yds_trace_document.proofs.part.each_before.Goals as goal
+use Rattle.yds_trace_document.proofs.part.part_by_task.Goals as goal
 
 pub loop-jobs-preserved : goal.loop-jobs-preserved
 loop-jobs-preserved c =
-    made_more _ _ _ _ _ _ _ _ c.in_ok-push.ensures.items c.in-Some.ensures.steps.0 c.begun_before.ensures ∙ c.loop-jobs.invariant
+    made_more _ _ _ _ _ _ _ _ c.in_ok-push.ensures.items c.in-Some.ensures.steps.0 c.of_part.ensures ∙ c.loop-jobs.invariant
 
 pub returns : goal.returns
 returns c =

@@ -1,0 +1,59 @@
+-- A line changes the parts behind two cuts where it changes those behind one of them.
+use Rattle.yds_model.proofs.Common.{◌≡◌, ◌∙◌, ℕ, ◌<◌, ◌≤◌, List, max, Bool, true, false, not, ◌&&◌, ◌||◌, nat_lt, is_some, refl, ap, ap₂, arith, lt-ltb}
+use Rattle.std.proofs.lemmas.Bool.{ltb-true, ltb-false, le-ltb}
+use Rattle.yds_kernel.specs.declared.loss.Since.TheVariants as since
+use Rattle.yds_kernel.specs.Event.{Happening, Switch, WakeUp, Speed, Loss, Marker, Other, Event, Said, Stamped, Lost, Nothing}
+use Rattle.yds_trace.specs.declared.cut.Cut.{Cut}
+use Rattle.yds_trace.specs.Asked.{Asked, task_of}
+use Rattle.yds_trace.specs.Past.{is_loss, lost_since, has_switched, whole_since, up_to}
+use Rattle.yds_trace.specs.Parts.{later, reaches_back, was_there_before, changes_parts}
+
+before_by : (time a b : ℕ) (first second : Bool) → nat_lt time a ≡ first → nat_lt time b ≡ second → nat_lt time (max a b) ≡ (first || second)
+before_by time a b true second first_is second_is = lt-ltb time (max a b) (let early : time < a = ltb-true time a first_is in omega (arith, early))
+before_by time a b false true first_is second_is = lt-ltb time (max a b) (let early : time < b = ltb-true time b second_is in omega (arith, early))
+before_by time a b false false first_is second_is =
+    le-ltb time (max a b) (let first : a ≤ time = ltb-false time a first_is in let second : b ≤ time = ltb-false time b second_is in omega (arith, first, second))
+
+-- before one of two times
+before_either : (time a b : ℕ) → nat_lt time (max a b) ≡ (nat_lt time a || nat_lt time b)
+before_either time a b = before_by time a b (nat_lt time a) (nat_lt time b) refl refl
+
+and_either : (x p q : Bool) → (x && (p || q)) ≡ ((x && p) || (x && q))
+and_either true p q = refl
+and_either false p q = refl
+
+ands_either : (x y p q : Bool) → (x && y && (p || q)) ≡ ((x && y && p) || (x && y && q))
+ands_either true true p q = refl
+ands_either true false p q = refl
+ands_either false y p q = refl
+
+crossed : (p q r s : Bool) → ((p || q) || (r || s)) ≡ ((p || r) || (q || s))
+crossed true q r s = refl
+crossed false true true s = refl
+crossed false true false s = refl
+crossed false false r s = refl
+
+there_either : (asked : Asked) (past : List Said) (cut other : Cut) (event : Event) (happening : Happening) →
+    was_there_before asked past (later cut other) event happening ≡ (was_there_before asked past cut event happening || was_there_before asked past other event happening)
+there_either asked past cut other event (Switch previous state next) =
+    ap (λ (early : Bool). is_some (task_of asked.tasks previous) && not (has_switched event.processor (up_to asked.to past)) && early)
+    (before_either (whole_since event.time (up_to asked.to past)) cut.boundary other.boundary)
+    ∙ ands_either (is_some (task_of asked.tasks previous)) (not (has_switched event.processor (up_to asked.to past)))
+    (nat_lt (whole_since event.time (up_to asked.to past)) cut.boundary) (nat_lt (whole_since event.time (up_to asked.to past)) other.boundary)
+there_either asked past cut other event (WakeUp thread) = refl
+there_either asked past cut other event (Speed processor khz) = refl
+there_either asked past cut other event Loss = refl
+there_either asked past cut other event Marker = refl
+there_either asked past cut other event Other = refl
+
+pub later_changes : (asked : Asked) (past : List Said) (cut other : Cut) (said : Said) →
+    changes_parts asked past (later cut other) said ≡ (changes_parts asked past cut said || changes_parts asked past other said)
+later_changes asked past cut other (Stamped event) =
+    let time : ℕ = lost_since event.processor since.ItsLastLine past in
+    ap₂ (λ (lost there : Bool). lost || there)
+    (ap (λ (early : Bool). is_loss event.happening && early) (before_either time cut.decided other.decided)
+    ∙ and_either (is_loss event.happening) (reaches_back cut time) (reaches_back other time)) (there_either asked past cut other event event.happening)
+    ∙ crossed (is_loss event.happening && reaches_back cut time) (is_loss event.happening && reaches_back other time)
+    (was_there_before asked past cut event event.happening) (was_there_before asked past other event event.happening)
+later_changes asked past cut other (Lost processor reach) = before_either (lost_since processor reach past) cut.decided other.decided
+later_changes asked past cut other Nothing = refl

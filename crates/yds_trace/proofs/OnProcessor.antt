@@ -1,0 +1,218 @@
+-- What is known of the tasks doesn't depend on the processor that is asked for: only why a job isn't written as it stands does.
+use Rattle.yds_model.proofs.Common.{◌≡◌, ◌∙◌, ℕ, suc, ◌+◌, ◌<◌, ◌≤◌, List, [], ◌∷◌, reverse, length, max, Bool, true, false, not, ◌&&◌, ◌||◌, nat_lt, nat_le, if◌then◌else◌, Option, Some, None, is_some, is_none, All-weaker, refl, sym, ap, ap₂, arith}
+use Rattle.yds_kernel.specs.Parts.{or_else}
+use Rattle.yds_kernel.specs.Event.{Thread, Happening, Switch, WakeUp, Speed, Loss, Marker, Other, Event, Said, Stamped, Lost, Nothing}
+use Rattle.yds_trace.specs.declared.counted.Counted.{Counted}
+use Rattle.yds_trace.specs.declared.cut.Cut.{Cut}
+use Rattle.yds_trace.specs.declared.fault.Cause.{Cause}
+use Rattle.yds_trace.specs.declared.fault.Cause.TheVariants as causes
+use Rattle.yds_trace.specs.declared.followed.Followed.{Followed}
+use Rattle.yds_trace.specs.declared.limits.TheConstants.{MAX_TOUCHES}
+use Rattle.yds_trace.specs.declared.lines.Lines.{Lines}
+use Rattle.yds_trace.specs.declared.shown.Shown.{Shown}
+use Rattle.yds_trace.specs.declared.shown.ShownTask.{ShownTask}
+use Rattle.yds_trace.specs.Asked.{Task, Asked, on, task_at, task_of, is_before_to}
+use Rattle.yds_trace.specs.Past.{last_time, is_first_switch, up_to}
+use Rattle.yds_trace.specs.Jobs.{Job, Known, stands_on, after_event, loses, known_after}
+use Rattle.yds_trace.specs.Late.{last_asked}
+use Rattle.yds_trace.specs.Document.{Judged, closed, jobs_of, began_before}
+use Rattle.yds_trace.specs.Faults.{pid_in, pid_before, is_another, is_another_thread, is_two_tasks, thread_fault, first_thread_fault, state_fault, both_fault, happening_fault, event_fault, stayed_fault, threads_fault, behind_fault, is_torn, stamped_fault, place_fault, runs_on, touches, touched, length_fault, said_fault, numbered, first_fault, wakes_task, has_wake_up, has_stamp, lost_just_before, unseen_from, unseen_fault, whole_fault}
+use Rattle.yds_trace.specs.Parts.{last_begin, last_begin_of, is_over, is_settled, may_write, was_there_before, changes_parts}
+use Rattle.yds_trace.specs.Kept.{IsFollowed, IsCounted, IsLines}
+use Rattle.yds_trace.specs.Shown.{IsShownTask, IsShown}
+
+-- # Jobs
+
+pub known_after_on : (asked : Asked) (processor number : ℕ) (past : List Said) → known_after (on processor asked) number past ≡ known_after asked number past
+known_after_on asked processor number [] = refl
+known_after_on asked processor number (Stamped event ∷ past) =
+    ap (after_event asked number past event event.happening) (known_after_on asked processor number past)
+known_after_on asked processor number (Lost other reach ∷ past) = ap (loses _) (known_after_on asked processor number past)
+known_after_on asked processor number (Nothing ∷ past) = known_after_on asked processor number past
+
+pub jobs_of_on : (asked : Asked) (processor : ℕ) (past : List Said) (number : ℕ) → jobs_of (on processor asked) past number ≡ jobs_of asked past number
+jobs_of_on asked processor past number =
+    ap (λ (known : Known). reverse (closed asked past known)) (known_after_on asked processor number (up_to asked.to past))
+
+pub last_begin_of_on : (asked : Asked) (processor : ℕ) (past : List Said) (number : ℕ) →
+    last_begin_of (on processor asked) past number ≡ last_begin_of asked past number
+last_begin_of_on asked processor past number =
+    ap (λ (known : Known). last_begin known.jobs) (known_after_on asked processor number (up_to asked.to past))
+
+pub is_settled_on : (asked : Asked) (processor : ℕ) (past : List Said) (judged : Judged) →
+    is_settled (on processor asked) past judged ≡ is_settled asked past judged
+is_settled_on asked processor past judged =
+    ap (λ (begin : ℕ). is_over (last_asked asked past) (nat_lt judged.job.begin begin) judged.job.end
+    && nat_le (judged.job.begin + (task_at asked judged.task).apart) (last_time past)) (last_begin_of_on asked processor past judged.task)
+
+-- # Lines that tell of the tasks
+
+pub pid_before_on : (asked : Asked) (processor number : ℕ) (past : List Said) → pid_before (on processor asked) number past ≡ pid_before asked number past
+pid_before_on asked processor number [] = refl
+pid_before_on asked processor number (Stamped event ∷ past) =
+    ap (λ (pid : Option ℕ). or_else (pid_in asked number event.happening) pid) (pid_before_on asked processor number past)
+pid_before_on asked processor number (Lost other reach ∷ past) = pid_before_on asked processor number past
+pid_before_on asked processor number (Nothing ∷ past) = pid_before_on asked processor number past
+
+pub has_wake_up_on : (asked : Asked) (processor : ℕ) (past : List Said) → has_wake_up (on processor asked) past ≡ has_wake_up asked past
+has_wake_up_on asked processor [] = refl
+has_wake_up_on asked processor (Stamped event ∷ past) =
+    ap (λ (woken : Bool). wakes_task asked event.happening || woken) (has_wake_up_on asked processor past)
+has_wake_up_on asked processor (Lost other reach ∷ past) = has_wake_up_on asked processor past
+has_wake_up_on asked processor (Nothing ∷ past) = has_wake_up_on asked processor past
+
+pub may_write_on : (asked : Asked) (processor : ℕ) (past : List Said) → may_write (on processor asked) past ≡ may_write asked past
+may_write_on asked processor past = ap (λ (woken : Bool). asked.begin_at_run || woken) (has_wake_up_on asked processor past)
+
+runs_on_on : (asked : Asked) (processor : ℕ) (past : List Said) (there number : ℕ) (tasks : List Task) →
+    runs_on (on processor asked) past there number tasks ≡ runs_on asked past there number tasks
+runs_on_on asked processor past there number [] = refl
+runs_on_on asked processor past there number (task ∷ tasks) =
+    ap₂ (λ (here rest : Bool). here || rest) (ap (λ (known : Known). stands_on there known.on) (known_after_on asked processor number past))
+    (runs_on_on asked processor past there (number + 1) tasks)
+
+touches_on : (asked : Asked) (processor : ℕ) (past : List Said) (happening : Happening) →
+    touches (on processor asked) past happening ≡ touches asked past happening
+touches_on asked processor past (Switch previous state next) = refl
+touches_on asked processor past (WakeUp thread) = refl
+touches_on asked processor past (Speed there khz) = runs_on_on asked processor past there 0 asked.tasks
+touches_on asked processor past Loss = refl
+touches_on asked processor past Marker = refl
+touches_on asked processor past Other = refl
+
+pub touched_on : (asked : Asked) (processor : ℕ) (past : List Said) → touched (on processor asked) past ≡ touched asked past
+touched_on asked processor [] = refl
+touched_on asked processor (Stamped event ∷ past) =
+    ap₂ (λ (touch : Bool) (n : ℕ). if touch then suc n else n) (touches_on asked processor past event.happening) (touched_on asked processor past)
+touched_on asked processor (Lost other reach ∷ past) = touched_on asked processor past
+touched_on asked processor (Nothing ∷ past) = touched_on asked processor past
+
+-- # Faults
+
+another_on : (asked : Asked) (processor : ℕ) (counting : List Said) (pid : ℕ) (found : Option ℕ) →
+    (elim found as (λ _. Bool) [ None ↦ false | Some number ↦ is_another pid (pid_before (on processor asked) number counting) ])
+    ≡ (elim found as (λ _. Bool) [ None ↦ false | Some number ↦ is_another pid (pid_before asked number counting) ])
+another_on asked processor counting pid None = refl
+another_on asked processor counting pid (Some number) = ap (is_another pid) (pid_before_on asked processor number counting)
+
+thread_fault_on : (asked : Asked) (processor : ℕ) (counting : List Said) (thread : Thread) →
+    thread_fault (on processor asked) counting thread ≡ thread_fault asked counting thread
+thread_fault_on asked processor counting thread =
+    ap {B = Option Cause} (λ (another : Bool). if is_two_tasks asked.tasks thread then Some causes.TwoTasks else (if another then Some causes.TwoThreads else None))
+    (another_on asked processor counting thread.pid (task_of asked.tasks thread))
+
+first_thread_fault_on : (asked : Asked) (processor : ℕ) (counting : List Said) (happening : Happening) →
+    first_thread_fault (on processor asked) counting happening ≡ first_thread_fault asked counting happening
+first_thread_fault_on asked processor counting (Switch previous state next) = thread_fault_on asked processor counting previous
+first_thread_fault_on asked processor counting (WakeUp thread) = refl
+first_thread_fault_on asked processor counting (Speed there khz) = refl
+first_thread_fault_on asked processor counting Loss = refl
+first_thread_fault_on asked processor counting Marker = refl
+first_thread_fault_on asked processor counting Other = refl
+
+happening_fault_on : (asked : Asked) (processor : ℕ) (counting : List Said) (happening : Happening) →
+    happening_fault (on processor asked) counting happening ≡ happening_fault asked counting happening
+happening_fault_on asked processor counting (Switch previous state next) =
+    ap₂ (λ (left came : Option Cause). or_else left (or_else (state_fault asked previous state) (or_else came (both_fault asked previous next))))
+    (thread_fault_on asked processor counting previous) (thread_fault_on asked processor counting next)
+happening_fault_on asked processor counting (WakeUp thread) = thread_fault_on asked processor counting thread
+happening_fault_on asked processor counting (Speed there khz) = refl
+happening_fault_on asked processor counting Loss = refl
+happening_fault_on asked processor counting Marker = refl
+happening_fault_on asked processor counting Other = refl
+
+stamped_fault_on : (asked : Asked) (processor : ℕ) (past : List Said) (event : Event) → stamped_fault (on processor asked) past event ≡ stamped_fault asked past event
+stamped_fault_on asked processor past event =
+    ap₂ {C = Option Cause} (λ (before stayed : Option Cause). or_else (place_fault event) (or_else
+    (if is_before_to asked.to event.time then (if nat_lt event.time (last_time past) then Some causes.TimeGoesBack else before)
+    else (if is_first_switch event (up_to asked.to past) then stayed else None))
+    (if is_torn asked past event then Some causes.EventsLost else None)))
+    (happening_fault_on asked processor (up_to asked.to past) event.happening) (first_thread_fault_on asked processor (up_to asked.to past) event.happening)
+
+length_fault_on : (asked : Asked) (processor : ℕ) (lines : List Said) → length_fault (on processor asked) lines ≡ length_fault asked lines
+length_fault_on asked processor lines =
+    ap {B = Option Cause} (λ (n : ℕ). if asked.in_parts then None else (if nat_lt MAX_TOUCHES n then Some causes.TooLong else None))
+    (touched_on asked processor (up_to asked.to lines))
+
+pub said_fault_on : (asked : Asked) (processor : ℕ) (past : List Said) (said : Said) → said_fault (on processor asked) past said ≡ said_fault asked past said
+said_fault_on asked processor past (Stamped event) =
+    ap₂ (λ (stamped long : Option Cause). or_else stamped long) (stamped_fault_on asked processor past event) (length_fault_on asked processor (Stamped event ∷ past))
+said_fault_on asked processor past (Lost other reach) = refl
+said_fault_on asked processor past Nothing = refl
+
+pub first_fault_on : (asked : Asked) (processor : ℕ) (past : List Said) → first_fault (on processor asked) past ≡ first_fault asked past
+first_fault_on asked processor [] = refl
+first_fault_on asked processor (said ∷ past) =
+    ap₂ (λ before (fault : Option Cause). or_else before (numbered (length past + 1) fault)) (first_fault_on asked processor past)
+    (said_fault_on asked processor past said)
+
+unseen_from_on : (asked : Asked) (processor : ℕ) (past : List Said) (number : ℕ) (tasks : List Task) →
+    unseen_from (on processor asked) past number tasks ≡ unseen_from asked past number tasks
+unseen_from_on asked processor past number [] = refl
+unseen_from_on asked processor past number (task ∷ tasks) =
+    ap₂ (λ (pid rest : Option ℕ). if is_none pid then Some number else rest) (pid_before_on asked processor number past)
+    (unseen_from_on asked processor past (number + 1) tasks)
+
+pub whole_fault_on : (asked : Asked) (processor : ℕ) (past : List Said) → whole_fault (on processor asked) past ≡ whole_fault asked past
+whole_fault_on asked processor past =
+    ap₂ {C = Option Cause} (λ (unseen : Option ℕ) (woken : Bool). if not (has_stamp past) then Some causes.NoLine
+    else (if not asked.cut_losses && lost_just_before asked.to past then Some causes.EventsLost
+    else or_else (unseen_fault unseen) (if asked.begin_at_run || woken then None else Some causes.NoWakeUp)))
+    (unseen_from_on asked processor past 0 asked.tasks) (has_wake_up_on asked processor past)
+
+pub changes_parts_on : (asked : Asked) (processor : ℕ) (past : List Said) (cut : Cut) (said : Said) →
+    changes_parts (on processor asked) past cut said ≡ changes_parts asked past cut said
+changes_parts_on asked processor past cut (Stamped event) = refl
+changes_parts_on asked processor past cut (Lost other reach) = refl
+changes_parts_on asked processor past cut Nothing = refl
+
+-- # What a pass keeps, and what it shows
+
+followed_on : (asked : Asked) (processor : ℕ) (counting : List Said) (boundary number : ℕ) (followed : Followed) →
+    IsFollowed asked counting boundary number followed → IsFollowed (on processor asked) counting boundary number followed
+followed_on asked processor counting boundary number followed is = record {
+  forgotten = is.forgotten;
+  known = is.known ∙ sym (known_after_on asked processor number counting);
+  last = is.last;
+  are_forgotten = is.are_forgotten;
+  pid = is.pid ∙ sym (pid_before_on asked processor number counting);
+}
+
+pub counted_on : (asked : Asked) (processor : ℕ) (counting : List Said) (counted : Counted) → IsCounted asked counting counted → IsCounted (on processor asked) counting counted
+counted_on asked processor counting counted is = record {
+  times = is.times;
+  as_many = is.as_many;
+  tasks = λ number default within. followed_on asked processor counting counted.boundary number _ (is.tasks number default within);
+  touched = λ alone. is.touched alone ∙ sym (touched_on asked processor counting);
+  few = is.few;
+}
+
+pub lines_on : (asked : Asked) (processor : ℕ) (past : List Said) (lines : Lines) → IsLines asked past lines → IsLines (on processor asked) past lines
+lines_on asked processor past lines is = record {
+  times = is.times;
+  lost = is.lost;
+  woken = is.woken ∙ sym (has_wake_up_on asked processor past);
+  as_many = is.as_many;
+  seen = λ number within. is.seen number within ∙ ap is_some (sym (pid_before_on asked processor number past));
+}
+
+shown_task_on : (asked : Asked) (processor : ℕ) (past : List Said) (boundary later number : ℕ) (shown : ShownTask) → boundary ≤ later →
+    IsShownTask asked past boundary number shown → IsShownTask (on processor asked) past later number shown
+shown_task_on asked processor past boundary later number shown within is = record {
+  forgotten = is.forgotten;
+  jobs = jobs_of_on asked processor past number ∙ is.jobs;
+  earlier = All-weaker (λ (job : Job). job.begin < boundary) (λ (job : Job). job.begin < later) (λ job early. omega (arith, early, within)) is.forgotten is.earlier;
+  as_many = is.as_many;
+  before = is.before ∙ ap began_before (sym (jobs_of_on asked processor past number));
+  last = is.last ∙ sym (last_begin_of_on asked processor past number);
+}
+
+-- What is shown serves for another processor, and for a later boundary.
+pub shown_on : (asked : Asked) (processor : ℕ) (past : List Said) (boundary later : ℕ) (shown : Shown) → boundary ≤ later → IsShown asked past boundary shown →
+    IsShown (on processor asked) past later shown
+shown_on asked processor past boundary later shown within is = record {
+  as_many = is.as_many;
+  tasks = λ number default inside. shown_task_on asked processor past boundary later number _ within (is.tasks number default inside);
+  first = is.first;
+  last = is.last;
+}
