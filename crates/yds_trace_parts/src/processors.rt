@@ -1,5 +1,5 @@
 //! The processors that have documents, and what is written of each behind a line.
-ghost use Rattle.std.specs.Prelude.{◌≡◌, ◌+◌, ◌≤◌, ℕ, List, [], ◌∷◌, length, max, true, Some, None, OnOk, IfOk, IfErr};
+ghost use Rattle.std.specs.Prelude.{◌≡◌, ◌+◌, ◌≤◌, ℕ, List, [], ◌∷◌, ◌++◌, length, max, true, Some, None, OnOk, IfOk, IfErr};
 ghost use Rattle.yds_kernel.specs.Event as trace;
 ghost use Rattle.yds_kernel.specs.Views.{said_read};
 ghost use Rattle.yds_trace.specs.declared.cut.Cut as written;
@@ -30,6 +30,21 @@ pub(crate) struct Processor {
 pub(crate) struct Pieces {
     pub text: Vec<u8>,
     pub processors: Vec<Processor>,
+}
+
+impl Pieces {
+    /// With what is written of one processor more.
+    fn add(&mut self, number: u64, piece: &Piece) -> Result<(), AllocError>
+        ensures text { OnOk result (self.new.text.items ≡ self.old.text.items ++ piece.now.text.items) }
+        ensures processors { OnOk result (self.new.processors.items ≡ self.old.processors.items ++ record { number = number; cut = piece.now.cut } ∷ []) }
+    {
+        self.text.extend_from_slice(&piece.text)?;
+        self.processors.push(Processor {
+            number,
+            cut: piece.cut,
+        })?;
+        Ok(())
+    }
 }
 
 /// The first processor that has documents.
@@ -98,20 +113,15 @@ pub(crate) fn next_pieces(
         → spec.NoneBefore boundary (spec.cuts_of processors.now None) → number ≡ length past → parts.is_due past ≡ true
         → IfErr result (spec.IsHaltFor (spec.pieces_at asked strict past processors.now).halt) }
 {
-    let mut text = Vec::new(alloc);
-    let mut moved = Vec::with_capacity(alloc, processors.len())?;
+    let mut pieces = Pieces {
+        text: Vec::new(alloc),
+        processors: Vec::new(alloc),
+    };
     for one in processors {
         let piece = piece_on(alloc, pass, *one, shown, strict, number)?;
-        text.extend_from_slice(&piece.text)?;
-        moved.push(Processor {
-            number: one.number,
-            cut: piece.cut,
-        })?;
+        pieces.add(one.number, &piece)?;
     }
-    Ok(Pieces {
-        text,
-        processors: moved,
-    })
+    Ok(pieces)
 }
 
 /// What is written of this processor. The pass asks for it from then on.
