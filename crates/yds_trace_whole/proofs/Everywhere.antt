@@ -14,12 +14,13 @@ use Rattle.yds_trace_laws.specs.Processors.{without_reason, BelongsTo}
 use Rattle.yds_trace_laws.proofs.Ordered.{append-all, map-all}
 use Rattle.yds_trace_laws.proofs.Runs.{all_weaker, contained}
 use Rattle.yds_trace_laws.proofs.Processors.{jobs_are_the_same, each_job_belongs, none_unseen, cut_unseen}
+use Rattle.yds_trace_again.proofs.Parts.{parts_are_read_again}
 use Rattle.yds_trace_whole.specs.Parts.{Part, made, made_with, made_at, parts_behind, parts_of, made_behind, written_behind, last_made, written_parts, parts_on, KeepsParts, KeepsAllParts}
 use Rattle.yds_trace_whole.specs.Laws.{PartsAreOfProcessors, AllPartsAreKept}
-use Rattle.yds_trace_whole.specs.Worth.{IsPartFeasible, IsToldLateIn, NothingLateInParts}
-use Rattle.yds_trace_whole.specs.WorthLaws.{NothingIsLateAnywhere}
+use Rattle.yds_trace_whole.specs.Worth.{IsPartFeasible, IsToldLateIn, NothingLateInParts, IsReadPart}
+use Rattle.yds_trace_whole.specs.WorthLaws.{NothingIsLateAnywhere, EachPartIsRead}
 use Rattle.yds_trace_whole.proofs.Holding.{kept_for}
-use Rattle.yds_trace_whole.proofs.Worth.{at_place, nothing_is_late_in_parts}
+use Rattle.yds_trace_whole.proofs.Worth.{IsKeptBefore, none_before, at_place, nothing_is_late_in_parts}
 
 -- # Each part that is written
 
@@ -32,22 +33,35 @@ abbrev piece_on : Asked → List Said → Said → ℕ → List Part
 piece_on asked past said processor =
     made_at (on processor asked) (said ∷ past) (cut_after (on processor asked) past) (place_of (on processor asked) (said ∷ past) (cut_after (on processor asked) past))
 
-module _ (P : Part → Type 0) (asked : Asked) (each : (processor : ℕ) (past : List Said) (cut : Cut) (until : Option ℕ) → P (made (on processor asked) past cut until)) where
-  written_before : (past : List Said) → AllByRecursion P (written_behind asked past)
-  written_before [] = tt
-  written_before (said ∷ past) =
-      append-all P (written_behind asked past) (made_behind asked past said (processors_of asked (said ∷ past))) (written_before past)
+module _ (P : Part → Type 0) (asked : Asked) (Q : List Said → Type 0) (kept : IsKeptBefore Q)
+    (each : (processor : ℕ) (lines : List Said) (cut : Cut) (until : Option ℕ) → Q lines → P (made (on processor asked) lines cut until)) where
+  each_written : (past : List Said) → Q past → AllByRecursion P (written_behind asked past)
+  each_written [] holds = tt
+  each_written (said ∷ past) holds =
+      append-all P (written_behind asked past) (made_behind asked past said (processors_of asked (said ∷ past))) (each_written past (kept said past holds))
       (flat-all P (piece_on asked past said) (processors_of asked (said ∷ past))
       (λ processor. at_place P (on processor asked) (said ∷ past) (cut_after (on processor asked) past)
       (place_of (on processor asked) (said ∷ past) (cut_after (on processor asked) past))
-      (λ until. each processor (said ∷ past) (cut_after (on processor asked) past) until)))
+      (λ until. each processor (said ∷ past) (cut_after (on processor asked) past) until holds)))
 
--- What holds of each part that is made holds of all that are written.
-pub of_each_written : (P : Part → Type 0) (asked : Asked) (past : List Said) →
-    ((processor : ℕ) (past : List Said) (cut : Cut) (until : Option ℕ) → P (made (on processor asked) past cut until)) → AllByRecursion P (written_parts asked past)
-of_each_written P asked past each =
-    append-all P (written_behind asked past) (map (last_made asked past) (processors_of asked past)) (written_before P asked each past)
-    (map-all P (last_made asked past) (processors_of asked past) (λ processor. each processor past (cut_after (on processor asked) past) None))
+-- What holds of each part that is made of such lines holds of all that are written.
+pub of_each_written : (P : Part → Type 0) (asked : Asked) (Q : List Said → Type 0) (past : List Said) → IsKeptBefore Q → Q past →
+    ((processor : ℕ) (lines : List Said) (cut : Cut) (until : Option ℕ) → Q lines → P (made (on processor asked) lines cut until)) → All P (written_parts asked past)
+of_each_written P asked Q past kept holds each =
+    All-from_recursion P (written_parts asked past)
+    (append-all P (written_behind asked past) (map (last_made asked past) (processors_of asked past)) (each_written P asked Q kept each past holds)
+    (map-all P (last_made asked past) (processors_of asked past) (λ processor. each processor past (cut_after (on processor asked) past) None holds)))
+
+-- Whoever asks for another processor asks for as much.
+asked_on : (asked : Asked) (processor : ℕ) → IsAsked asked → IsAsked (on processor asked)
+asked_on asked processor fit = record { has_unit = fit.has_unit; has_speed_unit = fit.has_speed_unit; deadlines = fit.deadlines }
+
+-- the law
+pub each_part_is_read : EachPartIsRead
+each_part_is_read asked strict past fit labelled none =
+    of_each_written (IsReadPart asked strict) asked (λ lines. first_fault asked lines ≡ None) past (none_before asked) none
+    (λ processor lines cut until whole limits short.
+    parts_are_read_again (on processor asked) strict lines cut until (asked_on asked processor fit) labelled (first_fault_on asked processor lines ∙ whole) limits short)
 
 -- # Pieces of several processors
 
@@ -296,8 +310,7 @@ nothing_is_late_anywhere asked past fit none keeps feasible i d within by late =
     let kept : KeepsParts here past =
     contained (λ (p : ℕ). KeepsParts (on p asked) past) (processors_of asked past) processor home.is_there (all_parts_are_kept asked past keeps) in
     let own : NothingLateInParts here past =
-    nothing_is_late_in_parts here past (record { has_unit = fit.has_unit; has_speed_unit = fit.has_speed_unit; deadlines = fit.deadlines })
-    (first_fault_on asked processor past ∙ none) kept in
+    nothing_is_late_in_parts here past (asked_on asked processor fit) (first_fault_on asked processor past ∙ none) kept in
     let told = contained (IsToldLateIn here (parts_of here past)) (filter (belongs here) (all_judged here past)) like.there
     (contains_filter (belongs here) (all_judged here past) like.there has like.is_there)
     (own (contained (λ (p : ℕ). All IsPartFeasible (parts_of (on p asked) past)) (processors_of asked past) processor home.is_there feasible))
