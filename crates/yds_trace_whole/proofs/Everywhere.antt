@@ -1,14 +1,13 @@
 -- The parts of all processors: those of one are what it has by itself, and so is what is known of them.
-use Rattle.yds_model.proofs.Common.{◌≡◌, ◌≢◌, ◌∙◌, ℕ, zero, suc, ◌+◌, ◌<◌, ◌≤◌, ◌⊎◌, inl, inr, ◌==◌, ◌||◌, List, [], ◌∷◌, ◌++◌, map, filter, flat_map, length, get_or, max, Bool, true, false, cond, if◌then◌else◌, Option, Some, None, refl, sym, ap, ap₂, subst, arith, cases_lt, cases_Bool, eq-eqb, ne_eqb, or_parts, append-nil, filter-append, flat_map-append, get_or-map, length-map, list_any, filter_all, filter_none, contains_filter, All, All-nil, All-cons, All-push, All-from_recursion, AllByRecursion, Contains, Contains-get_or}
+use Rattle.yds_model.proofs.Common.{◌≡◌, ◌≢◌, ◌∙◌, ℕ, zero, suc, ◌+◌, ◌<◌, ◌≤◌, ◌⊎◌, inl, inr, ◌==◌, ◌||◌, List, [], ◌∷◌, ◌++◌, map, filter, flat_map, length, get_or, Bool, true, false, cond, if◌then◌else◌, Option, Some, None, refl, sym, ap, ap₂, subst, arith, cases_lt, eq-eqb, ne_eqb, or_parts, append-nil, filter-append, flat_map-append, get_or-map, length-map, list_any, filter_all, filter_none, contains_filter, All, All-nil, All-cons, All-push, All-from_recursion, AllByRecursion, Contains, Contains-get_or}
 use Rattle.std.proofs.lemmas.List.Folds.{list_any-append}
 use Rattle.yds_kernel.specs.Event.{Said}
 use Rattle.yds_trace.specs.declared.cut.Cut.{Cut}
-use Rattle.yds_trace.specs.declared.fault.Cause.{Cause}
 use Rattle.yds_trace.specs.declared.fault.Cause.TheVariants as causes
 use Rattle.yds_trace.specs.Asked.{Asked, IsAsked, on}
 use Rattle.yds_trace.specs.Faults.{first_fault}
 use Rattle.yds_trace.specs.Document.{Judged, all_judged}
-use Rattle.yds_trace.specs.Parts.{belongs, begins_from, waiting, is_before_end, part_until, place_of, cut_after, changes_parts, part_fault, next_processor, processor_count, first_numbers, processors_of, watched_of, changes_one, parts_fault}
+use Rattle.yds_trace.specs.Parts.{belongs, begins_from, waiting, is_before_end, place_of, cut_after, changes_parts, processor_count, first_numbers, processors_of, watched_of, changes_one, parts_fault}
 use Rattle.yds_trace.proofs.OnProcessor.{first_fault_on, changes_parts_on}
 use Rattle.yds_trace_laws.specs.Processors.{without_reason, BelongsTo}
 use Rattle.yds_trace_laws.proofs.Ordered.{append-all, map-all}
@@ -219,8 +218,9 @@ parts_are_of_processors asked past =
 
 -- # No line is refused behind the parts of one
 
-abbrev Changes : Asked → List Said → Said → ℕ → Bool
-Changes asked past said processor = changes_parts (on processor asked) past (cut_after (on processor asked) past) said
+-- the line changes a part that was written of this processor
+abbrev changes_on : Asked → List Said → Said → ℕ → Bool
+changes_on asked past said processor = changes_parts (on processor asked) past (cut_after (on processor asked) past) said
 
 any_none : (test : ℕ → Bool) (n number : ℕ) → number < n → list_any test (first_numbers n) ≡ false → test number ≡ false
 any_none test zero number within none = absurd (omega (arith, within))
@@ -234,38 +234,38 @@ any_none test (suc n) number within none =
 
 -- Processors of which no line tells yet are alike.
 unseen_alike : (asked : Asked) (past : List Said) (said : Said) (processor other : ℕ) → asked.everywhere ≡ true → processor_count past ≤ processor → processor_count past ≤ other →
-    Changes asked past said processor ≡ Changes asked past said other
+    changes_on asked past said processor ≡ changes_on asked past said other
 unseen_alike asked past said processor other everywhere one two =
     changes_parts_on asked processor past (cut_after (on processor asked) past) said
     ∙ ap (λ (cut : Cut). changes_parts asked past cut said) (cut_unseen asked past processor other everywhere one two)
     ∙ sym (changes_parts_on asked other past (cut_after (on other asked) past) said)
 
-every_kept : (asked : Asked) (processor : ℕ) → asked.everywhere ≡ true → (past : List Said) (said : Said) → parts_fault asked past said ≡ None → Changes asked past said processor ≡ false
+every_kept : (asked : Asked) (processor : ℕ) → asked.everywhere ≡ true → (past : List Said) (said : Said) → parts_fault asked past said ≡ None → changes_on asked past said processor ≡ false
 every_kept asked processor everywhere past said none = by (cases_lt processor (n + 1))
   where
     n : ℕ
     n = processor_count (said ∷ past)
 
-    all_kept : list_any (Changes asked past said) (first_numbers (n + 1)) ≡ false
+    all_kept : list_any (changes_on asked past said) (first_numbers (n + 1)) ≡ false
     all_kept =
-        sym (ap (λ (b : Bool). list_any (Changes asked past said) (if b then first_numbers (n + 1) else asked.processor ∷ [])) everywhere)
+        sym (ap (λ (b : Bool). list_any (changes_on asked past said) (if b then first_numbers (n + 1) else asked.processor ∷ [])) everywhere)
         ∙ kept_for (changes_one asked past said (watched_of asked (said ∷ past))) none
 
     more : processor_count past ≤ n
     more = omega arith
 
-    by : (processor < n + 1) ⊎ (n + 1 ≤ processor) → Changes asked past said processor ≡ false
-    by (inl watched) = any_none (Changes asked past said) (n + 1) processor watched all_kept
+    by : (processor < n + 1) ⊎ (n + 1 ≤ processor) → changes_on asked past said processor ≡ false
+    by (inl watched) = any_none (changes_on asked past said) (n + 1) processor watched all_kept
     by (inr beyond) =
-        unseen_alike asked past said processor n everywhere (omega (arith, beyond, more)) more ∙ any_none (Changes asked past said) (n + 1) n (omega arith) all_kept
+        unseen_alike asked past said processor n everywhere (omega (arith, beyond, more)) more ∙ any_none (changes_on asked past said) (n + 1) n (omega arith) all_kept
 
-alone_kept : (asked : Asked) → asked.everywhere ≡ false → (past : List Said) (said : Said) → parts_fault asked past said ≡ None → Changes asked past said asked.processor ≡ false
+alone_kept : (asked : Asked) → asked.everywhere ≡ false → (past : List Said) (said : Said) → parts_fault asked past said ≡ None → changes_on asked past said asked.processor ≡ false
 alone_kept asked alone past said none =
-    (or_parts (Changes asked past said asked.processor) false
-    (sym (ap (λ (b : Bool). list_any (Changes asked past said) (if b then first_numbers (processor_count (said ∷ past) + 1) else asked.processor ∷ [])) alone)
+    (or_parts (changes_on asked past said asked.processor) false
+    (sym (ap (λ (b : Bool). list_any (changes_on asked past said) (if b then first_numbers (processor_count (said ∷ past) + 1) else asked.processor ∷ [])) alone)
     ∙ kept_for (changes_one asked past said (watched_of asked (said ∷ past))) none)).0
 
-kept_on : (asked : Asked) (processor : ℕ) → ((past : List Said) (said : Said) → parts_fault asked past said ≡ None → Changes asked past said processor ≡ false) →
+kept_on : (asked : Asked) (processor : ℕ) → ((past : List Said) (said : Said) → parts_fault asked past said ≡ None → changes_on asked past said processor ≡ false) →
     (past : List Said) → KeepsAllParts asked past → KeepsParts (on processor asked) past
 kept_on asked processor each [] keeps = tt
 kept_on asked processor each (said ∷ past) keeps =
