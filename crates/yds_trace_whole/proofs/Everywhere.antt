@@ -1,25 +1,25 @@
 -- The parts of all processors: those of one are what it has by itself, and so is what is known of them.
-use Rattle.yds_model.proofs.Common.{◌≡◌, ◌≢◌, ◌∙◌, ℕ, zero, suc, ◌+◌, ◌<◌, ◌≤◌, ◌⊎◌, inl, inr, ◌==◌, ◌||◌, List, [], ◌∷◌, ◌++◌, map, filter, flat_map, length, get_or, max, Bool, true, false, cond, if◌then◌else◌, Option, Some, None, refl, sym, ap, ap₂, subst, arith, cases_lt, cases_Bool, eq-eqb, ne_eqb, or_parts, append-nil, filter-append, flat_map-append, get_or-map, length-map, list_any, filter_all, filter_none, contains_filter, All, All-nil, All-cons, All-push, All-from_recursion, AllByRecursion, Contains, Contains-get_or}
+use Rattle.yds_model.proofs.Common.{◌≡◌, ◌≢◌, ◌∙◌, ℕ, zero, suc, ◌+◌, ◌<◌, ◌≤◌, ◌⊎◌, inl, inr, ◌==◌, ◌||◌, List, [], ◌∷◌, ◌++◌, map, filter, flat_map, length, get_or, Bool, true, false, cond, if◌then◌else◌, Option, Some, None, refl, sym, ap, ap₂, subst, arith, cases_lt, eq-eqb, ne_eqb, or_parts, append-nil, filter-append, flat_map-append, get_or-map, length-map, list_any, filter_all, filter_none, contains_filter, All, All-nil, All-cons, All-push, All-from_recursion, AllByRecursion, Contains, Contains-get_or}
 use Rattle.std.proofs.lemmas.List.Folds.{list_any-append}
 use Rattle.yds_kernel.specs.Event.{Said}
 use Rattle.yds_trace.specs.declared.cut.Cut.{Cut}
-use Rattle.yds_trace.specs.declared.fault.Cause.{Cause}
 use Rattle.yds_trace.specs.declared.fault.Cause.TheVariants as causes
 use Rattle.yds_trace.specs.Asked.{Asked, IsAsked, on}
 use Rattle.yds_trace.specs.Faults.{first_fault}
 use Rattle.yds_trace.specs.Document.{Judged, all_judged}
-use Rattle.yds_trace.specs.Parts.{belongs, begins_from, waiting, is_before_end, part_until, place_of, cut_after, changes_parts, part_fault, next_processor, processor_count, first_numbers, processors_of, watched_of, changes_one, parts_fault}
+use Rattle.yds_trace.specs.Parts.{belongs, begins_from, waiting, is_before_end, place_of, cut_after, changes_parts, processor_count, first_numbers, processors_of, watched_of, changes_one, parts_fault}
 use Rattle.yds_trace.proofs.OnProcessor.{first_fault_on, changes_parts_on}
 use Rattle.yds_trace_laws.specs.Processors.{without_reason, BelongsTo}
 use Rattle.yds_trace_laws.proofs.Ordered.{append-all, map-all}
 use Rattle.yds_trace_laws.proofs.Runs.{all_weaker, contained}
 use Rattle.yds_trace_laws.proofs.Processors.{jobs_are_the_same, each_job_belongs, none_unseen, cut_unseen}
+use Rattle.yds_trace_again.proofs.Parts.{parts_are_read_again}
 use Rattle.yds_trace_whole.specs.Parts.{Part, made, made_with, made_at, parts_behind, parts_of, made_behind, written_behind, last_made, written_parts, parts_on, KeepsParts, KeepsAllParts}
 use Rattle.yds_trace_whole.specs.Laws.{PartsAreOfProcessors, AllPartsAreKept}
-use Rattle.yds_trace_whole.specs.Worth.{IsPartFeasible, IsToldLateIn, NothingLateInParts}
-use Rattle.yds_trace_whole.specs.WorthLaws.{NothingIsLateAnywhere}
+use Rattle.yds_trace_whole.specs.Worth.{IsPartFeasible, IsToldLateIn, NothingLateInParts, IsReadPart}
+use Rattle.yds_trace_whole.specs.WorthLaws.{NothingIsLateAnywhere, EachPartIsRead}
 use Rattle.yds_trace_whole.proofs.Holding.{kept_for}
-use Rattle.yds_trace_whole.proofs.Worth.{at_place, nothing_is_late_in_parts}
+use Rattle.yds_trace_whole.proofs.Worth.{IsKeptBefore, none_before, at_place, nothing_is_late_in_parts}
 
 -- # Each part that is written
 
@@ -32,22 +32,35 @@ abbrev piece_on : Asked → List Said → Said → ℕ → List Part
 piece_on asked past said processor =
     made_at (on processor asked) (said ∷ past) (cut_after (on processor asked) past) (place_of (on processor asked) (said ∷ past) (cut_after (on processor asked) past))
 
-module _ (P : Part → Type 0) (asked : Asked) (each : (processor : ℕ) (past : List Said) (cut : Cut) (until : Option ℕ) → P (made (on processor asked) past cut until)) where
-  written_before : (past : List Said) → AllByRecursion P (written_behind asked past)
-  written_before [] = tt
-  written_before (said ∷ past) =
-      append-all P (written_behind asked past) (made_behind asked past said (processors_of asked (said ∷ past))) (written_before past)
+module _ (P : Part → Type 0) (asked : Asked) (Q : List Said → Type 0) (kept : IsKeptBefore Q)
+    (each : (processor : ℕ) (lines : List Said) (cut : Cut) (until : Option ℕ) → Q lines → P (made (on processor asked) lines cut until)) where
+  each_written : (past : List Said) → Q past → AllByRecursion P (written_behind asked past)
+  each_written [] holds = tt
+  each_written (said ∷ past) holds =
+      append-all P (written_behind asked past) (made_behind asked past said (processors_of asked (said ∷ past))) (each_written past (kept said past holds))
       (flat-all P (piece_on asked past said) (processors_of asked (said ∷ past))
       (λ processor. at_place P (on processor asked) (said ∷ past) (cut_after (on processor asked) past)
       (place_of (on processor asked) (said ∷ past) (cut_after (on processor asked) past))
-      (λ until. each processor (said ∷ past) (cut_after (on processor asked) past) until)))
+      (λ until. each processor (said ∷ past) (cut_after (on processor asked) past) until holds)))
 
--- What holds of each part that is made holds of all that are written.
-pub of_each_written : (P : Part → Type 0) (asked : Asked) (past : List Said) →
-    ((processor : ℕ) (past : List Said) (cut : Cut) (until : Option ℕ) → P (made (on processor asked) past cut until)) → AllByRecursion P (written_parts asked past)
-of_each_written P asked past each =
-    append-all P (written_behind asked past) (map (last_made asked past) (processors_of asked past)) (written_before P asked each past)
-    (map-all P (last_made asked past) (processors_of asked past) (λ processor. each processor past (cut_after (on processor asked) past) None))
+-- What holds of each part that is made of such lines holds of all that are written.
+pub of_each_written : (P : Part → Type 0) (asked : Asked) (Q : List Said → Type 0) (past : List Said) → IsKeptBefore Q → Q past →
+    ((processor : ℕ) (lines : List Said) (cut : Cut) (until : Option ℕ) → Q lines → P (made (on processor asked) lines cut until)) → All P (written_parts asked past)
+of_each_written P asked Q past kept holds each =
+    All-from_recursion P (written_parts asked past)
+    (append-all P (written_behind asked past) (map (last_made asked past) (processors_of asked past)) (each_written P asked Q kept each past holds)
+    (map-all P (last_made asked past) (processors_of asked past) (λ processor. each processor past (cut_after (on processor asked) past) None holds)))
+
+-- Whoever asks for another processor asks for as much.
+asked_on : (asked : Asked) (processor : ℕ) → IsAsked asked → IsAsked (on processor asked)
+asked_on asked processor fit = record { has_unit = fit.has_unit; has_speed_unit = fit.has_speed_unit; deadlines = fit.deadlines }
+
+-- the law
+pub each_part_is_read : EachPartIsRead
+each_part_is_read asked strict past fit labelled none =
+    of_each_written (IsReadPart asked strict) asked (λ lines. first_fault asked lines ≡ None) past (none_before asked) none
+    (λ processor lines cut until whole limits short.
+    parts_are_read_again (on processor asked) strict lines cut until (asked_on asked processor fit) labelled (first_fault_on asked processor lines ∙ whole) limits short)
 
 -- # Pieces of several processors
 
@@ -205,8 +218,9 @@ parts_are_of_processors asked past =
 
 -- # No line is refused behind the parts of one
 
-abbrev Changes : Asked → List Said → Said → ℕ → Bool
-Changes asked past said processor = changes_parts (on processor asked) past (cut_after (on processor asked) past) said
+-- the line changes a part that was written of this processor
+abbrev changes_on : Asked → List Said → Said → ℕ → Bool
+changes_on asked past said processor = changes_parts (on processor asked) past (cut_after (on processor asked) past) said
 
 any_none : (test : ℕ → Bool) (n number : ℕ) → number < n → list_any test (first_numbers n) ≡ false → test number ≡ false
 any_none test zero number within none = absurd (omega (arith, within))
@@ -220,38 +234,38 @@ any_none test (suc n) number within none =
 
 -- Processors of which no line tells yet are alike.
 unseen_alike : (asked : Asked) (past : List Said) (said : Said) (processor other : ℕ) → asked.everywhere ≡ true → processor_count past ≤ processor → processor_count past ≤ other →
-    Changes asked past said processor ≡ Changes asked past said other
+    changes_on asked past said processor ≡ changes_on asked past said other
 unseen_alike asked past said processor other everywhere one two =
     changes_parts_on asked processor past (cut_after (on processor asked) past) said
     ∙ ap (λ (cut : Cut). changes_parts asked past cut said) (cut_unseen asked past processor other everywhere one two)
     ∙ sym (changes_parts_on asked other past (cut_after (on other asked) past) said)
 
-every_kept : (asked : Asked) (processor : ℕ) → asked.everywhere ≡ true → (past : List Said) (said : Said) → parts_fault asked past said ≡ None → Changes asked past said processor ≡ false
+every_kept : (asked : Asked) (processor : ℕ) → asked.everywhere ≡ true → (past : List Said) (said : Said) → parts_fault asked past said ≡ None → changes_on asked past said processor ≡ false
 every_kept asked processor everywhere past said none = by (cases_lt processor (n + 1))
   where
     n : ℕ
     n = processor_count (said ∷ past)
 
-    all_kept : list_any (Changes asked past said) (first_numbers (n + 1)) ≡ false
+    all_kept : list_any (changes_on asked past said) (first_numbers (n + 1)) ≡ false
     all_kept =
-        sym (ap (λ (b : Bool). list_any (Changes asked past said) (if b then first_numbers (n + 1) else asked.processor ∷ [])) everywhere)
+        sym (ap (λ (b : Bool). list_any (changes_on asked past said) (if b then first_numbers (n + 1) else asked.processor ∷ [])) everywhere)
         ∙ kept_for (changes_one asked past said (watched_of asked (said ∷ past))) none
 
     more : processor_count past ≤ n
     more = omega arith
 
-    by : (processor < n + 1) ⊎ (n + 1 ≤ processor) → Changes asked past said processor ≡ false
-    by (inl watched) = any_none (Changes asked past said) (n + 1) processor watched all_kept
+    by : (processor < n + 1) ⊎ (n + 1 ≤ processor) → changes_on asked past said processor ≡ false
+    by (inl watched) = any_none (changes_on asked past said) (n + 1) processor watched all_kept
     by (inr beyond) =
-        unseen_alike asked past said processor n everywhere (omega (arith, beyond, more)) more ∙ any_none (Changes asked past said) (n + 1) n (omega arith) all_kept
+        unseen_alike asked past said processor n everywhere (omega (arith, beyond, more)) more ∙ any_none (changes_on asked past said) (n + 1) n (omega arith) all_kept
 
-alone_kept : (asked : Asked) → asked.everywhere ≡ false → (past : List Said) (said : Said) → parts_fault asked past said ≡ None → Changes asked past said asked.processor ≡ false
+alone_kept : (asked : Asked) → asked.everywhere ≡ false → (past : List Said) (said : Said) → parts_fault asked past said ≡ None → changes_on asked past said asked.processor ≡ false
 alone_kept asked alone past said none =
-    (or_parts (Changes asked past said asked.processor) false
-    (sym (ap (λ (b : Bool). list_any (Changes asked past said) (if b then first_numbers (processor_count (said ∷ past) + 1) else asked.processor ∷ [])) alone)
+    (or_parts (changes_on asked past said asked.processor) false
+    (sym (ap (λ (b : Bool). list_any (changes_on asked past said) (if b then first_numbers (processor_count (said ∷ past) + 1) else asked.processor ∷ [])) alone)
     ∙ kept_for (changes_one asked past said (watched_of asked (said ∷ past))) none)).0
 
-kept_on : (asked : Asked) (processor : ℕ) → ((past : List Said) (said : Said) → parts_fault asked past said ≡ None → Changes asked past said processor ≡ false) →
+kept_on : (asked : Asked) (processor : ℕ) → ((past : List Said) (said : Said) → parts_fault asked past said ≡ None → changes_on asked past said processor ≡ false) →
     (past : List Said) → KeepsAllParts asked past → KeepsParts (on processor asked) past
 kept_on asked processor each [] keeps = tt
 kept_on asked processor each (said ∷ past) keeps =
@@ -296,8 +310,7 @@ nothing_is_late_anywhere asked past fit none keeps feasible i d within by late =
     let kept : KeepsParts here past =
     contained (λ (p : ℕ). KeepsParts (on p asked) past) (processors_of asked past) processor home.is_there (all_parts_are_kept asked past keeps) in
     let own : NothingLateInParts here past =
-    nothing_is_late_in_parts here past (record { has_unit = fit.has_unit; has_speed_unit = fit.has_speed_unit; deadlines = fit.deadlines })
-    (first_fault_on asked processor past ∙ none) kept in
+    nothing_is_late_in_parts here past (asked_on asked processor fit) (first_fault_on asked processor past ∙ none) kept in
     let told = contained (IsToldLateIn here (parts_of here past)) (filter (belongs here) (all_judged here past)) like.there
     (contains_filter (belongs here) (all_judged here past) like.there has like.is_there)
     (own (contained (λ (p : ℕ). All IsPartFeasible (parts_of (on p asked) past)) (processors_of asked past) processor home.is_there feasible))

@@ -1,5 +1,5 @@
 -- Small traces of two processors, each with documents of its own. A unit of time is 10 nanoseconds, and a job is due 100 after its begin.
-use Rattle.yds_model.proofs.Common.{◌≡◌, ◌≢◌, ℕ, List, [], ◌∷◌, map, codes, reverse, true, false, Option, Some, None, refl, ap, get_or}
+use Rattle.yds_model.proofs.Common.{◌≡◌, ◌≢◌, ℕ, List, [], ◌∷◌, map, codes, reverse, true, false, Some, None, refl, ap, get_or}
 use Rattle.std.specs.Fmt.{digits}
 use Rattle.yds_kernel.specs.declared.state.State.TheVariants as states
 use Rattle.yds_kernel.specs.declared.loss.Since.TheVariants as since
@@ -8,8 +8,8 @@ use Rattle.yds_trace.specs.declared.cut.Cut.{Cut}
 use Rattle.yds_trace.specs.declared.fault.Cause.TheVariants as causes
 use Rattle.yds_trace.specs.Asked.{Named, Asked, on}
 use Rattle.yds_trace.specs.Document.{Document}
-use Rattle.yds_trace.specs.Parts.{no_cut, waiting, part_until, is_quiet, cut_at, part_fault, processors_of}
-use Rattle.yds_trace_whole.specs.Parts.{Part, made, made_at, parts_of, written_parts, judged_in_parts}
+use Rattle.yds_trace.specs.Parts.{no_cut, waiting, is_quiet, cut_at, part_fault, processors_of}
+use Rattle.yds_trace_whole.specs.Parts.{made, made_at, parts_of, written_parts, judged_in_parts}
 use Rattle.yds_trace_whole.specs.Whole.{whole_document, put_together}
 
 abbrev thread : Thread

@@ -1,5 +1,5 @@
 -- The texts of two parts or more are no document: the second line of ticks is refused, if not a line before it.
-use Rattle.yds_model.proofs.Common.{◌≡◌, ℕ, ◌+◌, ◌≤◌, ◌==◌, Bool, true, false, if◌then◌else◌, List, [], ◌∷◌, ◌++◌, length, map, flat_map, filter_map, Result, Ok, Err, Option, Some, None, is_none, refl, sym, ap, ap₂, subst, ◌∙◌, inl, inr, arith, codes, decimal, join_with_byte, cases_Bool, eqb-true, append_assoc, append-nil, length-append, map-append, AllByRecursion, Line, trimmed, in_front, lines_from, lines_from-written, is_skipped, live_lines, read_line, read_after, reading, document_said, Document, Entry, TicksEntry, ticks_said, more_said}
+use Rattle.yds_model.proofs.Common.{◌≡◌, ℕ, ◌+◌, ◌≤◌, ◌==◌, Bool, true, false, if◌then◌else◌, List, [], ◌∷◌, ◌++◌, length, map, flat_map, filter_map, Result, Ok, Err, Option, Some, None, is_none, refl, sym, ap, ap₂, subst, ◌∙◌, inl, inr, arith, codes, decimal, join_with_byte, cases_Bool, eqb-true, append_assoc, append-nil, length-append, map-append, AllByRecursion, recursion_from_All, Line, trimmed, in_front, lines_from, lines_from-written, is_skipped, live_lines, read_line, read_after, reading, document_said, Document, Entry, TicksEntry, ticks_said, more_said}
 use Rattle.std.specs.Bool.{⊤}
 use Rattle.std.proofs.lemmas.List.Elements.{filter_map-append}
 use Rattle.yds_model.specs.declared.reason.Reason.{Reason}
@@ -228,4 +228,6 @@ several (one ∷ next ∷ more) document many all is =
 pub several_are_refused : SeveralAreRefused
 several_are_refused asked past many document is =
     several (written_parts asked past) document many
-    (of_each_written (λ part. HasTicks part.text) asked past (λ processor lines cut until. made_ticks (on processor asked) lines cut until)) is
+    (recursion_from_All (λ (part : Part). HasTicks part.text) (written_parts asked past)
+    (of_each_written (λ part. HasTicks part.text) asked (λ lines. ⊤) past (λ said lines holds. tt) tt
+    (λ processor lines cut until holds. made_ticks (on processor asked) lines cut until))) is

@@ -1,4 +1,4 @@
--- No late job is hidden in the parts of a trace, each part is faithful to the trace, and each is read again.
+-- No late job is hidden in the parts of a trace, and each part is faithful to the trace.
 use Rattle.yds_model.proofs.Common.{◌≡◌, ℕ, ◌+◌, ◌<◌, List, [], ◌∷◌, filter, length, get_or, Option, Some, None, is_none, refl, sym, subst, All, All-from_recursion, All-contains_itself, AllByRecursion, recursion_from_All, Contains}
 use Rattle.yds_kernel.specs.Event.{Said}
 use Rattle.yds_trace.specs.declared.cut.Cut.{Cut}
@@ -18,26 +18,23 @@ use Rattle.yds_trace_text.specs.Text.{late_comment, settled_text}
 use Rattle.yds_trace_text.specs.PartText.{part_line}
 use Rattle.yds_trace_again.specs.Holds.{Holds}
 use Rattle.yds_trace_again.proofs.Holding.{on_the_right, late_jobs_are_named}
-use Rattle.yds_trace_again.proofs.Parts.{part_is_of, part_not_before, parts_are_read_again}
+use Rattle.yds_trace_again.proofs.Parts.{part_is_of, part_not_before}
 use Rattle.yds_trace_whole.specs.Parts.{Part, made, made_with, made_at, parts_behind, parts_of, judged_in_parts}
-use Rattle.yds_trace_whole.specs.Worth.{IsPartFeasible, NothingLateInParts, IsFaithfulPart, IsReadPart}
-use Rattle.yds_trace_whole.specs.WorthLaws.{NothingIsLateInParts, PartsAreFaithful, EachPartIsRead}
+use Rattle.yds_trace_whole.specs.Worth.{IsPartFeasible, NothingLateInParts, IsFaithfulPart}
+use Rattle.yds_trace_whole.specs.WorthLaws.{NothingIsLateInParts, PartsAreFaithful}
 use Rattle.yds_trace_whole.proofs.Parting.{parts_are_the_whole}
 
--- # Where a part is from
+-- # Each part that is made
 
--- it is made of the jobs behind some lines, of which Q holds
-record IsMade (asked : Asked) (Q : List Said → Type 0) (part : Part) : Type 0 where
-  past : List Said
-  cut : Cut
-  until : Option ℕ
-  is : made asked past cut until ≡ part
-  holds : Q past
+-- It holds of fewer lines where it holds of more.
+abbrev pub IsKeptBefore : (List Said → Type 0) → Type 0
+IsKeptBefore Q = (said : Said) (past : List Said) → Q (said ∷ past) → Q past
 
-made_here : (asked : Asked) (Q : List Said → Type 0) (past : List Said) (cut : Cut) (until : Option ℕ) → Q past → IsMade asked Q (made asked past cut until)
-made_here asked Q past cut until holds = record { past = past; cut = cut; until = until; is = refl; holds = holds }
+-- as that no line is refused
+pub none_before : (asked : Asked) → IsKeptBefore (λ lines. first_fault asked lines ≡ None)
+none_before asked said lines none = (or_none (first_fault asked lines) (numbered (length lines + 1) (said_fault asked lines said)) none).0
 
--- what holds of each part that is made holds of the one that is written, if one is
+-- What holds of each part that is made holds of the one that is written, if one is.
 pub at_place : (P : Part → Type 0) (asked : Asked) (past : List Said) (cut : Cut) (place : Option ℕ) → ((until : Option ℕ) → P (made asked past cut until)) →
     AllByRecursion P (made_at asked past cut place)
 at_place P asked past cut None each = tt
@@ -47,43 +44,23 @@ at_place P asked past cut (Some time) each = by (part_until asked past cut (Some
     by [] = tt
     by (one ∷ part) = (each (Some time), tt)
 
--- It holds of fewer lines where it holds of more.
-abbrev pub IsKeptBefore : (List Said → Type 0) → Type 0
-IsKeptBefore Q = (said : Said) (past : List Said) → Q (said ∷ past) → Q past
+-- where none of the lines has a fault
+module _ (P : Part → Type 0) (asked : Asked) (each : (lines : List Said) (cut : Cut) (until : Option ℕ) → first_fault asked lines ≡ None → P (made asked lines cut until)) where
+  each_behind : (past : List Said) → first_fault asked past ≡ None → AllByRecursion P (parts_behind asked past)
+  each_behind [] none = tt
+  each_behind (said ∷ past) none =
+      append-all P (parts_behind asked past) (made_at asked (said ∷ past) (cut_after asked past) (place_of asked (said ∷ past) (cut_after asked past)))
+      (each_behind past (none_before asked said past none))
+      (at_place P asked (said ∷ past) (cut_after asked past) (place_of asked (said ∷ past) (cut_after asked past))
+      (λ until. each (said ∷ past) (cut_after asked past) until none))
 
-made_behind : (asked : Asked) (Q : List Said → Type 0) (past : List Said) → IsKeptBefore Q → Q past → AllByRecursion (IsMade asked Q) (parts_behind asked past)
-made_behind asked Q [] kept holds = tt
-made_behind asked Q (said ∷ past) kept holds =
-    append-all (IsMade asked Q) (parts_behind asked past) (made_at asked (said ∷ past) (cut_after asked past) (place_of asked (said ∷ past) (cut_after asked past)))
-    (made_behind asked Q past kept (kept said past holds))
-    (at_place (IsMade asked Q) asked (said ∷ past) (cut_after asked past) (place_of asked (said ∷ past) (cut_after asked past))
-    (λ until. made_here asked Q (said ∷ past) (cut_after asked past) until holds))
-
-all_made : (asked : Asked) (Q : List Said → Type 0) (past : List Said) → IsKeptBefore Q → Q past → AllByRecursion (IsMade asked Q) (parts_of asked past)
-all_made asked Q past kept holds =
-    append-all (IsMade asked Q) (parts_behind asked past) (made asked past (cut_after asked past) None ∷ []) (made_behind asked Q past kept holds)
-    (made_here asked Q past (cut_after asked past) None holds, tt)
-
--- What holds of each part that is made of such lines holds of all parts of a trace.
-pub of_each_made : (P : Part → Type 0) (asked : Asked) (Q : List Said → Type 0) (past : List Said) → IsKeptBefore Q → Q past →
-    ((lines : List Said) (cut : Cut) (until : Option ℕ) → Q lines → P (made asked lines cut until)) → All P (parts_of asked past)
-of_each_made P asked Q past kept holds each =
-    All-from_recursion P (parts_of asked past)
-    (all_weaker (IsMade asked Q) P (λ part from. subst P from.is (each from.past from.cut from.until from.holds)) (parts_of asked past) (all_made asked Q past kept holds))
-
--- as where none of the lines has a fault
+-- So it holds of all parts of a trace.
 of_each_part : (P : Part → Type 0) (asked : Asked) (past : List Said) → first_fault asked past ≡ None →
     ((lines : List Said) (cut : Cut) (until : Option ℕ) → first_fault asked lines ≡ None → P (made asked lines cut until)) → All P (parts_of asked past)
 of_each_part P asked past none each =
-    of_each_made P asked (λ lines. first_fault asked lines ≡ None) past
-    (λ said lines whole. (or_none (first_fault asked lines) (numbered (length lines + 1) (said_fault asked lines said)) whole).0) none each
-
--- # Each part is read again
-
-pub each_part_is_read : EachPartIsRead
-each_part_is_read asked strict past fit labelled none =
-    of_each_part (IsReadPart asked strict) asked past none
-    (λ lines cut until whole limits short. parts_are_read_again asked strict lines cut until fit labelled whole limits short)
+    All-from_recursion P (parts_of asked past)
+    (append-all P (parts_behind asked past) (made asked past (cut_after asked past) None ∷ []) (each_behind P asked each past none)
+    (each past (cut_after asked past) None none, tt))
 
 -- # The jobs of parts
 
