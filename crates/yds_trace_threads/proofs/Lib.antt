@@ -1,2 +1,4 @@
 pub mod Rows
 pub mod Facts
+pub mod Passing
+pub mod Told

@@ -1,5 +1,5 @@
 -- Rows of the first of some threads: one changes, or one comes.
-use Rattle.yds_model.proofs.Common.{◌≡◌, ℕ, zero, suc, ◌+◌, ◌<◌, ◌≤◌, ◌==◌, Bool, true, false, List, [], ◌∷◌, ◌++◌, length, map, take, set, Option, Some, None, refl, sym, ap, ap₂, subst, ◌∙◌, arith, eqb-false, ne_eqb, true≢false, or_parts, position, position-Some, cond_both, take_all, take-append-le, map-append, length-append, eqb-true, get_or, nat_lt, ltb-true, lt-ltb, cases_lt, inl, inr, cond, not, or_from, length-map, length-take}
+use Rattle.yds_model.proofs.Common.{◌≡◌, ℕ, zero, suc, ◌+◌, ◌<◌, ◌≤◌, ◌==◌, Bool, true, false, List, [], ◌∷◌, ◌++◌, length, map, take, set, Option, Some, None, refl, sym, ap, ap₂, subst, ◌∙◌, arith, eqb-false, ne_eqb, true≢false, or_parts, position, position-Some, cond_both, take_all, take-append-le, map-append, length-append, eqb-true, get_or, nat_lt, ltb-true, lt-ltb, cases_lt, inl, inr, cond, not, or_from, length-map, length-take, cases_Bool, get_or-map, map-set}
 use Rattle.std.specs.Prelude.{nat_eq, slice_get}
 use Rattle.std.specs.List.{AllByRecursion, IsDistinct, list_any, position_or_len, prefix_len}
 use Rattle.std.proofs.lemmas.Map.Keys.{IsDistinct-head, IsDistinct-tail}
@@ -18,7 +18,7 @@ turned m n apart = ne_eqb n m (λ same. eqb-false m n apart (sym same))
 
 -- what each has, the one at a place has
 at_place : (P : ℕ → Type 0) (numbers : List ℕ) (place number : ℕ) → AllByRecursion P numbers → slice_get numbers place ≡ Some number → P number
-at_place P [] place number all is = let no : None {A = ℕ} ≡ Some number = is in absurd cc
+at_place P [] place number all is = let no : None ≡ Some number = is in absurd cc
 at_place P (first ∷ numbers) zero number all is = let same : first ≡ number = cc in subst P same all.0
 at_place P (first ∷ numbers) (suc place) number all is = at_place P numbers place number all.1 is
 
@@ -38,7 +38,7 @@ same_rows {A} f g pid (suc n) (other ∷ pids) agree absent =
 pub changed_row : {A : Type 0} (f g : ℕ → A) (pid n : ℕ) (pids : List ℕ) (place : ℕ) → AgreeBut pid f g → IsDistinct nat_eq pids → slice_get pids place ≡ Some pid → place < n
     → map g (take n pids) ≡ set (map f (take n pids)) place (g pid)
 changed_row f g pid zero pids place agree different at within = absurd (omega (arith, within))
-changed_row f g pid (suc n) [] place agree different at within = let no : None {A = ℕ} ≡ Some pid = at in absurd cc
+changed_row f g pid (suc n) [] place agree different at within = let no : None ≡ Some pid = at in absurd cc
 changed_row {A} f g pid (suc n) (first ∷ pids) zero agree different at within =
     let same : first ≡ pid = cc in
     ap₂ (λ (row : A) (rows : List A). row ∷ rows) (ap g same)
@@ -69,14 +69,34 @@ pub unkept_row : {A : Type 0} (f g : ℕ → A) (pid n : ℕ) (pids : List ℕ) 
     → rows ≡ map f (take n pids) → length rows ≤ place → rows ≡ map g (take n pids)
 unkept_row f g pid n pids place rows agree different at is behind =
     is ∙ sym (passed_row f g pid n pids place agree different at
-    (omega (arith, behind, ap length is, length-map f (take n pids), length-take n pids, slice_get_within pids place pid at)))
+    (omega (arith, behind, ap length is, length-map (take n pids) f, length-take n pids, slice_get_within pids place pid at)))
 
 pub kept_row : {A : Type 0} (f g : ℕ → A) (pid n : ℕ) (pids : List ℕ) (place : ℕ) (rows : List A) → AgreeBut pid f g → IsDistinct nat_eq pids → slice_get pids place ≡ Some pid
     → rows ≡ map f (take n pids) → place < length rows → set rows place (g pid) ≡ map g (take n pids)
 kept_row {A} f g pid n pids place rows agree different at is within =
     ap (λ (l : List A). set l place (g pid)) is
     ∙ sym (changed_row f g pid n pids place agree different at
-    (omega (arith, within, ap length is, length-map f (take n pids), length-take n pids)))
+    (omega (arith, within, ap length is, length-map (take n pids) f, length-take n pids)))
+
+at_row : {A : Type 0} (f : ℕ → A) (pid n : ℕ) (pids : List ℕ) (place : ℕ) (d : A) → slice_get pids place ≡ Some pid → place < n → get_or (map f (take n pids)) place d ≡ f pid
+at_row f pid zero pids place d at within = absurd (omega (arith, within))
+at_row f pid (suc n) [] place d at within = let no : None ≡ Some pid = at in absurd cc
+at_row f pid (suc n) (first ∷ pids) zero d at within = let same : first ≡ pid = cc in ap f same
+at_row f pid (suc n) (first ∷ pids) (suc place) d at within = at_row f pid n pids place d at (omega (arith, within))
+
+-- what is kept of one thread changes, and so does its row
+pub set_row : {K A : Type 0} (view : K → A) (f g : ℕ → A) (pid n : ℕ) (pids : List ℕ) (place : ℕ) (kept : List K) (old new : K) (change : A → A) → AgreeBut pid f g
+    → IsDistinct nat_eq pids → slice_get pids place ≡ Some pid → map view kept ≡ map f (take n pids) → place < length kept → old ≡ get_or kept place old
+    → view new ≡ change (view old) → g pid ≡ change (f pid) → map view (set kept place new) ≡ map g (take n pids)
+set_row {K} {A} view f g pid n pids place kept old new change agree different at is within read now then =
+    let long : place < length (map view kept) = omega (arith, within, length-map kept view) in
+    let few : place < n = omega (arith, long, ap length is, length-map (take n pids) f, length-take n pids) in
+    let row : view old ≡ f pid =
+    ap view read ∙ sym (get_or-map view kept place old (view old) within)
+    ∙ ap (λ (rows : List A). get_or rows place (view old)) is ∙ at_row f pid n pids place (view old) at few in
+    map-set view kept place new
+    ∙ ap (λ (one : A). set (map view kept) place one) (now ∙ ap change row ∙ sym then)
+    ∙ kept_row f g pid n pids place (map view kept) agree different at is long
 
 -- # A new row
 
@@ -95,16 +115,17 @@ no_new_row f pid n pids rows is many = is ∙ ap (map f) (sym (take-append-le n 
 
 none_passes : (test : ℕ → Bool) (pids : List ℕ) → length pids ≤ position_or_len test pids → list_any test pids ≡ false
 none_passes test [] all = refl
-none_passes test (first ∷ pids) all = by (test first) refl
-  where
-    by : (b : Bool) → test first ≡ b → list_any test (first ∷ pids) ≡ false
-    by true is = absurd (omega (arith, all, prefix_len_stops_here is))
-      where
-        prefix_len_stops_here : test first ≡ true → position_or_len test (first ∷ pids) ≡ 0
-        prefix_len_stops_here yes = ap (λ (c : Bool). cond (not c) (1 + position_or_len test pids) 0) yes
-    by false is =
-        or_from (test first) (list_any test pids) is
-        (none_passes test pids (omega (arith, all, ap (λ (c : Bool). cond (not c) (1 + position_or_len test pids) 0) is)))
+none_passes test (first ∷ pids) all = elim (cases_Bool (test first)) [
+  | inl held ↦ absurd (omega (arith, all, ap (λ (c : Bool). cond (not c) (1 + position_or_len test pids) 0) held))
+  | inr denied ↦ or_from (test first) (list_any test pids) denied
+      (none_passes test pids (omega (arith, all, ap (λ (c : Bool). cond (not c) (1 + position_or_len test pids) 0) denied)))
+]
+
+pub place_of_new : (test : ℕ → Bool) (pids : List ℕ) → list_any test pids ≡ false → position_or_len test pids ≡ length pids
+place_of_new test [] none = refl
+place_of_new test (first ∷ pids) none =
+    let parts = or_parts (test first) (list_any test pids) none in
+    ap (λ (c : Bool). cond (not c) (1 + position_or_len test pids) 0) parts.0 ∙ omega (arith, place_of_new test pids parts.1)
 
 pub no_place : (pid : ℕ) (pids : List ℕ) → position (nat_eq pid) pids ≡ None → list_any (nat_eq pid) pids ≡ false
 no_place pid pids none = elim (cases_lt (position_or_len (nat_eq pid) pids) (length pids)) [

@@ -1,11 +1,11 @@
 -- What the code keeps of a trace, against the definitions.
-use Rattle.std.specs.Prelude.{◌≡◌, ℕ, ◌+◌, ◌<◌, List, [], ◌∷◌, length, take, map, Bool, true, false, not, ◌==◌, ◌&&◌, if◌then◌else◌, Option, Some, None, Result, Ok, Err, slice_get, nat_eq, IfSome}
+use Rattle.std.specs.Prelude.{◌≡◌, ℕ, ◌+◌, ◌<◌, ◌≤◌, List, [], ◌∷◌, length, take, map, Bool, true, false, not, ◌==◌, ◌&&◌, if◌then◌else◌, Option, Some, None, Result, Ok, Err, slice_get, nat_eq, IfSome}
 use Rattle.std.specs.List.{list_any, slice_index_or}
 use Rattle.indexmap.specs.IndexSet.{IsUnique}
 use Rattle.yds_model.specs.Fields.{Spot}
 use Rattle.yds_model.specs.Numbers.{sum_below}
 use Rattle.yds_kernel.specs.declared.fault.Reason.{Reason}
-use Rattle.yds_kernel.specs.Event.{Said}
+use Rattle.yds_kernel.specs.Event.{Said, Stamped, Lost, Nothing}
 use Rattle.yds_kernel.specs.Parts.{capped}
 use Rattle.yds_kernel.specs.Views.{spot_read}
 use Rattle.yds_trace.specs.declared.fault.Cause.{Cause}
@@ -13,12 +13,13 @@ use Rattle.yds_trace.specs.declared.limits.TheConstants.{MAX_PROCESSOR}
 use Rattle.yds_trace.specs.Past.{last_time}
 use Rattle.yds_trace.specs.Faults.{has_stamp}
 use Rattle.yds_trace_threads.specs.declared.act.Deed.{Deed}
+use Rattle.yds_trace_threads.specs.declared.act.Deed.TheVariants as deeds
 use Rattle.yds_trace_threads.specs.declared.act.Holder.{Holder}
 use Rattle.yds_trace_threads.specs.declared.kept.Kept.{Kept}
 use Rattle.yds_trace_threads.specs.declared.threads.Threads.{Threads}
 use Rattle.yds_trace_threads.specs.declared.processors.Processors.{Processors}
 use Rattle.yds_trace_threads.specs.declared.tally.Tally.{Tally}
-use Rattle.yds_trace_threads.specs.declared.limits.TheConstants.{MOST_THREADS, MOST_NAME}
+use Rattle.yds_trace_threads.specs.declared.limits.TheConstants.{PROCESSORS, MOST_THREADS, MOST_NAME}
 use Rattle.yds_trace_threads.specs.Acts.{Act, holder, acts}
 use Rattle.yds_trace_threads.specs.Threads.{with_thread, threads_of, own, name_of, time_in, ran_in, is_coming, switches_in, is_waking, is_woken, wake_ups_in}
 use Rattle.yds_trace_threads.specs.declared.halt.Halt.{Halt}
@@ -58,12 +59,16 @@ nothing_of pid = record { pid = pid; name = []; ran = 0; wake_ups = 0; switches 
 abbrev pub one_more_if : Bool → ℕ → ℕ
 one_more_if counts number = if counts then capped (number + 1) else number
 
+abbrev pub time_behind : Deed → ℕ → ℕ
+time_behind (deeds.Leaves time) ran = capped (ran + time)
+time_behind _ ran = ran
+
 -- what is kept behind an act of the thread
 abbrev pub facts_behind : List ℕ → Deed → Facts → Facts
 facts_behind name deed facts = record {
   pid = facts.pid;
   name = take MOST_NAME name;
-  ran = capped (facts.ran + time_in deed);
+  ran = time_behind deed facts.ran;
   wake_ups = one_more_if (is_waking deed && not facts.woken) facts.wake_ups;
   switches = one_more_if (is_coming deed) facts.switches;
   woken = is_waking deed;
@@ -115,10 +120,6 @@ IsPlace pids pid (Some place) = slice_get pids place ≡ Some pid
 
 -- # Processors
 
--- so many processors are told apart
-abbrev pub PROCESSORS : ℕ
-PROCESSORS = MAX_PROCESSOR + 1
-
 abbrev pub held_by : ℕ → List (Option Holder) → Option Holder
 held_by processor holders = slice_index_or holders processor None
 
@@ -126,6 +127,12 @@ pub record IsProcessors (past : List Said) (processors : Processors) : Type 0 wh
   pub held : (processor : ℕ) → processor < PROCESSORS → held_by processor processors.holders.items ≡ holder processor past
   pub last : processors.last ≡ last_time past
   pub stamped : processors.stamped ≡ has_stamp past
+
+-- the processor that the line tells of is one of them
+abbrev pub IsPlaced : Said → Type 0
+IsPlaced (Stamped event) = event.processor ≤ MAX_PROCESSOR
+IsPlaced (Lost processor since) = processor ≤ MAX_PROCESSOR
+IsPlaced Nothing = Unit {0}
 
 -- # All lines
 

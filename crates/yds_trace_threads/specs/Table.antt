@@ -23,9 +23,13 @@ pub record Row : Type 0 where
   pub wake_ups : ℕ
   pub switches : ℕ
 
+-- how many processors are told apart
+unfoldable pub processors : ℕ
+processors = MAX_PROCESSOR + 1
+
 -- who has a processor at the end has had it until the trace's last time
 abbrev pub still : ℕ → List Said → ℕ
-still pid past = sum_below (MAX_PROCESSOR + 1) (λ processor. had pid (last_time past) (holder processor past))
+still pid past = sum_below processors (λ processor. had pid (last_time past) (holder processor past))
 
 -- A number beyond 64 bits is told as the greatest one of 64 bits.
 abbrev pub row_of : List Said → ℕ → Row
@@ -63,18 +67,26 @@ in_milliseconds time = told (decimal (time / 1000000) ∷ codes "." ∷ drop 1 (
 abbrev pub shown : ℕ → ℕ
 shown byte = if is_visible byte || (byte == 32) then byte else 63
 
--- a tab between two fields; the name stands last, since it may have blanks
+-- a tab stands behind each field but the last
+abbrev pub field : List ℕ → List ℕ
+field text = text ++ codes "\t"
+
+abbrev pub numbers_of : Row → List ℕ
+numbers_of row = told (field (decimal row.pid) ∷ field (in_milliseconds row.ran) ∷ field (decimal row.wake_ups) ∷ field (decimal row.switches) ∷ [])
+
+-- The name stands last, since it may have blanks.
 abbrev pub row_line : Row → List ℕ
-row_line row = told (decimal row.pid ∷ codes "\t" ∷ in_milliseconds row.ran ∷ codes "\t" ∷ decimal row.wake_ups ∷ codes "\t"
-    ∷ decimal row.switches ∷ codes "\t" ∷ map shown row.name ∷ codes "\n" ∷ [])
+row_line row = told (numbers_of row ∷ map shown row.name ∷ codes "\n" ∷ [])
 
 abbrev pub others_line : ℕ → List ℕ
 others_line others = if others == 0 then [] else told (codes "# and " ∷ decimal others ∷ codes " more threads\n" ∷ [])
 
 -- The first line is no comment and no line of a document, so no reader takes the table for one.
+abbrev pub head_of : ℕ → List ℕ
+head_of number = told (codes "threads " ∷ decimal number ∷ codes "\n# pid\tran_ms\twake_ups\tswitches\tname\n" ∷ [])
+
 abbrev pub text_of : List Row → ℕ → List ℕ
-text_of rows others = told (codes "threads " ∷ decimal (length rows) ∷ codes "\n# pid\tran_ms\twake_ups\tswitches\tname\n"
-    ∷ flat_map row_line rows ∷ others_line others ∷ [])
+text_of rows others = told (head_of (length rows) ∷ flat_map row_line rows ∷ others_line others ∷ [])
 
 -- the text of the threads of a trace whose lines said this
 abbrev pub table_of : List Said → List ℕ

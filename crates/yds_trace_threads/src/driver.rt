@@ -58,7 +58,7 @@ fn read_table<S: Source>(
     ensures later { S.faults source.old ≤ S.faults source.new }
     ensures no_fault { OnOk result (S.faults source.new ≡ S.faults source.old) }
     ensures fault { result ≡ Err Halt.ReadFault → Rose (S.faults source.old) (S.faults source.new) }
-    ensures no_write { result ≢ Err Halt.WriteFault }
+    ensures no_write { IfErr result (λ halt. halt ≢ Halt.WriteFault) }
     ensures made { IfSome (S.left source.old) (λ input. IfOk result (λ text. IsMade input text.items)) }
     ensures halted { IfSome (S.left source.old) (λ input. IfErr result (IsHalted input)) }
     ensures none_left { IfSome (S.left source.old) (λ input. OnOk result (S.left source.new ≡ Some [])) }
@@ -81,6 +81,7 @@ fn read_table<S: Source>(
 fn take_line(alloc: Global, reader: &TraceReader, tally: &mut Tally) -> Result<(), Halt>
     ensures taken { (past : List trace.Said) → IsTally past tally.old → OnOk result (IsTaken past (said_by reader.now) tally.new) }
     ensures refused { (past : List trace.Said) → IsTally past tally.old → IfErr result (IsNotTaken past reader.now.number (said_by reader.now)) }
+    ensures no_write { IfErr result (λ halt. halt ≢ Halt.WriteFault) }
 {
     let number = reader.number();
     match reader.said() {
@@ -97,6 +98,7 @@ fn take_line(alloc: Global, reader: &TraceReader, tally: &mut Tally) -> Result<(
 fn table(alloc: Global, number: u64, tally: Tally) -> Result<Vec<u8>, Halt>
     ensures made { (past : List trace.Said) → IsTally past tally → IfOk result (λ text. IsTable past text.items) }
     ensures refused { (past : List trace.Said) → IsTally past tally → IfErr result (IsNoTable past number) }
+    ensures no_write { IfErr result (λ halt. halt ≢ Halt.WriteFault) }
 {
     match tally.table(alloc) {
         Ok(text) => Ok(text),

@@ -54,10 +54,9 @@ impl Kept {
                 self.ran = self.ran.saturating_add(time);
                 self.woken = false;
             }
+            Deed::Wakes if self.woken => {}
             Deed::Wakes => {
-                if !self.woken {
-                    self.wake_ups = self.wake_ups.saturating_add(1);
-                }
+                self.wake_ups = self.wake_ups.saturating_add(1);
                 self.woken = true;
             }
         }
@@ -76,11 +75,22 @@ impl Kept {
 fn rename(kept: &mut Vec<u8>, name: &[u8]) -> Result<(), Memory>
     ensures { OnOk result (kept.new.items ≡ take MOST_NAME name.now) }
 {
-    let front = &name[..name.len().min(MOST_NAME)];
+    let front = front_of(name);
     if kept.as_slice() == front {
         return Ok(());
     }
     kept.clear();
     kept.extend_from_slice(front)?;
     Ok(())
+}
+
+/// As much of a name as is kept.
+fn front_of(name: &[u8]) -> &[u8]
+    ensures { result.now ≡ take MOST_NAME name.entry.now }
+{
+    if name.len() <= MOST_NAME {
+        return name;
+    }
+    let (front, _) = name.split_at(MOST_NAME);
+    front
 }

@@ -1,5 +1,10 @@
 //! How much is told of a trace's threads.
 
+use yds_trace::MAX_PROCESSOR;
+
+/// So many processors are told apart.
+pub(crate) const PROCESSORS: usize = MAX_PROCESSOR as usize + 1;
+
 /// So many threads have a row: those that the trace tells of first.
 pub const MOST_THREADS: usize = 32_768;
 

@@ -1,14 +1,13 @@
 //! Who has each processor, and the trace's last time.
-ghost use Rattle.std.specs.Prelude.{◌≡◌, ◌≤◌, vec_len};
+ghost use Rattle.std.specs.Prelude.{◌≡◌, ℕ, vec_len, slice_index_or, IfOk};
+ghost use Rattle.yds_trace_threads.specs.declared.limits.TheConstants.{PROCESSORS};
 
 use crate::act::Holder;
+use crate::limits::PROCESSORS;
 use std::alloc::Global;
 use yds_kernel::{Event, Happening};
 use yds_model::Memory;
 use yds_trace::MAX_PROCESSOR;
-
-/// So many processors are told apart.
-const PROCESSORS: usize = MAX_PROCESSOR as usize + 1;
 
 /// What is kept of the processors so far.
 #[derive(Debug, Drop)]
@@ -23,7 +22,7 @@ pub(crate) struct Processors {
 }
 
 impl Processors {
-    ghost use Rattle.std.specs.Prelude.{◌≡◌, ℕ, ◌≤◌, List, [], ◌∷◌, IfOk};
+    ghost use Rattle.std.specs.Prelude.{◌≡◌, ℕ, ◌<◌, ◌≤◌, List, [], ◌∷◌, IfOk};
     ghost use Rattle.yds_kernel.specs.Event.{Said, Stamped, Lost};
     ghost use Rattle.yds_kernel.specs.Views.{event_read};
     ghost use Rattle.yds_kernel.specs.declared.loss.Since.{Since};
@@ -35,11 +34,20 @@ impl Processors {
     pub(crate) fn new(alloc: Global) -> Result<Processors, Memory>
         ensures { IfOk result (IsProcessors []) }
     {
+        let holders = nobody(alloc, PROCESSORS)?;
         Ok(Processors {
-            holders: vec![in alloc; None; PROCESSORS]?,
+            holders,
             last: 0,
             stamped: false,
         })
+    }
+
+    /// Who has the processor of this number, as far as is known.
+    pub(crate) fn holder(&self, processor: usize) -> Option<Holder>
+        requires { processor < PROCESSORS }
+        ensures { (past : List Said) → IsProcessors past self.now → result ≡ holder processor past }
+    {
+        self.holders[processor]
     }
 
     /// How long this thread has had a processor by this time.
@@ -47,7 +55,7 @@ impl Processors {
         requires { processor ≤ MAX_PROCESSOR }
         ensures { (past : List Said) → IsProcessors past self.now → result ≡ had pid time (holder processor past) }
     {
-        match self.holders[processor as usize] {
+        match self.holder(processor as usize) {
             Some(holder) if holder.pid == pid => time.saturating_sub(holder.since),
             Some(_) | None => 0,
         }
@@ -55,7 +63,7 @@ impl Processors {
 
     /// Takes an event.
     pub(crate) fn take(&mut self, event: &Event<'_>)
-        requires { (event_read event.now).processor ≤ MAX_PROCESSOR }
+        requires { event.now.processor ≤ MAX_PROCESSOR }
         ensures { (past : List Said) → IsProcessors past self.old → IsProcessors (Stamped (event_read event.now) ∷ past) self.new }
     {
         let processor = event.processor as usize;
@@ -83,4 +91,12 @@ impl Processors {
     {
         self.holders[processor as usize] = None;
     }
+}
+
+/// Nobody is known to have one of so many processors.
+fn nobody(alloc: Global, count: usize) -> Result<Vec<Option<Holder>>, Memory>
+    ensures count { IfOk result (λ holders. vec_len holders ≡ count) }
+    ensures nobody { IfOk result (λ holders. (processor : ℕ) → slice_index_or holders.items processor None ≡ None) }
+{
+    Ok(vec![in alloc; None; count]?)
 }

@@ -1,16 +1,18 @@
 //! What is kept of the lines so far.
-ghost use Rattle.std.specs.Prelude.{◌≡◌, ◌≤◌, List, [], ◌∷◌, Some, None, OnOk, IfOk, IfErr};
+ghost use Rattle.std.specs.Prelude.{◌≡◌, ◌+◌, ◌<◌, ◌≤◌, ℕ, List, [], ◌∷◌, Some, None, OnOk, IfOk, IfErr};
 ghost use Rattle.yds_kernel.specs.Event.{Said as SaidSpec, Stamped};
 ghost use Rattle.yds_kernel.specs.Views.{event_read, said_read};
 ghost use Rattle.yds_trace.specs.declared.limits.TheConstants.{MAX_PROCESSOR};
 ghost use Rattle.yds_trace.specs.Passing.{IsRefusedFor};
-ghost use Rattle.yds_trace_threads.specs.Acts.{acts};
+ghost use Rattle.yds_trace.specs.Past.{last_time};
+ghost use Rattle.yds_trace_threads.specs.Acts.{acts, had, holder};
 ghost use Rattle.yds_trace_threads.specs.Faults.{said_fault, whole_fault};
 ghost use Rattle.yds_trace_threads.specs.Table.{still, table_of};
 ghost use Rattle.yds_trace_threads.specs.Kept.{IsTally, IsThreads, IsProcessors, no_more};
 
 use crate::act::Deed;
 use crate::check::check;
+use crate::limits::PROCESSORS;
 use crate::processors::Processors;
 use crate::text::table_text;
 use crate::threads::Threads;
@@ -58,7 +60,7 @@ impl Tally {
 
     /// Takes an event: first what its threads do, and then who has its processor.
     fn take_event(&mut self, alloc: Global, event: &Event<'_>) -> Result<(), Memory>
-        requires { (event_read event.now).processor ≤ MAX_PROCESSOR }
+        requires { event.now.processor ≤ MAX_PROCESSOR }
         ensures { (past : List SaidSpec) → IsTally past self.old → OnOk result (IsTally (Stamped (event_read event.now) ∷ past) self.new) }
     {
         match event.happening {
@@ -97,9 +99,18 @@ fn close(threads: &mut Threads, processors: &Processors)
     ensures { (past : List SaidSpec) → IsThreads (acts past) no_more threads.old → IsProcessors past processors.now
         → IsThreads (acts past) (λ pid. still pid past) threads.new }
 {
-    for holder in &processors.holders {
-        if let Some(holder) = holder {
-            threads.run(holder.pid, processors.last.saturating_sub(holder.since));
-        }
+    for number in 0..PROCESSORS {
+        close_one(threads, processors, number);
+    }
+}
+
+/// Who has the processor of this number has had it until the last time.
+fn close_one(threads: &mut Threads, processors: &Processors, number: usize)
+    requires { number < PROCESSORS }
+    ensures { (past : List SaidSpec) (more : ℕ → ℕ) → IsProcessors past processors.now → IsThreads (acts past) more threads.old
+        → IsThreads (acts past) (λ pid. more pid + had pid (last_time past) (holder number past)) threads.new }
+{
+    if let Some(holder) = processors.holder(number) {
+        threads.run(holder.pid, processors.last.saturating_sub(holder.since));
     }
 }

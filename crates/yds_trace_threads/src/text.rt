@@ -13,22 +13,34 @@ use std::alloc::Global;
 use yds_kernel::MAX_U64;
 use yds_model::Memory;
 
-/// The columns of the table.
-const COLUMNS: &[u8] = b"\n# pid\tran_ms\twake_ups\tswitches\tname\n";
-
 /// The table of these threads.
 pub(crate) fn table_text(alloc: Global, threads: Threads) -> Result<Vec<u8>, Memory>
     ensures { IfOk result (λ text. text.items ≡ spec.text_of (spec.rows_in_order (map row_read threads.kept.items)) (length threads.pids.keys - MOST_THREADS)) }
 {
     let others = threads.pids.len().saturating_sub(MOST_THREADS);
     let rows = in_order_of_time(threads.kept)?;
+    text_of(alloc, &rows, others as u64)
+}
+
+/// The text of these rows, and of how many other threads there are.
+fn text_of(alloc: Global, rows: &[Kept], others: u64) -> Result<Vec<u8>, Memory>
+    ensures { IfOk result (λ text. text.items ≡ spec.text_of (map row_read rows.now) others) }
+{
     let mut text = Vec::new(alloc);
-    put(b"threads ", &mut text)?;
-    put_number(rows.len() as u64, &mut text)?;
-    put(COLUMNS, &mut text)?;
-    put_rows(&rows, &mut text)?;
-    put_others(others as u64, &mut text)?;
+    put_head(rows.len() as u64, &mut text)?;
+    put_rows(rows, &mut text)?;
+    put_others(others, &mut text)?;
     Ok(text)
+}
+
+/// Puts the first lines of a table with so many rows behind a text.
+fn put_head(number: u64, text: &mut Vec<u8>) -> Result<(), Memory>
+    ensures { OnOk result (text.new.items ≡ text.old.items ++ spec.head_of number) }
+{
+    put(b"threads ", text)?;
+    put_number(number, text)?;
+    put(b"\n# pid\tran_ms\twake_ups\tswitches\tname\n", text)?;
+    Ok(())
 }
 
 /// These threads, who ran longest first, and of those that ran as long the lesser number first.
@@ -55,16 +67,28 @@ fn put_rows(rows: &[Kept], text: &mut Vec<u8>) -> Result<(), Memory>
 fn put_row(row: &Kept, text: &mut Vec<u8>) -> Result<(), Memory>
     ensures { OnOk result (text.new.items ≡ text.old.items ++ spec.row_line (row_read row.now)) }
 {
-    put_number(row.pid, text)?;
-    put(b"\t", text)?;
-    put_milliseconds(row.ran, text)?;
-    put(b"\t", text)?;
-    put_number(row.wake_ups, text)?;
-    put(b"\t", text)?;
-    put_number(row.switches, text)?;
-    put(b"\t", text)?;
+    put_numbers(row, text)?;
     put_shown(&row.name, text)?;
     put(b"\n", text)
+}
+
+/// Puts the numbers in the line of a thread behind a text.
+fn put_numbers(row: &Kept, text: &mut Vec<u8>) -> Result<(), Memory>
+    ensures { OnOk result (text.new.items ≡ text.old.items ++ spec.numbers_of (row_read row.now)) }
+{
+    put_field(row.pid, text)?;
+    put_milliseconds(row.ran, text)?;
+    put(b"\t", text)?;
+    put_field(row.wake_ups, text)?;
+    put_field(row.switches, text)
+}
+
+/// Puts a field with this number behind a text.
+fn put_field(number: u64, text: &mut Vec<u8>) -> Result<(), Memory>
+    ensures { OnOk result (text.new.items ≡ text.old.items ++ spec.field (decimal number)) }
+{
+    put_number(number, text)?;
+    put(b"\t", text)
 }
 
 /// Puts the line that tells how many other threads there are behind a text, if there are any.
