@@ -34,7 +34,7 @@ from typing import Callable, Dict, Iterator, List, Set, Tuple
 import long
 from long import Drawn, Programs, Row, Run, documents, put_together
 from machine import Machine, Task
-from parted import Parts, SMALL, told_in_parts
+from parted import IDLE, Parts, SMALL, told_in_parts
 from second import Asked, Judged, Told, asked_by, judge_jobs
 from trace import Case, lay_out, shorten, try_laid_out
 
@@ -155,14 +155,34 @@ def crowded(it: Drawing) -> None:
 def loses(it: Drawing) -> None:
     """Events were lost on a processor, since its last line, which is often before a part of another one."""
     it.it.odds["noise"] = it.draw.choice([0.0, 0.01, 0.3])
-    quiet = it.draw.randrange(it.processors + 1)
+    lost = it.draw.randrange(it.processors + 1)
 
     def edit(lines: List[bytes]) -> None:
-        at = it.draw.randrange(len(lines) // 3, len(lines))
-        told = it.draw.choice(["CPU:%d [LOST 12 EVENTS]", "CPU:%d [3 EVENTS DROPPED]", "CPU:%d [LOST EVENTS]", "##### CPU %d buffer started ####"])
-        lines.insert(at, (told % quiet).encode())
+        lines.insert(it.draw.randrange(len(lines) // 3, len(lines)), loss_of(it, lost))
 
     it.edits.append(edit)
+
+
+def loses_behind(it: Drawing) -> None:
+    """Events were lost on a processor since a line shortly before one at which others were cut, and it wasn't. Perhaps nothing was written."""
+
+    def edit(lines: List[bytes]) -> None:
+        _, parts = told_in_parts(b"\n".join(lines) + b"\n", asked_by(it.words()), it.limits)
+        found = [(at, processor) for at, moved in parts.moved.items() for processor in parts.cuts
+                 if processor not in moved and b"[%03d]" % processor not in lines[at - 1]]
+        silent = [(at, processor) for at, processor in found if at not in parts.behind]
+        alone = [(at, processor) for at, processor in silent if parts.moved[at] == {IDLE}]
+        at, processor = it.draw.choice(it.draw.choice([found, silent, alone]) or alone or silent or found or [(len(lines) // 2, 0)])
+        lines.insert(at, f"CPU:{processor} [LOST 12 EVENTS]".encode())
+
+    it.it.odds["noise"] = it.draw.choice([0.05, 0.3])
+    it.edits.append(edit)
+
+
+def loss_of(it: Drawing, processor: int) -> bytes:
+    """A line that tells of a loss."""
+    told = it.draw.choice(["CPU:%d [LOST 12 EVENTS]", "CPU:%d [3 EVENTS DROPPED]", "CPU:%d [LOST EVENTS]", "CPU:%d [LOST EVENTS]", "##### CPU %d buffer started ####"])
+    return (told % processor).encode()
 
 
 def loses_alone(it: Drawing) -> None:
@@ -171,7 +191,7 @@ def loses_alone(it: Drawing) -> None:
 
     def edit(lines: List[bytes]) -> None:
         at = it.draw.randrange(len(lines) // 3, len(lines))
-        since = max(1, at - it.draw.choice([1, 2, 5, 20, 400, 3_000]))
+        since = max(1, at - it.draw.choice([1, 2, 5, 20, 400, 3_000]) // (it.scale if it.draw.random() < 0.5 else 1))
         time = it.stamp(lines[since])
         line = f" w-5 [{other:03d}] d..2. {time // 10**9}.{time % 10**9:09d}: irq_handler_entry: irq=1 name=x"
         lines.insert(at, f"CPU:{other} [LOST 12 EVENTS]".encode())
@@ -205,8 +225,8 @@ def strict(it: Drawing) -> None:
 
 
 SHOWN: List[Callable[[Drawing], None]] = [
-    plain, moves, comes_late, loses, stands_idle, starves_nowhere, crowded, loses_alone, roams, long.was_there, no_job, moves, long.limited, comes_late,
-    strict, long.windowed, long.hangs, loses, long.faulty, starves_nowhere, long.opened, loses_alone, long.at_run, long.unwoken, moves, long.unseen,
+    plain, moves, comes_late, loses, stands_idle, starves_nowhere, crowded, loses_alone, roams, long.was_there, loses_behind, moves, long.limited,
+    comes_late, strict, long.windowed, long.hangs, loses_behind, long.faulty, starves_nowhere, long.opened, loses_alone, long.at_run, long.unwoken, moves, long.unseen,
     comes_late, long.missing, crowded, no_job,
 ]
 
@@ -225,7 +245,7 @@ def drawn(seed: int, number: int, scale: int = 1) -> Drawn:
 WANTED = [
     "processors: 1", "processors: 2", "processors: 3 or more", "parts: 1", "parts: 2", "parts: 3 or more", "a part with windows open",
     "a part without windows open", "a part without a job in the midst", "a last part without a job", "parts of several processors behind a line",
-    "a silent cut", "a job of two processors, in time", "a job of two processors, late", "a job that has run nowhere", "a processor without a job",
+    "a line with silent cuts alone", "a job of two processors, in time", "a job of two processors, late", "a job that has run nowhere", "a processor without a job",
     "a processor that comes behind a part", "no place", "line: part written", "line: part written, of another processor", "form behind a part",
     "line behind a part", "part document: work", "part document: no job", "part document: no job, behind a part", "part document: strict",
     "whole: unwoken", "line: unwoken", "whole: a task unseen", "a late job in a part", "a late job without its runs", "a job left out",
@@ -249,8 +269,8 @@ def in_parts(said: Told, parts: Parts, words: List[str]) -> Iterator[str]:
     places = [processor for _, _, _, processor, _, is_last in heads if not is_last]
     if len(places) > len(parts.behind):
         yield "parts of several processors behind a line"
-    if parts.silent:
-        yield "a silent cut"
+    if set(parts.moved) - set(parts.behind):
+        yield "a line with silent cuts alone"
     if said.status == 0 and len(heads) > len(many):
         yield "a whole trace in parts"
     if any(f"# part 1: jobs 1 to 0, from 0 to 0, shift 0, cpu {processor}, the last" in said.text for processor in many):

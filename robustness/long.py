@@ -174,12 +174,22 @@ def loses(it: Drawing) -> None:
     def edit(lines: List[bytes]) -> None:
         at = it.draw.randrange(len(lines) // 3, len(lines))
         told = it.draw.choice(["CPU:%d [LOST 12 EVENTS]", "CPU:%d [3 EVENTS DROPPED]", "##### CPU %d buffer started ####"])
-        lines.insert(at, (told % it.draw.choice([0, 0, 1, 2, 5])).encode())
+        lines.insert(at, (told % it.draw.choice([0, 0, 0, 1, 2, 5])).encode())
         lines.insert(1, lines[0].replace(b"[000]", b"[001]").replace(b"cpu_id=0", b"cpu_id=1"))
 
-    it.edits.append(edit)
+    it.edits.append(edit if it.draw.random() < 0.6 else lambda lines: lose_behind(it, lines))
     if it.draw.random() < 0.15:
         it.options.pop("--lost")
+
+
+def lose_behind(it: Drawing, lines: List[bytes]) -> None:
+    """Just behind a part a processor tells that it lost events since its last line, which came shortly before the part was written."""
+    _, parts = told_in_parts(b"\n".join(lines) + b"\n", asked_by(it.words()), it.limits)
+    at = it.draw.choice(parts.behind or [len(lines) // 2])
+    since = max(1, at - it.draw.choice([1, 2, 5, 20, 60]))
+    time = it.stamp(lines[since])
+    lines.insert(at, b"CPU:6 [LOST 12 EVENTS]")
+    lines.insert(since, f" w-5 [006] d..2. {time // 10**9}.{time % 10**9:09d}: irq_handler_entry: irq=1 name=x".encode())
 
 
 def was_there(it: Drawing) -> None:
@@ -237,8 +247,8 @@ def strict(it: Drawing) -> None:
 
 
 def missing(it: Drawing) -> None:
-    """A switch in a thousand isn't there."""
-    it.it.odds["missing"] = it.draw.choice([0.0002, 0.001, 0.01])
+    """Some switches aren't there, of a thousand one or more."""
+    it.it.odds["missing"] = it.draw.choice([0.001, 0.03, 0.1])
 
 
 def windowed(it: Drawing) -> None:
@@ -322,8 +332,8 @@ def unseen(it: Drawing) -> None:
 
 
 SHOWN: List[Callable[[Drawing], None]] = [
-    plain, hangs, loses, windowed, calm, was_there, faulty, limited, starves, missing, at_run, ended_behind, stretched, opened, elsewhere, hangs,
-    loses, windowed, unwoken, unseen, faulty, limited, ended_behind, opened, hangs, faulty, strict, ended_behind, unwoken, hangs, faulty, strict,
+    plain, hangs, loses, windowed, calm, was_there, faulty, limited, starves, missing, at_run, ended_behind, stretched, opened, elsewhere, missing,
+    loses, windowed, unwoken, unseen, faulty, limited, loses, opened, hangs, missing, strict, ended_behind, unwoken, hangs, faulty, strict,
 ]
 
 

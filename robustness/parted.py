@@ -31,6 +31,9 @@ FULL = Limits(1_024, 2_000, 25_000, 4_000, 50_000)
 SMALL = Limits(32, 24, 300, 64, 700)
 """Others, by which a trace of 500 lines has several parts: planted.py and everywhere.py build a program that has these."""
 
+IDLE = MOST_PROCESSOR + 1
+"""Stands for all processors on which no task has run."""
+
 
 class Kept:
     """What lines told, kept along. It answers as `Past` of second.py does, which looks back in them."""
@@ -99,7 +102,7 @@ class Piece(NamedTuple):
 
 @dataclass
 class Parts:
-    """A trace in parts, as far as it is read: the parts that are written, and behind which lines they were.
+    """A trace in parts, as far as it is read: the parts that are written, behind which lines they were, and which processors were cut there.
 
     Of several processors each has a cut of its own. All on which no task has run, but for 0, are cut as one (`idle`): those of
     which no line has told yet, too. So one that comes late is cut as if it had been there from the begin on.
@@ -114,7 +117,7 @@ class Parts:
     text: str = ""
     written: List[Document] = field(default_factory=list)
     behind: List[int] = field(default_factory=list)
-    silent: int = 0
+    moved: Dict[int, Set[int]] = field(default_factory=dict)
 
     def __post_init__(self) -> None:
         self.lines, self.counted = Kept(self.asked), Kept(self.asked)
@@ -312,11 +315,13 @@ class Parts:
             elif idle is None:
                 idle = self.piece(processor, self.idle, True)
         if self.asked.everywhere:
-            self.idle = (idle or self.piece(MOST_PROCESSOR + 1, self.idle, False)).cut
+            found[IDLE] = idle or self.piece(IDLE, self.idle, False)
         for processor, piece in found.items():
-            self.silent += int(piece.cut is not self.cuts[processor] and piece.document is None)
-            self.cuts[processor] = piece.cut
+            if piece.cut is not self.cut_of(processor):
+                self.moved.setdefault(self.number, set()).add(processor)
             self.put(piece)
+        self.idle = found.pop(IDLE).cut if self.asked.everywhere else self.idle
+        self.cuts = {processor: piece.cut for processor, piece in found.items()}
         if any(piece.document is not None for piece in found.values()):
             self.behind.append(self.number)
 

@@ -90,7 +90,7 @@ HELPS = {
     "needless": "it has no value; leave out the equals sign and what is behind it",
     "missing": "its value is missing; write it behind",
     "twice": "given twice; give it once",
-    "--cpu": "no number of a processor; write a whole number from 0 to 8191",
+    "--cpu": "no number of a processor; write a whole number from 0 to 8191, or all",
     "--us": "no unit of time; write whole microseconds from 1 to 1000000000",
     "--khz": "no speed; write whole kilohertz from 1 to 4294967295",
     "--start": "no speed; write whole kilohertz from 1 to 4294967295",

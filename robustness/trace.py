@@ -164,6 +164,7 @@ DRIVER = '''//! Runs yds_trace on each trace in standard input, and writes the t
 //! Of each there are a line with the words, with a tab behind each, a line with the length of the trace, and the trace.
 #![tactic(auto)]
 
+use std::hash::RandomState;
 use std::io::{BufWriter, Read, Write};
 use yds_port::{SteadySource, StdSink};
 use yds_trace_run::run;
@@ -195,9 +196,10 @@ fn main(rt: HostRuntime) -> Result<(), anyhow::Error> {
         let mut source = SteadySource::new(Vec::from_slice(rt.alloc(), &input[at..at + length])?);
         at += length;
         let mut text = Vec::new(rt.alloc());
+        let keys = RandomState::new(&rt)?;
         let status = {
             let mut sink = StdSink::new(&mut text);
-            run(rt.alloc(), &words, &mut source, &mut sink)
+            run(rt.alloc(), keys, &words, &mut source, &mut sink)
         };
         out.write_all(&text)?;
         out.write_all(format!(in rt.alloc(); "status {}\\n", status.code())?.as_bytes())?;
