@@ -9,19 +9,19 @@ use Rattle.yds_kernel_text.specs.Reading.{Reading, unread}
 use Rattle.yds_kernel_text.specs.Advancing.{Counts}
 use Rattle.yds_trace.specs.Asked.{Asked}
 use Rattle.yds_trace.specs.Faults.{whole_fault}
-use Rattle.yds_trace.specs.Parts.{cut_after}
+use Rattle.yds_trace.specs.Parts.{processors_of}
 use Rattle.yds_trace_reading.specs.LineFault.{past_of}
 use Rattle.yds_trace_reading.specs.Ahead.{ahead, Agrees}
 use Rattle.yds_trace_reading.proofs.Passing.{ahead_past, ahead_fault}
-use Rattle.yds_trace_text.specs.PartText.{part_text}
 use Rattle.yds_trace_parts.specs.declared.halt.Halt.{Halt as HaltKept}
 use Rattle.yds_trace_parts.specs.declared.halt.Halt.TheVariants as kept
 use Rattle.yds_trace_parts.specs.declared.telling.Telling.{Telling}
-use Rattle.yds_trace_parts.specs.Told.{Halt, InForm, Told, at_line, end_halt, part_halt, with_part, told_last, told_after, told_at_end, told_of}
-use Rattle.yds_trace_parts.specs.Telling.{halt_read, IsHaltFor, IsTelling, IsLast}
+use Rattle.yds_trace_parts.specs.Told.{Halt, InForm, Told, at_line, end_halt, piece_unless, with_piece, last_pieces, no_job_halt, last_piece, told_last, told_after, told_at_end, told_of}
+use Rattle.yds_trace_parts.specs.Telling.{halt_read, IsHaltFor, IsTelling, IsEnd}
 use Rattle.yds_trace_parts.specs.Driving.{WritesSome, WritesTold, Writes}
 use Rattle.yds_trace_parts.specs.Laws.{Begins}
-use Rattle.yds_trace_parts.proofs.Growing.{begins_on, lines_begin, end_begins, halted, end_halted, halting_text}
+use Rattle.yds_trace_parts.proofs.Growing.{begins_on, lines_begin, end_begins, halted, end_halted, nothing_more, halting_text}
+use Rattle.yds_trace_parts.proofs.Joined.{both_empty}
 
 -- # What was read so far
 
@@ -129,27 +129,20 @@ form_halts asked strict bytes past number fault old now halt read is goes append
     }
 
 last_halt : (asked : Asked) (strict : Bool) (past : List Said) (text : List ℕ) (end : Option Halt) →
-    (told_last asked strict past text end).halt ≡ or_else end (part_halt asked strict past (cut_after asked past) None)
+    (told_last asked strict past text end).halt ≡ or_else end (last_piece asked strict past (processors_of asked past)).halt
 last_halt asked strict past text (Some halt) = refl
-last_halt asked strict past text None = by (part_halt asked strict past (cut_after asked past) None)
-  where
-    by : (halt : Option Halt) → (with_part text halt (part_text asked past (cut_after asked past) None)).halt ≡ halt
-    by None = refl
-    by (Some found) = refl
+last_halt asked strict past text None = refl
 
 last_text : (asked : Asked) (strict : Bool) (past : List Said) (text : List ℕ) (end : Option Halt) (found : Halt) → (told_last asked strict past text end).halt ≡ Some found →
     (told_last asked strict past text end).text ≡ text
 last_text asked strict past text (Some halt) found is = refl
-last_text asked strict past text None found is = by (part_halt asked strict past (cut_after asked past) None) is
-  where
-    by : (halt : Option Halt) → (with_part text halt (part_text asked past (cut_after asked past) None)).halt ≡ Some found →
-        (with_part text halt (part_text asked past (cut_after asked past) None)).text ≡ text
-    by None same = cc
-    by (Some one) same = refl
+last_text asked strict past text None found is =
+    nothing_more text (last_piece asked strict past (processors_of asked past))
+    (both_empty (last_pieces asked strict past (processors_of asked past)) (piece_unless (no_job_halt asked past (processors_of asked past)) []) found is)
 
 end_by : (asked : Asked) (strict : Bool) (bytes : List ℕ) (past : List Said) (halt : HaltKept) (found : Halt) (old now : Option (List ℕ)) → trace_of bytes ≡ ahead past no_line →
     (told_after asked strict past).halt ≡ None → halt_read halt ≡ Some found →
-    or_else (at_line (length past) (whole_fault asked past)) (part_halt asked strict past (cut_after asked past) None) ≡ halt_read halt →
+    or_else (at_line (length past) (whole_fault asked past)) (last_piece asked strict past (processors_of asked past)).halt ≡ halt_read halt →
     Appends old now (told_after asked strict past).text → WritesTold asked strict bytes (Some halt) old now
 end_by asked strict bytes past halt found old now whole goes read is appended =
     let all = told_whole asked strict bytes past None whole goes in
@@ -164,7 +157,7 @@ end_by asked strict bytes past halt found old now whole goes read is appended =
 -- the end isn't told
 pub end_halts : (asked : Asked) (strict : Bool) (bytes : List ℕ) (past : List Said) (telling : Telling) (halt : HaltKept) (old now : Option (List ℕ)) → trace_of bytes ≡ ahead past no_line →
     IsFront bytes past → IsTelling asked strict past telling →
-    IsHaltFor (or_else (at_line (length past) (whole_fault asked past)) (part_halt asked strict past (cut_after asked past) None)) halt →
+    IsHaltFor (or_else (at_line (length past) (whole_fault asked past)) (last_piece asked strict past (processors_of asked past)).halt) halt →
     Appends old now (told_after asked strict past).text → Writes asked strict bytes (Err halt) old now
 end_halts asked strict bytes past telling kept.Memory old now whole front stands is appended = some_written asked strict bytes past telling old now front stands appended
 end_halts asked strict bytes past telling kept.Endless old now whole front stands is appended = absurd is
@@ -181,12 +174,11 @@ end_halts asked strict bytes past telling (kept.TooLong part) old now whole fron
 end_halts asked strict bytes past telling (kept.NoPlace name begin late) old now whole front stands is appended =
     end_by asked strict bytes past (kept.NoPlace name begin late) _ old now whole stands.goes_on refl is appended
 
--- what is told of the whole trace, with its last part
+-- what is told of the whole trace, with its last parts
 pub all_told : (asked : Asked) (strict : Bool) (bytes : List ℕ) (past : List Said) (text : List ℕ) → trace_of bytes ≡ ahead past no_line →
-    (told_after asked strict past).halt ≡ None → whole_fault asked past ≡ None → IsLast asked strict past (cut_after asked past) text →
+    (told_after asked strict past).halt ≡ None → whole_fault asked past ≡ None → IsEnd asked strict past text →
     told_of asked strict (trace_of bytes) ≡ record { text = (told_after asked strict past).text ++ text; halt = None }
 all_told asked strict bytes past text whole goes sound last =
     told_whole asked strict bytes past None whole goes
     ∙ ap (λ fault. told_last asked strict past (told_after asked strict past).text (at_line (length past) fault)) sound
-    ∙ ap (λ (halt : Option Halt). with_part (told_after asked strict past).text halt (part_text asked past (cut_after asked past) None)) last.fits
-    ∙ ap (λ (part : List ℕ). record { text = (told_after asked strict past).text ++ part; halt = None }) (sym last.says)
+    ∙ ap (with_piece (told_after asked strict past).text) last

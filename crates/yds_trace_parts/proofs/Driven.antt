@@ -1,7 +1,6 @@
 -- What the telling of some lines shows of the source and of the sink, step by step.
 use Rattle.yds_model.proofs.Common.{◌≡◌, ℕ, ◌+◌, ◌<◌, ◌≤◌, ◌^◌, inl, inr, List, [], ◌∷◌, ◌++◌, length, Bool, true, Option, Some, None, Result, Ok, Err, refl, sym, ap, subst, ◌∙◌, arith, append_assoc, append-nil, Appends}
-use Rattle.std.specs.Prelude.{IfSome, Vec}
-use Rattle.std.specs.declared.alloc.Global.{Global}
+use Rattle.std.specs.Prelude.{IfSome}
 use Rattle.std.specs.Io.KnownBytes.{IsAtEnd}
 use Rattle.std.proofs.KnownBytes.{Appends-nil, Appends-trans}
 use Rattle.yds_model.specs.Fields.{Spot}
@@ -14,21 +13,21 @@ use Rattle.yds_kernel.specs.Views.{spot_read}
 use Rattle.yds_kernel_text.specs.declared.limits.TheConstants.{ROOM}
 use Rattle.yds_kernel_text.specs.Reading.{Reading, said_by, unread}
 use Rattle.yds_kernel_text.specs.Advancing.{Gives, Counts, GivesLine}
-use Rattle.yds_trace.specs.declared.cut.Cut.{Cut}
 use Rattle.yds_trace.specs.Asked.{Asked}
 use Rattle.yds_trace.specs.declared.fault.Cause.{Cause}
 use Rattle.yds_trace.specs.Faults.{first_fault, numbered, said_fault, whole_fault}
-use Rattle.yds_trace.specs.Parts.{cut_after, part_fault}
+use Rattle.yds_trace.specs.Kept.{told_to_forget}
+use Rattle.yds_trace.specs.Parts.{processors_of, parts_fault}
 use Rattle.yds_trace_reading.specs.LineFault.{past_of}
 use Rattle.yds_trace_reading.specs.Ahead.{ahead, Agrees}
 use Rattle.yds_trace_reading.proofs.Passing.{agrees_first, agrees_on, counts_first, counts_on, taken_bytes, taken_lines, whole_trace}
 use Rattle.yds_trace_parts.specs.declared.halt.Halt.{Halt as HaltKept}
 use Rattle.yds_trace_parts.specs.declared.halt.Halt.TheVariants as kept
 use Rattle.yds_trace_parts.specs.declared.telling.Telling.{Telling}
-use Rattle.yds_trace_parts.specs.Told.{Halt, InForm, Told, at_line, line_halt, part_halt, told_with, told_next, told_after, told_of}
+use Rattle.yds_trace_parts.specs.Told.{Halt, InForm, Told, at_line, last_piece, line_halt, told_with, told_next, told_after, told_of}
 use Rattle.yds_trace_parts.specs.declared.limits.TheConstants.{MOST_LINES}
 use Rattle.yds_trace_parts.specs.Plain.{IsGranted, IsOfSome, IsPlainPass, HasRoom}
-use Rattle.yds_trace_parts.specs.Telling.{IsHaltFor, IsTelling, bytes_of, IsLast}
+use Rattle.yds_trace_parts.specs.Telling.{IsHaltFor, IsTelling, IsEnd}
 use Rattle.yds_trace_parts.specs.Saying.{IsSaid, IsAdded, IsInForm, IsNotSaid}
 use Rattle.yds_trace_parts.specs.Driving.{IsEndless, Writes}
 use Rattle.yds_trace_parts.specs.Laws.{Begins}
@@ -64,10 +63,10 @@ nothing_written asked strict (Some bytes) written = record {
 -- # A line more
 
 more_by : (asked : Asked) (strict : Bool) (input : Option (List ℕ)) (telling next : Telling) (old new : Reading) (before left : Option (List ℕ))
-    (count : ℕ) (written mid now : Option (List ℕ)) (piece : Option (Vec ℕ Global)) (said : Result Said (Spot Reason)) →
+    (count : ℕ) (written mid now : Option (List ℕ)) (piece : List ℕ) (said : Result Said (Spot Reason)) →
     (known : IsBehind asked strict input telling old before count written mid) → new.number ≡ count + 1 →
     Gives (count + 1) said (unread old before) (unread new left) → Counts before left old.taken new.taken →
-    IsSaid asked strict known.past said next → IsAdded asked strict known.past said piece → Appends mid now (bytes_of piece) →
+    IsSaid asked strict known.past said next → IsAdded asked strict known.past said piece → Appends mid now piece →
     IsBehind asked strict input next new left (count + 1) written now
 more_by asked strict input telling next old new before left count written mid now piece (Err spot) known number gives counts said added put = absurd said
 more_by asked strict input telling next old new before left count written mid now piece (Ok line) known number gives counts said added put = record {
@@ -78,7 +77,7 @@ more_by asked strict input telling next old new before left count written mid no
   agrees = agrees_on input known.past count line (unread old before) (unread new left) known.agrees gives;
   counts = counts_on input before left old.taken new.taken known.counts counts;
   appended = subst (Appends written now) (sym added)
-      (Appends-trans written mid now (told_after asked strict known.past).text (bytes_of piece) known.appended put);
+      (Appends-trans written mid now (told_after asked strict known.past).text piece known.appended put);
 }
 
 -- what is known of the next line, by its number
@@ -93,10 +92,10 @@ gives_next count old new before left number gives =
     subst (λ (n : ℕ). Gives n (said_by new) (unread old before) (unread new left)) number gives
 
 pub one_more : (asked : Asked) (strict : Bool) (input : Option (List ℕ)) (telling next : Telling) (old new : Reading) (before left : Option (List ℕ))
-    (count faults_before faults_now : ℕ) (written mid now : Option (List ℕ)) (piece : Option (Vec ℕ Global)) →
+    (count faults_before faults_now : ℕ) (written mid now : Option (List ℕ)) (piece : List ℕ) →
     (known : IsBehind asked strict input telling old before count written mid) → GivesLine old new before left faults_before faults_now →
     Counts before left old.taken new.taken → IsSaid asked strict known.past (said_by new) next → IsAdded asked strict known.past (said_by new) piece →
-    Appends mid now (bytes_of piece) → IsBehind asked strict input next new left (count + 1) written now
+    Appends mid now piece → IsBehind asked strict input next new left (count + 1) written now
 one_more asked strict input telling next old new before left count faults_before faults_now written mid now piece known gives counts said added put =
     let number = next_number telling asked strict input old new before left count faults_before faults_now written mid known gives in
     more_by asked strict input telling next old new before left count written mid now piece (said_by new) known number
@@ -171,8 +170,8 @@ front_longer front back a b part = record {
 }
 
 cut_by : (asked : Asked) (strict : Bool) (bytes : List ℕ) (past : List Said) (count : ℕ) (said : Result Said (Spot Reason)) (rest left : Option (List ℕ))
-    (written mid now : Option (List ℕ)) (piece : Option (Vec ℕ Global)) → Agrees (Some bytes) past count rest → Gives (count + 1) said rest left →
-    Appends written mid (told_after asked strict past).text → IsAdded asked strict past said piece → AppendsFront (bytes_of piece) mid now →
+    (written mid now : Option (List ℕ)) (piece : List ℕ) → Agrees (Some bytes) past count rest → Gives (count + 1) said rest left →
+    Appends written mid (told_after asked strict past).text → IsAdded asked strict past said piece → AppendsFront piece mid now →
     Writes asked strict bytes (Err kept.WriteFault) written now
 cut_by asked strict bytes past count (Err spot) rest left written mid now piece agrees gives appended added part = absurd added
 cut_by asked strict bytes past count (Ok line) rest left written mid now piece agrees gives appended added part =
@@ -182,12 +181,12 @@ cut_by asked strict bytes past count (Ok line) rest left written mid now piece a
     subst (λ (text : List ℕ). AppendsFront text written now) (sym begins.is)
     (front_longer (told_after asked strict (line ∷ past)).text begins.more written now
     (subst (λ (text : List ℕ). AppendsFront text written now) (sym added)
-    (front_after (told_after asked strict past).text (bytes_of piece) written mid now appended part)))
+    (front_after (told_after asked strict past).text piece written mid now appended part)))
 
 pub piece_cut : (asked : Asked) (strict : Bool) (input : Option (List ℕ)) (telling : Telling) (old new : Reading) (before left : Option (List ℕ))
-    (count faults_before faults_now : ℕ) (written mid now : Option (List ℕ)) (piece : Option (Vec ℕ Global)) →
+    (count faults_before faults_now : ℕ) (written mid now : Option (List ℕ)) (piece : List ℕ) →
     (known : IsBehind asked strict input telling old before count written mid) → GivesLine old new before left faults_before faults_now →
-    IsAdded asked strict known.past (said_by new) piece → AppendsFront (bytes_of piece) mid now →
+    IsAdded asked strict known.past (said_by new) piece → AppendsFront piece mid now →
     IfSome input (λ bytes. Writes asked strict bytes (Err kept.WriteFault) written now)
 piece_cut asked strict None telling old new before left count faults_before faults_now written mid now piece known gives added part = tt
 piece_cut asked strict (Some bytes) telling old new before left count faults_before faults_now written mid now piece known gives added part =
@@ -200,29 +199,26 @@ piece_cut asked strict (Some bytes) telling old new before left count faults_bef
 
 pub end_not_told : (asked : Asked) (strict : Bool) (input : Option (List ℕ)) (telling : Telling) (old : Reading) (before : Option (List ℕ)) (count : ℕ)
     (written now : Option (List ℕ)) (halt : HaltKept) → (known : IsBehind asked strict input telling old before count written now) → IsAtEnd (unread old before) →
-    IsHaltFor (or_else (at_line count (whole_fault asked known.past)) (part_halt asked strict known.past telling.cut None)) halt →
+    IsHaltFor (or_else (at_line count (whole_fault asked known.past)) (last_piece asked strict known.past (processors_of asked known.past)).halt) halt →
     IfSome input (λ bytes. Writes asked strict bytes (Err halt) written now)
 end_not_told asked strict None telling old before count written now halt known over why = tt
 end_not_told asked strict (Some bytes) telling old before count written now halt known over why =
     end_halts asked strict bytes known.past telling halt written now (whole_trace bytes known.past count (unread old before) known.agrees over)
     (front_some bytes known.past count (unread old before) known.agrees) known.stands
-    (subst (λ (cut : Cut). IsHaltFor (or_else (at_line (length known.past) (whole_fault asked known.past)) (part_halt asked strict known.past cut None)) halt)
-    known.stands.same_cut
-    (subst (λ (n : ℕ). IsHaltFor (or_else (at_line n (whole_fault asked known.past)) (part_halt asked strict known.past telling.cut None)) halt) (sym known.many) why))
+    (subst (λ (n : ℕ). IsHaltFor (or_else (at_line n (whole_fault asked known.past)) (last_piece asked strict known.past (processors_of asked known.past)).halt) halt) (sym known.many) why)
     known.appended
 
 -- the texts of all parts, with that of the last one
 told_all : (asked : Asked) (strict : Bool) (bytes : List ℕ) (telling : Telling) (old : Reading) (before : Option (List ℕ)) (count : ℕ)
     (written now : Option (List ℕ)) (text : List ℕ) → (known : IsBehind asked strict (Some bytes) telling old before count written now) → IsAtEnd (unread old before) →
-    whole_fault asked known.past ≡ None → IsLast asked strict known.past telling.cut text →
+    whole_fault asked known.past ≡ None → IsEnd asked strict known.past text →
     told_of asked strict (trace_of bytes) ≡ record { text = (told_after asked strict known.past).text ++ text; halt = None }
 told_all asked strict bytes telling old before count written now text known over sound last =
-    all_told asked strict bytes known.past text (whole_trace bytes known.past count (unread old before) known.agrees over) known.stands.goes_on sound
-    (subst (λ (cut : Cut). IsLast asked strict known.past cut text) known.stands.same_cut last)
+    all_told asked strict bytes known.past text (whole_trace bytes known.past count (unread old before) known.agrees over) known.stands.goes_on sound last
 
 pub end_told : (asked : Asked) (strict : Bool) (input : Option (List ℕ)) (telling : Telling) (old : Reading) (before : Option (List ℕ)) (count : ℕ)
     (written mid now : Option (List ℕ)) (text : List ℕ) → (known : IsBehind asked strict input telling old before count written mid) → IsAtEnd (unread old before) →
-    whole_fault asked known.past ≡ None → IsLast asked strict known.past telling.cut text → Appends mid now text →
+    whole_fault asked known.past ≡ None → IsEnd asked strict known.past text → Appends mid now text →
     IfSome input (λ bytes. Writes asked strict bytes (Ok tt) written now)
 end_told asked strict None telling old before count written mid now text known over sound last put = tt
 end_told asked strict (Some bytes) telling old before count written mid now text known over sound last put =
@@ -235,7 +231,7 @@ end_told asked strict (Some bytes) telling old before count written mid now text
 
 pub end_cut : (asked : Asked) (strict : Bool) (input : Option (List ℕ)) (telling : Telling) (old : Reading) (before : Option (List ℕ)) (count : ℕ)
     (written mid now : Option (List ℕ)) (text : List ℕ) → (known : IsBehind asked strict input telling old before count written mid) → IsAtEnd (unread old before) →
-    whole_fault asked known.past ≡ None → IsLast asked strict known.past telling.cut text → AppendsFront text mid now →
+    whole_fault asked known.past ≡ None → IsEnd asked strict known.past text → AppendsFront text mid now →
     IfSome input (λ bytes. Writes asked strict bytes (Err kept.WriteFault) written now)
 end_cut asked strict None telling old before count written mid now text known over sound last part = tt
 end_cut asked strict (Some bytes) telling old before count written mid now text known over sound last part =
@@ -298,10 +294,10 @@ sound_lines asked strict [] goes = refl
 sound_lines asked strict (said ∷ past) goes =
     let both = more_goes asked strict past said (told_after asked strict past).text (told_after asked strict past).halt goes in
     ap (λ (first : Option (ℕ × Cause)). or_else first (numbered (length past + 1) (said_fault asked past said))) (sound_lines asked strict past both.0)
-    ∙ ap (numbered (length past + 1)) (no_fault (said_fault asked past said) (part_fault asked past (cut_after asked past) said) (length past + 1) both.1)
+    ∙ ap (numbered (length past + 1)) (no_fault (said_fault asked past said) (parts_fault asked past said) (length past + 1) both.1)
 
 of_some : (asked : Asked) (strict : Bool) (past : List Said) (telling : Telling) (count : ℕ) → IsGranted asked → IsTelling asked strict past telling → length past ≡ count →
-    IsOfSome count telling.cut.boundary telling.pass
+    IsOfSome count (told_to_forget telling.pass) telling.pass
 of_some asked strict past telling count granted stands many = record {
   asked = asked;
   past = past;
@@ -313,12 +309,12 @@ of_some asked strict past telling count granted stands many = record {
 
 pub room_behind : (asked : Asked) (strict : Bool) (input : Option (List ℕ)) (telling : Telling) (old : Reading) (before : Option (List ℕ)) (count : ℕ)
     (written now : Option (List ℕ)) → IsGranted asked → IsBehind asked strict input telling old before count written now → count < MOST_LINES →
-    HasRoom telling.cut.boundary telling.pass
+    HasRoom (told_to_forget telling.pass) telling.pass
 room_behind asked strict input telling old before count written now granted known few =
     record { number = count; of_some = of_some asked strict known.past telling count granted known.stands known.many; room = few }
 
 pub plain_behind : (asked : Asked) (strict : Bool) (input : Option (List ℕ)) (telling : Telling) (old : Reading) (before : Option (List ℕ)) (count : ℕ)
     (written now : Option (List ℕ)) → IsGranted asked → IsBehind asked strict input telling old before count written now → count ≤ MOST_LINES →
-    IsPlainPass telling.cut.boundary telling.pass
+    IsPlainPass (told_to_forget telling.pass) telling.pass
 plain_behind asked strict input telling old before count written now granted known few =
     record { number = count; of_some = of_some asked strict known.past telling count granted known.stands known.many; few = few }

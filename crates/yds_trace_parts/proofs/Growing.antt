@@ -3,12 +3,11 @@ use Rattle.yds_model.proofs.Common.{◌≡◌, ℕ, List, [], ◌∷◌, ◌++�
 use Rattle.yds_kernel.specs.Event.{Said}
 use Rattle.yds_kernel.specs.declared.fault.Reason.{Reason}
 use Rattle.yds_model.specs.Fields.{Fault}
-use Rattle.yds_trace.specs.declared.cut.Cut.{Cut}
-use Rattle.yds_trace.specs.Asked.{Asked}
-use Rattle.yds_trace.specs.Parts.{cut_after, place_of}
-use Rattle.yds_trace_text.specs.PartText.{part_text}
+use Rattle.yds_trace.specs.Asked.{Asked, on}
+use Rattle.yds_trace.specs.Parts.{cut_after, processors_of}
 use Rattle.yds_trace_parts.specs.Laws.{Begins}
-use Rattle.yds_trace_parts.specs.Told.{Halt, line_halt, part_halt, with_part, told_behind, told_with, told_next, told_after, end_halt, told_last, told_at_end}
+use Rattle.yds_trace_parts.specs.Told.{Halt, Told, piece_of, pieces, with_piece, last_piece, line_halt, told_with, told_next, told_after, end_halt, told_last, told_at_end}
+use Rattle.yds_trace_parts.proofs.Joined.{both_empty}
 
 begins_so : (text : List ℕ) → Begins text text
 begins_so text = record { more = []; is = sym (append-nil text) }
@@ -21,18 +20,12 @@ begins_on first second third one two = record {
 
 -- # A line more
 
-with_part_begins : (text : List ℕ) (halt : Option Halt) (part : List ℕ) → Begins text (with_part text halt part).text
-with_part_begins text (Some halt) part = begins_so text
-with_part_begins text None part = record { more = part; is = refl }
-
-behind_begins : (asked : Asked) (strict : Bool) (past : List Said) (cut : Cut) (place : Option ℕ) (text : List ℕ) → Begins text (told_behind asked strict past cut place text).text
-behind_begins asked strict past cut (Some time) text = with_part_begins text (part_halt asked strict past cut (Some time)) (part_text asked past cut (Some time))
-behind_begins asked strict past cut None text = begins_so text
+with_piece_begins : (text : List ℕ) (piece : Told) → Begins text (with_piece text piece).text
+with_piece_begins text piece = record { more = piece.text; is = refl }
 
 with_begins : (asked : Asked) (strict : Bool) (past : List Said) (said : Said) (text : List ℕ) (halt : Option Halt) → Begins text (told_with asked strict past said text halt).text
 with_begins asked strict past said text (Some halt) = begins_so text
-with_begins asked strict past said text None =
-    behind_begins asked strict (said ∷ past) (cut_after asked past) (place_of asked (said ∷ past) (cut_after asked past)) text
+with_begins asked strict past said text None = with_piece_begins text (pieces asked strict past said (processors_of asked (said ∷ past)))
 
 next_by : (asked : Asked) (strict : Bool) (past : List Said) (said : Said) (text : List ℕ) (halt : Option Halt) →
     Begins text (told_next asked strict past said (record { text = text; halt = halt })).text
@@ -52,8 +45,7 @@ lines_begin asked strict (said ∷ more) past =
 -- and the end
 last_begins : (asked : Asked) (strict : Bool) (past : List Said) (text : List ℕ) (halt : Option Halt) → Begins text (told_last asked strict past text halt).text
 last_begins asked strict past text (Some halt) = begins_so text
-last_begins asked strict past text None =
-    with_part_begins text (part_halt asked strict past (cut_after asked past) None) (part_text asked past (cut_after asked past) None)
+last_begins asked strict past text None = with_piece_begins text (last_piece asked strict past (processors_of asked past))
 
 end_by : (asked : Asked) (strict : Bool) (past : List Said) (form : Option (Fault Reason)) (text : List ℕ) (halt : Option Halt) →
     Begins text (told_at_end asked strict past form (record { text = text; halt = halt })).text
@@ -89,20 +81,22 @@ end_halted asked strict past form found is = end_halted_by asked strict past for
 
 -- # A line that halts adds nothing
 
-with_part_text : (text : List ℕ) (halt : Option Halt) (part : List ℕ) (found : Halt) → (with_part text halt part).halt ≡ Some found → (with_part text halt part).text ≡ text
-with_part_text text (Some halt) part found is = refl
-with_part_text text None part found is = cc
+pieces_empty : (asked : Asked) (strict : Bool) (past : List Said) (said : Said) (numbers : List ℕ) (found : Halt) →
+    (pieces asked strict past said numbers).halt ≡ Some found → (pieces asked strict past said numbers).text ≡ []
+pieces_empty asked strict past said [] found is = refl
+pieces_empty asked strict past said (number ∷ numbers) found is =
+    both_empty (piece_of (on number asked) strict (said ∷ past) (cut_after (on number asked) past)) (pieces asked strict past said numbers) found is
 
-behind_text : (asked : Asked) (strict : Bool) (past : List Said) (cut : Cut) (place : Option ℕ) (text : List ℕ) (found : Halt) →
-    (told_behind asked strict past cut place text).halt ≡ Some found → (told_behind asked strict past cut place text).text ≡ text
-behind_text asked strict past cut (Some time) text found is = with_part_text text (part_halt asked strict past cut (Some time)) (part_text asked past cut (Some time)) found is
-behind_text asked strict past cut None text found is = refl
+-- text without a piece
+pub nothing_more : (text : List ℕ) (piece : Told) → piece.text ≡ [] → (with_piece text piece).text ≡ text
+nothing_more text piece is = ap (λ (more : List ℕ). text ++ more) is ∙ append-nil text
 
 with_text : (asked : Asked) (strict : Bool) (past : List Said) (said : Said) (text : List ℕ) (halt : Option Halt) (found : Halt) →
     (told_with asked strict past said text halt).halt ≡ Some found → (told_with asked strict past said text halt).text ≡ text
 with_text asked strict past said text (Some halt) found is = refl
 with_text asked strict past said text None found is =
-    behind_text asked strict (said ∷ past) (cut_after asked past) (place_of asked (said ∷ past) (cut_after asked past)) text found is
+    nothing_more text (pieces asked strict past said (processors_of asked (said ∷ past)))
+    (pieces_empty asked strict past said (processors_of asked (said ∷ past)) found is)
 
 next_text : (asked : Asked) (strict : Bool) (past : List Said) (said : Said) (text : List ℕ) (halt : Option Halt) (found : Halt) →
     (told_next asked strict past said (record { text = text; halt = halt })).halt ≡ Some found → (told_next asked strict past said (record { text = text; halt = halt })).text ≡ text

@@ -1,9 +1,15 @@
 pub mod Placed
+pub mod Joined
 pub mod Growing
 pub mod Steps
 pub mod Ahead
 pub mod Parting
+pub mod Numbers
+pub mod Unseen
+pub mod Still
+pub mod Behind
 pub mod Taking
 pub mod Driven
 pub mod Plain
 pub mod Ending
+pub mod Loops

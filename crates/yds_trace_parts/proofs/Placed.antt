@@ -11,7 +11,7 @@ use Rattle.yds_trace.specs.Asked.{Asked, task_at}
 use Rattle.yds_trace.specs.Past.{last_time}
 use Rattle.yds_trace.specs.Document.{Judged, stands}
 use Rattle.yds_trace.specs.Parts as parts
-use Rattle.yds_trace.specs.Parts.{begin_of, begins_from, begins_before, is_over, is_done_by, is_closed_by, is_written, ended_by, each_before, has_written, is_quiet, is_closed, last_where}
+use Rattle.yds_trace.specs.Parts.{begin_of, begins_from, begins_before, is_over, is_done_by, is_closed_by, is_written, belongs, ended_by, each_before, has_job, is_quiet, is_closed, last_where}
 use Rattle.yds_trace.specs.Shown.{IsShown}
 use Rattle.yds_trace_document.specs.Kept.{last_of}
 use Rattle.yds_trace_document.proofs.Same.{last_same}
@@ -102,7 +102,7 @@ or_false : (b : Bool) → (b || false) ≡ b
 or_false true = refl
 or_false false = refl
 
-any_push : {A : Type 0} (p : A → Bool) (xs : List A) (x : A) → list_any p (xs ++ x ∷ []) ≡ (list_any p xs || p x)
+pub any_push : {A : Type 0} (p : A → Bool) (xs : List A) (x : A) → list_any p (xs ++ x ∷ []) ≡ (list_any p xs || p x)
 any_push p xs x = list_any-append p xs (x ∷ []) ∙ ap (λ (b : Bool). list_any p xs || b) (or_false (p x))
 
 -- # Jobs before a time
@@ -133,22 +133,26 @@ each_split test most time front rest less all later =
     ∙ ap₂ (λ (b c : Bool). b && c) (all_earlier test most time front less all) (none_earlier test time rest later)
     ∙ sym (and_true (list_all test front))
 
-any_earlier : (most time : ℕ) (jobs : List Judged) → most < time → UpTo most jobs → has_written time jobs ≡ list_any is_written jobs
-any_earlier most time [] less all = refl
-any_earlier most time (judged ∷ jobs) less all =
-    ap₂ (λ (b c : Bool). (b && is_written judged) || c) (lt-ltb judged.job.begin time (omega (arith, all.0))) (any_earlier most time jobs less all.1)
+-- a job before a place; with one processor it is to be written
+abbrev is_before_place : Asked → Judged → Bool
+is_before_place asked judged = asked.everywhere || is_written judged
 
-any_later : (time : ℕ) (jobs : List Judged) → FromLow begin_of time jobs → has_written time jobs ≡ false
-any_later time [] all = refl
-any_later time (judged ∷ jobs) all =
-    ap₂ (λ (b c : Bool). (b && is_written judged) || c) (le-ltb judged.job.begin time all.0) (any_later time jobs all.1)
+any_earlier : (asked : Asked) (most time : ℕ) (jobs : List Judged) → most < time → UpTo most jobs → has_job asked time jobs ≡ list_any (is_before_place asked) jobs
+any_earlier asked most time [] less all = refl
+any_earlier asked most time (judged ∷ jobs) less all =
+    ap₂ (λ (b c : Bool). (b && is_before_place asked judged) || c) (lt-ltb judged.job.begin time (omega (arith, all.0))) (any_earlier asked most time jobs less all.1)
 
-any_split : (most time : ℕ) (front rest : List Judged) → most < time → UpTo most front → FromLow begin_of time rest →
-    has_written time (front ++ rest) ≡ list_any is_written front
-any_split most time front rest less all later =
-    list_any-append (λ judged. begins_before time judged && is_written judged) front rest
-    ∙ ap₂ (λ (b c : Bool). b || c) (any_earlier most time front less all) (any_later time rest later)
-    ∙ or_false (list_any is_written front)
+any_later : (asked : Asked) (time : ℕ) (jobs : List Judged) → FromLow begin_of time jobs → has_job asked time jobs ≡ false
+any_later asked time [] all = refl
+any_later asked time (judged ∷ jobs) all =
+    ap₂ (λ (b c : Bool). (b && is_before_place asked judged) || c) (le-ltb judged.job.begin time all.0) (any_later asked time jobs all.1)
+
+any_split : (asked : Asked) (most time : ℕ) (front rest : List Judged) → most < time → UpTo most front → FromLow begin_of time rest →
+    has_job asked time (front ++ rest) ≡ list_any (is_before_place asked) front
+any_split asked most time front rest less all later =
+    list_any-append (λ judged. begins_before time judged && is_before_place asked judged) front rest
+    ∙ ap₂ (λ (b c : Bool). b || c) (any_earlier asked most time front less all) (any_later asked time rest later)
+    ∙ or_false (list_any (is_before_place asked) front)
 
 from_zero : (jobs : List Judged) → FromLow begin_of 0 jobs
 from_zero [] = tt
@@ -158,9 +162,9 @@ from_zero (judged ∷ jobs) = (omega arith, from_zero jobs)
 
 -- what the walk knows behind these jobs
 record Holds (asked : Asked) (past : List Said) (all front : List Judged) (at : Walk) : Type 0 where
-  written : at.front.written ≡ list_any is_written front
+  some : at.front.some ≡ list_any (is_before_place asked) front
   done : (time : ℕ) → has_come time at.front.done ≡ list_all (is_done_by asked past time) front
-  due : (time : ℕ) → nat_le at.front.due time ≡ list_all (is_closed_by time) front
+  due : (time : ℕ) → nat_le at.front.due time ≡ list_all (is_closed_by asked time) front
   quiet : at.places.quiet ≡ last_where (is_quiet asked past all) (map begin_of front)
   closed : at.places.closed ≡ last_where (is_closed asked past all) (map begin_of front)
   tied_quiet : is_quiet asked past all at.before ≡ true → at.places.quiet ≡ Some at.before
@@ -168,31 +172,31 @@ record Holds (asked : Asked) (past : List Said) (all front : List Judged) (at : 
   earlier : UpTo at.before front
 
 never : (asked : Asked) (past : List Said) (all : List Judged) → is_quiet asked past all 0 ≡ false
-never asked past all = ap (λ (b : Bool). b && each_before (is_done_by asked past 0) 0 all) (any_later 0 all (from_zero all))
+never asked past all = ap (λ (b : Bool). b && each_before (is_done_by asked past 0) 0 all) (any_later asked 0 all (from_zero all))
 
 begun : (asked : Asked) (past : List Said) (all : List Judged) → Holds asked past all [] start
 begun asked past all = record {
-  written = refl;
+  some = refl;
   done = λ time. le-leb 0 time (omega arith);
   due = λ time. le-leb 0 time (omega arith);
   quiet = refl;
   closed = refl;
   tied_quiet = λ held. absurd (false≢true (sym (never asked past all) ∙ held));
-  tied_closed = λ held. absurd (false≢true (sym (ap (λ (b : Bool). b && each_before (is_closed_by 0) 0 all) (never asked past all)) ∙ held));
+  tied_closed = λ held. absurd (false≢true (sym (ap (λ (b : Bool). b && each_before (is_closed_by asked 0) 0 all) (never asked past all)) ∙ held));
   earlier = tt;
 }
 
-abbrev stepped_by : Bool → Bool → Judged → Walk → Walk
-stepped_by later settled judged at = record {
-  front = with_job settled judged at.front;
+abbrev stepped_by : Asked → Bool → Bool → Judged → Walk → Walk
+stepped_by asked later settled judged at = record {
+  front = with_job asked settled judged at.front;
   places = if later then with_place at.front judged.job.begin at.places else at.places;
   before = if later then judged.job.begin else at.before;
 }
 
-written_more : (asked : Asked) (past : List Said) (all front : List Judged) (at : Walk) (judged : Judged) → Holds asked past all front at →
-    (at.front.written || is_written judged) ≡ list_any is_written (front ++ judged ∷ [])
-written_more asked past all front at judged holds =
-    ap (λ (b : Bool). b || is_written judged) holds.written ∙ sym (any_push is_written front judged)
+some_more : (asked : Asked) (past : List Said) (all front : List Judged) (at : Walk) (judged : Judged) → Holds asked past all front at →
+    (at.front.some || is_before_place asked judged) ≡ list_any (is_before_place asked) (front ++ judged ∷ [])
+some_more asked past all front at judged holds =
+    ap (λ (b : Bool). b || is_before_place asked judged) holds.some ∙ sym (any_push (is_before_place asked) front judged)
 
 done_more : (asked : Asked) (past : List Said) (all front : List Judged) (at : Walk) (judged : Judged) → Holds asked past all front at → (time : ℕ) →
     has_come time (both at.front.done (done_from (parts.is_settled asked past judged) judged)) ≡ list_all (is_done_by asked past time) (front ++ judged ∷ [])
@@ -202,26 +206,26 @@ done_more asked past all front at judged holds time =
     ∙ sym (all_push (is_done_by asked past time) front judged)
 
 due_more : (asked : Asked) (past : List Said) (all front : List Judged) (at : Walk) (judged : Judged) → Holds asked past all front at → (time : ℕ) →
-    nat_le (if is_written judged then max at.front.due judged.due else at.front.due) time ≡ list_all (is_closed_by time) (front ++ judged ∷ [])
+    nat_le (if belongs asked judged && is_written judged then max at.front.due judged.due else at.front.due) time ≡ list_all (is_closed_by asked time) (front ++ judged ∷ [])
 due_more asked past all front at judged holds time =
-    due_by (is_written judged) at.front.due judged.due time
-    ∙ ap (λ (b : Bool). b && is_closed_by time judged) (holds.due time)
-    ∙ sym (all_push (is_closed_by time) front judged)
+    due_by (belongs asked judged && is_written judged) at.front.due judged.due time
+    ∙ ap (λ (b : Bool). b && is_closed_by asked time judged) (holds.due time)
+    ∙ sym (all_push (is_closed_by asked time) front judged)
 
 -- a later begin
 quiet_here : (asked : Asked) (past : List Said) (all front rest : List Judged) (at : Walk) (time : ℕ) → all ≡ front ++ rest → Holds asked past all front at →
     at.before < time → FromLow begin_of time rest → is_quiet asked past all time ≡ is_quiet_at time at.front
 quiet_here asked past all front rest at time is holds less later =
-    ap (λ (jobs : List Judged). has_written time jobs && each_before (is_done_by asked past time) time jobs) is
-    ∙ ap₂ (λ (b c : Bool). b && c) (any_split at.before time front rest less holds.earlier later ∙ sym holds.written)
+    ap (λ (jobs : List Judged). has_job asked time jobs && each_before (is_done_by asked past time) time jobs) is
+    ∙ ap₂ (λ (b c : Bool). b && c) (any_split asked at.before time front rest less holds.earlier later ∙ sym holds.some)
     (each_split (is_done_by asked past time) at.before time front rest less holds.earlier later ∙ sym (holds.done time))
 
 closed_here : (asked : Asked) (past : List Said) (all front rest : List Judged) (at : Walk) (time : ℕ) → all ≡ front ++ rest → Holds asked past all front at →
     at.before < time → FromLow begin_of time rest → is_closed asked past all time ≡ (is_quiet_at time at.front && nat_le at.front.due time)
 closed_here asked past all front rest at time is holds less later =
     ap₂ (λ (b c : Bool). b && c) (quiet_here asked past all front rest at time is holds less later)
-    (ap (each_before (is_closed_by time) time) is
-    ∙ each_split (is_closed_by time) at.before time front rest less holds.earlier later ∙ sym (holds.due time))
+    (ap (each_before (is_closed_by asked time) time) is
+    ∙ each_split (is_closed_by asked time) at.before time front rest less holds.earlier later ∙ sym (holds.due time))
 
 quiet_if : (quiet closed : Bool) (time : ℕ) (places : Places) →
     (let made : Places = if quiet then record { quiet = Some time; closed = if closed then Some time else places.closed } else places in made.quiet)
@@ -252,14 +256,14 @@ same_if false time other tied = refl
 
 step : (asked : Asked) (past : List Said) (all front rest : List Judged) (at : Walk) (judged : Judged) (later : Bool) → all ≡ front ++ judged ∷ rest →
     Holds asked past all front at → at.before ≤ judged.job.begin → FromLow begin_of judged.job.begin rest → nat_lt at.before judged.job.begin ≡ later →
-    Holds asked past all (front ++ judged ∷ []) (stepped_by later (parts.is_settled asked past judged) judged at)
+    Holds asked past all (front ++ judged ∷ []) (stepped_by asked later (parts.is_settled asked past judged) judged at)
 step asked past all front rest at judged true is holds above low less =
     let here : is_quiet asked past all judged.job.begin ≡ is_quiet_at judged.job.begin at.front =
     quiet_here asked past all front (judged ∷ rest) at judged.job.begin is holds (ltb-true at.before judged.job.begin less) (le_refl judged.job.begin, low) in
     let also : is_closed asked past all judged.job.begin ≡ (is_quiet_at judged.job.begin at.front && nat_le at.front.due judged.job.begin) =
     closed_here asked past all front (judged ∷ rest) at judged.job.begin is holds (ltb-true at.before judged.job.begin less) (le_refl judged.job.begin, low) in
     record {
-      written = written_more asked past all front at judged holds;
+      some = some_more asked past all front at judged holds;
       done = done_more asked past all front at judged holds;
       due = due_more asked past all front at judged holds;
       quiet =
@@ -280,7 +284,7 @@ step asked past all front rest at judged true is holds above low less =
 step asked past all front rest at judged false is holds above low less =
     let here : at.before ≡ judged.job.begin = omega (arith, ltb-false at.before judged.job.begin less, above) in
     record {
-      written = written_more asked past all front at judged holds;
+      some = some_more asked past all front at judged holds;
       done = done_more asked past all front at judged holds;
       due = due_more asked past all front at judged holds;
       quiet =
@@ -321,8 +325,8 @@ walked asked shown past all front [] at is holds low rising same =
       closed = holds.closed ∙ ap (λ (jobs : List Judged). last_where (is_closed asked past all) (map begin_of jobs)) (sym whole);
     }
 walked asked shown past all front (judged ∷ rest) at is holds low rising same =
-    subst (λ (settled : Bool). Finds asked past all (walk asked shown rest (stepped settled judged at)).places) (sym same.0)
-    (walked asked shown past all (front ++ judged ∷ []) rest (stepped (parts.is_settled asked past judged) judged at)
+    subst (λ (settled : Bool). Finds asked past all (walk asked shown rest (stepped asked settled judged at)).places) (sym same.0)
+    (walked asked shown past all (front ++ judged ∷ []) rest (stepped asked (parts.is_settled asked past judged) judged at)
     (is ∙ sym (append_assoc front (judged ∷ []) rest))
     (step asked past all front rest at judged (nat_lt at.before judged.job.begin) is holds low.0 rising.0 refl)
     (low_next (nat_lt at.before judged.job.begin) at.before judged.job.begin rest low.0 rising.0) rising.1 same.1)

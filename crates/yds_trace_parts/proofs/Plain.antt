@@ -1,5 +1,5 @@
 -- What is shown of a pass is what a part's calls need, and what holds of it when a line more is taken.
-use Rattle.yds_model.proofs.Common.{◌≡◌, ℕ, ◌+◌, ◌*◌, ◌≤◌, List, ◌∷◌, ◌++◌, length, map, All, All-back, Option, Some, None, refl, sym, ap, subst, ◌∙◌, arith, length-append, length-map, slice_index_or}
+use Rattle.yds_model.proofs.Common.{◌≡◌, ℕ, ◌+◌, ◌*◌, ◌≤◌, List, ◌∷◌, ◌++◌, length, map, All, All-back, Option, Some, None, refl, sym, ap, subst, ◌∙◌, arith, le_refl, length-append, length-map, slice_index_or}
 use Rattle.yds_kernel.specs.declared.limits.TheConstants.{MAX_U64}
 use Rattle.yds_kernel.specs.Event.{Said}
 use Rattle.yds_kernel.specs.Parts.{or_else}
@@ -9,19 +9,20 @@ use Rattle.yds_trace.specs.declared.limits.TheConstants.{MAX_TIME, MAX_DEADLINE}
 use Rattle.yds_trace.specs.declared.pass.Pass.{Pass}
 use Rattle.yds_trace.specs.declared.shown.Shown.{Shown}
 use Rattle.yds_trace.specs.declared.shown.ShownTask.{ShownTask}
-use Rattle.yds_trace.specs.Asked.{Task, Asked}
+use Rattle.yds_trace.specs.Asked.{Task, Asked, on}
 use Rattle.yds_trace.specs.Document.{jobs_of}
 use Rattle.yds_trace.specs.Faults.{first_fault, numbered, said_fault}
 use Rattle.yds_trace.specs.Jobs.{Job}
 use Rattle.yds_trace.specs.Kept.{IsAtBehind}
 use Rattle.yds_trace.specs.Shown.{IsShown, IsShownTask}
 use Rattle.yds_trace.specs.Views.{task_read, job_read, asked_read}
+use Rattle.yds_trace.proofs.OnProcessor.{first_fault_on, shown_on}
 use Rattle.yds_trace_laws.specs.Laws.{IsReached}
 use Rattle.yds_trace_laws.proofs.Begins.{begins_in_time}
 use Rattle.yds_trace_laws.proofs.Few.{jobs_few}
 use Rattle.yds_trace_laws.proofs.Ordered.{All-map_back}
 use Rattle.yds_trace_document.specs.Kept.{IsPlainTask, IsPlainShown}
-use Rattle.yds_trace_parts.specs.Plain.{IsOfSome, IsPlainPass, HasRoom}
+use Rattle.yds_trace_parts.specs.Plain.{IsGranted, IsOfSome, IsPlainPass, HasRoom, IsPlainLook}
 
 -- # What is shown
 
@@ -42,22 +43,58 @@ task_plain asked past boundary number shown to sound few is =
       numbers = numbers_fit shown.forgotten (length shown.jobs.items) (length (jobs_of asked past number)) (length past) MAX_U64 many (jobs_few asked past number) few;
     }
 
-pub shown_plain : (asked : AskedKept) (shown : Shown) (boundary : ℕ) (pass : Pass) → IsPlainPass boundary pass →
-    ((words : Asked) (past : List Said) → IsAtBehind words past boundary pass → asked_read asked ≡ words) →
-    ((words : Asked) (past : List Said) → IsAtBehind words past boundary pass → IsShown words past boundary shown) → IsPlainShown asked shown
-shown_plain asked shown boundary pass plain told shows =
-    let some = plain.of_some in
-    let same : asked_read asked ≡ some.asked = told some.asked some.past some.stands in
-    let is : IsShown some.asked some.past boundary shown = shows some.asked some.past some.stands in
-    let few : 2 * length some.past ≤ MAX_U64 = omega (arith, some.as_many, plain.few) in
+-- what is shown of a pass
+pub look_shown : (boundary : ℕ) (pass : Pass) (shown : Shown) → IsPlainPass boundary pass →
+    ((words : Asked) (past : List Said) → IsAtBehind words past boundary pass → IsShown words past boundary shown) → IsPlainLook pass shown
+look_shown boundary pass shown plain shows = record {
+  number = plain.number;
+  boundary = boundary;
+  of_some = plain.of_some;
+  few = plain.few;
+  shows = shows plain.of_some.asked plain.of_some.past plain.of_some.stands;
+}
+
+granted_on : (asked : Asked) (processor : ℕ) → IsGranted asked → IsGranted (on processor asked)
+granted_on asked processor granted = record {
+  plain = record { has_unit = granted.plain.has_unit; has_speed_unit = granted.plain.has_speed_unit; deadlines = granted.plain.deadlines };
+  within = record { deadlines = granted.within.deadlines };
+  reached = granted.reached;
+}
+
+-- It is the same where the pass asks for another processor.
+pub look_turned : (processor : ℕ) (old new : Pass) (shown : Shown) → IsPlainLook old shown →
+    ((asked : Asked) (past : List Said) (boundary : ℕ) → IsAtBehind asked past boundary old → IsAtBehind (on processor asked) past boundary new) → IsPlainLook new shown
+look_turned processor old new shown look turns =
+    let some = look.of_some in
+    record {
+      number = look.number;
+      boundary = look.boundary;
+      of_some = record {
+        asked = on processor some.asked;
+        past = some.past;
+        granted = granted_on some.asked processor some.granted;
+        sound = first_fault_on some.asked processor some.past ∙ some.sound;
+        stands = turns some.asked some.past look.boundary some.stands;
+        as_many = some.as_many;
+      };
+      few = look.few;
+      shows = shown_on some.asked processor some.past look.boundary look.boundary shown (le_refl look.boundary) look.shows;
+    }
+
+pub look_plain : (asked : AskedKept) (pass : Pass) (shown : Shown) → IsPlainLook pass shown →
+    ((words : Asked) (past : List Said) (boundary : ℕ) → IsAtBehind words past boundary pass → asked_read asked ≡ words) → IsPlainShown asked shown
+look_plain asked pass shown look told =
+    let some = look.of_some in
+    let same : asked_read asked ≡ some.asked = told some.asked some.past look.boundary some.stands in
+    let few : 2 * length some.past ≤ MAX_U64 = omega (arith, some.as_many, look.few) in
     record {
       has_unit = subst (λ (a : Asked). 1 ≤ a.unit) (sym same) some.granted.plain.has_unit;
       has_speed_unit = subst (λ (a : Asked). 1 ≤ a.khz) (sym same) some.granted.plain.has_speed_unit;
       deadlines = All-map_back (λ (task : Task). task.deadline ≤ MAX_DEADLINE) task_read asked.tasks.items
           (subst (λ (a : Asked). All (λ (task : Task). task.deadline ≤ MAX_DEADLINE) a.tasks) (sym same) some.granted.within.deadlines);
-      tasks = λ i d within. task_plain some.asked some.past boundary i (slice_index_or shown.tasks.items i d) some.granted.reached some.sound few
-          (is.tasks i d (omega (arith, is.as_many, within)));
-      of_each_task = is.as_many ∙ ap (λ (a : Asked). length a.tasks) (sym same) ∙ length-map asked.tasks.items task_read;
+      tasks = λ i d within. task_plain some.asked some.past look.boundary i (slice_index_or shown.tasks.items i d) some.granted.reached some.sound few
+          (look.shows.tasks i d (omega (arith, look.shows.as_many, within)));
+      of_each_task = look.shows.as_many ∙ ap (λ (a : Asked). length a.tasks) (sym same) ∙ length-map asked.tasks.items task_read;
     }
 
 -- # Lines
@@ -79,29 +116,12 @@ some_more number boundary old new said some taken stands = record {
   as_many = omega (arith, some.as_many);
 }
 
--- Jobs are forgotten.
-pub some_left : (number before boundary : ℕ) (old new : Pass) → IsOfSome number before old →
-    ((asked : Asked) (past : List Said) → IsAtBehind asked past before old → IsAtBehind asked past boundary new) → IsOfSome number boundary new
-some_left number before boundary old new some stands = record {
-  asked = some.asked;
-  past = some.past;
-  granted = some.granted;
-  sound = some.sound;
-  stands = stands some.asked some.past some.stands;
-  as_many = some.as_many;
-}
-
-or_none : (first second : Option Cause) → or_else first second ≡ None → first ≡ None
-or_none None second is = refl
-or_none (Some cause) second is = cc
-
 -- Where it wasn't refused, a part can be looked for.
-pub room_taken : (boundary : ℕ) (old new : Pass) (said : Said) (other : Asked → List Said → Option Cause) → HasRoom boundary old →
-    ((asked : Asked) (past : List Said) → IsAtBehind asked past boundary old → or_else (said_fault asked past said) (other asked past) ≡ None) →
+pub room_taken : (boundary : ℕ) (old new : Pass) (said : Said) → HasRoom boundary old →
+    ((asked : Asked) (past : List Said) → IsAtBehind asked past boundary old → said_fault asked past said ≡ None) →
     ((asked : Asked) (past : List Said) → IsAtBehind asked past boundary old → IsAtBehind asked (said ∷ past) boundary new) → IsPlainPass boundary new
-room_taken boundary old new said other room sound stands = record {
+room_taken boundary old new said room sound stands = record {
   number = room.number + 1;
-  of_some = some_more room.number boundary old new said room.of_some
-      (λ asked past at. or_none (said_fault asked past said) (other asked past) (sound asked past at)) stands;
+  of_some = some_more room.number boundary old new said room.of_some sound stands;
   few = omega (arith, room.room);
 }

@@ -1,18 +1,15 @@
 -- A line more: what is told behind it, and where the last part ends.
-use Rattle.yds_model.proofs.Common.{◌≡◌, ℕ, ◌+◌, ◌<◌, ◌≤◌, ◌%◌, ◌==◌, List, [], ◌∷◌, ◌++◌, length, map, filter, cond, Bool, true, false, ◌&&◌, Option, Some, None, refl, sym, ap, subst, ◌∙◌, arith, leb-true, mod-eq_of_lt, ne_eqb, if◌then◌else◌}
+use Rattle.yds_model.proofs.Common.{◌≡◌, ℕ, ◌+◌, ◌<◌, ◌≤◌, ◌%◌, ◌==◌, List, [], ◌∷◌, ◌++◌, length, map, filter, cond, Bool, true, false, ◌&&◌, not, Option, Some, None, refl, sym, ap, subst, ◌∙◌, arith, leb-true, mod-eq_of_lt, ne_eqb, eqb-true, append-nil, ap₂, ◌||◌, list_any, if◌then◌else◌}
 use Rattle.yds_kernel.specs.Event.{Said}
 use Rattle.yds_kernel.specs.Parts.{or_else}
 use Rattle.yds_trace.specs.declared.cut.Cut.{Cut}
-use Rattle.yds_trace.specs.declared.fault.Cause.{Cause}
 use Rattle.yds_trace.specs.declared.limits.TheConstants.{LOOK_EVERY}
-use Rattle.yds_trace.specs.Asked.{Asked}
+use Rattle.yds_trace.specs.Asked.{Asked, on}
 use Rattle.yds_trace.specs.Document.{Judged}
-use Rattle.yds_trace.specs.Faults.{said_fault}
-use Rattle.yds_trace.specs.Parts.{begin_of, begins_from, waiting, is_much, is_due, is_quiet, is_closed, may_write, last_where, place_among, place_of, part_fault, cut_at, cut_after, no_cut}
+use Rattle.yds_trace.specs.Parts.{has_run_on, belongs, begin_of, begins_from, begins_before, is_written, waiting, of_part, part_until, is_before_end, is_much, is_due, has_job, is_done_by, is_closed_by, each_before, is_quiet, is_closed, may_write, last_where, place_among, place_of, processor_count, first_numbers, processors_of, cut_at, cut_after, no_cut}
 use Rattle.yds_trace_text.specs.PartText.{part_text}
-use Rattle.yds_trace_parts.specs.declared.part.Whole.{Whole}
-use Rattle.yds_trace_parts.specs.Told.{Halt, Told, line_halt, part_halt, with_part, waiting_halt, told_behind, told_with, told_next, told_after, at_line}
-use Rattle.yds_trace_parts.specs.Telling.{IsNext, place_halt}
+use Rattle.yds_trace_parts.specs.Told.{Halt, Told, no_piece, both, piece_unless, piece_with, piece_at, pieces, with_piece, line_halt, part_halt, told_with, told_next, told_after}
+use Rattle.yds_trace_parts.specs.Telling.{text_alone}
 
 -- # What is told behind a line
 
@@ -26,84 +23,32 @@ pub next_is : (asked : Asked) (strict : Bool) (past : List Said) (said : Said) �
     told_after asked strict (said ∷ past) ≡ told_with asked strict past said (told_after asked strict past).text (line_halt asked past said)
 next_is asked strict past said goes = goes_by asked strict past said (told_after asked strict past).text (told_after asked strict past).halt goes
 
--- and the line isn't refused either
-pub taken_is : (asked : Asked) (strict : Bool) (past : List Said) (said : Said) → (told_after asked strict past).halt ≡ None →
-    or_else (said_fault asked past said) (part_fault asked past (cut_after asked past) said) ≡ None →
-    told_after asked strict (said ∷ past)
-    ≡ told_behind asked strict (said ∷ past) (cut_after asked past) (place_of asked (said ∷ past) (cut_after asked past)) (told_after asked strict past).text
-taken_is asked strict past said goes sound =
-    next_is asked strict past said goes
-    ∙ ap (λ (fault : Option Cause). told_with asked strict past said (told_after asked strict past).text (at_line (length past + 1) fault)) sound
-
 -- the line is refused
-pub refused_is : (asked : Asked) (strict : Bool) (past : List Said) (said : Said) (fault : Option Cause) (halt : Halt) → (told_after asked strict past).halt ≡ None →
-    or_else (said_fault asked past said) (part_fault asked past (cut_after asked past) said) ≡ fault → at_line (length past + 1) fault ≡ Some halt →
-    (told_after asked strict (said ∷ past)).halt ≡ Some halt
-refused_is asked strict past said fault halt goes is found =
-    ap (λ (told : Told). told.halt) (next_is asked strict past said goes
-    ∙ ap (λ (one : Option Halt). told_with asked strict past said (told_after asked strict past).text one)
-    (ap (λ (one : Option Cause). at_line (length past + 1) one) is ∙ found))
+pub refused_is : (asked : Asked) (strict : Bool) (past : List Said) (said : Said) (halt : Halt) → (told_after asked strict past).halt ≡ None →
+    line_halt asked past said ≡ Some halt → (told_after asked strict (said ∷ past)).halt ≡ Some halt
+refused_is asked strict past said halt goes is =
+    ap (λ (told : Told). told.halt) (next_is asked strict past said goes ∙ ap (told_with asked strict past said (told_after asked strict past).text) is)
 
--- # A part, or none
+-- it isn't, and the pieces are written
+pub taken_is : (asked : Asked) (strict : Bool) (past : List Said) (said : Said) → (told_after asked strict past).halt ≡ None → line_halt asked past said ≡ None →
+    told_after asked strict (said ∷ past) ≡ with_piece (told_after asked strict past).text (pieces asked strict past said (processors_of asked (said ∷ past)))
+taken_is asked strict past said goes sound =
+    next_is asked strict past said goes ∙ ap (told_with asked strict past said (told_after asked strict past).text) sound
 
-halt_behind : (asked : Asked) (strict : Bool) (past : List Said) (cut : Cut) (place : Option ℕ) (text : List ℕ) →
-    (told_behind asked strict past cut place text).halt ≡ place_halt asked strict past cut place
-halt_behind asked strict past cut None text = refl
-halt_behind asked strict past cut (Some time) text = by (part_halt asked strict past cut (Some time))
-  where
-    by : (halt : Option Halt) → (with_part text halt (part_text asked past cut (Some time))).halt ≡ halt
-    by None = refl
-    by (Some found) = refl
+-- or it halts as they do
+pub halts_behind : (asked : Asked) (strict : Bool) (past : List Said) (said : Said) → (told_after asked strict past).halt ≡ None → line_halt asked past said ≡ None →
+    (told_after asked strict (said ∷ past)).halt ≡ (pieces asked strict past said (processors_of asked (said ∷ past))).halt
+halts_behind asked strict past said goes sound = ap (λ (told : Told). told.halt) (taken_is asked strict past said goes sound)
 
--- it halts as the place does
-pub behind_halts : (asked : Asked) (strict : Bool) (past : List Said) (said : Said) → (told_after asked strict past).halt ≡ None →
-    or_else (said_fault asked past said) (part_fault asked past (cut_after asked past) said) ≡ None →
-    (told_after asked strict (said ∷ past)).halt
-    ≡ place_halt asked strict (said ∷ past) (cut_after asked past) (place_of asked (said ∷ past) (cut_after asked past))
-behind_halts asked strict past said goes sound =
-    ap (λ (told : Told). told.halt) (taken_is asked strict past said goes sound)
-    ∙ halt_behind asked strict (said ∷ past) (cut_after asked past) (place_of asked (said ∷ past) (cut_after asked past)) (told_after asked strict past).text
-
--- no part is written
-pub none_made : (asked : Asked) (strict : Bool) (past : List Said) (said : Said) → (told_after asked strict past).halt ≡ None →
-    or_else (said_fault asked past said) (part_fault asked past (cut_after asked past) said) ≡ None → place_of asked (said ∷ past) (cut_after asked past) ≡ None →
-    waiting_halt asked (said ∷ past) (cut_after asked past) ≡ None →
-    told_after asked strict (said ∷ past) ≡ record { text = (told_after asked strict past).text; halt = None }
-none_made asked strict past said goes sound place waits =
-    taken_is asked strict past said goes sound
-    ∙ ap (λ (one : Option ℕ). told_behind asked strict (said ∷ past) (cut_after asked past) one (told_after asked strict past).text) place
-    ∙ ap (λ (one : Option Halt). record { text = (told_after asked strict past).text; halt = one }) waits
+pub told_more : (asked : Asked) (strict : Bool) (past : List Said) (said : Said) (text : List ℕ) → (told_after asked strict past).halt ≡ None → line_halt asked past said ≡ None →
+    pieces asked strict past said (processors_of asked (said ∷ past)) ≡ text_alone text →
+    told_after asked strict (said ∷ past) ≡ record { text = (told_after asked strict past).text ++ text; halt = None }
+told_more asked strict past said text goes sound is =
+    taken_is asked strict past said goes sound ∙ ap (with_piece (told_after asked strict past).text) is
 
 pub same_cut : (asked : Asked) (past : List Said) (said : Said) → place_of asked (said ∷ past) (cut_after asked past) ≡ None →
     cut_after asked (said ∷ past) ≡ cut_after asked past
 same_cut asked past said place = ap (cut_at asked (said ∷ past) (cut_after asked past)) place
-
--- a part is
-pub one_made : (asked : Asked) (strict : Bool) (past : List Said) (said : Said) (whole : Whole) → (told_after asked strict past).halt ≡ None →
-    or_else (said_fault asked past said) (part_fault asked past (cut_after asked past) said) ≡ None →
-    IsNext asked strict (said ∷ past) (cut_after asked past) whole →
-    told_after asked strict (said ∷ past) ≡ record { text = (told_after asked strict past).text ++ whole.text.items; halt = None }
-one_made asked strict past said whole goes sound next =
-    taken_is asked strict past said goes sound
-    ∙ ap (λ (one : Option ℕ). told_behind asked strict (said ∷ past) (cut_after asked past) one (told_after asked strict past).text) next.place
-    ∙ ap (λ (one : Option Halt). with_part (told_after asked strict past).text one (part_text asked (said ∷ past) (cut_after asked past) (Some next.time))) next.is.fits
-    ∙ ap (λ (part : List ℕ). record { text = (told_after asked strict past).text ++ part; halt = None }) (sym next.is.text)
-
-pub next_cut : (asked : Asked) (strict : Bool) (past : List Said) (said : Said) (whole : Whole) → IsNext asked strict (said ∷ past) (cut_after asked past) whole →
-    whole.cut ≡ cut_after asked (said ∷ past)
-next_cut asked strict past said whole next =
-    next.is.cut_is ∙ ap (cut_at asked (said ∷ past) (cut_after asked past)) (sym next.place)
-
--- where a place is found and the part passes no limit
-pub part_follows : (asked : Asked) (strict : Bool) (past : List Said) (said : Said) (time : ℕ) → (told_after asked strict past).halt ≡ None → line_halt asked past said ≡ None →
-    place_of asked (said ∷ past) (cut_after asked past) ≡ Some time → part_halt asked strict (said ∷ past) (cut_after asked past) (Some time) ≡ None →
-    told_after asked strict (said ∷ past)
-    ≡ record { text = (told_after asked strict past).text ++ part_text asked (said ∷ past) (cut_after asked past) (Some time); halt = None }
-part_follows asked strict past said time goes line place fits =
-    next_is asked strict past said goes
-    ∙ ap (λ (one : Option Halt). told_with asked strict past said (told_after asked strict past).text one) line
-    ∙ ap (λ (one : Option ℕ). told_behind asked strict (said ∷ past) (cut_after asked past) one (told_after asked strict past).text) place
-    ∙ ap (λ (one : Option Halt). with_part (told_after asked strict past).text one (part_text asked (said ∷ past) (cut_after asked past) (Some time))) fits
 
 -- # Few lines
 
@@ -164,3 +109,138 @@ place_from asked past cut =
 
 pub place_behind : (asked : Asked) (past : List Said) (cut : Cut) (time : ℕ) → place_of asked past cut ≡ Some time → cut.boundary ≤ time
 place_behind asked past cut time is = subst (IsFrom cut.boundary) is (place_from asked past cut)
+
+-- # A place is there
+
+-- some time
+abbrev IsThere : Option ℕ → Type 0
+IsThere found = (time : ℕ) × (found ≡ Some time)
+
+there_first : (one other : Option ℕ) → IsThere one → IsThere (or_else one other)
+there_first (Some time) other there = (time, refl)
+there_first None other there = cc (there.1)
+
+there_second : (one other : Option ℕ) → IsThere other → IsThere (or_else one other)
+there_second (Some time) other there = (time, refl)
+there_second None other there = there
+
+there_if : (b : Bool) (time : ℕ) → b ≡ true → IsThere (if b then Some time else None)
+there_if true time is = (time, refl)
+there_if false time is = cc
+
+last_there : (test : ℕ → Bool) (times : List ℕ) (time : ℕ) → test time ≡ true → list_any (λ other. other == time) times ≡ true → IsThere (last_where test times)
+last_there test [] time held any = cc
+last_there test (other ∷ times) time held any = by (other == time) refl any
+  where
+    by : (same : Bool) → (other == time) ≡ same → (same || list_any (λ one. one == time) times) ≡ true → IsThere (last_where test (other ∷ times))
+    by true is one = there_second (last_where test times) (if test other then Some other else None)
+        (there_if (test other) other (ap test (eqb-true other time is) ∙ held))
+    by false is one = there_first (last_where test times) (if test other then Some other else None) (last_there test times time held one)
+
+-- where it is looked for one and much waits, a quiet begin is enough
+pub place_there : (asked : Asked) (past : List Said) (cut : Cut) (time : ℕ) → is_due past ≡ true → may_write asked past ≡ true → is_much (waiting asked past cut) ≡ true →
+    list_any (λ begin. begin == time) (map begin_of (waiting asked past cut)) ≡ true → is_quiet asked past (waiting asked past cut) time ≡ true →
+    (place : ℕ) × (place_of asked past cut ≡ Some place)
+place_there asked past cut time due may much any quiet =
+    let there : IsThere (place_among asked past (waiting asked past cut)) =
+    there_second (last_where (is_closed asked past (waiting asked past cut)) (map begin_of (waiting asked past cut)))
+    (last_where (is_quiet asked past (waiting asked past cut)) (map begin_of (waiting asked past cut)))
+    (last_there (is_quiet asked past (waiting asked past cut)) (map begin_of (waiting asked past cut)) time quiet any) in
+    (there.0,
+    ap₂ (λ (one other : Bool). if one && other && is_much (waiting asked past cut) then place_among asked past (waiting asked past cut) else None) due may
+    ∙ ap (λ (one : Bool). if one then place_among asked past (waiting asked past cut) else None) much ∙ there.1)
+
+-- # A part with a job
+
+-- the test holds there
+abbrev IsHeld : (ℕ → Bool) → Option ℕ → Type 0
+IsHeld test None = Unit {0}
+IsHeld test (Some time) = test time ≡ true
+
+held_either : (test : ℕ → Bool) (one other : Option ℕ) → IsHeld test one → IsHeld test other → IsHeld test (or_else one other)
+held_either test (Some time) other first second = first
+held_either test None other first second = second
+
+held_if : (test : ℕ → Bool) (time : ℕ) (b : Bool) → test time ≡ b → IsHeld test (if b then Some time else None)
+held_if test time true is = is
+held_if test time false is = tt
+
+last_held : (test : ℕ → Bool) (times : List ℕ) → IsHeld test (last_where test times)
+last_held test [] = tt
+last_held test (time ∷ times) =
+    held_either test (last_where test times) (if test time then Some time else None) (last_held test times) (held_if test time (test time) refl)
+
+first_true : (b c : Bool) → (b && c) ≡ true → b ≡ true
+first_true true c is = refl
+first_true false c is = is
+
+weaker_held : (test other : ℕ → Bool) (place : Option ℕ) → ((time : ℕ) → test time ≡ true → other time ≡ true) → IsHeld test place → IsHeld other place
+weaker_held test other None weaker held = tt
+weaker_held test other (Some time) weaker held = weaker time held
+
+held_chosen : (test : ℕ → Bool) (b : Bool) (place : Option ℕ) → IsHeld test place → IsHeld test (if b then place else None)
+held_chosen test true place held = held
+held_chosen test false place held = tt
+
+-- at a place the processor is quiet
+place_quiet : (asked : Asked) (past : List Said) (cut : Cut) → IsHeld (is_quiet asked past (waiting asked past cut)) (place_of asked past cut)
+place_quiet asked past cut =
+    held_chosen (is_quiet asked past (waiting asked past cut)) (is_due past && may_write asked past && is_much (waiting asked past cut)) (place_among asked past (waiting asked past cut))
+    (held_either (is_quiet asked past (waiting asked past cut)) (last_where (is_closed asked past (waiting asked past cut)) (map begin_of (waiting asked past cut)))
+    (last_where (is_quiet asked past (waiting asked past cut)) (map begin_of (waiting asked past cut)))
+    (weaker_held (is_closed asked past (waiting asked past cut)) (is_quiet asked past (waiting asked past cut))
+    (last_where (is_closed asked past (waiting asked past cut)) (map begin_of (waiting asked past cut)))
+    (λ time held. first_true (is_quiet asked past (waiting asked past cut) time) (each_before (is_closed_by asked time) time (waiting asked past cut)) held)
+    (last_held (is_closed asked past (waiting asked past cut)) (map begin_of (waiting asked past cut))))
+    (last_held (is_quiet asked past (waiting asked past cut)) (map begin_of (waiting asked past cut))))
+
+-- one and more
+pub record IsSome (jobs : List Judged) : Type 0 where
+  pub first : Judged
+  pub more : List Judged
+  pub are : jobs ≡ first ∷ more
+
+of_one : (asked : Asked) (judged : Judged) (jobs : List Judged) → asked.everywhere ≡ false → IsSome (filter (belongs asked) (judged ∷ jobs))
+of_one asked judged jobs one = record {
+  first = judged;
+  more = filter (belongs asked) jobs;
+  are = ap (λ (everywhere : Bool). cond (not everywhere || has_run_on asked.processor judged.job || (asked.processor == 0 && length judged.job.stretches == 0))
+      (judged ∷ filter (belongs asked) jobs) (filter (belongs asked) jobs)) one;
+}
+
+-- With one processor a place has a job before it.
+some_before : (asked : Asked) (time : ℕ) (jobs : List Judged) → asked.everywhere ≡ false → has_job asked time jobs ≡ true → IsSome (of_part asked (Some time) jobs)
+some_before asked time [] one has = cc
+some_before asked time (judged ∷ jobs) one has = by (begins_before time judged) has
+  where
+    by : (b : Bool) → ((b && (asked.everywhere || is_written judged)) || has_job asked time jobs) ≡ true →
+        IsSome (filter (belongs asked) (cond b (judged ∷ filter (is_before_end (Some time)) jobs) (filter (is_before_end (Some time)) jobs)))
+    by true is = of_one asked judged (filter (is_before_end (Some time)) jobs) one
+    by false is = some_before asked time jobs one is
+
+pub part_some : (asked : Asked) (past : List Said) (cut : Cut) (time : ℕ) → asked.everywhere ≡ false → place_of asked past cut ≡ Some time →
+    IsSome (part_until asked past cut (Some time))
+part_some asked past cut time one place =
+    some_before asked time (waiting asked past cut) one
+    (first_true (has_job asked time (waiting asked past cut)) (each_before (is_done_by asked past time) time (waiting asked past cut))
+    (subst (IsHeld (is_quiet asked past (waiting asked past cut))) place (place_quiet asked past cut)))
+
+piece_some : (asked : Asked) (strict : Bool) (past : List Said) (cut : Cut) (time : ℕ) (part : List Judged) → IsSome part → part_halt asked strict past cut (Some time) ≡ None →
+    piece_with asked strict past cut time part ≡ text_alone (part_text asked past cut (Some time))
+piece_some asked strict past cut time [] some fits = cc (some.are)
+piece_some asked strict past cut time (judged ∷ part) some fits =
+    ap (λ (halt : Option Halt). piece_unless halt (part_text asked past cut (Some time))) fits
+
+-- a part that passes no limit follows the parts before it
+pub part_follows : (asked : Asked) (strict : Bool) (past : List Said) (said : Said) (time : ℕ) → asked.everywhere ≡ false → (told_after asked strict past).halt ≡ None →
+    line_halt asked past said ≡ None → place_of asked (said ∷ past) (cut_after asked past) ≡ Some time → part_halt asked strict (said ∷ past) (cut_after asked past) (Some time) ≡ None →
+    told_after asked strict (said ∷ past)
+    ≡ record { text = (told_after asked strict past).text ++ part_text asked (said ∷ past) (cut_after asked past) (Some time); halt = None }
+part_follows asked strict past said time one goes line place fits =
+    told_more asked strict past said (part_text asked (said ∷ past) (cut_after asked past) (Some time)) goes line
+    (ap (λ (everywhere : Bool). pieces asked strict past said (if everywhere then first_numbers (processor_count (said ∷ past)) else asked.processor ∷ [])) one
+    ∙ ap (λ (piece : Told). both piece no_piece)
+    (ap (piece_at asked strict (said ∷ past) (cut_after asked past)) place
+    ∙ piece_some asked strict (said ∷ past) (cut_after asked past) time (part_until asked (said ∷ past) (cut_after asked past) (Some time))
+    (part_some asked (said ∷ past) (cut_after asked past) time one place) fits)
+    ∙ ap text_alone (append-nil (part_text asked (said ∷ past) (cut_after asked past) (Some time))))

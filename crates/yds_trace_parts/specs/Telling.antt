@@ -1,6 +1,6 @@
 -- What is kept while a trace is told in parts, and what a line makes of it.
 use Rattle.std.specs.Prelude.{◌≡◌, ℕ, ◌+◌, ◌≤◌, ⊤, List, [], ◌∷◌, ◌++◌, map, Bool, true, false, Option, Some, None}
-use Rattle.std.specs.List.{All, list_any}
+use Rattle.std.specs.List.{list_any}
 use Rattle.yds_kernel.specs.Event.{Said}
 use Rattle.yds_trace.specs.declared.cut.Cut.{Cut}
 use Rattle.yds_trace.specs.Asked.{Asked, on}
@@ -91,10 +91,17 @@ pub record IsLast (asked : Asked) (strict : Bool) (past : List Said) (cut : Cut)
 
 -- # All processors
 
--- what is written of these processors behind these lines, one after another
+-- one piece behind the other, or the first reason why there is none
+abbrev pub joined : List Told → Told
+joined [] = no_piece
+joined (piece ∷ more) = both piece (joined more)
+
+-- what is written of these processors behind these lines
+abbrev pub told_behind : Asked → Bool → List Said → Processor → Told
+told_behind asked strict past one = piece_of (on one.number asked) strict past one.cut
+
 abbrev pub pieces_at : Asked → Bool → List Said → List Processor → Told
-pieces_at asked strict past [] = no_piece
-pieces_at asked strict past (one ∷ more) = both (piece_of (on one.number asked) strict past one.cut) (pieces_at asked strict past more)
+pieces_at asked strict past processors = joined (map (told_behind asked strict past) processors)
 
 -- what was written then
 abbrev pub with_piece_at : Asked → List Said → Processor → Processor
@@ -105,10 +112,12 @@ pub record ArePieces (asked : Asked) (strict : Bool) (past : List Said) (process
   pub written : pieces_at asked strict past processors ≡ text_alone pieces.text.items
   pub processors_are : pieces.processors.items ≡ map (with_piece_at asked past) processors
 
--- the last parts of these processors, one after another
+-- the last parts of these processors
+abbrev pub told_at_last : Asked → Bool → List Said → Processor → Told
+told_at_last asked strict past one = part_piece (on one.number asked) strict past one.cut None
+
 abbrev pub last_at : Asked → Bool → List Said → List Processor → Told
-last_at asked strict past [] = no_piece
-last_at asked strict past (one ∷ more) = both (part_piece (on one.number asked) strict past one.cut None) (last_at asked strict past more)
+last_at asked strict past processors = joined (map (told_at_last asked strict past) processors)
 
 -- One of them has a job.
 abbrev pub one_has_written : Asked → List Said → List Processor → Bool
@@ -153,28 +162,32 @@ cuts_of processors (Some cut) = cut ∷ map (λ one. one.cut) processors
 abbrev pub IsLatest : List Cut → Cut → Type 0
 IsLatest cuts latest = (asked : Asked) (past : List Said) (said : Said) → changes_parts asked past latest said ≡ list_any (λ cut. changes_parts asked past cut said) cuts
 
+-- None of these ends before this time.
 abbrev pub NoneBefore : ℕ → List Cut → Type 0
-NoneBefore time cuts = All (λ cut. time ≤ cut.boundary) cuts
+NoneBefore time [] = ⊤
+NoneBefore time (cut ∷ cuts) = (time ≤ cut.boundary) × NoneBefore time cuts
 
--- What is kept of the processors of these lines stands for what was written up to lines before.
-pub record IsWritten (asked : Asked) (strict : Bool) (past seen : List Said) (telling : Telling) : Type 0 where
-  pub processors_are : telling.processors.items ≡ map (told_on asked past) (processors_of asked seen)
-  pub unseen_is : IsUnseen asked past telling.unseen
-  pub latest_is : IsLatest (cuts_of telling.processors.items telling.unseen) telling.latest
-  -- The pass was told to forget no job that a part still to come may have.
-  pub forgets : NoneBefore (told_to_forget telling.pass) (telling.latest ∷ cuts_of telling.processors.items telling.unseen)
-  pub same_strict : telling.strict ≡ strict
-  pub goes_on : (told_after asked strict past).halt ≡ None
+-- What was written of all processors up to these lines, and the last of all of it; they are those of `seen`. No part still to come has a job
+-- that begins before `time`.
+pub record IsWritten (asked : Asked) (past seen : List Said) (time : ℕ) (processors : List Processor) (unseen : Option Cut) (latest : Cut) : Type 0 where
+  pub processors_are : processors ≡ map (told_on asked past) (processors_of asked seen)
+  pub unseen_is : IsUnseen asked past unseen
+  pub latest_is : IsLatest (cuts_of processors unseen) latest
+  pub later : NoneBefore time (latest ∷ cuts_of processors unseen)
 
 -- What is kept stands for these lines, and nothing was refused.
 pub record IsTelling (asked : Asked) (strict : Bool) (past : List Said) (telling : Telling) : Type 0 where
   pub stands : IsAtBehind asked past (told_to_forget telling.pass) telling.pass
-  pub is_written : IsWritten asked strict past past telling
+  pub is_written : IsWritten asked past past (told_to_forget telling.pass) telling.processors.items telling.unseen telling.latest
+  pub same_strict : telling.strict ≡ strict
+  pub goes_on : (told_after asked strict past).halt ≡ None
 
--- And this line was taken, behind which nothing was written yet.
+-- This line was taken too, and nothing is written behind it yet.
 pub record IsTaken (asked : Asked) (strict : Bool) (past : List Said) (said : Said) (telling : Telling) : Type 0 where
   pub stands : IsAtBehind asked (said ∷ past) (told_to_forget telling.pass) telling.pass
-  pub is_written : IsWritten asked strict past (said ∷ past) telling
+  pub is_written : IsWritten asked past (said ∷ past) (told_to_forget telling.pass) telling.processors.items telling.unseen telling.latest
+  pub same_strict : telling.strict ≡ strict
+  pub goes_on : (told_after asked strict past).halt ≡ None
   pub sound : line_halt asked past said ≡ None
 
 -- With a line more the text has this piece more.

@@ -1,5 +1,5 @@
 //! What is kept while a trace is told in parts.
-ghost use Rattle.std.specs.Prelude.{◌≡◌, ◌+◌, List, [], ◌∷◌, length, None, Bool, ℕ, IfOk, OnOk, IfErr};
+ghost use Rattle.std.specs.Prelude.{◌≡◌, ◌+◌, List, [], ◌∷◌, length, None, Bool, true, ℕ, IfOk, OnOk, IfErr};
 ghost use Rattle.yds_kernel.specs.Event as trace;
 ghost use Rattle.yds_kernel.specs.Parts.{or_else};
 ghost use Rattle.yds_kernel.specs.Views.{said_read};

@@ -1,0 +1,122 @@
+-- A line behind which it isn't looked for parts, or behind which little waits, leaves what was written as it is.
+use Rattle.yds_model.proofs.Common.{◌≡◌, ℕ, ◌+◌, ◌≤◌, ◌⊎◌, inl, inr, ◌&&◌, ◌||◌, Bool, true, false, not, nat_lt, nat_tests, List, [], ◌∷◌, map, filter, cond, length, Option, Some, None, refl, sym, ap, ap₂, subst, ◌∙◌, arith, length-map, if◌then◌else◌}
+use Rattle.yds_kernel.specs.Event.{Said}
+use Rattle.yds_trace.specs.declared.cut.Cut.{Cut}
+use Rattle.yds_trace.specs.declared.fault.Cause.TheVariants as causes
+use Rattle.yds_trace.specs.declared.limits.TheConstants.{PART_JOBS, PART_STRETCHES, WAITING_JOBS, WAITING_STRETCHES}
+use Rattle.yds_trace.specs.Asked.{Asked, on}
+use Rattle.yds_trace.specs.Document.{Judged, all_judged}
+use Rattle.yds_trace.specs.Parts.{begins_from, waiting_from, waiting, stretches_of, is_much, is_too_much, is_due, may_write, place_among, place_of, processors_of, processor_count}
+use Rattle.yds_trace_laws.specs.Processors.{without_reason}
+use Rattle.yds_trace_laws.proofs.Processors.{jobs_are_the_same}
+use Rattle.yds_trace_parts.specs.declared.processors.Processor.{Processor}
+use Rattle.yds_trace_parts.specs.Told.{Halt, Told, AtLine, no_piece, both, piece_at, piece_of, no_place as no_place_halt, open_longest, waiting_halt, pieces}
+use Rattle.yds_trace_parts.specs.Telling.{cut_on, told_on, IsUnseen, NoneBefore}
+use Rattle.yds_trace_parts.proofs.Steps.{same_cut}
+use Rattle.yds_trace_parts.proofs.Unseen.{more_processors}
+
+-- # As much waits, whatever processor is asked for
+
+kept_by : (b : Bool) (judged : Judged) (jobs : List Judged) → map without_reason (cond b (judged ∷ jobs) jobs) ≡ cond b (without_reason judged ∷ map without_reason jobs) (map without_reason jobs)
+kept_by true judged jobs = refl
+kept_by false judged jobs = refl
+
+kept_from : (boundary : ℕ) (jobs : List Judged) → map without_reason (filter (begins_from boundary) jobs) ≡ filter (begins_from boundary) (map without_reason jobs)
+kept_from boundary [] = refl
+kept_from boundary (judged ∷ jobs) =
+    kept_by (begins_from boundary judged) judged (filter (begins_from boundary) jobs)
+    ∙ ap (λ (more : List Judged). cond (begins_from boundary judged) (without_reason judged ∷ more) more) (kept_from boundary jobs)
+
+same_stretches : (jobs : List Judged) → stretches_of (map without_reason jobs) ≡ stretches_of jobs
+same_stretches [] = refl
+same_stretches (judged ∷ jobs) = ap (λ (n : ℕ). length judged.job.stretches + n) (same_stretches jobs)
+
+much_without : (jobs : List Judged) → is_much (map without_reason jobs) ≡ is_much jobs
+much_without jobs =
+    ap₂ (λ (count stretches : ℕ). nat_lt PART_JOBS count || nat_lt PART_STRETCHES stretches) (length-map jobs without_reason) (same_stretches jobs)
+
+much_on : (asked : Asked) (past : List Said) (processor boundary : ℕ) → is_much (waiting_from (on processor asked) past boundary) ≡ is_much (waiting_from asked past boundary)
+much_on asked past processor boundary =
+    sym (much_without (waiting_from (on processor asked) past boundary))
+    ∙ ap is_much (kept_from boundary (all_judged (on processor asked) past) ∙ ap (filter (begins_from boundary)) (jobs_are_the_same asked past processor)
+    ∙ sym (kept_from boundary (all_judged asked past)))
+    ∙ much_without (waiting_from asked past boundary)
+
+-- # Nothing is written
+
+-- it isn't looked for parts, or so little waits behind each cut
+abbrev pub IsStill : Asked → List Said → ℕ → Type 0
+IsStill asked past time = (is_due past ≡ false) ⊎ ((boundary : ℕ) → time ≤ boundary → is_much (waiting_from asked past boundary) ≡ false)
+
+none_if : (due may much : Bool) (place : Option ℕ) → (due ≡ false) ⊎ (much ≡ false) → (if due && may && much then place else None) ≡ None
+none_if due may much place (inl is) = ap (λ (b : Bool). if b && may && much then place else None) is
+none_if true true much place (inr is) = ap (λ (b : Bool). if b then place else None) is
+none_if true false much place (inr is) = refl
+none_if false may much place (inr is) = refl
+
+less_much : (jobs stretches : ℕ) → (nat_lt PART_JOBS jobs || nat_lt PART_STRETCHES stretches) ≡ false → (nat_lt WAITING_JOBS jobs || nat_lt WAITING_STRETCHES stretches) ≡ false
+less_much jobs stretches is = grind (arith, nat_tests)
+
+no_halt : (due much : Bool) (halt : Option Halt) → (due ≡ false) ⊎ (much ≡ false) → (if not (due && much) then None else halt) ≡ None
+no_halt due much halt (inl is) = ap (λ (b : Bool). if not (b && much) then None else halt) is
+no_halt true much halt (inr is) = ap (λ (b : Bool). if not b then None else halt) is
+no_halt false much halt (inr is) = refl
+
+still_here : (asked : Asked) (past : List Said) (processor time : ℕ) (cut : Cut) → IsStill asked past time → time ≤ cut.boundary →
+    (is_due past ≡ false) ⊎ (is_much (waiting (on processor asked) past cut) ≡ false)
+still_here asked past processor time cut (inl is) later = inl is
+still_here asked past processor time cut (inr is) later = inr (much_on asked past processor cut.boundary ∙ is cut.boundary later)
+
+too_much_here : (jobs : List Judged) (due : Bool) → (due ≡ false) ⊎ (is_much jobs ≡ false) → (due ≡ false) ⊎ (is_too_much jobs ≡ false)
+too_much_here jobs due (inl is) = inl is
+too_much_here jobs due (inr is) = inr (less_much (length jobs) (stretches_of jobs) is)
+
+-- it isn't looked for a place, or little waits
+pub little_place : (asked : Asked) (past : List Said) (cut : Cut) → (is_due past ≡ false) ⊎ (is_much (waiting asked past cut) ≡ false) → place_of asked past cut ≡ None
+little_place asked past cut still =
+    none_if (is_due past) (may_write asked past) (is_much (waiting asked past cut)) (place_among asked past (waiting asked past cut)) still
+
+pub little_halt : (asked : Asked) (past : List Said) (cut : Cut) → (is_due past ≡ false) ⊎ (is_much (waiting asked past cut) ≡ false) → waiting_halt asked past cut ≡ None
+little_halt asked past cut still =
+    no_halt (is_due past) (is_too_much (waiting asked past cut))
+    (if may_write asked past then no_place_halt (open_longest asked past (waiting asked past cut)) else Some (AtLine (length past) causes.NoWakeUp))
+    (too_much_here (waiting asked past cut) (is_due past) still)
+
+still_place : (asked : Asked) (past : List Said) (processor time : ℕ) (cut : Cut) → IsStill asked past time → time ≤ cut.boundary → place_of (on processor asked) past cut ≡ None
+still_place asked past processor time cut still later = little_place (on processor asked) past cut (still_here asked past processor time cut still later)
+
+still_halt : (asked : Asked) (past : List Said) (processor time : ℕ) (cut : Cut) → IsStill asked past time → time ≤ cut.boundary → waiting_halt (on processor asked) past cut ≡ None
+still_halt asked past processor time cut still later = little_halt (on processor asked) past cut (still_here asked past processor time cut still later)
+
+still_piece : (asked : Asked) (strict : Bool) (past : List Said) (processor time : ℕ) (cut : Cut) → IsStill asked past time → time ≤ cut.boundary →
+    piece_of (on processor asked) strict past cut ≡ no_piece
+still_piece asked strict past processor time cut still later =
+    ap (piece_at (on processor asked) strict past cut) (still_place asked past processor time cut still later)
+    ∙ ap (λ (halt : Option Halt). let piece : Told = record { text = []; halt = halt } in piece) (still_halt asked past processor time cut still later)
+
+still_cut : (asked : Asked) (past : List Said) (said : Said) (time processor : ℕ) → IsStill asked (said ∷ past) time → time ≤ (cut_on asked past processor).boundary →
+    cut_on asked (said ∷ past) processor ≡ cut_on asked past processor
+still_cut asked past said time processor still later =
+    same_cut (on processor asked) past said (still_place asked (said ∷ past) processor time (cut_on asked past processor) still later)
+
+pub still_pieces : (asked : Asked) (strict : Bool) (past : List Said) (said : Said) (time : ℕ) → IsStill asked (said ∷ past) time → (numbers : List ℕ) →
+    NoneBefore time (map (cut_on asked past) numbers) → pieces asked strict past said numbers ≡ no_piece
+still_pieces asked strict past said time still [] none = refl
+still_pieces asked strict past said time still (number ∷ numbers) none =
+    ap₂ both (still_piece asked strict (said ∷ past) number time (cut_on asked past number) still none.0)
+    (still_pieces asked strict past said time still numbers none.1)
+
+pub still_told : (asked : Asked) (past : List Said) (said : Said) (time : ℕ) → IsStill asked (said ∷ past) time → (numbers : List ℕ) →
+    NoneBefore time (map (cut_on asked past) numbers) → map (told_on asked past) numbers ≡ map (told_on asked (said ∷ past)) numbers
+still_told asked past said time still [] none = refl
+still_told asked past said time still (number ∷ numbers) none =
+    ap₂ (λ (cut : Cut) (more : List Processor). record { number = number; cut = cut } ∷ more) (sym (still_cut asked past said time number still none.0))
+    (still_told asked past said time still numbers none.1)
+
+pub still_unseen : (asked : Asked) (past : List Said) (said : Said) (time : ℕ) → IsStill asked (said ∷ past) time → (cut : Cut) → time ≤ cut.boundary →
+    IsUnseen asked past (Some cut) → IsUnseen asked (said ∷ past) (Some cut)
+still_unseen asked past said time still cut later is =
+    (is.0, λ processor beyond.
+    let before : processor_count past ≤ processor = omega (arith, beyond, more_processors past said) in
+    let same : cut_on asked past processor ≡ cut = is.1 processor before in
+    still_cut asked past said time processor still (subst (λ (one : Cut). time ≤ one.boundary) (sym same) later) ∙ same)

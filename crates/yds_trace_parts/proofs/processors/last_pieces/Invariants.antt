@@ -1,0 +1,6 @@
+use Rattle.yds_model.proofs.Common.{drop}
+use Rattle.yds_trace_parts.proofs.Loops.{AreLastOf}
+use Rattle.yds_trace_parts.proofs.processors.last_pieces.Given as goal
+
+abbrev pub invariant-loop-one : goal.invariant-loop-one
+invariant-loop-one l = AreLastOf l.strict l.initial.pass l.pass l.shown l.processors (drop l.one-index l.processors) l.text.items l.has_job
