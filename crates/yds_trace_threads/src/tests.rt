@@ -66,10 +66,12 @@ fn letter(told: &Result<(), Halt>) -> u8 {
         Ok(()) => b'.',
         Err(Halt::ReadFault) => b'r',
         Err(Halt::WriteFault) => b'w',
-        Err(Halt::AtLine {
-            number: 2,
-            cause: Cause::TimeGoesBack,
-        }) => b'b',
+        Err(
+            Halt::AtLine {
+                number: 2,
+                cause: Cause::TimeGoesBack,
+            },
+        ) => b'b',
         Err(_) => b'?',
     }
 }
