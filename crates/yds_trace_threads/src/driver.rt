@@ -50,11 +50,7 @@ pub fn tell_threads<S: Source, K: Sink>(
 }
 
 /// The table of a trace's threads, or why there is none.
-fn read_table<S: Source>(
-    alloc: Global,
-    keys: RandomState,
-    source: &mut S,
-) -> Result<Vec<u8>, Halt>
+fn read_table<S: Source>(alloc: Global, keys: RandomState, source: &mut S) -> Result<Vec<u8>, Halt>
     ensures later { S.faults source.old ≤ S.faults source.new }
     ensures no_fault { OnOk result (S.faults source.new ≡ S.faults source.old) }
     ensures fault { result ≡ Err Halt.ReadFault → Rose (S.faults source.old) (S.faults source.new) }

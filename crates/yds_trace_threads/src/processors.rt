@@ -75,10 +75,8 @@ impl Processors {
                 });
             }
             Happening::Loss => self.holders[processor] = None,
-            Happening::WakeUp(_)
-            | Happening::Speed { .. }
-            | Happening::Marker
-            | Happening::Other => {}
+            Happening::WakeUp(_) | Happening::Speed { .. } | Happening::Marker | Happening::Other =>
+                {}
         }
         self.last = event.time;
         self.stamped = true;
