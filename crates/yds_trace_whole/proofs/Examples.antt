@@ -3,7 +3,7 @@ use Rattle.yds_model.proofs.Common.{◌≡◌, ◌≢◌, ℕ, List, [], ◌∷�
 use Rattle.std.specs.Fmt.{digits}
 use Rattle.yds_kernel.specs.declared.state.State.TheVariants as states
 use Rattle.yds_kernel.specs.declared.loss.Since.TheVariants as since
-use Rattle.yds_kernel.specs.Event.{Thread, Happening, Switch, WakeUp, Marker, Said, Stamped, Lost}
+use Rattle.yds_kernel.specs.Event.{Thread, Happening, Switch, WakeUp, Marker, Said, Lost}
 use Rattle.yds_trace.specs.declared.cut.Cut.{Cut}
 use Rattle.yds_trace.specs.declared.fault.Cause.TheVariants as causes
 use Rattle.yds_trace.specs.Asked.{Asked}

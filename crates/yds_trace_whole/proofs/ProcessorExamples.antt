@@ -1,5 +1,5 @@
 -- Small traces of two processors, each with documents of its own. A job is due 100 nanoseconds after its begin.
-use Rattle.yds_model.proofs.Common.{◌≡◌, ◌≢◌, ℕ, List, [], ◌∷◌, map, codes, reverse, true, false, Some, None, refl, ap, subst, arith, get_or, IsFeasible}
+use Rattle.yds_model.proofs.Common.{◌≡◌, ◌≢◌, ℕ, List, [], ◌∷◌, map, codes, reverse, true, Some, None, refl, ap, subst, arith, get_or, IsFeasible}
 use Rattle.std.specs.Fmt.{digits}
 use Rattle.yds_kernel.specs.declared.state.State.TheVariants as states
 use Rattle.yds_kernel.specs.declared.loss.Since.TheVariants as since
