@@ -1,5 +1,5 @@
 -- The parts of all processors: those of one are what it has by itself, and so is what is known of them.
-use Rattle.yds_model.proofs.Common.{◌≡◌, ◌≢◌, ◌∙◌, ℕ, zero, suc, ◌+◌, ◌<◌, ◌≤◌, ◌⊎◌, inl, inr, ◌==◌, ◌||◌, List, [], ◌∷◌, ◌++◌, map, filter, flat_map, length, get_or, Bool, true, false, cond, if◌then◌else◌, Option, Some, None, refl, sym, ap, ap₂, subst, arith, cases_lt, eq-eqb, ne_eqb, or_parts, append-nil, filter-append, flat_map-append, get_or-map, length-map, list_any, filter_all, filter_none, contains_filter, All, All-nil, All-cons, All-push, All-from_recursion, AllByRecursion, Contains, Contains-get_or}
+use Rattle.yds_model.proofs.Common.{◌≡◌, ◌≢◌, ◌∙◌, ℕ, zero, suc, ◌+◌, ◌<◌, ◌≤◌, ◌⊎◌, inl, inr, ◌==◌, ◌||◌, List, [], ◌∷◌, ◌++◌, map, filter, flat_map, length, get_or, Bool, true, false, if◌then◌else◌, Option, Some, None, refl, sym, ap, ap₂, subst, arith, cases_lt, eq-eqb, ne_eqb, or_parts, append-nil, filter-append, flat_map-append, get_or-map, length-map, list_any, filter_all, filter_none, contains_filter, All, All-nil, All-cons, All-push, All-from_recursion, AllByRecursion, Contains, Contains-get_or}
 use Rattle.std.proofs.lemmas.List.Folds.{list_any-append}
 use Rattle.yds_kernel.specs.Event.{Said}
 use Rattle.yds_trace.specs.declared.cut.Cut.{Cut}
@@ -7,12 +7,12 @@ use Rattle.yds_trace.specs.declared.fault.Cause.TheVariants as causes
 use Rattle.yds_trace.specs.Asked.{Asked, IsAsked, on}
 use Rattle.yds_trace.specs.Faults.{first_fault}
 use Rattle.yds_trace.specs.Document.{Judged, all_judged}
-use Rattle.yds_trace.specs.Parts.{belongs, begins_from, waiting, is_before_end, place_of, cut_after, changes_parts, processor_count, first_numbers, processors_of, watched_of, changes_one, parts_fault}
+use Rattle.yds_trace.specs.Parts.{belongs, place_of, cut_after, changes_parts, processor_count, first_numbers, processors_of, watched_of, changes_one, parts_fault}
 use Rattle.yds_trace.proofs.OnProcessor.{first_fault_on, changes_parts_on}
 use Rattle.yds_trace_laws.specs.Processors.{without_reason, BelongsTo}
 use Rattle.yds_trace_laws.proofs.Ordered.{append-all, map-all}
 use Rattle.yds_trace_laws.proofs.Runs.{all_weaker, contained}
-use Rattle.yds_trace_laws.proofs.Processors.{jobs_are_the_same, each_job_belongs, none_unseen, cut_unseen}
+use Rattle.yds_trace_laws.proofs.Processors.{jobs_are_the_same, each_job_belongs, part_unseen, cut_unseen}
 use Rattle.yds_trace_again.proofs.Parts.{parts_are_read_again}
 use Rattle.yds_trace_whole.specs.Parts.{Part, made, made_with, made_at, parts_behind, parts_of, made_behind, written_behind, last_made, written_parts, parts_on, KeepsParts, KeepsAllParts}
 use Rattle.yds_trace_whole.specs.Laws.{PartsAreOfProcessors, AllPartsAreKept}
@@ -118,27 +118,12 @@ module _ (piece : ℕ → List Part) (are_on : (processor : ℕ) → AreOn proce
 
 -- # A processor of which no line tells
 
-still_none : {A : Type 0} (p q : A → Bool) (xs : List A) → filter p xs ≡ [] → filter p (filter q xs) ≡ []
-still_none p q [] none = refl
-still_none {A} p q (x ∷ xs) none = by (p x) refl none (still_none p q xs)
-  where
-    kept : (c : Bool) → p x ≡ false → filter p (filter q xs) ≡ [] → filter p (cond c (x ∷ filter q xs) (filter q xs)) ≡ []
-    kept true fails rest = ap (λ (b : Bool). cond b (x ∷ filter p (filter q xs)) (filter p (filter q xs))) fails ∙ rest
-    kept false fails rest = rest
-
-    by : (b : Bool) → p x ≡ b → cond b (x ∷ filter p xs) (filter p xs) ≡ [] → (filter p xs ≡ [] → filter p (filter q xs) ≡ []) →
-        filter p (cond (q x) (x ∷ filter q xs) (filter q xs)) ≡ []
-    by true is none again = cc none
-    by false is none again = kept (q x) is (again none)
-
 -- It has no part.
 none_made : (asked : Asked) (past : List Said) (processor : ℕ) (cut : Cut) (place : Option ℕ) → asked.everywhere ≡ true → processor_count past ≤ processor →
     made_at (on processor asked) past cut place ≡ []
 none_made asked past processor cut None everywhere unseen = refl
 none_made asked past processor cut (Some time) everywhere unseen =
-    ap (made_with (on processor asked) past cut time)
-    (still_none (belongs (on processor asked)) (is_before_end (Some time)) (waiting (on processor asked) past cut)
-    (still_none (belongs (on processor asked)) (begins_from cut.boundary) (all_judged (on processor asked) past) (none_unseen asked past processor everywhere unseen)))
+    ap (made_with (on processor asked) past cut time) (part_unseen asked past processor cut (Some time) everywhere unseen)
 
 -- # The parts of a processor
 

@@ -1,9 +1,9 @@
 -- A late job of a part: by less than a unit of time it is in time as it is written, and a comment names it. By a unit it isn't.
-use Rattle.yds_model.proofs.Common.{◌≡◌, ℕ, zero, suc, ◌*◌, ◌<◌, List, [], ◌∷◌, codes, reverse, flat_map, map, true, false, Some, None, refl, sym, subst, arith, All-nil, All-cons, one-dvd, one_scale_decides, job_at, IsDivided, IsInWindow, IsFeasible, slots_at, work_given}
+use Rattle.yds_model.proofs.Common.{◌≡◌, ℕ, zero, suc, ◌*◌, ◌<◌, List, [], ◌∷◌, codes, reverse, flat_map, map, Some, None, refl, sym, subst, arith, All-nil, All-cons, one-dvd, one_scale_decides, job_at, IsDivided, IsInWindow, IsFeasible, slots_at, work_given}
 use Rattle.std.specs.Fmt.{digits}
 use Rattle.yds_kernel.specs.declared.state.State.TheVariants as states
-use Rattle.yds_kernel.specs.Event.{Thread, Happening, Switch, WakeUp, Said, Stamped}
-use Rattle.yds_trace.specs.Asked.{Named, Asked}
+use Rattle.yds_kernel.specs.Event.{Switch, WakeUp, Said}
+use Rattle.yds_trace.specs.Asked.{Asked}
 use Rattle.yds_trace.specs.Document.{Document, Written, all_judged}
 use Rattle.yds_trace.specs.Parts.{no_cut}
 use Rattle.yds_trace_laws.specs.AsSlots.{jobs_read, slots_read}
@@ -11,35 +11,15 @@ use Rattle.yds_trace_laws.proofs.AsRead.{runs_within}
 use Rattle.yds_trace_text.specs.Text.{comment, late_comment}
 use Rattle.yds_trace_whole.specs.Parts.{Part, made}
 use Rattle.yds_trace_whole.specs.Worth.{IsPartFeasible}
+use Rattle.yds_trace_whole.proofs.Traces.{t, idle, line_of, task_due, asked_of}
 
-abbrev thread : Thread
-thread = record { name = codes "t"; pid = 7 }
-
-abbrev idle : Thread
-idle = record { name = codes "swapper"; pid = 0 }
-
-abbrev at : ℕ → Happening → Said
-at time happening = Stamped (record { processor = 0; time = time; happening = happening })
-
--- A job is due 41 nanoseconds after its begin, and a unit of time is 10.
+-- A job is due 41 nanoseconds after its begin.
 abbrev asked : Asked
-asked = record {
-  tasks = record { label = codes "t"; thread = Named (codes "t"); deadline = 41; apart = 0 } ∷ [];
-  processor = 0;
-  unit = 10;
-  khz = 1;
-  start = Some 5;
-  from = None;
-  to = None;
-  begin_at_run = false;
-  cut_losses = false;
-  in_parts = true;
-  everywhere = false;
-}
+asked = asked_of (task_due 41 (codes "t") ∷ [])
 
 -- It is woken at 1000, comes at 1020, and sleeps at this time.
 abbrev ended_at : ℕ → List Said
-ended_at end = reverse (at 1000 (WakeUp thread) ∷ at 1020 (Switch idle states.GoesOn thread) ∷ at end (Switch thread states.Sleeps idle) ∷ [])
+ended_at end = reverse (line_of 0 1000 (WakeUp t) ∷ line_of 0 1020 (Switch idle states.GoesOn t) ∷ line_of 0 end (Switch t states.Sleeps idle) ∷ [])
 
 abbrev part : ℕ → Part
 part end = made asked (ended_at end) no_cut None

@@ -10,6 +10,7 @@ pub mod Together
 pub mod Worth
 pub mod Everywhere
 pub mod Several
+mod Traces
 mod Examples
 mod LateExamples
 mod ProcessorExamples

@@ -1,47 +1,30 @@
--- Small traces of two processors, each with documents of its own. A unit of time is 10 nanoseconds, and a job is due 100 after its begin.
-use Rattle.yds_model.proofs.Common.{◌≡◌, ◌≢◌, ℕ, List, [], ◌∷◌, map, codes, reverse, true, false, Some, None, refl, ap, get_or}
+-- Small traces of two processors, each with documents of its own. A job is due 100 nanoseconds after its begin.
+use Rattle.yds_model.proofs.Common.{◌≡◌, ◌≢◌, ℕ, List, [], ◌∷◌, map, codes, reverse, true, Some, None, refl, ap, subst, arith, get_or, IsFeasible}
 use Rattle.std.specs.Fmt.{digits}
 use Rattle.yds_kernel.specs.declared.state.State.TheVariants as states
 use Rattle.yds_kernel.specs.declared.loss.Since.TheVariants as since
-use Rattle.yds_kernel.specs.Event.{Thread, Happening, Switch, WakeUp, Marker, Said, Stamped, Lost}
+use Rattle.yds_kernel.specs.Event.{Happening, Switch, WakeUp, Marker, Said, Lost}
 use Rattle.yds_trace.specs.declared.cut.Cut.{Cut}
 use Rattle.yds_trace.specs.declared.fault.Cause.TheVariants as causes
-use Rattle.yds_trace.specs.Asked.{Named, Asked, on}
+use Rattle.yds_trace.specs.Asked.{Asked, on}
 use Rattle.yds_trace.specs.Document.{Document}
 use Rattle.yds_trace.specs.Parts.{no_cut, waiting, is_quiet, cut_at, part_fault, processors_of}
-use Rattle.yds_trace_whole.specs.Parts.{made, made_at, parts_of, written_parts, judged_in_parts}
+use Rattle.yds_trace_laws.specs.AsSlots.{jobs_read, slots_read}
+use Rattle.yds_trace_laws.proofs.AsRead.{gets}
+use Rattle.yds_trace_whole.specs.Parts.{made, made_at, parts_of, last_made, written_parts, judged_in_parts}
 use Rattle.yds_trace_whole.specs.Whole.{whole_document, put_together}
-
-abbrev thread : Thread
-thread = record { name = codes "t"; pid = 7 }
-
-abbrev idle : Thread
-idle = record { name = codes "swapper"; pid = 0 }
-
--- a line of this processor
-abbrev line : ℕ → ℕ → Happening → Said
-line processor time happening = Stamped (record { processor = processor; time = time; happening = happening })
+use Rattle.yds_trace_whole.specs.Worth.{IsPartFeasible}
+use Rattle.yds_trace_whole.proofs.Traces.{t, idle, line_of, task_due, asked_of}
 
 abbrev comes : Happening
-comes = Switch idle states.GoesOn thread
+comes = Switch idle states.GoesOn t
 
 abbrev sleeps : Happening
-sleeps = Switch thread states.Sleeps idle
+sleeps = Switch t states.Sleeps idle
 
+-- each processor has documents of its own
 abbrev asked : Asked
-asked = record {
-  tasks = record { label = codes "t"; thread = Named (codes "t"); deadline = 100; apart = 0 } ∷ [];
-  processor = 0;
-  unit = 10;
-  khz = 1;
-  start = Some 5;
-  from = None;
-  to = None;
-  begin_at_run = false;
-  cut_losses = true;
-  in_parts = true;
-  everywhere = true;
-}
+asked = record (asked_of (task_due 100 (codes "t") ∷ [])) { everywhere = true }
 
 -- the names of the jobs that the parts of a processor have
 abbrev names_on : ℕ → List Said → List (List ℕ)
@@ -52,7 +35,7 @@ names_on processor past = map (λ one. one.name) (judged_in_parts (parts_of (on 
 -- From 1000 to 1040 a job runs on processor 0, and from 2000 to 2040 the next one on processor 1.
 abbrev one_each : List Said
 one_each = reverse
-    (line 0 1000 (WakeUp thread) ∷ line 0 1020 comes ∷ line 0 1040 sleeps ∷ line 0 2000 (WakeUp thread) ∷ line 1 2020 comes ∷ line 1 2040 sleeps ∷ line 0 2300 Marker ∷ [])
+    (line_of 0 1000 (WakeUp t) ∷ line_of 0 1020 comes ∷ line_of 0 1040 sleeps ∷ line_of 0 2000 (WakeUp t) ∷ line_of 1 2020 comes ∷ line_of 1 2040 sleeps ∷ line_of 0 2300 Marker ∷ [])
 
 -- Each has its own, under the name that it has in the whole trace; and the last part of each is written.
 first_on_0 : names_on 0 one_each ≡ codes "t.0" ∷ []
@@ -102,7 +85,7 @@ other_on_0 same = let release : 100 ≡ 0 = ap first_release same in cc release
 -- It runs on processor 0 until 1040, and goes on on processor 1 until 1160, 60 after its deadline.
 abbrev moved : List Said
 moved = reverse
-    (line 0 1000 (WakeUp thread) ∷ line 0 1020 comes ∷ line 0 1040 (Switch thread states.GoesOn idle) ∷ line 1 1050 comes ∷ line 1 1160 sleeps ∷ line 0 1300 Marker ∷ [])
+    (line_of 0 1000 (WakeUp t) ∷ line_of 0 1020 comes ∷ line_of 0 1040 (Switch t states.GoesOn idle) ∷ line_of 1 1050 comes ∷ line_of 1 1160 sleeps ∷ line_of 0 1300 Marker ∷ [])
 
 -- Each processor has the late job, with the work 1 and without its runs.
 late_on_both : map (λ part. map (λ job. job.work) part.settled.document.jobs) (written_parts asked moved) ≡ (1 ∷ []) ∷ (1 ∷ []) ∷ []
@@ -112,6 +95,20 @@ late_on_both = refl
 no_runs : map (λ part. part.settled.document.runs) (written_parts asked moved) ≡ [] ∷ [] ∷ []
 unfolding digits
 no_runs = refl
+
+-- So a document of it isn't feasible, and its reader sees that the job was late: no slot gives it its work.
+abbrev late_document : Document
+late_document = record { jobs = record { name = codes "t.0"; release = 0; deadline = 10; work = 1; runs = [] } ∷ []; runs = [] }
+
+document_on_1 : (last_made asked moved 1).settled.document ≡ late_document
+unfolding digits
+document_on_1 = refl
+
+not_feasible : IsPartFeasible (last_made asked moved 1) → ⊥
+not_feasible is =
+    let feasible = subst (λ (document : Document). IsFeasible (jobs_read document.jobs) (slots_read document.runs)) document_on_1 is in
+    let given : 0 ≡ 1 = gets (jobs_read late_document.jobs) [] 0 feasible (omega arith) in
+    cc given
 
 -- Of these two processors a line tells. Where events are lost on processor 3, each one up to it has documents.
 two_processors : processors_of asked moved ≡ 0 ∷ 1 ∷ []
