@@ -142,4 +142,5 @@ pub record IsFit (asked : Asked) : Type 0 where
 abbrev pub IsFitRequest : Request → Type 0
 IsFitRequest ShowHelp = Unit {0}
 IsFitRequest ShowVersion = Unit {0}
+IsFitRequest ListThreads = Unit {0}
 IsFitRequest (ReadTrace asked strict) = IsFit asked
