@@ -103,8 +103,6 @@ MISTAKES = [
         ("        due: greatest_due(cut.due, part),\n", "        due: cut.due,\n"),), "parts"),
     Mistake("stretches_that_wait_not_counted", "yds_trace_parts/src/part.rt", (
         ("amount.jobs <= PART_JOBS && amount.stretches <= PART_STRETCHES", "amount.jobs <= PART_JOBS"),), "parts"),
-    Mistake("a_part_before_the_first_wake_up", "yds_trace_parts/src/part.rt", (
-        ("    if !may_write {\n", "    if !may_write && is_too_much(&waiting.judged) {\n"),), "parts"),
     Mistake("the_shift_not_told", "yds_trace_document/src/part.rt", (("    Ok(Part { settled, shift })\n", "    Ok(Part { settled, shift: 0 })\n"),), "parts"),
     Mistake("the_shift_not_taken_off", "yds_trace_document/src/part.rt", (
         ("        zero: zero + shift * asked.unit,\n", "        zero,\n"),), "parts"),
