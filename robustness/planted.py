@@ -101,10 +101,8 @@ MISTAKES = [
         ("cut.jobs.saturating_add(written(part))", "cut.jobs.saturating_add(part.len() as u64)"),), "parts"),
     Mistake("windows_of_the_part_before_forgotten", "yds_trace_parts/src/part.rt", (
         ("        due: greatest_due(cut.due, part),\n", "        due: cut.due,\n"),), "parts"),
-    Mistake("stretches_that_wait_not_counted", "yds_trace_parts/src/part.rt", (
+    Mistake("stretches_that_wait_not_counted", "yds_trace_parts/src/telling.rt", (
         ("amount.jobs <= PART_JOBS && amount.stretches <= PART_STRETCHES", "amount.jobs <= PART_JOBS"),), "parts"),
-    Mistake("a_part_before_the_first_wake_up", "yds_trace_parts/src/part.rt", (
-        ("    if !may_write {\n", "    if !may_write && is_too_much(&waiting.judged) {\n"),), "parts"),
     Mistake("the_shift_not_told", "yds_trace_document/src/part.rt", (("    Ok(Part { settled, shift })\n", "    Ok(Part { settled, shift: 0 })\n"),), "parts"),
     Mistake("the_shift_not_taken_off", "yds_trace_document/src/part.rt", (
         ("        zero: zero + shift * asked.unit,\n", "        zero,\n"),), "parts"),
@@ -112,6 +110,22 @@ MISTAKES = [
         ("lines.past.lost_since(*processor, *since) < cut.decided", "lines.past.lost_since(*processor, *since) < cut.boundary"),), "parts"),
     Mistake("a_thread_that_was_there_passed_over", "yds_trace/src/past.rt", (
         ("self.whole_since.unwrap_or(time) < boundary", "time < boundary"),), "parts"),
+    Mistake("belongs_by_the_last_stretch", "yds_trace_document/src/membership.rt", (
+        ("    any_on(processor, &job.stretches)\n", "    any_on(processor, &job.stretches[job.stretches.len().saturating_sub(1)..])\n"),), "all"),
+    Mistake("jobs_that_ran_nowhere_in_each_document", "yds_trace_document/src/membership.rt", (
+        ("(asked.processor == 0 && has_run_nowhere(judged.job))", "has_run_nowhere(judged.job)"),), "all"),
+    Mistake("windows_of_jobs_elsewhere_open", "yds_trace_parts/src/place.rt", (
+        ("due: if written && belongs(asked, judged) {", "due: if written && (written || belongs(asked, judged)) {"),), "all"),
+    Mistake("no_place_behind_jobs_left_out", "yds_trace_parts/src/place.rt", (
+        ("self.some || asked.everywhere || written", "self.some || written"),), "all"),
+    Mistake("the_cut_of_unseen_processors_not_moved", "yds_trace_parts/src/telling.rt", (
+        ("        self.unseen = unseen_behind(", "        let _ = unseen_behind("),), "all"),
+    Mistake("new_processors_begin_uncut", "yds_trace_parts/src/processors.rt", (
+        ("=> grow_to(processors, cut, last),", "=> grow_to(processors, if last == 0 { cut } else { NO_CUT }, last),"),), "all"),
+    Mistake("a_line_checked_for_the_first_processor_alone", "yds_trace_parts/src/telling.rt", (
+        ("        self.latest = latest_of(&self.processors, self.unseen);\n", "        self.latest = latest_of(&self.processors[..1], None);\n"),), "all"),
+    Mistake("forgotten_up_to_the_greatest_boundary", "yds_trace_parts/src/telling.rt", (
+        ("        self.pass.forget(least);\n", "        self.pass.forget(least.max(self.latest.boundary));\n"),), "all"),
 ]
 
 
