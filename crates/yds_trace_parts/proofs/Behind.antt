@@ -86,6 +86,11 @@ pub of_told : (time : ℕ) (processors : List Processor) (unseen : Option Cut) �
 of_told time processors None none = none
 of_told time processors (Some cut) none = none.1
 
+-- those of the others
+pub of_unseen : (time : ℕ) (processors : List Processor) (unseen : Option Cut) → NoneBefore time (cuts_of processors unseen) → NoneBefore time (cuts_of [] unseen)
+of_unseen time processors None none = tt
+of_unseen time processors (Some cut) none = (none.0, tt)
+
 with_unseen : (asked : Asked) (past : List Said) (time : ℕ) (old new : List Processor) (unseen : Option Cut) → NoneBefore time (cuts_of old unseen) →
     NoneBefore time (map cut_in new) → NoneBefore time (cuts_of new (unseen_at asked past unseen))
 with_unseen asked past time old new None none all = all
