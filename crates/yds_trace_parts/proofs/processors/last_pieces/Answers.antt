@@ -10,7 +10,7 @@ pub loop-one-preserved : goal.loop-one-preserved
 loop-one-preserved c =
     let either : c.if-has_job.has_job ≡ (c.loop-one.has_job || c.in_ok-last.last.has_job) =
     elim c.if-has_job.branch [
-      | then-has_job w ↦ w.has_job-is ∙ sym (ap (λ (b : Bool). b || c.in_ok-last.last.has_job) w.if-has_job.true)
+      | then-has_job w ↦ w.has_job-is ∙ w.if-has_job.true ∙ sym (ap (λ (b : Bool). b || c.in_ok-last.last.has_job) w.if-has_job.true)
       | else-has_job w ↦ w.has_job-is ∙ sym (ap (λ (b : Bool). b || c.in_ok-last.last.has_job) w.if-has_job.false)
     ] in
     last_at_place c.args.strict c.args.pass.now c.loop-one.pass c.last_on.new.pass c.args.shown.now c.args.processors.now c.loop-one.one-index _

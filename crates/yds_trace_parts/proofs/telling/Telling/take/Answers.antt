@@ -1,9 +1,9 @@
-use Rattle.yds_model.proofs.Common.{◌∷◌, refl, arith, sym, subst, ℕ, err_from_is_err_and}
+use Rattle.yds_model.proofs.Common.{List, ◌∷◌, refl, arith, sym, subst, ℕ, err_from_is_err_and}
 use Rattle.yds_kernel.specs.Views.{said_read}
 use Rattle.yds_trace.specs.Kept.{told_to_forget}
 use Rattle.yds_trace.specs.Parts.{next_processor}
 use Rattle.yds_trace_parts.specs.Plain.{IsPlainPass}
-use Rattle.yds_trace_parts.specs.Telling.{IsTaken}
+use Rattle.yds_trace_parts.specs.Telling.{IsTaken, Adds}
 use Rattle.yds_trace_parts.proofs.Parting.{memory_halts}
 use Rattle.yds_trace_parts.proofs.Plain.{room_taken}
 use Rattle.yds_trace_parts.proofs.Taking.{taken_so, at_latest, grown_of, still_taken, still_adds, line_halted}
@@ -46,8 +46,9 @@ returns-then-not-looks-clause-adds c = λ asked strict past is many.
     (c.in_ok-take_line.ensures.unchanged asked past (at_latest asked strict past c.args.self.now is))
     (grown_of c.args.self.now.processors.items c.grow.new.processors.items c.args.self.now.unseen c.processor_of-told.result (next_processor (said_read c.args.said))
     c.processor_of-told.ensures c.in_ok-grow.ensures.same c.in_ok-grow.ensures.grown) refl refl refl in
-    still_adds asked strict past (said_read c.args.said) _ taken
-    (c.looks.ensures.still asked (said_read c.args.said ∷ past) _ taken.stands (omega (arith, many)) c.if-not-looks.true)
+    subst (λ (piece : List ℕ). Adds asked strict past (said_read c.args.said ∷ past) piece) (sym c.new.ensures.items)
+    (still_adds asked strict past (said_read c.args.said) _ taken
+    (c.looks.ensures.still asked (said_read c.args.said ∷ past) _ taken.stands (omega (arith, many)) c.if-not-looks.true))
 
 pub returns-clause-told : goal.returns-clause-told
 returns-clause-told c = λ asked strict past is many.
