@@ -21,7 +21,7 @@ use Rattle.yds_trace_parts.specs.declared.processors.Processor.{Processor}
 use Rattle.yds_trace_parts.specs.declared.processors.Pieces.{Pieces}
 use Rattle.yds_trace_parts.specs.Plain.{IsPlainLook}
 use Rattle.yds_trace_parts.specs.Told.{Halt, part_halt, piece_unless}
-use Rattle.yds_trace_parts.specs.Telling.{IsHaltFor, text_alone, IsPiece, HaltsBehind, IsLast, told_behind, pieces_at, with_piece_at, ArePieces, told_at_last, last_at, one_has_written, AreLast, IsTurned, each_of, cuts_of, boundary_before, IsLatest, NoneBefore}
+use Rattle.yds_trace_parts.specs.Telling.{IsHaltFor, IsPiece, HaltsBehind, IsLast, told_behind, pieces_at, with_piece_at, ArePieces, told_at_last, last_at, one_has_written, AreLast, IsTurned, each_of, cuts_of, boundary_before, IsLatest, NoneBefore}
 use Rattle.yds_trace_parts.proofs.Joined.{IsSoFar, joined_first, joined_more, joined_halts, joined_last}
 use Rattle.yds_trace_parts.proofs.Numbers.{length-each_of, each_push}
 use Rattle.yds_trace_parts.proofs.Plain.{look_turned}
@@ -343,10 +343,12 @@ pub grows_more : (old now next : List Processor) (cut : Cut) (last : ℕ) → le
     GrowsTo old now cut last → GrowsTo old next cut last
 grows_more old now next cut last less is grows = λ cuts count old_is same.
     let known = grows cuts count old_is same in
-    let many : length next ≡ length now + 1 = ap length is ∙ length-append now (record { number = length now; cut = cut } ∷ []) in
-    (is ∙ ap₂ (λ (front : List Processor) (one : Cut). front ++ record { number = length now; cut = one } ∷ []) known.0 (sym (same (length now) known.1))
-    ∙ each_push cuts (length now) ∙ ap (each_of cuts) (sym many),
-    omega (arith, many, known.1), omega (arith, many, less))
+    let many : length next ≡ length now + 1 = ap length is ∙ length-append now (record { number = length now; cut = cut } ∷ []) in (
+      is ∙ ap₂ (λ (front : List Processor) (one : Cut). front ++ record { number = length now; cut = one } ∷ []) known.0 (sym (same (length now) known.1))
+          ∙ each_push cuts (length now) ∙ ap (each_of cuts) (sym many),
+      omega (arith, many, known.1),
+      omega (arith, many, less),
+    )
 
 pub grows_last : (old now : List Processor) (cut : Cut) (last : ℕ) → last < length now → GrowsTo old now cut last → (cuts : ℕ → Cut) (count : ℕ) → old ≡ each_of cuts count →
     ((number : ℕ) → count ≤ number → cuts number ≡ cut) → now ≡ each_of cuts (max (last + 1) count)

@@ -1,10 +1,10 @@
 -- A line more: what is told behind it, and where the last part ends.
-use Rattle.yds_model.proofs.Common.{◌≡◌, ℕ, ◌+◌, ◌<◌, ◌≤◌, ◌%◌, ◌==◌, List, [], ◌∷◌, ◌++◌, length, map, filter, cond, Bool, true, false, ◌&&◌, not, Option, Some, None, refl, sym, ap, subst, ◌∙◌, arith, leb-true, mod-eq_of_lt, ne_eqb, eqb-true, false≢true, append-nil, ap₂, ◌||◌, list_any, if◌then◌else◌}
+use Rattle.yds_model.proofs.Common.{◌≡◌, ℕ, ◌<◌, ◌≤◌, ◌%◌, ◌==◌, List, [], ◌∷◌, ◌++◌, length, map, filter, cond, Bool, true, false, ◌&&◌, not, Option, Some, None, refl, ap, subst, ◌∙◌, arith, leb-true, mod-eq_of_lt, ne_eqb, eqb-true, false≢true, append-nil, ap₂, ◌||◌, list_any, if◌then◌else◌}
 use Rattle.yds_kernel.specs.Event.{Said}
 use Rattle.yds_kernel.specs.Parts.{or_else}
 use Rattle.yds_trace.specs.declared.cut.Cut.{Cut}
 use Rattle.yds_trace.specs.declared.limits.TheConstants.{LOOK_EVERY}
-use Rattle.yds_trace.specs.Asked.{Asked, on}
+use Rattle.yds_trace.specs.Asked.{Asked}
 use Rattle.yds_trace.specs.Document.{Judged}
 use Rattle.yds_trace.specs.Parts.{has_run_on, belongs, begin_of, begins_from, begins_before, is_written, waiting, of_part, part_until, is_before_end, is_much, is_due, has_job, is_done_by, is_closed_by, each_before, is_quiet, is_closed, may_write, last_where, place_among, place_of, processor_count, first_numbers, processors_of, cut_at, cut_after, no_cut}
 use Rattle.yds_trace_text.specs.PartText.{part_text}
@@ -146,10 +146,11 @@ place_there asked past cut time due may much any quiet =
     let there : IsThere (place_among asked past (waiting asked past cut)) =
     there_second (last_where (is_closed asked past (waiting asked past cut)) (map begin_of (waiting asked past cut)))
     (last_where (is_quiet asked past (waiting asked past cut)) (map begin_of (waiting asked past cut)))
-    (last_there (is_quiet asked past (waiting asked past cut)) (map begin_of (waiting asked past cut)) time quiet any) in
-    (there.0,
-    ap₂ (λ (one other : Bool). if one && other && is_much (waiting asked past cut) then place_among asked past (waiting asked past cut) else None) due may
-    ∙ ap (λ (one : Bool). if one then place_among asked past (waiting asked past cut) else None) much ∙ there.1)
+    (last_there (is_quiet asked past (waiting asked past cut)) (map begin_of (waiting asked past cut)) time quiet any) in (
+      there.0,
+      ap₂ (λ (one other : Bool). if one && other && is_much (waiting asked past cut) then place_among asked past (waiting asked past cut) else None) due may
+          ∙ ap (λ (one : Bool). if one then place_among asked past (waiting asked past cut) else None) much ∙ there.1,
+    )
 
 -- # A part with a job
 

@@ -9,7 +9,7 @@ use Rattle.yds_trace.specs.declared.pass.Pass.{Pass}
 use Rattle.yds_trace.specs.Asked.{Asked, on}
 use Rattle.yds_trace.specs.Kept.{IsAtBehind}
 use Rattle.yds_trace.specs.Document.{Judged, all_judged}
-use Rattle.yds_trace.specs.Parts.{begins_from, waiting_from, waiting, stretches_of, is_much, is_too_much, is_due, may_write, place_among, place_of, processors_of, processor_count}
+use Rattle.yds_trace.specs.Parts.{begins_from, waiting_from, waiting, stretches_of, is_much, is_too_much, is_due, may_write, place_among, place_of, processor_count}
 use Rattle.yds_trace_laws.specs.Processors.{without_reason}
 use Rattle.yds_trace_laws.proofs.Processors.{jobs_are_the_same}
 use Rattle.yds_trace_parts.specs.declared.processors.Processor.{Processor}
@@ -117,11 +117,13 @@ still_told asked past said time still (number ∷ numbers) none =
 
 pub still_unseen : (asked : Asked) (past : List Said) (said : Said) (time : ℕ) → IsStill asked (said ∷ past) time → (cut : Cut) → time ≤ cut.boundary →
     IsUnseen asked past (Some cut) → IsUnseen asked (said ∷ past) (Some cut)
-still_unseen asked past said time still cut later is =
-    (is.0, λ processor beyond.
-    let before : processor_count past ≤ processor = omega (arith, beyond, more_processors past said) in
-    let same : cut_on asked past processor ≡ cut = is.1 processor before in
-    still_cut asked past said time processor still (subst (λ (one : Cut). time ≤ one.boundary) (sym same) later) ∙ same)
+still_unseen asked past said time still cut later is = (
+  is.0,
+  λ processor beyond.
+      let before : processor_count past ≤ processor = omega (arith, beyond, more_processors past said) in
+      let same : cut_on asked past processor ≡ cut = is.1 processor before in
+      still_cut asked past said time processor still (subst (λ (one : Cut). time ≤ one.boundary) (sym same) later) ∙ same,
+)
 
 -- # Whether it is looked for parts
 

@@ -1,5 +1,5 @@
 -- What a line makes of what is kept, and what is written at the end.
-use Rattle.yds_model.proofs.Common.{◌≡◌, ◌≤◌, ◌+◌, ◌&&◌, ◌||◌, ◌⊎◌, inl, inr, ℕ, List, [], ◌∷◌, ◌++◌, map, max, length, Bool, true, false, not, list_any, Option, Some, None, is_some, Result, Ok, Err, OnOk, IfErr, refl, sym, ap, ap₂, subst, ◌∙◌, arith, append-nil, le_refl, if◌then◌else◌}
+use Rattle.yds_model.proofs.Common.{◌≡◌, ◌≤◌, ◌+◌, ◌&&◌, ◌||◌, ℕ, List, [], ◌∷◌, ◌++◌, map, max, length, Bool, true, false, not, list_any, Option, Some, None, is_some, Result, Ok, Err, OnOk, IfErr, refl, sym, ap, ap₂, subst, ◌∙◌, append-nil, if◌then◌else◌}
 use Rattle.yds_kernel.specs.Event.{Said}
 use Rattle.yds_kernel.specs.Parts.{or_else}
 use Rattle.yds_trace.specs.declared.cut.Cut.{Cut}
@@ -16,7 +16,7 @@ use Rattle.yds_trace_parts.specs.declared.part.Last.{Last}
 use Rattle.yds_trace_parts.specs.declared.processors.Processor.{Processor}
 use Rattle.yds_trace_parts.specs.declared.processors.Pieces.{Pieces}
 use Rattle.yds_trace_parts.specs.declared.telling.Telling.{Telling}
-use Rattle.yds_trace_parts.specs.Told.{Halt, OfDocument, Told, at_line, both, piece_unless, has_written, line_halt, pieces, last_pieces, no_job_halt, last_piece, told_after}
+use Rattle.yds_trace_parts.specs.Told.{Halt, OfDocument, Told, at_line, both, piece_unless, has_written, line_halt, last_pieces, no_job_halt, last_piece, told_after}
 use Rattle.yds_trace_parts.specs.Telling.{IsHaltFor, text_alone, next_of, each_of, pieces_at, ArePieces, last_at, one_has_written, AreLast, cut_on, told_on, IsUnseen, cuts_of, IsLatest, NoneBefore, IsWritten, IsTelling, IsTaken, IsStill, Adds, IsEnd}
 use Rattle.yds_trace_parts.proofs.Joined.{pieces_are, last_are}
 use Rattle.yds_trace_parts.proofs.Steps.{refused_is, halts_behind, told_more}

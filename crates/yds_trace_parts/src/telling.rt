@@ -20,9 +20,7 @@ use crate::processors::{
 use std::alloc::Global;
 use yds_kernel::Said;
 use yds_model::Memory;
-use yds_trace::{
-    Asked, Cut, Kept, LOOK_EVERY, NO_CUT, PART_JOBS, PART_STRETCHES, Pass, Refused,
-};
+use yds_trace::{Asked, Cut, Kept, LOOK_EVERY, NO_CUT, PART_JOBS, PART_STRETCHES, Pass, Refused};
 use yds_trace_document::DocumentFault;
 
 /// What is known of the tasks behind some lines, and what was written of them.
@@ -48,11 +46,7 @@ impl Telling {
             number: first_processor(&asked),
             cut: NO_CUT,
         };
-        let unseen = if asked.everywhere {
-            Some(NO_CUT)
-        } else {
-            None
-        };
+        let unseen = if asked.everywhere { Some(NO_CUT) } else { None };
         Ok(Telling {
             pass: Pass::new(alloc, asked)?,
             processors: vec![in alloc; first]?,

@@ -1,6 +1,5 @@
-use Rattle.yds_model.proofs.Common.{◌≡◌, IfOk, IfErr, None, sym, subst}
+use Rattle.yds_model.proofs.Common.{IfOk, IfErr, None, sym, subst}
 use Rattle.yds_trace.specs.Asked.{Asked, on}
-use Rattle.yds_trace.specs.Parts.{may_write, place_of}
 use Rattle.yds_trace.specs.Shown.{IsShown}
 use Rattle.yds_trace.proofs.OnProcessor.{shown_on}
 use Rattle.yds_trace_parts.specs.Told.{part_halt}

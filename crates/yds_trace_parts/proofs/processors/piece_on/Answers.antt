@@ -1,6 +1,6 @@
-use Rattle.yds_model.proofs.Common.{◌≡◌, IfOk, IfErr, None, sym, subst}
+use Rattle.yds_model.proofs.Common.{◌≡◌, IfOk, IfErr, sym, subst}
 use Rattle.yds_trace.specs.Asked.{Asked, on}
-use Rattle.yds_trace.specs.Parts.{may_write, place_of}
+use Rattle.yds_trace.specs.Parts.{may_write}
 use Rattle.yds_trace.specs.Shown.{IsShown}
 use Rattle.yds_trace.proofs.OnProcessor.{shown_on}
 use Rattle.yds_trace_parts.specs.Telling.{IsPiece, HaltsBehind}

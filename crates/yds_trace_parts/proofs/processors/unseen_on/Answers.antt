@@ -1,4 +1,4 @@
-use Rattle.yds_model.proofs.Common.{◌≡◌, IfOk, IfErr, None, sym, subst}
+use Rattle.yds_model.proofs.Common.{◌≡◌, IfOk, sym, subst}
 use Rattle.yds_trace.specs.Asked.{Asked, on}
 use Rattle.yds_trace.specs.Parts.{may_write, place_of}
 use Rattle.yds_trace.specs.Shown.{IsShown}
