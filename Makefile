@@ -141,6 +141,8 @@ fuzz: $(BINARY) $(TRACER) build/fuzz
 traces: $(TRACER) $(BINARY)
 	@python3 robustness/trace.py $(SEED) $(TRACES) $(TRACER)
 	@python3 robustness/long.py $(SEED) $(LONG) $(TRACER) $(BINARY)
+	@python3 robustness/everywhere.py $(SEED) $(LONG) $(TRACER) $(BINARY)
+	@python3 robustness/table.py $(SEED) $(TRACES) $(TRACER)
 
 planted: tool
 	@python3 robustness/planted.py

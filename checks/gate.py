@@ -32,6 +32,7 @@ CHECKS: List[Command] = [
     (sys.executable, "checks/test_edits.py"),
     (sys.executable, "docs/edits.py", "--check"),
     (sys.executable, "checks/test_uncalled.py"),
+    (sys.executable, "checks/test_everywhere.py"),
     (sys.executable, "robustness/planted.py", "--check"),
     (sys.executable, "docs/uncalled.py", "--check"),
     (sys.executable, "checks/tools.py"),

@@ -19,7 +19,7 @@ from typing import List, NamedTuple, Sequence
 ROOT = Path(__file__).resolve().parent.parent
 TESTS = ROOT / "python" / "tests"
 
-LEAST = 224
+LEAST = 231
 """There are at least so many tests. Who adds some writes the new number here."""
 
 _RAN = re.compile(r"^Ran (\d+) tests? in ", re.MULTILINE)

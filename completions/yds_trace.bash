@@ -5,7 +5,7 @@ _yds_trace() {
 	[[ $word != = ]] || word=
 	[[ $before != = ]] || before=${COMP_WORDS[COMP_CWORD - 2]}
 	case $before in
-	--cpu) words="0 1 2 3" ;;
+	--cpu) words="0 1 2 3 all" ;;
 	--us) words="1 10 100 1000" ;;
 	--khz) words="1000 10000 100000" ;;
 	--begin) words=run ;;

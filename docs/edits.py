@@ -41,6 +41,7 @@ LATER = [
     "yds_trace_parts",
     "yds_trace_words",
     "yds_trace_reading",
+    "yds_trace_threads",
     "yds_trace_run",
     "yds_trace_cli",
     "yds_answer_plans",

@@ -744,9 +744,15 @@ def drawn(seed: int, number: int) -> Drawn:
 
 
 def with_parts(seed: int, number: int, words: List[str]) -> List[str]:
-    """These words, of one trace in eight with the word for parts."""
+    """These words, of one trace in eight with the word for parts, and of one in eight for all processors."""
     draw = random.Random(f"parts {seed} {number}")
-    return draw.choice([["--parts", *words], [*words, "--parts"]]) if draw.random() < 0.125 else words
+    drawn_number = draw.random()
+    if drawn_number < 0.125:
+        return draw.choice([["--parts", *words], [*words, "--parts"]])
+    if drawn_number < 0.25:
+        every = draw.choice([["--cpu", "all"], ["--cpu=all"], ["--cpu", "all"], ["--cpu=all", "--parts"]])
+        return every + without(words, {"--cpu"})
+    return words
 
 
 def plain(seed: int, number: int) -> Drawn:
@@ -802,7 +808,7 @@ MISTAKES: List[object] = [
     [["--strict=yes"], ["--strict="], ["--help=1"], ["--parts=1"]],
     [["--to"], ["--khz"], ["--tasks"]],
     [["TWICE"]],
-    [["--cpu=x"], ["--cpu", "8192"], ["--cpu", "01"], ["--cpu", "-1"], ["--cpu="]],
+    [["--cpu=x"], ["--cpu", "8192"], ["--cpu", "01"], ["--cpu", "-1"], ["--cpu="], ["--cpu", "ALL"], ["--cpu=all,0"], ["--cpu", "al"]],
     [["--us", "0"], ["--us=1000000001"], ["--us=1.5"]],
     [["--khz=01"], ["--khz", "0"], ["--khz", "4294967296"]],
     [["--start", "0"], ["--start=4294967296"], ["--start", "1e6"]],

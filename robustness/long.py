@@ -18,7 +18,6 @@ Before the last line it tells how many traces had each thing. The status is 1 wh
 build/yds_cli).
 """
 
-import heapq
 import os
 import random
 import re
@@ -28,161 +27,27 @@ from collections import Counter
 from pathlib import Path
 from typing import Callable, Dict, Iterator, List, NamedTuple, Optional, Tuple
 
-from parted import LOOK, Parts, told_in_parts
+from machine import KHZ, Machine, Task
+from parted import FULL, Parts, SMALL, told_in_parts
 from second import Document, Told, asked_by, in_order, judge_jobs
 
-NAMES = ["decode", "audio", "ui"]
-KHZ = [600_000, 1_000_000, 2_000_000]
-
-
-# # A machine
-
-
-class Task:
-    """A periodic thread. Times are nanoseconds."""
-
-    def __init__(self, number: int, period: int, share: float, factor: float) -> None:
-        self.name, self.pid, self.period = NAMES[number], 10 + number, period
-        self.busy, self.deadline = int(period * share), int(period * factor)
-        self.left = 0
-        self.periods = 0
-        self.due = 0
-        self.starves = self.hangs = False
-
-    def is_ready(self) -> bool:
-        """Whether it would run."""
-        return self.left > 0 and not self.starves
-
-
-class Machine:
-    """One processor that runs these tasks, the one that is due first before all others; other processors write lines."""
-
-    def __init__(self, draw: random.Random, tasks: List[Task]) -> None:
-        self.draw, self.tasks = draw, tasks
-        self.time = 50 * 10**9 + draw.randrange(10**9)
-        self.on: Optional[Task] = None
-        self.lines: List[bytes] = []
-        self.wakes, self.switches = True, 0
-        self.odds: Dict[str, float] = {}
-        self.releases = [(self.time + 10_000 * (number + 1), number) for number in range(len(tasks))]
-        heapq.heapify(self.releases)
-        self.write(0, "cpu_frequency", "state=1000000 cpu_id=0")
-
-    def write(self, processor: int, event: str, text: str) -> None:
-        """A line."""
-        stamp = f"{self.time // 10**9}.{self.time % 10**9:09d}"
-        self.lines.append(f" w-5 [{processor:03d}] d..2. {stamp}: {event}: {text}".encode())
-
-    def chance(self, what: str) -> bool:
-        """Whether this happens now."""
-        odds = self.odds.get(what, 0.0)
-        return odds > 0 and self.draw.random() < odds
-
-    def turn(self, state: str, after: Optional[Task], processor: int = 0) -> None:
-        """The processor goes to another thread."""
-        before = self.on
-        one = ("swapper/0", 0) if before is None else (before.name, before.pid)
-        two = ("swapper/0", 0) if after is None else (after.name, after.pid)
-        self.on = after
-        if not self.chance("missing"):
-            self.write(processor, "sched_switch", f"prev_comm={one[0]} prev_pid={one[1]} prev_prio=120 prev_state={state} ==>"
-                                                  f" next_comm={two[0]} next_pid={two[1]} next_prio=98")
-
-    def wake(self, task: Task) -> None:
-        """A thread is woken."""
-        if self.wakes:
-            self.write(0, "sched_waking", f"comm={task.name} pid={task.pid} prio=120 target_cpu=000")
-
-    def release(self, number: int) -> None:
-        """A period begins."""
-        task = self.tasks[number]
-        jitter = self.draw.choice([0, 0, 0, 1_000, 30_000]) if self.chance("jitter") else 0
-        heapq.heappush(self.releases, (self.time + task.period + jitter, number))
-        if task.left == 0 or self.chance("rewoken"):
-            self.wake(task)
-        if task.left == 0:
-            task.left = max(1_000, int(task.busy * self.draw.choice([0.2, 0.8, 1.0, 1.0])))
-            task.due = self.time + task.deadline
-            if self.chance("overrun"):
-                task.left = int(task.period * self.draw.choice([1.0, 1.5, 2.5]))
-            if self.chance("short"):
-                task.left = self.draw.choice([1_000, 4_000, 12_000])
-
-    def dispatch(self, state: str) -> None:
-        """The ready thread that is due first gets the processor."""
-        ready = [task for task in self.tasks if task.is_ready()]
-        best = min(ready, key=lambda task: (task.due, task.pid), default=None)
-        if best is not self.on:
-            self.turn(state, best)
-
-    def step(self) -> None:
-        """To the next event."""
-        at, number = self.releases[0]
-        running = self.on
-        ends = self.time + running.left if running is not None and not running.hangs else at + 1
-        if ends <= at and running is not None:
-            self.time, running.left = ends, 0
-            self.dispatch(self.draw.choice(["S", "S", "S", "I"]))
-            return
-        if running is not None:
-            self.within(running, at)
-            running.left = running.left if running.hangs else max(1, running.left - (at - self.time))
-        self.time = max(at, self.time)
-        heapq.heappop(self.releases)
-        self.release(number)
-        self.dispatch("R")
-
-    def within(self, running: Task, until: int) -> None:
-        """What may happen while a thread runs, before this time."""
-        if self.chance("speed") and until - self.time > 2_000:
-            self.pass_by(running, until)
-            self.write(0, "cpu_frequency", f"state={self.draw.choice(KHZ)} cpu_id=0")
-        if self.chance("sleep") and until - self.time > 20_000:
-            self.pass_by(running, until)
-            self.turn("D" if running.hangs else self.draw.choice(["S", "D"]), None)
-            self.time += 2_000
-            self.wake(running)
-            self.time += 2_000
-            self.turn("R", running)
-        if self.chance("move") and until - self.time > 20_000:
-            self.pass_by(running, until)
-            self.turn("R", None)
-            self.on = None
-            self.turn("R", running, 1)
-            self.pass_by(running, until)
-            self.turn("R", None, 1)
-            self.on = None
-            self.turn("R", running)
-        if self.chance("noise"):
-            self.write(self.draw.choice([1, 2]), "irq_handler_entry", "irq=1 name=x")
-
-    def pass_by(self, running: Task, until: int) -> None:
-        """Some time passes while a thread runs."""
-        passed = min((until - self.time) // 3, max(0, running.left - 1) if not running.hangs else until)
-        self.time += passed
-        running.left = running.left if running.hangs else max(1, running.left - passed)
-
-    def run(self, lines: int) -> None:
-        """Until there are so many lines."""
-        while len(self.lines) < lines:
-            self.step()
-
-
 class Drawing:
-    """A machine with its words, and how long its trace is."""
+    """A machine with its words, and how long its trace is: `scale` times shorter than the program's limits need it."""
 
-    def __init__(self, draw: random.Random) -> None:
-        self.draw = draw
+    def __init__(self, draw: random.Random, scale: int = 1) -> None:
+        self.draw, self.scale = draw, scale
+        self.limits = FULL if scale == 1 else SMALL
         base = draw.choice([300_000, 1_000_000, 2_000_000])
-        factor = draw.choice([0.5, 1.0, 1.0, 1.5])
-        many = draw.choice([[1], [1, 1], [1, 2], [2, 3], [1, 2, 3]])
+        self.rests = draw.random() < 0.85
+        many = draw.choice([[1, 5], [1, 7], [1, 2, 5]] if self.rests else [[1], [1, 1], [1, 2], [2, 3], [1, 2, 3]])
+        factor = draw.choice([0.5, 0.5, 1.0] if self.rests else [0.5, 1.0, 1.0, 1.5])
         share = draw.choice([0.2, 0.5, 0.9]) / len(many)
         self.tasks = [Task(number, base * times, share, factor) for number, times in enumerate(many)]
         self.it = Machine(draw, self.tasks)
         self.it.odds = {"jitter": 0.2, "rewoken": 0.05, "overrun": 0.01, "short": 0.05, "speed": 0.05, "sleep": 0.02, "move": 0.002, "noise": 0.05}
-        self.size = draw.randrange(7_000, 22_000)
+        self.size = self.some(9_000, 24_000)
         self.options: Dict[str, Optional[str]] = {"--parts": None, "--lost": "cut"}
-        self.apart = draw.choice([0, 0, 0, 50_000, 9 * base // 10, 5 * base // 2])
+        self.set_apart(base)
         self.edits: List[Callable[[List[bytes]], None]] = []
         if draw.random() < 0.3:
             self.options["--us"] = draw.choice(["1", "5", "50"])
@@ -192,14 +57,34 @@ class Drawing:
         if draw.random() < 0.3:
             self.options["--begin"] = "run"
 
+    def some(self, least: int, most: int) -> int:
+        """So many lines, or so many that are `scale` times fewer."""
+        return self.draw.randrange(least // self.scale, most // self.scale)
+
+    def set_apart(self, base: int) -> None:
+        """APART of each task. Where a trace rests, that of the slowest is nearly its period, and some of its jobs sleep within it and go on:
+        for most of the time its last job has ended and isn't settled, while jobs of the others come and go."""
+        slowest = self.tasks[-1]
+        if self.rests:
+            slowest.apart = self.draw.choice([9, 9, 8, 6]) * slowest.period // 10
+            slowest.busy, slowest.deadline = slowest.period // 30, slowest.period // 5
+            self.it.odds["nap"] = self.draw.choice([0.02, 0.1, 0.2])
+        else:
+            apart = self.draw.choice([0, 0, 0, 50_000, 9 * base // 10, 5 * base // 2])
+            for task in self.tasks:
+                task.apart = apart
+
     def words(self) -> List[str]:
         """The words."""
-        behind = f":{self.apart / 10**6:.6f}" if self.apart else ""
-        tasks = ",".join(f"{task.name}:{task.deadline / 10**6:.6f}{behind}" for task in self.tasks)
-        found = ["--tasks", tasks]
+        found = ["--tasks", ",".join(self.task_text(task) for task in self.tasks)]
         for name, value in self.options.items():
             found += [name] if value is None else [name, value]
         return found
+
+    def task_text(self, task: Task) -> str:
+        """A task as `--tasks` takes it."""
+        behind = f":{task.apart / 10**6:.6f}" if task.apart else ""
+        return f"{task.name}:{task.deadline / 10**6:.6f}{behind}"
 
     def seconds(self, time: int) -> str:
         """A time as `--from` and `--to` take it."""
@@ -223,7 +108,7 @@ class Drawing:
 
 def plain(it: Drawing) -> None:
     """Periodic threads, and what chance gives them."""
-    it.size = it.draw.randrange(12_000, 30_000)
+    it.size = it.some(12_000, 30_000)
 
 
 def calm(it: Drawing) -> None:
@@ -250,8 +135,8 @@ def at_run(it: Drawing) -> None:
 
 def hangs(it: Drawing) -> None:
     """A thread hangs from some line on: before all others, or behind them."""
-    first = it.draw.randrange(500, it.size)
-    it.size = first + it.draw.choice([500, 4_000, 30_000, 30_000])
+    first = it.draw.randrange(500 // it.scale, it.size)
+    it.size = first + it.draw.choice([500, 4_000, 30_000, 30_000]) // it.scale
     task = it.draw.choice(it.tasks)
     is_behind = len(it.tasks) > 1 and it.draw.random() < 0.9
     it.it.odds["noise"] = 0.0
@@ -269,8 +154,8 @@ def hangs(it: Drawing) -> None:
 
 def starves(it: Drawing) -> None:
     """A thread is woken and gets no processor, from some line on."""
-    first = it.draw.randrange(500, it.size)
-    it.size = first + it.draw.choice([500, 4_000, 24_000])
+    first = it.draw.randrange(500 // it.scale, it.size)
+    it.size = first + it.draw.choice([500, 4_000, 24_000]) // it.scale
     task = it.draw.choice(it.tasks)
     it.options.pop("--begin", None)
 
@@ -289,19 +174,29 @@ def loses(it: Drawing) -> None:
     def edit(lines: List[bytes]) -> None:
         at = it.draw.randrange(len(lines) // 3, len(lines))
         told = it.draw.choice(["CPU:%d [LOST 12 EVENTS]", "CPU:%d [3 EVENTS DROPPED]", "##### CPU %d buffer started ####"])
-        lines.insert(at, (told % it.draw.choice([0, 0, 1, 2, 5])).encode())
+        lines.insert(at, (told % it.draw.choice([0, 0, 0, 1, 2, 5])).encode())
         lines.insert(1, lines[0].replace(b"[000]", b"[001]").replace(b"cpu_id=0", b"cpu_id=1"))
 
-    it.edits.append(edit)
+    it.edits.append(edit if it.draw.random() < 0.6 else lambda lines: lose_behind(it, lines))
     if it.draw.random() < 0.15:
         it.options.pop("--lost")
+
+
+def lose_behind(it: Drawing, lines: List[bytes]) -> None:
+    """Just behind a part a processor tells that it lost events since its last line, which came shortly before the part was written."""
+    _, parts = told_in_parts(b"\n".join(lines) + b"\n", asked_by(it.words()), it.limits)
+    at = it.draw.choice(parts.behind or [len(lines) // 2])
+    since = max(1, at - it.draw.choice([1, 2, 5, 20, 60]))
+    time = it.stamp(lines[since])
+    lines.insert(at, b"CPU:6 [LOST 12 EVENTS]")
+    lines.insert(since, f" w-5 [006] d..2. {time // 10**9}.{time % 10**9:09d}: irq_handler_entry: irq=1 name=x".encode())
 
 
 def was_there(it: Drawing) -> None:
     """A thread leaves a processor that hasn't switched yet: it was there all the time."""
 
     def edit(lines: List[bytes]) -> None:
-        at = it.draw.randrange(100, len(lines))
+        at = it.draw.randrange(100 // it.scale + 2, len(lines))
         task = it.draw.choice(it.tasks)
         stamp = re.search(rb" [0-9]+\.[0-9]{9}: ", lines[at])
         assert stamp is not None
@@ -352,8 +247,8 @@ def strict(it: Drawing) -> None:
 
 
 def missing(it: Drawing) -> None:
-    """A switch in a thousand isn't there."""
-    it.it.odds["missing"] = it.draw.choice([0.0002, 0.001, 0.01])
+    """Some switches aren't there, of a thousand one or more."""
+    it.it.odds["missing"] = it.draw.choice([0.001, 0.03, 0.1])
 
 
 def windowed(it: Drawing) -> None:
@@ -367,7 +262,7 @@ def windowed(it: Drawing) -> None:
             it.options["--to"] = it.seconds(times[1] + it.draw.choice([0, 1, 10**6]))
 
     it.edits.append(edit)
-    it.size = it.draw.randrange(12_000, 30_000)
+    it.size = it.some(12_000, 30_000)
 
 
 def stretched(it: Drawing) -> None:
@@ -376,9 +271,9 @@ def stretched(it: Drawing) -> None:
     for task in it.tasks:
         task.period, task.busy, task.deadline = 40 * task.period, 39 * task.period // len(it.tasks), 40 * task.deadline
     rate = it.draw.choice([200, 2_000, 60_000])
-    size = it.draw.choice([35_000, 60_000])
+    size = it.draw.choice([35_000, 60_000]) // it.scale
     it.options.update({"--us": "50", "--khz": "100000"})
-    it.size = 800
+    it.size = 800 // it.scale
 
     def edit(lines: List[bytes]) -> None:
         found: List[bytes] = []
@@ -400,8 +295,8 @@ def ended_behind(it: Drawing) -> None:
     """The trace ends just behind a line where a part is written, or some lines later."""
 
     def edit(lines: List[bytes]) -> None:
-        _, parts = told_in_parts(b"\n".join(lines) + b"\n", asked_by(it.words()))
-        places = parts.behind or [len(lines) // LOOK * LOOK]
+        _, parts = told_in_parts(b"\n".join(lines) + b"\n", asked_by(it.words()), it.limits)
+        places = parts.behind or [len(lines) // it.limits.look * it.limits.look]
         del lines[it.draw.choice(places) + it.draw.choice([0, 0, 1, 2, 3]) :]
 
     it.edits.append(edit)
@@ -417,7 +312,7 @@ def unwoken(it: Drawing) -> None:
     """No wake-up is told, where jobs begin at one; or there is one late."""
     it.it.wakes = False
     it.options.pop("--begin", None)
-    it.size = it.draw.choice([3_000, 24_000])
+    it.size = it.draw.choice([3_000, 24_000]) // it.scale
     if it.draw.random() < 0.3:
         late = it.draw.randrange(it.size)
 
@@ -431,14 +326,14 @@ def unwoken(it: Drawing) -> None:
 
 def unseen(it: Drawing) -> None:
     """A task that no line names: it is told at the end."""
+    it.it.tasks = list(it.tasks)
     it.tasks.append(Task(2, 10**6, 0.5, 1.0))
     it.tasks[-1].name, it.tasks[-1].pid = "nobody", 99
-    it.it.tasks = it.tasks[:-1]
 
 
 SHOWN: List[Callable[[Drawing], None]] = [
-    plain, hangs, loses, windowed, calm, was_there, faulty, limited, starves, missing, at_run, ended_behind, stretched, opened, elsewhere, hangs,
-    loses, windowed, unwoken, unseen, faulty, limited, ended_behind, opened, hangs, faulty, strict, ended_behind, unwoken, hangs, faulty, strict,
+    plain, hangs, loses, windowed, calm, was_there, faulty, limited, starves, missing, at_run, ended_behind, stretched, opened, elsewhere, missing,
+    loses, windowed, unwoken, unseen, faulty, limited, loses, opened, hangs, missing, strict, ended_behind, unwoken, hangs, faulty, strict,
 ]
 
 
@@ -450,9 +345,9 @@ class Drawn(NamedTuple):
     trace: bytes
 
 
-def drawn(seed: int, number: int) -> Drawn:
+def drawn(seed: int, number: int, scale: int = 1) -> Drawn:
     """The trace of this number."""
-    it = Drawing(random.Random(f"long {seed} {number}"))
+    it = Drawing(random.Random(f"long {seed} {number}"), scale)
     show = SHOWN[number % len(SHOWN)]
     show(it)
     trace = it.trace()
@@ -571,11 +466,16 @@ class Programs(NamedTuple):
 
 def faults_of(programs: Programs, it: Drawn, said: Told, parts: Parts) -> Iterator[str]:
     """What isn't as it should be."""
+    yield from faults_of_text(programs, it, said)
+    if said.status == 0 and not same_whole(said.text, parts):
+        yield "the parts aren't the whole"
+
+
+def faults_of_text(programs: Programs, it: Drawn, said: Told) -> Iterator[str]:
+    """What isn't as it should be of the text, and of each part as yds_cli reads it."""
     done = subprocess.run([programs.tracer, *it.words], input=it.trace, capture_output=True, check=False)
     if (done.stdout, done.returncode) != (said.text.encode(), said.status):
         yield f"the readings differ: status {done.returncode}, and {said.status}"
-    if said.status == 0 and not same_whole(said.text, parts):
-        yield "the parts aren't the whole"
     found = documents(said.text)
     if said.status and (len(found) > len(said.parts) or not said.parts):
         found = found[:-1]

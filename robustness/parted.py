@@ -1,4 +1,4 @@
-"""parted.py: the second reading of a trace in parts, as `--parts` asks for it, for trace.py and long.py.
+"""parted.py: the second reading of a trace in parts, as `--parts` and `--cpu all` ask for it, for trace.py, long.py and everywhere.py.
 
 What a part is, which jobs wait, when a part is looked for, where it ends and what a line behind it is refused for stands
 in docs/definitions.md ("A trace in parts") and in the definitions that it names. This reading goes through the trace
@@ -7,7 +7,7 @@ that both say the same shows on the small traces of trace.py, where a trace in o
 """
 
 from dataclasses import dataclass, field, replace
-from typing import Dict, List, Optional, Set, Tuple
+from typing import Dict, List, NamedTuple, Optional, Set, Tuple
 
 from lines import reading
 from second import (
@@ -15,10 +15,24 @@ from second import (
     is_loss, is_stamped, judge_jobs, line_fault, line_of, milliseconds, shown_by,
 )
 
-# Behind each line of a multiple of LOOK it is looked whether a part is to be written: where more than PART_JOBS jobs or
-# PART_STRETCHES stretches wait. More than MOST_WAITING and MOST_STRETCHES may not wait.
-LOOK, PART_JOBS, PART_STRETCHES = 1_024, 2_000, 25_000
-MOST_WAITING, MOST_STRETCHES = 4_000, 50_000
+
+class Limits(NamedTuple):
+    """When a part is looked for: behind each line of a multiple of `look`, where more than so many jobs or stretches wait; and how many may wait at most."""
+
+    look: int
+    jobs: int
+    stretches: int
+    most_jobs: int
+    most_stretches: int
+
+
+FULL = Limits(1_024, 2_000, 25_000, 4_000, 50_000)
+"""Those of the program."""
+SMALL = Limits(32, 24, 300, 64, 700)
+"""Others, by which a trace of 500 lines has several parts: planted.py and everywhere.py build a program that has these."""
+
+IDLE = MOST_PROCESSOR + 1
+"""Stands for all processors on which no task has run."""
 
 
 class Kept:
@@ -69,7 +83,7 @@ class Kept:
 
 @dataclass
 class Cut:
-    """What was written: the next part's jobs begin at `boundary` or later, and it was written behind the time `decided`."""
+    """What was written of a processor: its next part's jobs begin at `boundary` or later, and it was cut behind the time `decided`."""
 
     boundary: int = 0
     decided: int = 0
@@ -78,24 +92,66 @@ class Cut:
     due: int = 0
 
 
+class Piece(NamedTuple):
+    """What is written of a processor behind a line: nothing where it has no document, and how it is cut then."""
+
+    cut: Cut
+    document: Optional[Document] = None
+    text: str = ""
+
+
 @dataclass
 class Parts:
-    """A trace in parts, as far as it is read: the parts that are written, and behind which lines they were."""
+    """A trace in parts, as far as it is read: the parts that are written, behind which lines they were, and which processors were cut there.
+
+    Of several processors each has a cut of its own. All on which no task has run, but for 0, are cut as one (`idle`): those of
+    which no line has told yet, too. So one that comes late is cut as if it had been there from the begin on.
+    """
 
     asked: Asked
-    cut: Cut = field(default_factory=Cut)
+    limits: Limits = FULL
     number: int = 0
+    greatest: int = 0
     is_torn: bool = False
     is_woken: bool = False
     text: str = ""
     written: List[Document] = field(default_factory=list)
     behind: List[int] = field(default_factory=list)
+    moved: Dict[int, Set[int]] = field(default_factory=dict)
 
     def __post_init__(self) -> None:
         self.lines, self.counted = Kept(self.asked), Kept(self.asked)
         self.threads: Dict[int, int] = {}
         self.seen: Set[int] = set()
         self.followers = [Follower(self.asked, number) for number in range(len(self.asked.tasks))]
+        self.idle = Cut()
+        self.cuts = {self.asked.processor: self.idle}
+        self.asked_on: Dict[int, Asked] = {}
+
+    # The processors
+
+    def on(self, processor: int) -> Asked:
+        """What is asked for, of this processor."""
+        if processor not in self.asked_on:
+            self.asked_on[processor] = replace(self.asked, processor=processor)
+        return self.asked_on[processor]
+
+    def processors(self) -> List[int]:
+        """Those that have documents."""
+        return list(range(self.greatest + 1)) if self.asked.everywhere else [self.asked.processor]
+
+    def watched(self) -> List[Cut]:
+        """How each processor is cut, and one of which no line tells yet."""
+        return [*self.cuts.values(), self.idle] if self.asked.everywhere else list(self.cuts.values())
+
+    def cut_of(self, processor: int) -> Cut:
+        """How a processor is cut."""
+        return self.cuts.get(processor, self.idle)
+
+    def belongs(self, one: Judged, processor: int) -> bool:
+        """Whether a processor's documents have a job: it has run there, or has run nowhere, and this is the first processor."""
+        places = {ran.processor for ran in one.job.ran} or {0}
+        return not self.asked.everywhere or processor in places
 
     # A line
 
@@ -155,12 +211,14 @@ class Parts:
         return "lost" if not self.asked.cut and is_behind and (self.is_lost_within(line) or self.is_torn) else None
 
     def part_cause(self, line: Line) -> Optional[str]:
-        """It tells of a loss, or of a thread that was there, since a time before a part that was written."""
-        if is_loss(line) and self.lines.lost_since(line) < self.cut.decided:
+        """It tells of a loss, or of a thread that was there, since a time before a part that was written, of any processor. A cut at which
+        nothing is written counts, too."""
+        cuts = self.watched()
+        if is_loss(line) and any(self.lines.lost_since(line) < cut.decided for cut in cuts):
             return "part written"
         if line.kind != "switch" or self.asked.task_of(line.threads[0]) is None or self.counted.has_switched(line.processor):
             return None
-        return "part written" if self.counted.whole_since(line.time) < self.cut.boundary else None
+        return "part written" if any(self.counted.whole_since(line.time) < cut.boundary for cut in cuts) else None
 
     def take(self, line: Line) -> None:
         """The next line."""
@@ -172,6 +230,10 @@ class Parts:
         tasks = [self.asked.task_of(thread) for thread in line.threads]
         self.seen.update(task for task in tasks if task is not None)
         self.is_woken = self.is_woken or (line.kind == "wake" and tasks[0] is not None)
+        if is_stamped(line) or is_loss(line):
+            self.greatest = max(self.greatest, line.processor)
+        if line.kind == "switch" and (tasks[0] is not None or tasks[1] is not None) and self.asked.everywhere:
+            self.cuts.setdefault(line.processor, self.idle)
         if counted is not None:
             self.take_counted(counted)
         self.lines.take(line)
@@ -202,10 +264,15 @@ class Parts:
         stretch = Stretch(processor, since, self.shown().end, self.counted.speed(processor))
         return follower.jobs[:-1] + [replace(last, ran=last.ran + [stretch])]
 
-    def waiting(self) -> List[List[Judged]]:
-        """Those of each task that wait."""
-        shown = self.shown()
-        return [judge_jobs(number, self.jobs(follower), shown, self.asked, self.cut.boundary) for number, follower in enumerate(self.followers)]
+    def waiting(self, processor: int, cut: Cut) -> List[List[Judged]]:
+        """Those of each task that wait, judged on a processor that is cut so."""
+        shown, asked = self.shown(), self.on(processor)
+        return [judge_jobs(number, self.jobs(follower), shown, asked, cut.boundary) for number, follower in enumerate(self.followers)]
+
+    def how_much(self, cut: Cut) -> Tuple[int, int]:
+        """How many jobs wait, and how many stretches they have."""
+        waiting = [job for follower in self.followers for job in self.jobs(follower) if job.begin >= cut.boundary]
+        return len(waiting), sum(len(job.ran) for job in waiting)
 
     def is_settled(self, one: Judged) -> bool:
         """No line that still comes can change what is said of it."""
@@ -214,9 +281,9 @@ class Parts:
         is_over = {"open": False, "ended": True, "unseen": followed, "lost": job.at < shown.end}[job.state]
         return is_over and job.begin + self.asked.tasks[one.task].apart <= self.lines.last
 
-    def place(self, waiting: List[Judged]) -> Optional[int]:
-        """The last begin of a waiting job at which all that begin before are settled and have no run behind it, of which one is written: and
-        none of their windows is open, or else whatever windows are open."""
+    def place(self, waiting: List[Judged], processor: int) -> Optional[int]:
+        """The last begin of a waiting job at which all that begin before are settled and have no run behind it, of which one is written, or,
+        of several processors, at which any begins before: and no window of the written ones is open, or else whatever windows are open."""
         quiet: Optional[int] = None
         closed: Optional[int] = None
         ended, due, is_done, is_any = 0, 0, True, False
@@ -228,8 +295,9 @@ class Parts:
                 is_done = is_done and self.is_settled(before) and (bool(before.reason) or before.job.state == "ended")
                 if not before.reason:
                     ended = max(ended, before.job.at)
-                if not before.reason or before.late is not None:
-                    is_any, due = True, max(due, before.due)
+                is_written = (not before.reason or before.late is not None) and self.belongs(before, processor)
+                is_any = is_any or is_written or self.asked.everywhere
+                due = max(due, before.due) if is_written else due
             if is_any and is_done and ended <= one.job.begin:
                 quiet = one.job.begin
                 closed = quiet if due <= quiet else closed
@@ -238,20 +306,48 @@ class Parts:
     # A part
 
     def look(self) -> None:
-        """Whether a part is to be written behind this line."""
-        by_task = self.waiting()
-        waiting = in_order(by_task)
-        stretches = sum(len(one.job.ran) for one in waiting)
+        """Whether parts are to be written behind this line, and which."""
+        found: Dict[int, Piece] = {}
+        idle: Optional[Piece] = None
+        for processor in self.processors():
+            if processor in self.cuts:
+                found[processor] = self.piece(processor, self.cuts[processor], True)
+            elif idle is None:
+                idle = self.piece(processor, self.idle, True)
+        if self.asked.everywhere:
+            found[IDLE] = idle or self.piece(IDLE, self.idle, False)
+        for processor, piece in found.items():
+            if piece.cut is not self.cut_of(processor):
+                self.moved.setdefault(self.number, set()).add(processor)
+            self.put(piece)
+        self.idle = found.pop(IDLE).cut if self.asked.everywhere else self.idle
+        self.cuts = {processor: piece.cut for processor, piece in found.items()}
+        if any(piece.document is not None for piece in found.values()):
+            self.behind.append(self.number)
+
+    def put(self, piece: Piece) -> None:
+        """Writes a part."""
+        if piece.document is not None:
+            self.text += piece.text
+            self.written.append(piece.document)
+
+    def piece(self, processor: int, cut: Cut, is_told: bool) -> Piece:
+        """What is written of a processor behind this line. One of which no line has told is no fault."""
+        jobs, stretches = self.how_much(cut)
         may_write = self.asked.at_run or self.is_woken
-        if may_write and (len(waiting) > PART_JOBS or stretches > PART_STRETCHES):
-            place = self.place(waiting)
+        if may_write and (jobs > self.limits.jobs or stretches > self.limits.stretches):
+            by_task = self.waiting(processor, cut)
+            place = self.place(in_order(by_task), processor)
             if place is not None:
-                self.write([[one for one in mine if one.job.begin < place] for mine in by_task], place)
-                return
-        if len(waiting) > MOST_WAITING or stretches > MOST_STRETCHES:
+                mine = [[one for one in all_of if one.job.begin < place and self.belongs(one, processor)] for all_of in by_task]
+                if not any(mine):
+                    return Piece(replace(cut, boundary=place, decided=self.lines.last))
+                return self.part(processor, cut, mine, place)
+        if is_told and (jobs > self.limits.most_jobs or stretches > self.limits.most_stretches):
             if not may_write:
                 raise line_fault(self.number, "unwoken")
-            raise self.no_place(waiting)
+            raise self.no_place(in_order(self.waiting(processor, cut)))
+        return Piece(cut)
 
     def no_place(self, waiting: List[Judged]) -> Wrong:
         """That no part can end: it names the first job that isn't settled."""
@@ -261,39 +357,55 @@ class Parts:
         return Wrong(f"no part can end, since the processor is never quiet; look at job {one.name}, begun at {begun}, {late}:"
                      " choose --from and --to around it, or leave its task out", 3, "no place")
 
-    def write(self, by_task: List[List[Judged]], until: Optional[int]) -> None:
-        """A part with these jobs; without a time it is the last."""
-        cut, asked = self.cut, self.asked
+    def part(self, processor: int, cut: Cut, by_task: List[List[Judged]], until: Optional[int]) -> Piece:
+        """A part of a processor with these jobs; without a time it is the last."""
+        asked = self.on(processor)
         origin = asked.begin if asked.begin is not None else self.lines.first or 0
         begins = [one.job.begin for one in in_order(by_task)]
         shift = max(begins[0] - origin, 0) // asked.unit if begins else 0
         document = Document(by_task, origin + shift * asked.unit, asked)
-        name = f"part {cut.parts + 1}"
+        self.check(document, f"part {cut.parts + 1}", asked.everywhere or cut.parts > 0)
+        text = self.head(document, processor, cut, shift, until is None) + document.text()
+        if len(text.encode()) > MOST_TEXT:
+            raise Wrong(f"part {cut.parts + 1}: the document is longer than 8388608 bytes; choose fewer tasks, or greater units by --us and --khz", 3, "part: text")
+        if until is None:
+            return Piece(cut, document, text)
+        due = max([cut.due, *(one.due for one, _, _, _ in document.rows)])
+        return Piece(Cut(until, self.lines.last, cut.parts + 1, cut.jobs + len(document.rows), due), document, text)
+
+    def check(self, document: Document, name: str, may_be_empty: bool) -> None:
+        """The first limit that a part passes."""
         try:
-            if cut.parts and not document.rows:
+            if may_be_empty and not document.rows:
                 document.check_missed()
             else:
                 document.check()
         except Wrong as wrong:
             raise Wrong(f"{name}: {wrong.text}", wrong.status, f"part {wrong.kind}") from wrong
-        text = self.head(document, shift, until is None) + document.text()
-        if len(text.encode()) > MOST_TEXT:
-            raise Wrong(f"{name}: the document is longer than 8388608 bytes; choose fewer tasks, or greater units by --us and --khz", 3, "part: text")
-        self.text += text
-        self.written.append(document)
-        if until is not None:
-            self.behind.append(self.number)
-            due = max([cut.due, *(one.due for one, _, _, _ in document.rows)])
-            self.cut = Cut(until, self.lines.last, cut.parts + 1, cut.jobs + len(document.rows), due)
 
-    def head(self, document: Document, shift: int, is_last: bool) -> str:
+    def head(self, document: Document, processor: int, cut: Cut, shift: int, is_last: bool) -> str:
         """The line that says which part it is."""
-        cut, rows = self.cut, document.rows
+        rows = document.rows
         first = min((release for _, release, _, _ in rows), default=0)
         last = max((due for _, _, due, _ in rows), default=0)
+        of = f", cpu {processor}" if self.asked.everywhere else ""
         windows = ", windows open" if cut.boundary < cut.due else ""
         return (f"# part {cut.parts + 1}: jobs {cut.jobs + 1} to {cut.jobs + len(rows)}, from {shift + first} to {shift + last}, shift {shift}"
-                f"{windows}{', the last' if is_last else ''}\n")
+                f"{of}{windows}{', the last' if is_last else ''}\n")
+
+    def end(self) -> None:
+        """The last part of each processor. At least one document of all has a job."""
+        found = [self.last_part(processor, self.cut_of(processor)) for processor in self.processors()]
+        documents = [*self.written, *(piece.document for piece in found if piece.document is not None)]
+        if self.asked.everywhere and not any(document.rows for document in documents):
+            self.check(documents[0], "part 1", False)
+        for piece in found:
+            self.put(piece)
+
+    def last_part(self, processor: int, cut: Cut) -> Piece:
+        """That of a processor."""
+        mine = [[one for one in all_of if self.belongs(one, processor)] for all_of in self.waiting(processor, cut)]
+        return self.part(processor, cut, mine, None)
 
     # The whole
 
@@ -325,15 +437,15 @@ def read_all(parts: Parts, trace: bytes) -> None:
             _, column, reason = said.decode().split(" ")
             raise Wrong(f"line {number}, column {column}: {FORMS[reason]}", 3, f"form: {reason}")
         parts.take(line_of(said))
-        if parts.number % LOOK == 0:
+        if parts.number % parts.limits.look == 0:
             parts.look()
     parts.check_whole()
-    parts.write(parts.waiting(), None)
+    parts.end()
 
 
-def told_in_parts(trace: bytes, asked: Asked) -> Tuple[Told, Parts]:
+def told_in_parts(trace: bytes, asked: Asked, limits: Limits = FULL) -> Tuple[Told, Parts]:
     """What is written of a trace in parts, and what was read of it."""
-    parts = Parts(asked)
+    parts = Parts(asked, limits)
     try:
         read_all(parts, trace)
     except Wrong as wrong:

@@ -5,8 +5,10 @@
 
 Each mistake is a small change of a crate, of the kind that a programmer makes. The crates are copied into a folder of
 their own, changed there, and built unproved by `rt try`: the prover would refuse each. Then the program answers N drawn
-traces (480) of seed S (1), which the second reading of trace.py answers too. A mistake is found where an answer differs.
-J mistakes are tried side by side (1). The last line is 'N found, M not found'; the exit status is 1 where M isn't 0.
+traces (480) of seed S (1), which the second reading of trace.py answers too. For a mistake in parts these are N/4 of
+long.py, and for one of several processors N/4 of everywhere.py, 32 times shorter than their own, and the crates get
+limits of parts that are smaller, too: so each trace has several parts. A mistake is found where an answer differs. J
+mistakes are tried side by side (1). The last line is 'N found, M not found'; the exit status is 1 where M isn't 0.
 """
 
 import argparse
@@ -18,15 +20,21 @@ from concurrent.futures import ThreadPoolExecutor
 from pathlib import Path
 from typing import List, NamedTuple, Sequence, Tuple
 
-from trace import Case, drawn_cases, lay_out, try_laid_out
+import everywhere
+import long
+from parted import SMALL, told_in_parts
+from second import asked_by
+from trace import Case, drawn_cases, lay_out, shorten, try_laid_out
 
 
 class Mistake(NamedTuple):
-    """A mistake: its name, the file, and what stands there, just once, with what is put in its place."""
+    """A mistake: its name, the file, what stands there, just once, with what is put in its place, and what the traces are asked for that
+    find it: `one` document, `parts`, or `all` processors."""
 
     name: str
     file: str
     edits: Tuple[Tuple[str, str], ...]
+    asked: str = "one"
 
 
 MISTAKES = [
@@ -76,6 +84,34 @@ MISTAKES = [
         ("groups.sort_by_key(|group| MAX_U64.saturating_sub(group.count))?;", "groups.sort_by_key(|group| group.count)?;"),)),
     Mistake("milliseconds_without_their_places", "yds_trace_words/src/decimal.rt", (
         ("value_of(text) * 10_u64.pow((places - text.len()) as u32)", "value_of(text)"),)),
+    Mistake("settled_without_apart", "yds_trace_parts/src/place.rt", (
+        ("        && begin <= shown.last\n        && apart_of(asked, judged.task) <= shown.last - begin\n", "        && begin <= shown.last\n"),), "parts"),
+    Mistake("an_open_job_taken_for_over", "yds_trace_parts/src/place.rt", (("        End::Open => false,\n", "        End::Open => true,\n"),), "parts"),
+    Mistake("the_last_job_unseen_taken_for_over", "yds_trace_parts/src/place.rt", (
+        ("        End::Unseen { .. } => followed,\n", "        End::Unseen { .. } => followed || !followed,\n"),), "parts"),
+    Mistake("a_place_before_a_run_is_over", "yds_trace_parts/src/place.rt", (
+        ("        End::Ended(end) => Some(end),\n", "        End::Ended(end) => Some(end / 2),\n"),), "parts"),
+    Mistake("a_quiet_place_before_a_closed_one", "yds_trace_parts/src/place.rt", (
+        ("    places.closed.or(places.quiet)\n", "    places.quiet.or(places.closed)\n"),), "parts"),
+    Mistake("the_boundary_moved_too_far", "yds_trace_parts/src/part.rt", (("        boundary: time,\n", "        boundary: last,\n"),), "parts"),
+    Mistake("decided_at_the_place", "yds_trace_parts/src/part.rt", (("        decided: last,\n", "        decided: time,\n"),), "parts"),
+    Mistake("jobs_behind_the_place_in_the_part", "yds_trace_parts/src/part.rt", (
+        ("settle_part(alloc, asked, shown.first, waiting, Some(time))?;", "settle_part(alloc, asked, shown.first, waiting, None)?;"),), "parts"),
+    Mistake("jobs_that_are_left_out_counted", "yds_trace_parts/src/part.rt", (
+        ("cut.jobs.saturating_add(written(part))", "cut.jobs.saturating_add(part.len() as u64)"),), "parts"),
+    Mistake("windows_of_the_part_before_forgotten", "yds_trace_parts/src/part.rt", (
+        ("        due: greatest_due(cut.due, part),\n", "        due: cut.due,\n"),), "parts"),
+    Mistake("stretches_that_wait_not_counted", "yds_trace_parts/src/telling.rt", (
+        ("amount.jobs <= PART_JOBS && amount.stretches <= PART_STRETCHES", "amount.jobs <= PART_JOBS"),), "parts"),
+    Mistake("a_part_before_the_first_wake_up", "yds_trace_parts/src/part.rt", (
+        ("    if !may_write {\n", "    if !may_write && is_too_much(&waiting.judged) {\n"),), "parts"),
+    Mistake("the_shift_not_told", "yds_trace_document/src/part.rt", (("    Ok(Part { settled, shift })\n", "    Ok(Part { settled, shift: 0 })\n"),), "parts"),
+    Mistake("the_shift_not_taken_off", "yds_trace_document/src/part.rt", (
+        ("        zero: zero + shift * asked.unit,\n", "        zero,\n"),), "parts"),
+    Mistake("a_loss_behind_a_part_passed_over", "yds_trace/src/check.rt", (
+        ("lines.past.lost_since(*processor, *since) < cut.decided", "lines.past.lost_since(*processor, *since) < cut.boundary"),), "parts"),
+    Mistake("a_thread_that_was_there_passed_over", "yds_trace/src/past.rt", (
+        ("self.whole_since.unwrap_or(time) < boundary", "time < boundary"),), "parts"),
 ]
 
 
@@ -98,9 +134,23 @@ def found_by(mistake: Mistake, cases: List[Case]) -> Tuple[int, str]:
     """Of how many cases the changed program says something else, and what `rt` wrote where none was answered."""
     with tempfile.TemporaryDirectory() as folder:
         crate = lay_out(Path(folder))
+        if mistake.asked != "one":
+            shorten(Path(folder))
         plant(mistake, Path(folder))
         wrong, said = try_laid_out(crate, cases)
     return len(wrong), said[-2000:] if len(wrong) == len(cases) else ""
+
+
+def cases_of(asked: str, seed: int, many: int) -> List[Case]:
+    """The drawn traces that are asked for so, with what the second reading says."""
+    if asked == "one":
+        return [case for number in range(many) for case in drawn_cases(seed, number, Counter())]
+    found: List[Case] = []
+    for number in range((many + 3) // 4):
+        it = (long.drawn if asked == "parts" else everywhere.drawn)(seed, number, everywhere.SCALE)
+        said, _ = told_in_parts(it.trace, asked_by(it.words), SMALL)
+        found.append(Case(it.words, it.trace, said.text, said.status))
+    return found
 
 
 def main(words: Sequence[str]) -> int:
@@ -117,11 +167,12 @@ def main(words: Sequence[str]) -> int:
             planted(mistake, (Path("crates") / mistake.file).read_text(encoding="utf-8"))
         print(f"{len(MISTAKES)} passed, 0 failed")
         return 0
-    cases = [case for number in range(options.traces) for case in drawn_cases(options.seed, number, Counter())]
     chosen = [mistake for mistake in MISTAKES if not options.mistakes or mistake.name in options.mistakes]
+    drawn = {asked: cases_of(asked, options.seed, options.traces) for asked in {mistake.asked for mistake in chosen}}
     found = 0
     with ThreadPoolExecutor(options.jobs) as pool:
-        for mistake, (wrong, said) in zip(chosen, pool.map(lambda mistake: found_by(mistake, cases), chosen)):
+        for mistake, (wrong, said) in zip(chosen, pool.map(lambda mistake: found_by(mistake, drawn[mistake.asked]), chosen)):
+            cases = drawn[mistake.asked]
             if said:
                 print(said)
             # A program that answers nothing wasn't tried: it couldn't be built, or ended at once.

@@ -39,10 +39,11 @@ class Task(NamedTuple):
 
 @dataclass
 class Asked:
-    """What is asked for. Times are nanoseconds."""
+    """What is asked for: of one processor, or of each one in documents of its own (`everywhere`). Times are nanoseconds."""
 
     tasks: List[Task] = field(default_factory=list)
     processor: int = 0
+    everywhere: bool = False
     unit: int = 10_000
     khz: int = 10_000
     start: Optional[int] = None
@@ -89,7 +90,7 @@ HELPS = {
     "needless": "it has no value; leave out the equals sign and what is behind it",
     "missing": "its value is missing; write it behind",
     "twice": "given twice; give it once",
-    "--cpu": "no number of a processor; write a whole number from 0 to 8191",
+    "--cpu": "no number of a processor; write a whole number from 0 to 8191, or all",
     "--us": "no unit of time; write whole microseconds from 1 to 1000000000",
     "--khz": "no speed; write whole kilohertz from 1 to 4294967295",
     "--start": "no speed; write whole kilohertz from 1 to 4294967295",
@@ -242,7 +243,10 @@ def asked_by(words: List[str]) -> Asked:
             raise word_fault(name, "twice")
     given = dict(found)
     asked = Asked(strict="--strict" in given, in_parts="--parts" in given)
-    asked.processor = whole("--cpu", given.get("--cpu", "0"), 0, MOST_PROCESSOR)
+    if given.get("--cpu") == "all":
+        asked.everywhere = asked.in_parts = True
+    else:
+        asked.processor = whole("--cpu", given.get("--cpu", "0"), 0, MOST_PROCESSOR)
     asked.unit = 1000 * whole("--us", given.get("--us", "10"), 1, 10**9)
     asked.khz = whole("--khz", given.get("--khz", "10000"), 1, MOST_NUMBER)
     if "--start" in given:

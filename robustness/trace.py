@@ -6,9 +6,9 @@
 It draws TRACES traces (1,000) by drawn.py, each with words, and with words that have a mistake: five formats; threads
 that sleep, are preempted, wait, starve and move among processors, with odd names; changes of speed at the stamp of a
 switch; fronts that are cut off, lost events, missing switches, each fault of a line, of its form, of a whole trace and
-of a document; `--from` and `--to`; deadlines that are missed by a nanosecond; and one in eight in parts, of which such
-small traces have one (long.py draws those that have more). The second reading is second.py, and parted.py for parts. It
-shares no code with the crates.
+of a document; `--from` and `--to`; deadlines that are missed by a nanosecond; and one in eight in parts, and one in
+eight of all processors, of which such small traces have one part each (long.py and everywhere.py draw those that have
+more). The second reading is second.py, and parted.py for parts. It shares no code with the crates.
 
 PROGRAM is the program that was built (build/yds_trace, where there is one). Without it a small program over the crate
 `yds_trace_run` does the same on each trace, and `rt try` builds it, unproved. Before the last line it tells how many
@@ -27,7 +27,7 @@ from pathlib import Path
 from typing import Dict, Iterator, List, NamedTuple, Set, Tuple
 
 from drawn import drawn, mistaken
-from parted import told_in_parts
+from parted import SMALL, told_in_parts
 from second import Asks, CAUSES, FLAGS, FORMS, HELPS, Judged, MOST_TEXT, Told, VALUES, Wrong, asked_by, whole_document
 
 
@@ -56,7 +56,7 @@ def told(words: List[str], trace: bytes) -> Told:
 REASONS = ["before from", "events lost", "a switch is missing", "its begin isn't in the trace", "ran on another processor", "frequency not known"]
 WANTED = [
     *(f"format {form}" for form in ("kernel", "short", "raw", "perf", "perfetto")),
-    *(f"option {word}" for word in VALUES + FLAGS), "option APART", "a task by its number", "a value behind an equals sign",
+    *(f"option {word}" for word in VALUES + FLAGS), "option --cpu all", "option APART", "a task by its number", "a value behind an equals sign",
     *(f"form: {reason}" for reason in FORMS),
     *(f"line: {cause}" for cause in CAUSES if cause not in ("none", "unwoken", "part written")),
     *(f"whole: {cause}" for cause in ("none", "lost", "a task unseen", "unwoken")),
@@ -81,6 +81,8 @@ def in_words(words: List[str]) -> Iterator[str]:
             yield f"option {name}"
         if name in VALUES and "=" in word:
             yield "a value behind an equals sign"
+    if "--cpu=all" in words or ("--cpu", "all") in zip(words, words[1:]):
+        yield "option --cpu all"
     listed = next((word for word in words if re.search(r":[0-9.]+(,|$)", word)), "")
     if re.search(r":[0-9.]+:[0-9.]+(,|$)", listed):
         yield "option APART"
@@ -162,6 +164,7 @@ DRIVER = '''//! Runs yds_trace on each trace in standard input, and writes the t
 //! Of each there are a line with the words, with a tab behind each, a line with the length of the trace, and the trace.
 #![tactic(auto)]
 
+use std::hash::RandomState;
 use std::io::{BufWriter, Read, Write};
 use yds_port::{SteadySource, StdSink};
 use yds_trace_run::run;
@@ -193,9 +196,10 @@ fn main(rt: HostRuntime) -> Result<(), anyhow::Error> {
         let mut source = SteadySource::new(Vec::from_slice(rt.alloc(), &input[at..at + length])?);
         at += length;
         let mut text = Vec::new(rt.alloc());
+        let keys = RandomState::new(&rt)?;
         let status = {
             let mut sink = StdSink::new(&mut text);
-            run(rt.alloc(), &words, &mut source, &mut sink)
+            run(rt.alloc(), keys, &words, &mut source, &mut sink)
         };
         out.write_all(&text)?;
         out.write_all(format!(in rt.alloc(); "status {}\\n", status.code())?.as_bytes())?;
@@ -257,13 +261,33 @@ def lay_out(top: Path) -> Path:
     return source.parent
 
 
-# So many cases are a run of the small program: `rt` takes half a second for each run, and at most 1 MiB of its output.
-BUNDLE = 300
+def shorten(top: Path) -> None:
+    """Gives the crates that were laid out the smaller limits of parts."""
+    file = top / "crates" / "yds_trace" / "src" / "limits.rt"
+    text = file.read_text(encoding="utf-8")
+    names = ("LOOK_EVERY", "PART_JOBS", "PART_STRETCHES", "WAITING_JOBS", "WAITING_STRETCHES")
+    for name, value in zip(names, SMALL):
+        text, count = re.subn(rf"(pub const {name}: u64 =) [0-9_]+;", rf"\g<1> {value};", text)
+        assert count == 1
+    file.write_text(text, encoding="utf-8")
+
+
+# So many cases, and so many bytes of their texts, are a run of the small program: `rt` takes half a second for each run, and
+# at most 1 MiB of its output.
+BUNDLE, BYTES = 300, 600_000
 
 
 def bundles(cases: List[Case]) -> List[List[Case]]:
-    """The cases, so many at a time, of which the text isn't longer than `rt` takes."""
-    return [cases[at : at + BUNDLE] for at in range(0, len(cases), BUNDLE)]
+    """The cases, so many at a time."""
+    found: List[List[Case]] = []
+    size = BYTES
+    for case in cases:
+        if size + len(case.text) > BYTES or len(found[-1]) == BUNDLE:
+            found.append([])
+            size = 0
+        found[-1].append(case)
+        size += len(case.text)
+    return found
 
 
 def write_bundle(cases: List[Case], file: Path) -> None:
@@ -291,10 +315,12 @@ def try_laid_out(crate: Path, cases: List[Case]) -> "Tuple[List[int], str]":
     told = re.split(r"^== ([0-9]{4})\n", done.stdout, flags=re.M)
     texts = {int(number): text for number, text in zip(told[1::2], told[2::2])}
     wrong: List[int] = []
+    before = 0
     for number, part in enumerate(parts):
         written = re.findall(r"(?:.*\n)*?status [0-9]+\n", texts.get(number, ""))
         wanted = answers_of(part)
-        wrong += [number * BUNDLE + at for at, text in enumerate(wanted) if at >= len(written) or written[at] != text]
+        wrong += [before + at for at, text in enumerate(wanted) if at >= len(written) or written[at] != text]
+        before += len(part)
     return wrong, done.stdout + done.stderr
 
 

@@ -125,12 +125,16 @@ class Answers:
             return self.refuse(place, f"there is no part {self.part_name(place)}; say where the parts are (--folder)")
         if head is None:
             return self.refuse(place, f"{self.part_name(place)} is no part of a long document")
+        if self.heads and head.cpu != self.heads[0].cpu:
+            both = f"is the answer to a part of {processor(head)}, and the first one of {processor(self.heads[0])}"
+            self.refuse(place, f"{both}; give those of one processor (yds-whole --cpu N)")
+            self.stop_at_faults()
         if head.number != place + 1:
             self.refuse(place, f"is the answer to part {head.number}, and that to part {place + 1} is missing")
             self.stop_at_faults()
         if head.last and place + 1 < len(self.parts):
             self.refuse(place + 1, "the part before it is the last")
-        if self.heads and (head.first != self.heads[-1].final + 1 or head.cpu != self.heads[-1].cpu):
+        if self.heads and head.first != self.heads[-1].final + 1:
             self.refuse(place, f"its jobs don't follow those of part {place}; is it a part of another document?")
         self.heads.append(head)
 
@@ -178,6 +182,11 @@ class Answers:
         if more is not None:
             self.refuse(place, f'"{printable(more)}" stands after the verdict')
         return line.rstrip(b"\n")
+
+
+def processor(head: Head) -> str:
+    """What is said of the processor of a part."""
+    return "a trace of one processor" if head.cpu is None else f"processor {head.cpu}"
 
 
 def printable(line: bytes) -> str:

@@ -300,11 +300,15 @@ class Search:
 
 def _jobs_of(parts: Sequence[Text]) -> Iterator[Job]:
     """The jobs of all parts, in the times of the whole."""
+    processors: Set[Optional[int]] = set()
     for number, part in enumerate(parts, 1):
         shift: Optional[int] = None
         for line in lines_of(part):
             if shift is None:
                 head = read_head(line)
+                processors.add(None if head is None else head.cpu)
+                if len(processors) > 1:
+                    raise PartsError(f"part {number} is of another processor; give those of one (yds-whole --cpu N)")
                 if head is None or head.number != number:
                     raise PartsError(f"part {number} has no head line of its number")
                 shift = head.shift

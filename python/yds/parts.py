@@ -68,11 +68,11 @@ def cut(
 
 
 def split(lines: Iterable[bytes]) -> Iterator[Part]:
-    """The parts that stand in a text one behind the other, as `yds_trace --parts` writes them.
+    """The parts that stand in a text one behind the other, as `yds_trace --parts` and `--cpu all` write them.
 
     lines are those of the text, as a file has them. Each part gets the points and comments that stand before the first
-    one. PartsError is raised where a part is missing or the text is cut short, and where it ends with `failed`: the
-    parts before that were whole.
+    one. Of several processors each has parts of its own: `part.head.cpu` tells which. PartsError is raised where a part
+    is missing or the text is cut short, and where it ends with `failed`: the parts before that were whole.
 
     >>> head, end = b"# part 1: jobs 1 to 1, from 0 to 4, shift 0, the last\\n", b"# 1 job written, none left out\\n"
     >>> [part.text.count(b"point") for part in split([b"point 0 0\\n", head, b"job a 0 4 8\\n", end])]
@@ -84,7 +84,8 @@ def split(lines: Iterable[bytes]) -> Iterator[Part]:
 def whole(parts: Sequence[Text], answers: Sequence[Text], grid: Optional[int] = None) -> Whole:
     """The answers to all parts, in their order, as one answer to the whole.
 
-    Each part and answer is bytes, or the file that holds it. All answers are to the same command. Where no window is
+    Each part and answer is bytes, or the file that holds it. All parts are of one processor, and all answers are to the
+    same command. Where no window is
     open at the cuts, the lines are those that the program answers to the long document:
 
       plan, round, avr, oa   one text; levels of one speed are one level, the energy has the idle time between the parts
@@ -108,10 +109,10 @@ def whole(parts: Sequence[Text], answers: Sequence[Text], grid: Optional[int] = 
 def bounds(parts: Sequence[Text], jobs: int = MOST_JOBS, answer: Optional[Answer] = None) -> Bounds:
     """Between which energies the least of all jobs lies on the points, also where windows are open at every instant.
 
-    parts are the texts of `cut`, as bytes or files. Their jobs are put into groups of at most so many, cut where no
-    window is open if there is such an instant, else at one of at most 16 in the last tenth of the group: that at which
-    both bounds come nearest, as seen on the 40 jobs on either side. answer is called with words and a document, and
-    gives a status of the program and its answer; without it the library answers.
+    parts are the texts of `cut`, or of one processor of `split`, as bytes or files. Their jobs are put into groups of at
+    most so many, cut where no window is open if there is such an instant, else at one of at most 16 in the last tenth of
+    the group: that at which both bounds come nearest, as seen on the 40 jobs on either side. answer is called with words
+    and a document, and gives a status of the program and its answer; without it the library answers.
 
     Both bounds are exact numbers, over the horizon of all jobs, and the same where no window is open at any cut. The
     upper is None where the shortened windows made the top point too slow at each cut that was tried, and both are None

@@ -137,7 +137,7 @@ test_parts_faults() {
 no_whole() { refuses "whole: $1" 1 failed "yds-whole: $2" whole "$work"/faults/part-*.plan; }
 plan_again() { for file in "$work"/faults/part-*.txt; do "$YDS" plan <"$file" >"${file%.txt}.plan"; done; }
 test_whole_faults() {
-	refuses "whole: no answer" 2 failed "yds-whole: no file: yds-whole [--folder DIR] [--grid G] [--bounds] [--spent ENERGIES] FILE ..; see yds-whole --help" whole
+	refuses "whole: no answer" 2 failed "yds-whole: no file: yds-whole [--folder DIR] [--cpu N] [--grid G] [--bounds] [--spent ENERGIES] FILE ..; see yds-whole --help" whole
 	printf '%s\n' 'job a 0 4 8' 'job b 4 6 4' 'job c 9 12 3' 'point 0 1' 'point 2 5' >"$work/long"
 	rm -rf "$work/faults"
 	parts --folder "$work/faults" --jobs 1 "$work/long"

@@ -1,5 +1,5 @@
 -- What is known of the tasks doesn't depend on the processor that is asked for: only why a job isn't written as it stands does.
-use Rattle.yds_model.proofs.Common.{◌≡◌, ◌∙◌, ℕ, suc, ◌+◌, ◌<◌, ◌≤◌, List, [], ◌∷◌, reverse, length, max, Bool, true, false, not, ◌&&◌, ◌||◌, nat_lt, nat_le, if◌then◌else◌, Option, Some, None, is_some, is_none, All-weaker, refl, sym, ap, ap₂, arith}
+use Rattle.yds_model.proofs.Common.{◌≡◌, ◌∙◌, ℕ, suc, ◌+◌, ◌<◌, ◌≤◌, List, [], ◌∷◌, reverse, length, Bool, false, not, ◌&&◌, ◌||◌, nat_lt, nat_le, if◌then◌else◌, Option, Some, None, is_some, is_none, All-weaker, refl, sym, ap, ap₂, arith}
 use Rattle.yds_kernel.specs.Parts.{or_else}
 use Rattle.yds_kernel.specs.Event.{Thread, Happening, Switch, WakeUp, Speed, Loss, Marker, Other, Event, Said, Stamped, Lost, Nothing}
 use Rattle.yds_trace.specs.declared.counted.Counted.{Counted}
@@ -16,8 +16,8 @@ use Rattle.yds_trace.specs.Past.{last_time, is_first_switch, up_to}
 use Rattle.yds_trace.specs.Jobs.{Job, Known, stands_on, after_event, loses, known_after}
 use Rattle.yds_trace.specs.Late.{last_asked}
 use Rattle.yds_trace.specs.Document.{Judged, closed, jobs_of, began_before}
-use Rattle.yds_trace.specs.Faults.{pid_in, pid_before, is_another, is_another_thread, is_two_tasks, thread_fault, first_thread_fault, state_fault, both_fault, happening_fault, event_fault, stayed_fault, threads_fault, behind_fault, is_torn, stamped_fault, place_fault, runs_on, touches, touched, length_fault, said_fault, numbered, first_fault, wakes_task, has_wake_up, has_stamp, lost_just_before, unseen_from, unseen_fault, whole_fault}
-use Rattle.yds_trace.specs.Parts.{last_begin, last_begin_of, is_over, is_settled, may_write, was_there_before, changes_parts}
+use Rattle.yds_trace.specs.Faults.{pid_in, pid_before, is_another, is_two_tasks, thread_fault, first_thread_fault, state_fault, both_fault, happening_fault, is_torn, stamped_fault, place_fault, runs_on, touches, touched, length_fault, said_fault, numbered, first_fault, wakes_task, has_wake_up, has_stamp, lost_just_before, unseen_from, unseen_fault, whole_fault}
+use Rattle.yds_trace.specs.Parts.{last_begin, last_begin_of, is_over, is_settled, may_write, changes_parts}
 use Rattle.yds_trace.specs.Kept.{IsFollowed, IsCounted, IsLines}
 use Rattle.yds_trace.specs.Shown.{IsShownTask, IsShown}
 

@@ -42,6 +42,7 @@ asked = record {
   begin_at_run = false;
   cut_losses = false;
   in_parts = false;
+  everywhere = false;
 }
 
 abbrev just_this : Document
@@ -64,6 +65,14 @@ it_is_read = refl
 its_part_is_read : reading (part_text asked lines no_cut None) ≡ Ok just_this
 unfolding digits comment unit_comment
 its_part_is_read = refl
+
+-- And that of a processor on which nothing ran, as a document without a job.
+abbrev asked_elsewhere : Asked
+asked_elsewhere = record asked { processor = 3; everywhere = true }
+
+empty_part_is_read : reading (part_text asked_elsewhere lines no_cut None) ≡ Ok no_document
+unfolding digits comment unit_comment
+empty_part_is_read = refl
 
 -- # Near misses
 

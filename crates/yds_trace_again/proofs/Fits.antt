@@ -3,7 +3,6 @@ use Rattle.yds_model.proofs.Common.{◌≡◌, ◌≢◌, ℕ, zero, suc, ◌+�
 use Rattle.std.specs.List.{cons_option}
 use Rattle.yds_texts.proofs.Within.{only_jobs}
 use Rattle.yds_model.specs.declared.limits.TheConstants.{MAX_JOBS, MAX_TIME, MAX_WORK, MAX_SLOTS, MAX_SLOT_WORK, MAX_NAME}
-use Rattle.yds_kernel.specs.Parts.{or_else}
 use Rattle.yds_kernel.specs.Event.{Said}
 use Rattle.yds_trace.specs.Asked.{Task, no_task, Asked, IsAsked, task_at}
 use Rattle.yds_trace.specs.Jobs.{Job as TracedJob}
@@ -15,6 +14,7 @@ use Rattle.yds_trace_laws.proofs.Ordered.{filter-all, put_in-all, in_order-all, 
 use Rattle.yds_trace_laws.proofs.Runs.{IsForward, runs_forward}
 use Rattle.yds_trace_laws.proofs.Times.{lateness_is_kept}
 use Rattle.yds_trace_laws.proofs.Judging.{zero_before}
+use Rattle.yds_trace_laws.proofs.Begins.{or_none}
 use Rattle.yds_trace_document.specs.declared.fault.DocumentFault.{DocumentFault}
 use Rattle.yds_trace_document.specs.declared.fault.DocumentFault.TheVariants as faults
 use Rattle.yds_trace_document.specs.Settled.{Settled}
@@ -27,10 +27,6 @@ use Rattle.yds_trace_again.proofs.Names.{Other, other_back, one_task, two_tasks}
 use Rattle.yds_trace_again.proofs.RowsRead.{IsRun}
 
 -- # What no limit says
-
-none_of_two : {A : Type 0} (first second : Option A) → or_else first second ≡ None → (first ≡ None) × (second ≡ None)
-none_of_two None second none = (refl, none)
-none_of_two (Some x) second none = cc
 
 no_fault_if : (test : Bool) (fault : DocumentFault) → fault_if test fault ≡ None → test ≡ false
 no_fault_if true fault none = cc
@@ -75,11 +71,11 @@ small_by job long beyond heavy =
 pub passes_limits : (strict : Bool) (settled : Settled) → limit_fault strict settled ≡ None → PassesLimits settled.document.jobs settled.document.runs
 passes_limits strict settled none =
     let jobs : List Written = settled.document.jobs in
-    let one = none_of_two (fault_if (nat_lt MAX_JOBS (length jobs)) faults.TooManyJobs) _ none in
-    let two = none_of_two (fault_if (nat_lt MAX_SLOTS (length settled.document.runs)) faults.TooManyRuns) _ one.1 in
-    let three = none_of_two (job_fault jobs) _ two.1 in
-    let long = none_of_two (option_map (λ place. faults.NameTooLong place) (position is_long_name jobs)) _ three.0 in
-    let beyond = none_of_two (option_map (λ place. faults.TimeTooGreat place) (position is_beyond jobs)) _ long.1 in
+    let one = or_none (fault_if (nat_lt MAX_JOBS (length jobs)) faults.TooManyJobs) _ none in
+    let two = or_none (fault_if (nat_lt MAX_SLOTS (length settled.document.runs)) faults.TooManyRuns) _ one.1 in
+    let three = or_none (job_fault jobs) _ two.1 in
+    let long = or_none (option_map (λ place. faults.NameTooLong place) (position is_long_name jobs)) _ three.0 in
+    let beyond = or_none (option_map (λ place. faults.TimeTooGreat place) (position is_beyond jobs)) _ long.1 in
     let names = none_passes is_long_name jobs (no_place (λ place. faults.NameTooLong place) (position is_long_name jobs) long.0) in
     let times = none_passes is_beyond jobs (no_place (λ place. faults.TimeTooGreat place) (position is_beyond jobs) beyond.0) in
     let works = none_passes is_heavy jobs (no_place (λ place. faults.WorkTooGreat place) (position is_heavy jobs) beyond.1) in

@@ -1,5 +1,5 @@
 -- A text stands within another one; so does each late job's comment in the text of a document.
-use Rattle.yds_model.proofs.Common.{ℕ, zero, suc, ◌<◌, List, [], ◌∷◌, ◌++◌, length, get_or, flat_map, sym, ap, subst, ◌∙◌, arith, append_assoc, append-nil}
+use Rattle.yds_model.proofs.Common.{ℕ, zero, suc, ◌<◌, List, [], ◌∷◌, ◌++◌, length, get_or, flat_map, sym, ap, ◌∙◌, arith, append_assoc, append-nil}
 use Rattle.yds_trace_text.specs.Text.{late_comment}
 use Rattle.yds_trace_again.specs.Holds.{Holds}
 use Rattle.yds_trace_again.specs.Laws.{LateJobsAreNamed}
@@ -21,12 +21,6 @@ on_the_right front text part held = record {
 
 here : (part : List ℕ) → Holds part part
 here part = record { before = []; behind = []; is = sym (append-nil part) }
-
--- what stands within a text that stands within another
-pub held_within : (text middle part : List ℕ) → Holds text middle → Holds middle part → Holds text part
-held_within text middle part outer inner =
-    subst (λ (one : List ℕ). Holds one part) (sym outer.is)
-    (on_the_left (outer.before ++ middle) outer.behind part (on_the_right outer.before middle part inner))
 
 pub in_each : {X : Type 0} (told : X → List ℕ) (all : List X) (i : ℕ) (d : X) → i < length all → Holds (flat_map told all) (told (get_or all i d))
 in_each told [] i d within = absurd (omega arith)

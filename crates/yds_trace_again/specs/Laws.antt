@@ -45,7 +45,7 @@ ReadAgain = (asked : Asked) (strict : Bool) (past : List Said) → IsAsked asked
 -- says which part it is is a comment.
 abbrev pub PartsAreReadAgain : Type 0
 PartsAreReadAgain = (asked : Asked) (strict : Bool) (past : List Said) (cut : Cut) (until : Option ℕ) → IsAsked asked → AreLabelled asked.tasks →
-    first_fault asked past ≡ None → part_limit_fault strict cut (part_of asked past cut until) ≡ None → length (part_text asked past cut until) ≤ MAX_INPUT →
+    first_fault asked past ≡ None → part_limit_fault asked strict cut (part_of asked past cut until) ≡ None → length (part_text asked past cut until) ≤ MAX_INPUT →
     IsReadAs (part_of asked past cut until).document (part_text asked past cut until)
 
 -- Each late job of a document has its comment in the document's text.

@@ -15,8 +15,10 @@ ghost use Rattle.yds_trace_cli.specs.Telling.{Tells, text_without_words};
 mod small_writes;
 
 use small_writes::SmallWrites;
+use std::hash::RandomState;
 use std::io::{BufWriter, ErrorKind};
 use std::process::ExitCode;
+use std::random::RandomSource;
 use std::{env, io};
 use yds_model::Status;
 use yds_port::{Flushed, Sink, StdSink, StdSource, write_all};
@@ -96,7 +98,30 @@ fn run_words(rt: &HostRuntime) -> io::Result<Status> {
     let output = BufWriter::with_capacity(rt.alloc(), OUTPUT_BUFFER, rt.stdout())?;
     let mut source = StdSource::new(rt.stdin());
     let mut sink = SmallWrites::new(StdSink::new(output));
-    Ok(run(rt.alloc(), words_of(&line), &mut source, &mut sink))
+    let keys = drawn_keys(rt)?;
+    Ok(run(
+        rt.alloc(),
+        keys,
+        words_of(&line),
+        &mut source,
+        &mut sink,
+    ))
+}
+
+/// The keys that threads are looked up with, drawn anew in each run, so that nobody can choose threads that are slow to look up.
+/// Fixed ones where the machine gives no random bytes: no answer depends on them.
+fn drawn_keys(random: &impl RandomSource) -> io::Result<RandomState> {
+    RandomState::new(random).or_else(|_error| RandomState::new(&FixedBytes))
+}
+
+/// What is drawn where there are no random bytes: bytes that are all 0.
+struct FixedBytes;
+
+impl RandomSource for FixedBytes {
+    fn fill_bytes(&self, bytes: &mut [u8]) -> io::Result<()> {
+        bytes.fill(0);
+        Ok(())
+    }
 }
 
 /// The words of a command line: all behind the program's name.

@@ -5,3 +5,4 @@ mod DocumentExamples
 mod FaultExamples
 mod PartExamples
 mod ToldExamples
+mod ProcessorExamples

@@ -83,13 +83,13 @@ third_holds true b c holds = refl
 third_holds false true c holds = refl
 third_holds false false c holds = holds
 
-some_processor : (past : List Said) → 1 ≤ processor_count past
+pub some_processor : (past : List Said) → 1 ≤ processor_count past
 some_processor [] = omega arith
 some_processor (said ∷ past) =
     let rest : 1 ≤ processor_count past = some_processor past in
     let more : 1 ≤ max (next_processor said) (processor_count past) = omega (arith, rest) in more
 
-numbers_contain : (bound number : ℕ) → number < bound → Contains (first_numbers bound) number
+pub numbers_contain : (bound number : ℕ) → number < bound → Contains (first_numbers bound) number
 numbers_contain zero number within = absurd (omega arith)
 numbers_contain (suc bound) number within = elim (cases_lt number bound) [
   | inl less ↦ Contains-append_left (first_numbers bound) (bound ∷ []) number (numbers_contain bound number less)
@@ -238,7 +238,7 @@ waiting_under asked past boundary =
     let bound : ℕ = processor_count past in
     filter-all (RanUnder bound) (begins_from boundary) (all_judged asked past) (all_under bound asked past (tell_under bound past (omega arith)))
 
-part_unseen : (asked : Asked) (past : List Said) (processor : ℕ) (cut : Cut) (until : Option ℕ) → asked.everywhere ≡ true → processor_count past ≤ processor →
+pub part_unseen : (asked : Asked) (past : List Said) (processor : ℕ) (cut : Cut) (until : Option ℕ) → asked.everywhere ≡ true → processor_count past ≤ processor →
     part_until (on processor asked) past cut until ≡ []
 part_unseen asked past processor cut until everywhere beyond =
     let bound : ℕ = processor_count past in

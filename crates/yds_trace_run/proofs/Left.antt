@@ -21,7 +21,7 @@ leaves_nothing (Some bytes) left statuses.WriteFault faults_before faults_now no
 leaves_nothing (Some bytes) left statuses.Memory faults_before faults_now none = tt
 
 -- It wasn't read to what is known at its end.
-not_done : (stopped : Stopped) (ended : Status) → (ended ≡ stopped_status stopped) ⊎ (ended ≡ statuses.WriteFault) → ended ≢ statuses.Done
+pub not_done : (stopped : Stopped) (ended : Status) → (ended ≡ stopped_status stopped) ⊎ (ended ≡ statuses.WriteFault) → ended ≢ statuses.Done
 not_done stopped ended (inr write) done = let both : statuses.Done ≡ statuses.WriteFault = sym done ∙ write in absurd cc
 not_done (stops.InForm number fault) ended (inl same) done = let both : statuses.Done ≡ statuses.Refused = sym done ∙ same in absurd cc
 not_done (stops.AtLine number cause) ended (inl same) done = let both : statuses.Done ≡ statuses.Refused = sym done ∙ same in absurd cc

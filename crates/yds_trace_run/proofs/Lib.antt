@@ -4,3 +4,4 @@ pub mod InParts
 pub mod Worth
 pub mod Left
 pub mod Parted
+pub mod Threads

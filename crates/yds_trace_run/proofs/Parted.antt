@@ -44,7 +44,7 @@ front_of_front text more old new is = record {
   appended = is.appended;
 }
 
-outcome_more : (ended : Status) (first text : List ℕ) (status : Status) (old mid new : Option (List ℕ)) (flushed : Option ℕ) → Appends old mid first → Outcome ended text status mid new flushed
+pub outcome_more : (ended : Status) (first text : List ℕ) (status : Status) (old mid new : Option (List ℕ)) (flushed : Option ℕ) → Appends old mid first → Outcome ended text status mid new flushed
     → Outcome ended (first ++ text) status old new flushed
 outcome_more statuses.WriteFault first text status old mid new flushed before behind = front_more old mid new first text before behind
 outcome_more statuses.Done first text status old mid new flushed before behind =

@@ -14,7 +14,7 @@ use Rattle.yds_trace_reading.specs.declared.stopped.Stopped.TheVariants as stops
 use Rattle.yds_trace_reading.specs.LineFault.{LineFault, InForm, AtLine, past_of, line_fault}
 use Rattle.yds_trace_reading.specs.Reading.{IsEndOfSome, IsRead, IsStopped}
 use Rattle.yds_trace_words.specs.Words.{WordFault}
-use Rattle.yds_trace_words.specs.Request.{Request, ShowHelp, ShowVersion, ReadTrace}
+use Rattle.yds_trace_words.specs.Request.{Request, ShowHelp, ShowVersion, ReadTrace, ListThreads}
 use Rattle.yds_trace_run.specs.Fault.{OfLine, of_line, document_fault, fault_of}
 use Rattle.yds_trace_run.specs.FaultText.{fault_text, memory_text}
 use Rattle.yds_trace_run.specs.Answer.{IsTold, IsUncounted, WasWritten, StandsBefore, EndsWith}
@@ -31,6 +31,7 @@ none_stands : (request : Result Request WordFault) (input : List ℕ) → Stands
 none_stands (Err fault) input = refl
 none_stands (Ok ShowHelp) input = refl
 none_stands (Ok ShowVersion) input = refl
+none_stands (Ok ListThreads) input = refl
 none_stands (Ok (ReadTrace asked strict)) input = none_written asked.in_parts asked strict (trace_of input)
 
 -- a comment with nothing before it

@@ -7,7 +7,10 @@ use Rattle.yds_model.specs.declared.status.Status.TheVariants as statuses
 use Rattle.yds_model.specs.declared.limits.TheConstants.{MAX_INPUT}
 use Rattle.yds_kernel.specs.Event.{Said}
 use Rattle.yds_kernel.specs.Text.{Trace, trace_of}
-use Rattle.yds_trace.specs.Asked.{Task, Asked, IsAsked}
+use Rattle.yds_trace.specs.Asked.{Task, Asked, IsAsked, on}
+use Rattle.yds_trace.specs.Faults.{first_fault}
+use Rattle.yds_trace.specs.Parts.{processors_of}
+use Rattle.yds_trace.proofs.OnProcessor.{first_fault_on}
 use Rattle.yds_trace.specs.Document.{all_judged, units_of}
 use Rattle.yds_trace_laws.proofs.Faithful.{documents_are_faithful}
 use Rattle.yds_trace_laws.proofs.Seen.{feasible_means_in_time}
@@ -18,7 +21,7 @@ use Rattle.yds_trace_again.specs.Again.{IsReadAgain}
 use Rattle.yds_trace_again.specs.Holds.{Holds}
 use Rattle.yds_trace_again.specs.Laws.{AreLabelled}
 use Rattle.yds_trace_again.proofs.Again.{read_again as is_read_again}
-use Rattle.yds_trace_again.proofs.Holding.{in_each, late_jobs_are_named}
+use Rattle.yds_trace_again.proofs.Holding.{late_jobs_are_named}
 use Rattle.yds_trace_words.specs.Tasks.{is_label}
 use Rattle.yds_trace_run.specs.Fault.{OfText, of_document, of_text, document_fault}
 use Rattle.yds_trace_text.specs.Text.{late_comment, text_of}
@@ -26,13 +29,14 @@ use Rattle.yds_trace_reading.specs.LineFault.{past_of}
 use Rattle.yds_trace_words.specs.Request.{ReadTrace, IsFit}
 use Rattle.yds_trace_run.specs.Answer.{AreParts, IsTold}
 use Rattle.yds_trace_run.specs.Endings.{IsText, Outcome, Writes}
-use Rattle.yds_trace_whole.specs.Parts.{parts_of, judged_in_parts}
-use Rattle.yds_trace_whole.specs.Worth.{NothingLateInParts}
-use Rattle.yds_trace_whole.proofs.Worth.{nothing_late as nothing_late_in_parts, faithful_parts, each_part_is_read}
+use Rattle.yds_trace_laws.proofs.Processors.{jobs_are_the_same, each_job_belongs}
+use Rattle.yds_trace_whole.specs.Parts.{written_parts}
+use Rattle.yds_trace_whole.proofs.Worth.{parts_are_faithful}
 use Rattle.yds_trace_whole.proofs.Parting.{parts_are_the_whole}
 use Rattle.yds_trace_whole.proofs.Together.{parts_make_the_document}
+use Rattle.yds_trace_whole.proofs.Everywhere.{all_parts_are_kept, parts_are_of_processors, nothing_is_late_anywhere, each_part_is_read}
 use Rattle.yds_trace_run.specs.Worth.{NothingLate, HidesNothing, ArePartsReadAgain, IsReadSo, IsFaithfulSo, IsWholeSo}
-use Rattle.yds_trace_run.proofs.InParts.{no_fault, text_in, IsToldAs, told_as}
+use Rattle.yds_trace_run.proofs.InParts.{no_fault, IsToldAs, told_as}
 
 told_late : (asked : Asked) (past : List Said) (text : List ℕ) → IsAsked asked → text ≡ text_of asked past → NothingLate asked past text
 told_late asked past text fit is = λ feasible i d within by late. (
@@ -69,33 +73,34 @@ labelled tasks labels different = record {
 -- # In parts
 
 -- It is the text of the trace's parts, and none of its lines is refused.
-told_parts : (asked : Asked) (strict : Bool) (trace : Trace) (text : List ℕ) → AreParts asked strict trace text → IsToldAs asked strict (past_of trace) (parts_of asked (past_of trace)) text
+told_parts : (asked : Asked) (strict : Bool) (trace : Trace) (text : List ℕ) → AreParts asked strict trace text → IsToldAs asked strict (past_of trace) (written_parts asked (past_of trace)) text
 told_parts asked strict trace text parts =
-    subst (λ (one : List ℕ). IsToldAs asked strict (past_of trace) (parts_of asked (past_of trace)) one) (sym parts.says) (told_as asked strict trace parts.sound)
+    subst (λ (one : List ℕ). IsToldAs asked strict (past_of trace) (written_parts asked (past_of trace)) one) (sym parts.says) (told_as asked strict trace parts.sound)
 
-whole_parts : (asked : Asked) (strict : Bool) (past : List Said) (text : List ℕ) → IsToldAs asked strict past (parts_of asked past) text → judged_in_parts (parts_of asked past) ≡ all_judged asked past
-whole_parts asked strict past text told = parts_are_the_whole asked past told.sound told.keeps
-
-parts_hide_nothing : (asked : Asked) (strict : Bool) (past : List Said) (text : List ℕ) → IsFit asked → IsToldAs asked strict past (parts_of asked past) text → NothingLateInParts asked past text
-parts_hide_nothing asked strict past text fit told =
-    nothing_late_in_parts asked past text fit.plain told.sound (whole_parts asked strict past text told)
-    (λ i d within. subst (λ (one : List ℕ). Holds one (get_or (parts_of asked past) i d).text) (sym told.says) (in_each text_in (parts_of asked past) i d within))
-
-parts_read_again : (asked : Asked) (strict : Bool) (past : List Said) (text : List ℕ) → IsFit asked → IsToldAs asked strict past (parts_of asked past) text
-    → ArePartsReadAgain (parts_of asked past) text
+parts_read_again : (asked : Asked) (strict : Bool) (past : List Said) (text : List ℕ) → IsFit asked → IsToldAs asked strict past (written_parts asked past) text
+    → ArePartsReadAgain (written_parts asked past) text
 parts_read_again asked strict past text fit told = record {
   says = told.says;
   read = λ i d within.
       each_part_is_read asked strict past fit.plain (labelled asked.tasks fit.labels fit.different) told.sound i d within
-      (told.stand i d within).within (told.stand i d within).short;
+      (told.stand i d within).0 (told.stand i d within).1;
 }
+
+-- what is asked of one processor is fit where it is of another
+fit_on : (processor : ℕ) (asked : Asked) → IsAsked asked → IsAsked (on processor asked)
+fit_on processor asked fit = record { has_unit = fit.has_unit; has_speed_unit = fit.has_speed_unit; deadlines = fit.deadlines }
+
+sound_on : (processor : ℕ) (asked : Asked) (past : List Said) → first_fault asked past ≡ None → first_fault (on processor asked) past ≡ None
+sound_on processor asked past sound = first_fault_on asked processor past ∙ sound
 
 -- # No late job is hidden
 
 hides_nothing : (in_parts : Bool) (asked : Asked) (strict : Bool) (trace : Trace) (text : List ℕ) → IsFit asked → IsTold in_parts asked strict trace text statuses.Done
     → HidesNothing in_parts asked (past_of trace) text
 hides_nothing false asked strict trace text fit told = told_late asked (past_of trace) text fit.plain told.says
-hides_nothing true asked strict trace text fit told = parts_hide_nothing asked strict (past_of trace) text fit (told_parts asked strict trace text told)
+hides_nothing true asked strict trace text fit told =
+    let parts = told_parts asked strict trace text told in
+    nothing_is_late_anywhere asked (past_of trace) fit.plain parts.sound parts.keeps
 
 pub nothing_late : (asked : Asked) (strict : Bool) (input old new : Option (List ℕ)) (flushed : Option ℕ) (ended : Status) → IsFit asked → ended ≡ statuses.Done
     → IfSome input (λ bytes. Writes (Ok (ReadTrace asked strict)) bytes ended old new flushed)
@@ -152,8 +157,11 @@ faithful_so : (in_parts : Bool) (asked : Asked) (strict : Bool) (trace : Trace) 
     → IsFaithfulSo in_parts asked (past_of trace)
 faithful_so false asked strict trace text fit told = documents_are_faithful asked (past_of trace) fit.plain
 faithful_so true asked strict trace text fit told =
+    let past = past_of trace in
     let parts = told_parts asked strict trace text told in
-    faithful_parts asked (past_of trace) fit.plain parts.sound (whole_parts asked strict (past_of trace) text parts)
+    λ i d within.
+    let processor = get_or (processors_of asked past) i d in
+    parts_are_faithful (on processor asked) past (fit_on processor asked fit.plain) (sound_on processor asked past parts.sound) (all_parts_are_kept asked past parts.keeps i d within)
 
 pub faithful : (asked : Asked) (strict : Bool) (input old new : Option (List ℕ)) (flushed : Option ℕ) (ended : Status) → IsFit asked → ended ≡ statuses.Done
     → IfSome input (λ bytes. Writes (Ok (ReadTrace asked strict)) bytes ended old new flushed) → IfSome input (λ bytes. IsFaithfulSo asked.in_parts asked (past_of (trace_of bytes)))
@@ -164,10 +172,20 @@ faithful asked strict input old new flushed ended fit done writes =
 whole_so : (in_parts : Bool) (asked : Asked) (strict : Bool) (trace : Trace) (text : List ℕ) → IsFit asked → IsTold in_parts asked strict trace text statuses.Done → IsWholeSo in_parts asked (past_of trace)
 whole_so false asked strict trace text fit told = tt
 whole_so true asked strict trace text fit told =
+    let past = past_of trace in
     let parts = told_parts asked strict trace text told in
     record {
-      same_jobs = whole_parts asked strict (past_of trace) text parts;
-      same_document = parts_make_the_document asked (past_of trace) fit.plain parts.sound parts.keeps;
+      each = λ i d within.
+          let processor = get_or (processors_of asked past) i d in
+          let sound = sound_on processor asked past parts.sound in
+          let kept = all_parts_are_kept asked past parts.keeps i d within in
+          record {
+            own = parts_are_of_processors asked past i d within;
+            same_jobs = parts_are_the_whole (on processor asked) past sound kept;
+            same_document = parts_make_the_document (on processor asked) past (fit_on processor asked fit.plain) sound kept;
+          };
+      same_jobs = λ processor. jobs_are_the_same asked past processor;
+      belong = each_job_belongs asked past;
     }
 
 pub whole : (asked : Asked) (strict : Bool) (input old new : Option (List ℕ)) (flushed : Option ℕ) (ended : Status) → IsFit asked → ended ≡ statuses.Done

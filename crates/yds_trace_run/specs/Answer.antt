@@ -6,14 +6,16 @@ use Rattle.yds_kernel.specs.Event.{Said}
 use Rattle.yds_kernel.specs.Text.{Trace, trace_of}
 use Rattle.yds_trace.specs.Asked.{Asked}
 use Rattle.yds_trace_text.specs.Text.{text_of}
-use Rattle.yds_trace_reading.specs.LineFault.{past_of, line_fault}
+use Rattle.yds_trace_reading.specs.LineFault.{LineFault, past_of, line_fault}
 use Rattle.yds_trace_reading.specs.Reading.{IsTooLong}
 use Rattle.yds_trace_parts.specs.Told.{Halt, told_after, told_of}
 use Rattle.yds_trace_parts.specs.Driving.{IsEndless}
 use Rattle.yds_trace_words.specs.Words.{WordFault}
-use Rattle.yds_trace_words.specs.Request.{Request, ShowHelp, ShowVersion, ReadTrace}
+use Rattle.yds_trace_words.specs.Request.{Request, ShowHelp, ShowVersion, ReadTrace, ListThreads}
 use Rattle.yds_trace_words.specs.Texts as texts
-use Rattle.yds_trace_run.specs.Fault.{TraceFault, document_fault, fault_of}
+use Rattle.yds_trace_threads.specs.Faults.{line_fault as threads_fault}
+use Rattle.yds_trace_threads.specs.Telling.{IsSound, threads_text}
+use Rattle.yds_trace_run.specs.Fault.{TraceFault, OfLine, document_fault, fault_of}
 use Rattle.yds_trace_run.specs.FaultText.{fault_text, halt_text, too_long_text}
 
 -- The trace has no fault, its document passes no limit, and the text is that of the definition.
@@ -76,6 +78,24 @@ pub record IsTooMuch (asked : Asked) (strict : Bool) (input text : List ℕ) (st
   pub refused : status ≡ statuses.Refused
   pub ends : EndsWith (Ok (ReadTrace asked strict)) input text too_long_text
 
+-- # The list of threads
+
+-- None of its lines is refused, and the text is the table of its threads.
+pub record IsTable (input text : List ℕ) : Type 0 where
+  pub sound : IsSound input
+  pub says : text ≡ threads_text input
+
+-- This is the first line that is refused, and the text is just its comment and the line `failed`.
+pub record IsNoTable (input text : List ℕ) : Type 0 where
+  pub fault : LineFault
+  pub first : threads_fault (trace_of input) ≡ Some fault
+  pub says : text ≡ fault_text (OfLine fault)
+
+abbrev pub AreThreads : List ℕ → List ℕ → Status → Type 0
+AreThreads input text statuses.Done = IsTable input text
+AreThreads input text statuses.Refused = IsNoTable input text ⊎ (IsTooLong input × (text ≡ too_long_text))
+AreThreads input text _ = ⊥
+
 -- # Answers
 
 -- the trace is told, in one document or in parts, or refused
@@ -92,8 +112,10 @@ Answers (Ok ShowHelp) input text status = (status ≡ statuses.Done) × (text �
 Answers (Ok ShowVersion) input text status = (status ≡ statuses.Done) × (text ≡ texts.version_line)
 Answers (Ok (ReadTrace asked strict)) input text status =
     IsTold asked.in_parts asked strict (trace_of input) text status ⊎ IsTooMuch asked strict input text status
+Answers (Ok ListThreads) input text status = AreThreads input text status
 
 -- a trace is asked for
 abbrev pub ReadsInput : Result Request WordFault → Type 0
 ReadsInput (Ok (ReadTrace asked strict)) = Unit {0}
+ReadsInput (Ok ListThreads) = Unit {0}
 ReadsInput _ = ⊥

@@ -21,6 +21,8 @@ use Rattle.yds_trace_run.specs.Fault.{TraceFault, document_fault}
 use Rattle.yds_trace_parts.specs.declared.halt.Halt.{Halt}
 use Rattle.yds_trace_parts.specs.declared.halt.Halt.TheVariants as halts
 use Rattle.yds_trace_parts.specs.Told as told
+use Rattle.yds_trace_threads.specs.declared.halt.Halt.{Halt as ThreadsHalt}
+use Rattle.yds_trace_threads.specs.declared.halt.Halt.TheVariants as threads
 use Rattle.yds_trace_run.specs.FaultText.{failed, line_text, fault_text, halt_text, too_long_text, memory_text, read_fault_text}
 
 -- the text with which a run ends so: an answer, or why there is none
@@ -112,6 +114,23 @@ halted_status _ = statuses.Refused
 abbrev pub TellsHalt : {K : Type 0} → (K → Option (List ℕ)) → (K → Option ℕ) → (K → ℕ) → (K → ℕ) → Halt → Status → K → K → Type 0
 TellsHalt written flushed flushes faults halts.WriteFault ended old new = (ended ≡ statuses.WriteFault) × (new ≡ old)
 TellsHalt written flushed flushes faults halt ended old new = IsDelivered written flushed flushes faults (halted_text halt) (halted_status halt) ended old new
+
+-- # Why a trace's threads weren't told
+
+-- the same end of a trace that is read; a failed write ends none
+abbrev pub stopped_of : ThreadsHalt → Option Stopped
+stopped_of (threads.InForm number fault) = Some (stops.InForm number fault)
+stopped_of (threads.AtLine number cause) = Some (stops.AtLine number cause)
+stopped_of threads.Endless = Some stops.TooLong
+stopped_of threads.ReadFault = Some stops.ReadFault
+stopped_of threads.WriteFault = None
+stopped_of threads.Memory = Some stops.Memory
+
+-- The comment was delivered to the sink, whose members stand first. Where a write had failed before, nothing more was done to it.
+abbrev pub TellsStop : {K : Type 0} → (K → Option (List ℕ)) → (K → Option ℕ) → (K → ℕ) → (K → ℕ) → Option Stopped → Status → K → K → Type 0
+TellsStop written flushed flushes faults None ended old new = (ended ≡ statuses.WriteFault) × (new ≡ old)
+TellsStop written flushed flushes faults (Some stopped) ended old new =
+    IsDelivered written flushed flushes faults (stopped_text stopped) (stopped_status stopped) ended old new
 
 -- # What is known at a trace's end
 

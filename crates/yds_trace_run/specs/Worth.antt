@@ -8,12 +8,13 @@ use Rattle.yds_trace.specs.Document.{Judged, all_judged, units_of, document_of}
 use Rattle.yds_trace.specs.Parts.{belongs, processors_of}
 use Rattle.yds_trace_laws.specs.AsSlots.{jobs_read, slots_read}
 use Rattle.yds_trace_laws.specs.Faithful.{IsFaithful}
+use Rattle.yds_trace_laws.specs.Processors.{BelongsTo, without_reason}
 use Rattle.yds_trace_text.specs.Text.{late_comment}
 use Rattle.yds_trace_again.specs.Again.{IsReadAs, IsReadAgain}
 use Rattle.yds_trace_again.specs.Holds.{Holds}
 use Rattle.yds_trace_whole.specs.Parts.{Part, parts_of, written_parts, parts_on, judged_in_parts}
 use Rattle.yds_trace_whole.specs.Whole.{whole_document, put_together}
-use Rattle.yds_trace_whole.specs.Worth.{NothingLateAnywhere, IsFaithfulPart, BelongsTo, without_reason}
+use Rattle.yds_trace_whole.specs.Worth.{NothingLateAnywhere, IsFaithfulPart}
 
 -- Where a job is known to be late, it is late by less than a unit of time, and a comment of the text names it.
 abbrev pub IsToldLate : Asked → List Said → List ℕ → Judged → Type 0

@@ -1,16 +1,16 @@
 //! The run of the program.
-ghost use Rattle.std.specs.Prelude.{◌≡◌, ◌≢◌, ◌⊎◌, ◌<◌, ◌≤◌, ℕ, List, Ok, IfSome, Bool, true, false};
+ghost use Rattle.std.specs.Prelude.{◌≡◌, ◌≢◌, ◌⊎◌, ◌<◌, ◌≤◌, ℕ, List, [], Ok, IfSome, Bool, true, false};
 ghost use Rattle.std.specs.Io.KnownBytes.{Appends};
 ghost use Rattle.yds_port.specs.Count.{Rose, next_count};
 ghost use Rattle.yds_kernel.specs.Text.{trace_of};
 ghost use Rattle.yds_trace.specs.Asked as asking;
-ghost use Rattle.yds_trace_words.specs.Request.{request_of, ReadTrace, IsFit};
+ghost use Rattle.yds_trace_words.specs.Request.{request_of, ReadTrace, ListThreads, IsFit};
 ghost use Rattle.yds_trace_words.specs.Views.{words_of};
 ghost use Rattle.yds_trace_reading.specs.LineFault.{past_of};
 ghost use Rattle.yds_trace_document.specs.Kept.{IsPlain};
 ghost use Rattle.yds_trace.specs.Views.{asked_read};
 ghost use Rattle.yds_trace_run.specs.Answer.{ReadsInput};
-ghost use Rattle.yds_trace_run.specs.Endings.{Writes, IsEnded, IsDelivered, Tells, TellsHalt, Leaves, stopped_text, stopped_status};
+ghost use Rattle.yds_trace_run.specs.Endings.{Writes, IsEnded, IsDelivered, Tells, TellsHalt, TellsStop, Leaves, stopped_of, stopped_text, stopped_status};
 ghost use Rattle.yds_trace_run.specs.Worth.{HidesNothing, IsReadSo, IsFaithfulSo, IsWholeSo};
 
 use crate::delivery::deliver;
@@ -20,17 +20,20 @@ use crate::fault_text::{
 };
 use arrayvec::ArrayString;
 use std::alloc::Global;
+use std::hash::RandomState;
 use yds_model::Status;
 use yds_port::{Sink, Source};
 use yds_trace::{Asked, Ended};
 use yds_trace_parts::{Halt, tell_parts};
 use yds_trace_reading::{Stopped, read_trace};
 use yds_trace_text::{NoText, document_text};
+use yds_trace_threads as threads;
+use yds_trace_threads::tell_threads;
 use yds_trace_words::{HELP, LINE_BYTES, NoRequest, Request, VERSION, fault_line, read_words};
 
 /// Runs what the words ask for: reads the source to its end in one pass, writes the text and flushes the sink, once.
 ///
-/// - `Done`: the text of a document, of all parts of a trace, of `--help` or of `--version` was written whole.
+/// - `Done`: the text of a document, of all parts of a trace, of its threads, of `--help` or of `--version` was written whole.
 /// - `Usage`: the words can't be taken. The source isn't read.
 /// - `Refused`: the trace has a fault, or its document or a part passes a limit. Just a comment with the place, the cause and what
 ///   to do was written, and the line `failed`; in parts, behind those that were whole before. The source was read to its end, or up
@@ -40,9 +43,11 @@ use yds_trace_words::{HELP, LINE_BYTES, NoRequest, Request, VERSION, fault_line,
 /// - `WriteFault`: a front of one of these texts was written.
 ///
 /// The source and the sink need not tell their bytes. Where both do, what was written is what the definitions say of the words and
-/// of all bytes of the source. The code is one for all sources and sinks.
+/// of all bytes of the source. The code is one for all sources and sinks. Threads are looked up with these keys, on which no
+/// answer depends.
 pub fn run<S: Source, K: Sink>(
     alloc: Global,
+    keys: RandomState,
     words: &[String],
     source: &mut S,
     sink: &mut K,
@@ -90,6 +95,7 @@ pub fn run<S: Source, K: Sink>(
         Ok(Request::Help) => deliver(HELP, Status::Done, sink),
         Ok(Request::Version) => deliver(VERSION, Status::Done, sink),
         Ok(Request::Trace { asked, strict }) => run_trace(alloc, asked, strict, source, sink),
+        Ok(Request::Threads) => run_threads(alloc, keys, source, sink),
         Err(NoRequest::Fault(fault)) => {
             deliver(fault_line(&fault).as_bytes(), Status::Usage, sink)
         }
@@ -97,7 +103,7 @@ pub fn run<S: Source, K: Sink>(
     }
 }
 
-/// Reads a trace and writes its document.
+/// Reads a trace and writes its document, or its parts.
 fn run_trace<S: Source, K: Sink>(
     alloc: Global,
     asked: Asked,
@@ -164,9 +170,55 @@ fn run_in_parts<S: Source, K: Sink>(
         Writes (Ok (ReadTrace (asked_read asked) strict)) input result (K.written sink.old) (K.written sink.new) (K.flushed sink.new)) }
 {
     match tell_parts(alloc, asked, strict, source, sink) {
-        Ok(()) => deliver(b"", Status::Done, sink),
+        Ok(()) => finish(sink),
         Err(halt) => tell_halt(&halt, sink),
     }
+}
+
+/// Reads a trace and writes the table of its threads.
+fn run_threads<S: Source, K: Sink>(
+    alloc: Global,
+    keys: RandomState,
+    source: &mut S,
+    sink: &mut K,
+) -> Status
+    ensures source_later { S.faults source.old ≤ S.faults source.new }
+    ensures read_fault { result ≡ Status.ReadFault → Rose (S.faults source.old) (S.faults source.new) }
+    ensures no_fault_passed_over { result ≡ Status.Done → S.faults source.new ≡ S.faults source.old }
+    ensures read_to_its_end { IfSome (S.left source.old) (λ input. Leaves result input (S.left source.new) (S.faults source.old) (S.faults source.new)) }
+    ensures sink { IsEnded K.written K.flushed K.flushes K.faults result sink.old sink.new }
+    ensures answer { IfSome (S.left source.old) (λ input.
+        Writes (Ok ListThreads) input result (K.written sink.old) (K.written sink.new) (K.flushed sink.new)) }
+{
+    match tell_threads(alloc, keys, source, sink) {
+        Ok(()) => finish(sink),
+        Err(halt) => tell_no_threads(halt, sink),
+    }
+}
+
+/// Writes why a trace's threads aren't told. Where a write failed nothing more is written.
+fn tell_no_threads<K: Sink>(halt: threads::Halt, sink: &mut K) -> Status
+    ensures { TellsStop K.written K.flushed K.flushes K.faults (stopped_of halt) result sink.old sink.new }
+{
+    match halt {
+        threads::Halt::WriteFault => Status::WriteFault,
+        threads::Halt::ReadFault => tell_stopped(Stopped::ReadFault, sink),
+        threads::Halt::Memory => tell_stopped(Stopped::Memory, sink),
+        threads::Halt::Endless => tell_stopped(Stopped::TooLong, sink),
+        threads::Halt::InForm { number, fault } => {
+            tell_stopped(Stopped::InForm { number, fault }, sink)
+        }
+        threads::Halt::AtLine { number, cause } => {
+            tell_stopped(Stopped::AtLine { number, cause }, sink)
+        }
+    }
+}
+
+/// Flushes the sink behind what was written whole.
+fn finish<K: Sink>(sink: &mut K) -> Status
+    ensures { IsDelivered K.written K.flushed K.flushes K.faults [] Status.Done result sink.old sink.new }
+{
+    deliver(b"", Status::Done, sink)
 }
 
 /// Writes why a trace isn't told further, behind the parts that were written.

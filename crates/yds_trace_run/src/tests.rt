@@ -1,6 +1,7 @@
 //! What no clause says: that a small trace is told, and what is written where one isn't.
 use crate::run;
 use std::alloc::Global;
+use std::hash::RandomState;
 use std::test::Fail;
 use yds_model::{Memory, Status};
 use yds_port::{MemorySink, MemorySource};
@@ -71,7 +72,13 @@ fn a_trace_is_told_or_refused(rt: HostRuntime) -> Result<(), Fail> {
         );
         let mut sink = MemorySink::with_room(rt.alloc(), 10_000, 50, Vec::new(rt.alloc()))?;
         assert_eq!(rt;
-            run(rt.alloc(), &words, &mut source, &mut sink),
+            run(
+                rt.alloc(),
+                RandomState::new(&rt)?,
+                &words,
+                &mut source,
+                &mut sink
+            ),
             status,
             "{line}"
         );
@@ -108,7 +115,13 @@ fn a_trace_is_told_in_parts_or_refused(rt: HostRuntime) -> Result<(), Fail> {
         );
         let mut sink = MemorySink::with_room(rt.alloc(), 10_000, 50, Vec::new(rt.alloc()))?;
         assert_eq!(rt;
-            run(rt.alloc(), &words, &mut source, &mut sink),
+            run(
+                rt.alloc(),
+                RandomState::new(&rt)?,
+                &words,
+                &mut source,
+                &mut sink
+            ),
             status,
             "{line}"
         );

@@ -1,34 +1,26 @@
--- Small traces in parts, put together, and near misses. A unit of time is 10 nanoseconds, and a job is due 100 after its begin.
+-- Small traces in parts, put together, and near misses. A job is due 100 nanoseconds after its begin.
 use Rattle.yds_model.proofs.Common.{◌≡◌, ◌≢◌, ℕ, List, [], ◌∷◌, map, codes, reverse, true, false, Some, None, refl, ap, get_or}
 use Rattle.std.specs.Fmt.{digits}
 use Rattle.yds_kernel.specs.declared.state.State.TheVariants as states
 use Rattle.yds_kernel.specs.declared.loss.Since.TheVariants as since
-use Rattle.yds_kernel.specs.Event.{Thread, Happening, Switch, WakeUp, Marker, Said, Stamped, Lost}
+use Rattle.yds_kernel.specs.Event.{Thread, Happening, Switch, WakeUp, Marker, Said, Lost}
 use Rattle.yds_trace.specs.declared.cut.Cut.{Cut}
 use Rattle.yds_trace.specs.declared.fault.Cause.TheVariants as causes
-use Rattle.yds_trace.specs.Asked.{Named, Task, Asked}
+use Rattle.yds_trace.specs.Asked.{Asked}
 use Rattle.yds_trace.specs.Faults.{first_fault}
 use Rattle.yds_trace.specs.Document.{Document}
 use Rattle.yds_trace.specs.Parts.{no_cut, waiting, part_until, is_quiet, with_part, part_fault}
 use Rattle.yds_trace_whole.specs.Parts.{Part, made, KeepsParts}
 use Rattle.yds_trace_whole.specs.Whole.{release_later, whole_document, put_together}
+use Rattle.yds_trace_whole.proofs.Traces.{thread, t, idle, line_of, task_due, asked_of}
 
 -- # Lines
-
-abbrev thread : List ℕ → ℕ → Thread
-thread name pid = record { name = name; pid = pid }
-
-abbrev t : Thread
-t = thread (codes "t") 7
 
 abbrev u : Thread
 u = thread (codes "u") 8
 
-abbrev idle : Thread
-idle = thread (codes "swapper") 0
-
 abbrev line : ℕ → Happening → Said
-line time happening = Stamped (record { processor = 0; time = time; happening = happening })
+line = line_of 0
 
 abbrev woken : ℕ → Thread → Said
 woken time who = line time (WakeUp who)
@@ -40,22 +32,8 @@ sleeps time who next = line time (Switch who states.Sleeps next)
 abbrev preempted : ℕ → Thread → Thread → Said
 preempted time who next = line time (Switch who states.GoesOn next)
 
-abbrev task : List ℕ → Task
-task name = record { label = name; thread = Named name; deadline = 100; apart = 0 }
-
 abbrev asked : Asked
-asked = record {
-  tasks = task (codes "t") ∷ task (codes "u") ∷ [];
-  processor = 0;
-  unit = 10;
-  khz = 1;
-  start = Some 5;
-  from = None;
-  to = None;
-  begin_at_run = false;
-  cut_losses = true;
-  in_parts = true;
-}
+asked = asked_of (task_due 100 (codes "t") ∷ task_due 100 (codes "u") ∷ [])
 
 -- # Two parts
 
@@ -127,8 +105,13 @@ taken = refl
 kept : KeepsParts asked apart
 kept = (refl, (refl, (refl, (refl, (refl, (refl, (refl, tt)))))))
 
--- Near miss: behind a part that was written at 2300, events were lost since 1040. The first job's end isn't known then.
-not_kept : part_fault asked (reverse (woken 1000 t ∷ preempted 1020 idle t ∷ sleeps 1040 t idle ∷ Stamped (record { processor = 1; time = 2300; happening = Marker }) ∷ []))
+-- Behind a part that was written at 2300 events may be lost since then: what the part says of its jobs stays so.
+lost_since_then : part_fault asked apart (cut_by apart 2000) (Lost 0 since.ItsLastLine) ≡ None
+unfolding digits
+lost_since_then = refl
+
+-- Near miss: they were lost since 1040. The first job's end isn't known then.
+not_kept : part_fault asked (reverse (woken 1000 t ∷ preempted 1020 idle t ∷ sleeps 1040 t idle ∷ line_of 1 2300 Marker ∷ []))
     (cut_by apart 2000) (Lost 0 since.ItsLastLine) ≡ Some causes.PartWritten
 unfolding digits
 not_kept = refl

@@ -101,7 +101,7 @@ listed asked number thread is = by (task_of asked.tasks thread) is
     by None is = cc
     by (Some other) is = refl
 
-kept_for : (b : Bool) → ◌≡◌ {A = Option Cause} (if b then Some causes.PartWritten else None) None → b ≡ false
+pub kept_for : (b : Bool) → ◌≡◌ {A = Option Cause} (if b then Some causes.PartWritten else None) None → b ≡ false
 kept_for true none = cc
 kept_for false none = refl
 

@@ -8,6 +8,9 @@ pub mod Later
 pub mod Ranked
 pub mod Together
 pub mod Worth
+pub mod Everywhere
 pub mod Several
+mod Traces
 mod Examples
 mod LateExamples
+mod ProcessorExamples

@@ -13,12 +13,12 @@ use Rattle.yds_trace.specs.Past.{last_time, up_to, speed_after}
 use Rattle.yds_trace.specs.Jobs.{Job, Known, unknown, changed_last, ran, known_after}
 use Rattle.yds_trace.specs.Late.{last_asked}
 use Rattle.yds_trace.specs.Document.{closed, jobs_of, Judged, judged, judged_of, judged_from, all_judged, began_before, stands}
-use Rattle.yds_trace.specs.Parts.{begin_of, begins_from, begins_before, last_begin, last_begin_of, is_over, is_settled, ended_by, is_done_by, each_before, has_written, is_quiet, is_closed, last_where, place_among, is_much, is_due, may_write, no_cut, waiting, is_before_end, part_until, place_of, with_part, cut_at, cut_after, part_fault}
+use Rattle.yds_trace.specs.Parts.{belongs, begin_of, begins_from, begins_before, last_begin, last_begin_of, is_over, is_settled, ended_by, is_done_by, each_before, has_job, is_quiet, is_closed, last_where, place_among, is_much, is_due, may_write, no_cut, waiting, is_before_end, part_until, place_of, with_part, cut_at, cut_after, part_fault}
 use Rattle.yds_trace_document.proofs.Sorting.{FromLow, Rises, rises_in_order}
 use Rattle.yds_trace_laws.proofs.Ordered.{append-all, append-all_left, append-all_right, in_order-all, in_order-all_back}
 use Rattle.yds_trace_laws.proofs.Runs.{all_weaker, reverse-all, reverse-all_back}
 use Rattle.yds_trace_laws.proofs.Sharing.{GoesOn, lines_go_on}
-use Rattle.yds_trace_whole.specs.Parts.{Part, made, made_at, parts_behind, judged_in_parts, KeepsParts}
+use Rattle.yds_trace_whole.specs.Parts.{Part, made, made_with, made_at, parts_behind, judged_in_parts, KeepsParts}
 use Rattle.yds_trace_whole.specs.Laws.{PartsAreTheWhole}
 use Rattle.yds_trace_whole.proofs.Told.{told, Each}
 use Rattle.yds_trace_whole.proofs.Going.{IsSound, IsSoundEnd, AreSound, IsDone, IsOff, IsLeft, StandsBy, Keeps}
@@ -69,7 +69,7 @@ all_from boundary low (one ∷ jobs) on from =
     ap (λ (b : Bool). cond b (one ∷ filter (begins_from boundary) jobs) (filter (begins_from boundary) jobs)) (le-leb boundary one.job.begin (omega (arith, on, from.0)))
     ∙ ap (λ (l : List Judged). one ∷ l) (all_from boundary low jobs on from.1)
 
-pub two_parts : (boundary : ℕ) (jobs : List Judged) → Rises begin_of jobs → filter (begins_before boundary) jobs ++ filter (begins_from boundary) jobs ≡ jobs
+two_parts : (boundary : ℕ) (jobs : List Judged) → Rises begin_of jobs → filter (begins_before boundary) jobs ++ filter (begins_from boundary) jobs ≡ jobs
 two_parts boundary [] rises = refl
 two_parts boundary (one ∷ jobs) rises = by (cases_lt one.job.begin boundary) (two_parts boundary jobs rises.1)
   where
@@ -100,16 +100,44 @@ still_before boundary time (one ∷ jobs) on = by (nat_lt one.job.begin boundary
     by false is rest = rest
 
 -- What is before the first cut, and what is between it and the second, is what is before the second.
-pub next_part : (boundary time : ℕ) (jobs : List Judged) → boundary ≤ time → Rises begin_of jobs →
+next_part : (boundary time : ℕ) (jobs : List Judged) → boundary ≤ time → Rises begin_of jobs →
     filter (begins_before boundary) jobs ++ filter (begins_before time) (filter (begins_from boundary) jobs) ≡ filter (begins_before time) jobs
 next_part boundary time jobs on rises =
     ap (λ (l : List Judged). l ++ filter (begins_before time) (filter (begins_from boundary) jobs)) (sym (still_before boundary time jobs on))
     ∙ sym (filter-append (begins_before time) (filter (begins_before boundary) jobs) (filter (begins_from boundary) jobs))
     ∙ ap (filter (begins_before time)) (two_parts boundary jobs rises)
 
-pub all_of_them : (jobs : List Judged) → filter (is_before_end None) jobs ≡ jobs
+all_of_them : (jobs : List Judged) → filter (is_before_end None) jobs ≡ jobs
 all_of_them [] = refl
 all_of_them (one ∷ jobs) = ap (λ (l : List Judged). one ∷ l) (all_of_them jobs)
+
+before_nothing : (jobs : List Judged) → [] ≡ filter (begins_before 0) jobs
+before_nothing [] = refl
+before_nothing (one ∷ jobs) =
+    before_nothing jobs
+    ∙ ap (λ (b : Bool). cond b (one ∷ filter (begins_before 0) jobs) (filter (begins_before 0) jobs)) (sym (le-ltb one.job.begin 0 (omega arith)))
+
+-- # The jobs that belong to the processor
+
+-- those that begin before a time
+abbrev pub own_before : Asked → List Said → ℕ → List Judged
+own_before asked past time = filter (belongs asked) (filter (begins_before time) (all_judged asked past))
+
+pub own_nothing : (asked : Asked) (past : List Said) → [] ≡ own_before asked past 0
+own_nothing asked past = ap (filter (belongs asked)) (before_nothing (all_judged asked past))
+
+pub next_own : (asked : Asked) (past : List Said) (cut : Cut) (time : ℕ) → cut.boundary ≤ time →
+    own_before asked past cut.boundary ++ part_until asked past cut (Some time) ≡ own_before asked past time
+next_own asked past cut time on =
+    sym (filter-append (belongs asked) (filter (begins_before cut.boundary) (all_judged asked past)) (filter (begins_before time) (waiting asked past cut)))
+    ∙ ap (filter (belongs asked)) (next_part cut.boundary time (all_judged asked past) on (rises_in_order begin_of (judged_from asked past 0 asked.tasks)))
+
+pub last_own : (asked : Asked) (past : List Said) (cut : Cut) →
+    own_before asked past cut.boundary ++ part_until asked past cut None ≡ filter (belongs asked) (all_judged asked past)
+last_own asked past cut =
+    ap (λ (l : List Judged). own_before asked past cut.boundary ++ filter (belongs asked) l) (all_of_them (waiting asked past cut))
+    ∙ sym (filter-append (belongs asked) (filter (begins_before cut.boundary) (all_judged asked past)) (waiting asked past cut))
+    ∙ ap (filter (belongs asked)) (two_parts cut.boundary (all_judged asked past) (rises_in_order begin_of (judged_from asked past 0 asked.tasks)))
 
 -- # What is known of each judged job, and of each job of a task
 
@@ -280,7 +308,7 @@ pub judged_done : (asked : Asked) (past : List Said) (cut : Cut) (time : ℕ) �
 judged_done asked past cut time quiet =
     let jobs : List Judged = waiting asked past cut in
     let test : Judged → Bool = λ judged. begins_from time judged || is_done_by asked past time judged in
-    let each = (and_parts (has_written time jobs) (each_before (is_done_by asked past time) time jobs) quiet).1 in
+    let each = (and_parts (has_job asked time jobs) (each_before (is_done_by asked past time) time jobs) quiet).1 in
     all_weaker (λ (one : Judged). begins_from cut.boundary one ≡ true → test one ≡ true) (DoneJudged asked past cut.boundary time)
     (λ one is from before. passed (begins_from time one) (is_done_by asked past time one) (is (le-leb cut.boundary one.job.begin from)) (lt-leb time one.job.begin before))
     (all_judged asked past)
@@ -402,13 +430,7 @@ module _ (asked : Asked) (past : List Said) (cut : Cut) (time number : ℕ) wher
 pub record Stands (asked : Asked) (past : List Said) (cut : Cut) (parts : List Part) : Type 0 where
   pub holds : (number : ℕ) → number < length asked.tasks → Holds asked past cut number
   pub begun : cut.boundary ≤ last_asked asked past
-  pub same : judged_in_parts parts ≡ filter (begins_before cut.boundary) (all_judged asked past)
-
-pub before_nothing : (jobs : List Judged) → [] ≡ filter (begins_before 0) jobs
-before_nothing [] = refl
-before_nothing (one ∷ jobs) =
-    before_nothing jobs
-    ∙ ap (λ (b : Bool). cond b (one ∷ filter (begins_before 0) jobs) (filter (begins_before 0) jobs)) (sym (le-ltb one.job.begin 0 (omega arith)))
+  pub same : judged_in_parts parts ≡ own_before asked past cut.boundary
 
 no_lines : (asked : Asked) (number : ℕ) → unknown ≡ counted asked [] number
 no_lines asked number = by asked.to
@@ -423,6 +445,12 @@ at_first asked number = record {
   firm = subst (λ (known : Known). Each (IsFirm asked [] 0 number) 0 known.jobs) (no_lines asked number) tt;
 }
 
+-- A part without a job isn't written: so the jobs of what is written are those of the part either way.
+judged_made : (asked : Asked) (past : List Said) (cut : Cut) (time : ℕ) (part : List Judged) → part_until asked past cut (Some time) ≡ part →
+    judged_in_parts (made_with asked past cut time part) ≡ part_until asked past cut (Some time)
+judged_made asked past cut time [] is = sym is
+judged_made asked past cut time (one ∷ part) is = append-nil (part_until asked past cut (Some time))
+
 pub part_more : (asked : Asked) (past : List Said) (cut : Cut) (parts : List Part) (o : Option ℕ) → place_of asked past cut ≡ o → Stands asked past cut parts →
     Stands asked past (cut_at asked past cut o) (parts ++ made_at asked past cut o)
 part_more asked past cut parts None none stands =
@@ -434,9 +462,9 @@ part_more asked past cut parts (Some time) some stands =
     record {
       holds = λ number within. cut_holds asked past cut time number place within (stands.holds number within) now refl refl;
       begun = place.by;
-      same = flat_map-append (λ (one : Part). one.settled.judged) parts (made asked past cut (Some time) ∷ [])
-          ∙ ap₂ (λ (first second : List Judged). first ++ second) stands.same (append-nil part)
-          ∙ next_part cut.boundary time (all_judged asked past) place.from (rises_in_order begin_of (judged_from asked past 0 asked.tasks));
+      same = flat_map-append (λ (one : Part). one.settled.judged) parts (made_with asked past cut time part)
+          ∙ ap₂ (λ (first second : List Judged). first ++ second) stands.same (judged_made asked past cut time part refl)
+          ∙ next_own asked past cut time place.from;
     }
 
 pub line_more : (asked : Asked) (said : Said) (past : List Said) (cut : Cut) (parts : List Part) → GoesOn asked.to (said ∷ past) → part_fault asked past cut said ≡ None →
@@ -447,13 +475,13 @@ line_more asked said past cut parts goes none stands =
       holds = λ number within. line_holds asked past cut number stands.begun (stands.holds number within) said goes none;
       begun = omega (arith, stands.begun, on);
       same = stands.same
-          ∙ sym (all_same asked past (said ∷ past) cut on stands.holds
-          (λ number within. line_keeps asked past cut number stands.begun (stands.holds number within) said goes none));
+          ∙ ap (filter (belongs asked)) (sym (all_same asked past (said ∷ past) cut on stands.holds
+          (λ number within. line_keeps asked past cut number stands.begun (stands.holds number within) said goes none)));
     }
 
 pub parts_stand : (asked : Asked) (past : List Said) → GoesOn asked.to past → KeepsParts asked past → Stands asked past (cut_after asked past) (parts_behind asked past)
 parts_stand asked [] goes kept =
-    record { holds = λ number within. at_first asked number; begun = omega arith; same = before_nothing (all_judged asked []) }
+    record { holds = λ number within. at_first asked number; begun = omega arith; same = own_nothing asked [] }
 parts_stand asked (said ∷ past) goes kept =
     let cut : Cut = cut_after asked past in
     part_more asked (said ∷ past) cut (parts_behind asked past) (place_of asked (said ∷ past) cut) refl
@@ -465,6 +493,5 @@ parts_are_the_whole asked past none kept =
     let cut : Cut = cut_after asked past in
     let stands : Stands asked past cut (parts_behind asked past) = parts_stand asked past (lines_go_on asked past none) kept in
     flat_map-append (λ (one : Part). one.settled.judged) (parts_behind asked past) (made asked past cut None ∷ [])
-    ∙ ap₂ (λ (first second : List Judged). first ++ second) stands.same
-    (append-nil (part_until asked past cut None) ∙ all_of_them (filter (begins_from cut.boundary) (all_judged asked past)))
-    ∙ two_parts cut.boundary (all_judged asked past) (rises_in_order begin_of (judged_from asked past 0 asked.tasks))
+    ∙ ap₂ (λ (first second : List Judged). first ++ second) stands.same (append-nil (part_until asked past cut None))
+    ∙ last_own asked past cut

@@ -7,15 +7,15 @@ use Rattle.yds_model.specs.declared.reason.Reason.TheVariants as reasons
 use Rattle.yds_model.specs.Fields.{Fault}
 use Rattle.yds_kernel.specs.Event.{Said}
 use Rattle.yds_trace.specs.declared.cut.Cut.{Cut}
-use Rattle.yds_trace.specs.Asked.{Asked}
+use Rattle.yds_trace.specs.Asked.{Asked, on}
 use Rattle.yds_trace.specs.Document.{Written}
 use Rattle.yds_texts.proofs.Brought.{live_from}
 use Rattle.yds_trace_text.specs.Text.{comment, told, name_of, head_line, units_line, job_text, ticks_text, run_text, comments_text}
 use Rattle.yds_trace_text.specs.PartText.{part_line}
 use Rattle.yds_trace_again.proofs.Plain.{all_other}
-use Rattle.yds_trace_whole.specs.Parts.{Part, made, parts_of}
+use Rattle.yds_trace_whole.specs.Parts.{Part, made, written_parts}
 use Rattle.yds_trace_whole.specs.WorthLaws.{text_of, SeveralAreRefused}
-use Rattle.yds_trace_whole.proofs.Worth.{of_each_made}
+use Rattle.yds_trace_whole.proofs.Everywhere.{of_each_written}
 
 -- # Lines
 
@@ -198,7 +198,7 @@ made_ticks : (asked : Asked) (past : List Said) (cut : Cut) (until : Option ℕ)
 made_ticks asked past cut until =
     let part : Part = made asked past cut until in
     let jobs : List Written = part.settled.document.jobs in
-    let first : List ℕ = part_line cut (is_none until) part.shift jobs in
+    let first : List ℕ = part_line asked cut (is_none until) part.shift jobs in
     let head : List ℕ = head_line asked.processor part.settled.units in
     let units : List ℕ = units_line part.settled.units in
     let runs : List ℕ = flat_map (run_text (map name_of jobs)) part.settled.document.runs in
@@ -227,6 +227,7 @@ several (one ∷ next ∷ more) document many all is =
 -- the law
 pub several_are_refused : SeveralAreRefused
 several_are_refused asked past many document is =
-    several (parts_of asked past) document many
-    (recursion_from_All (λ (part : Part). HasTicks part.text) (parts_of asked past)
-    (of_each_made (λ part. HasTicks part.text) asked (λ lines. ⊤) past (λ said lines holds. tt) tt (λ lines cut until holds. made_ticks asked lines cut until))) is
+    several (written_parts asked past) document many
+    (recursion_from_All (λ (part : Part). HasTicks part.text) (written_parts asked past)
+    (of_each_written (λ part. HasTicks part.text) asked (λ lines. ⊤) past (λ said lines holds. tt) tt
+    (λ processor lines cut until holds. made_ticks (on processor asked) lines cut until))) is

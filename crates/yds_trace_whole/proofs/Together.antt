@@ -1,5 +1,5 @@
 -- The documents of the parts, put together, are the one document of the whole.
-use Rattle.yds_model.proofs.Common.{◌≡◌, ◌∙◌, ℕ, zero, suc, ◌+◌, ◌-◌, ◌*◌, ◌/◌, ◌<◌, ◌≤◌, ◌⊎◌, inl, inr, ◌==◌, ◌&&◌, ◌||◌, List, [], ◌∷◌, ◌++◌, map, filter, flat_map, filter_map, length, reverse, Bool, true, false, not, nat_lt, if◌then◌else◌, Option, Some, None, is_some, unwrap_or, option_map, refl, sym, ap, ap₂, subst, arith, le-ltb, ltb-true, leb-true, and_parts, true≢false, append-nil, append_assoc, length-append, flat_map-append, filter_map-append, recursion_from_All, All-from_recursion, add-mul-div_right, div-mul-le_self, le-div_iff_mul-le, mul-le-mul_right, zero-mul}
+use Rattle.yds_model.proofs.Common.{◌≡◌, ◌∙◌, ℕ, zero, suc, ◌+◌, ◌-◌, ◌*◌, ◌/◌, ◌<◌, ◌≤◌, ◌⊎◌, inl, inr, ◌==◌, ◌&&◌, ◌||◌, List, [], ◌∷◌, ◌++◌, map, filter, flat_map, filter_map, length, get_or, reverse, Bool, true, false, not, nat_lt, if◌then◌else◌, Option, Some, None, is_some, unwrap_or, option_map, refl, sym, ap, ap₂, subst, arith, le-ltb, ltb-true, leb-true, and_parts, true≢false, append-nil, append_assoc, length-append, flat_map-append, filter_map-append, filter_all, recursion_from_All, All-from_recursion, add-mul-div_right, div-mul-le_self, le-div_iff_mul-le, mul-le-mul_right, zero-mul}
 use Rattle.std.specs.List.{AllByRecursion, cons_option}
 use Rattle.yds_kernel.specs.Event.{Said, Stamped, Lost, Nothing}
 use Rattle.yds_trace.specs.declared.cut.Cut.{Cut}
@@ -13,20 +13,22 @@ use Rattle.yds_trace.specs.Jobs.{Job, Known, changed_last, ran}
 use Rattle.yds_trace.specs.Late.{last_asked}
 use Rattle.yds_trace.specs.WrittenTime.{Units, Run, written_time, run_of, before, runs_of}
 use Rattle.yds_trace.specs.Document.{closed, jobs_of, began_before, Judged, judged, judged_from, all_judged, stands, Written, written_runs, with_runs, without_runs, written_of, Placed, Document}
-use Rattle.yds_trace.specs.Parts.{begin_of, begins_from, begins_before, is_written, has_written, each_before, is_settled, ended_by, is_done_by, no_cut, waiting, is_before_end, part_until, place_of, cut_at, cut_after, part_fault}
+use Rattle.yds_trace.specs.Parts.{has_run_on, belongs, begin_of, begins_from, begins_before, is_written, has_job, each_before, is_settled, ended_by, is_done_by, no_cut, waiting, is_before_end, part_until, place_of, cut_at, cut_after, part_fault}
 use Rattle.yds_trace_document.specs.Part.{whole_zero, shift_of, part_units}
-use Rattle.yds_trace_document.proofs.Sorting.{FromLow, Rises, rises_in_order, rises_filter}
-use Rattle.yds_trace_laws.proofs.Ordered.{either_all, append-all, in_order-all, filter_map-all}
+use Rattle.yds_trace_document.proofs.Sorting.{FromLow, Rises}
+use Rattle.yds_trace_laws.specs.InUnits.{document_in}
+use Rattle.yds_trace_laws.proofs.Ordered.{either_all, append-all, in_order-all, filter-all, filter_map-all}
 use Rattle.yds_trace_laws.proofs.Runs.{all_weaker, reverse-all, IsForward, runs_forward}
 use Rattle.yds_trace_laws.proofs.Sharing.{GoesOn, lines_go_on}
 use Rattle.yds_trace_laws.proofs.Times.{order_is_kept, ends_are_kept}
-use Rattle.yds_trace_whole.specs.Parts.{Part, made, made_at, parts_behind, parts_of, KeepsParts}
-use Rattle.yds_trace_whole.specs.Whole.{whole_units, document_in, job_later, jobs_of_part, placed_later, runs_of_parts}
+use Rattle.yds_trace_again.proofs.Parts.{part_rises}
+use Rattle.yds_trace_whole.specs.Parts.{Part, made, made_with, made_at, parts_behind, parts_of, KeepsParts}
+use Rattle.yds_trace_whole.specs.Whole.{whole_units, job_later, jobs_of_part, placed_later, runs_of_parts}
 use Rattle.yds_trace_whole.specs.Laws.{PartsMakeTheDocument, WholeIsTheDocument}
 use Rattle.yds_trace_whole.proofs.Going.{latest, IsSpan, IsSound, AreSound, StandsBy}
 use Rattle.yds_trace_whole.proofs.Lines.{until, until_most, or_this, first_stamp, first_is, no_stamp}
 use Rattle.yds_trace_whole.proofs.Holding.{counted, Holds, now_is, goes_behind}
-use Rattle.yds_trace_whole.proofs.Parting.{closing, filter_all_of, two_parts, next_part, all_of_them, numbered_all, from_all, IsPlace, place_is, DoneJudged, judged_done, Stands, before_nothing, at_first, part_more, line_more}
+use Rattle.yds_trace_whole.proofs.Parting.{closing, filter_all_of, own_before, own_nothing, next_own, last_own, numbered_all, from_all, IsPlace, place_is, DoneJudged, judged_done, Stands, at_first, part_more, line_more}
 use Rattle.yds_trace_whole.proofs.Later.{AreLater, IsTimed, written_later, part_jobs_later}
 use Rattle.yds_trace_whole.proofs.Ranked.{runs_at, HaveRuns, runs_append, HaveRunsLater, later_length, runs_are_later}
 
@@ -305,14 +307,14 @@ join_part whole middle judged parts part joined is first second =
 
 record Together (asked : Asked) (past : List Said) (cut : Cut) (parts : List Part) : Type 0 where
   stands : Stands asked past cut parts
-  joined : Joined (whole_units asked past) (filter (begins_before cut.boundary) (all_judged asked past)) parts
+  joined : Joined (whole_units asked past) (own_before asked past cut.boundary) parts
   early : HaveRuns (λ run. run.from ≤ written_time (whole_units asked past) cut.boundary)
-      (filter_map (written_of (whole_units asked past)) (filter (begins_before cut.boundary) (all_judged asked past)))
+      (filter_map (written_of (whole_units asked past)) (own_before asked past cut.boundary))
   none : first_stamp past ≡ None → (parts ≡ []) × (cut.boundary ≡ 0)
 
 at_start : (asked : Asked) → Together asked [] no_cut []
 at_start asked =
-    let nothing : [] ≡ filter (begins_before 0) (all_judged asked []) = before_nothing (all_judged asked []) in
+    let nothing : [] ≡ own_before asked [] 0 = own_nothing asked [] in
     record {
       stands = record { holds = λ number within. at_first asked number; begun = omega arith; same = nothing };
       joined = subst (λ (l : List Judged). Joined (whole_units asked []) l []) nothing (record { jobs = refl; runs = refl; many = refl });
@@ -347,8 +349,8 @@ line_together asked said past cut parts goes fault together = by (first_stamp pa
     by : (o : Option ℕ) → first_stamp past ≡ o → Together asked (said ∷ past) cut parts
     by None unstamped =
         let empty = together.none unstamped in
-        let nothing : [] ≡ filter (begins_before cut.boundary) (all_judged asked (said ∷ past)) =
-        before_nothing (all_judged asked (said ∷ past)) ∙ ap (λ (boundary : ℕ). filter (begins_before boundary) (all_judged asked (said ∷ past))) (sym empty.1) in
+        let nothing : [] ≡ own_before asked (said ∷ past) cut.boundary =
+        own_nothing asked (said ∷ past) ∙ ap (own_before asked (said ∷ past)) (sym empty.1) in
         let whole : Units = whole_units asked (said ∷ past) in
         record {
           stands = now;
@@ -358,16 +360,15 @@ line_together asked said past cut parts goes fault together = by (first_stamp pa
           none = λ is. empty;
         }
     by (Some first) stamped =
-        let same : filter (begins_before cut.boundary) (all_judged asked past) ≡ filter (begins_before cut.boundary) (all_judged asked (said ∷ past)) =
-        sym together.stands.same ∙ now.same in
+        let same : own_before asked past cut.boundary ≡ own_before asked (said ∷ past) cut.boundary = sym together.stands.same ∙ now.same in
         let units : whole_units asked past ≡ whole_units asked (said ∷ past) =
         ap (λ (time : ℕ). in_units asked (unwrap_or asked.from time)) (sym (first_still said past first stamped)) in
         record {
           stands = now;
           joined = subst (λ (l : List Judged). Joined (whole_units asked (said ∷ past)) l parts) same
-              (subst (λ (whole : Units). Joined whole (filter (begins_before cut.boundary) (all_judged asked past)) parts) units together.joined);
+              (subst (λ (whole : Units). Joined whole (own_before asked past cut.boundary) parts) units together.joined);
           early = subst (λ (l : List Judged). HaveRuns (λ run. run.from ≤ written_time (whole_units asked (said ∷ past)) cut.boundary) (filter_map (written_of (whole_units asked (said ∷ past))) l)) same
-              (subst (λ (whole : Units). HaveRuns (λ run. run.from ≤ written_time whole cut.boundary) (filter_map (written_of whole) (filter (begins_before cut.boundary) (all_judged asked past)))) units
+              (subst (λ (whole : Units). HaveRuns (λ run. run.from ≤ written_time whole cut.boundary) (filter_map (written_of whole) (own_before asked past cut.boundary))) units
               together.early);
           none = λ is. absurd (stamped_still said past first stamped is);
         }
@@ -385,43 +386,50 @@ no_time (Stamped event ∷ past) none = absurd (no_stamp past event.time none)
 no_time (Lost processor reach ∷ past) none = no_time past none
 no_time (Nothing ∷ past) none = no_time past none
 
-none_written : (jobs : List Judged) → has_written 0 jobs ≡ false
-none_written [] = refl
-none_written (one ∷ jobs) = ap (λ (b : Bool). (b && is_written one) || has_written 0 jobs) (le-ltb one.job.begin 0 (omega arith)) ∙ none_written jobs
+none_begun : (asked : Asked) (jobs : List Judged) → has_job asked 0 jobs ≡ false
+none_begun asked [] = refl
+none_begun asked (one ∷ jobs) =
+    ap (λ (b : Bool). (b && (asked.everywhere || is_written one)) || has_job asked 0 jobs) (le-ltb one.job.begin 0 (omega arith)) ∙ none_begun asked jobs
 
 no_place : (asked : Asked) (past : List Said) (cut : Cut) (time : ℕ) → IsPlace asked past cut time → first_stamp past ≡ None → ⊥
 no_place asked past cut time place none =
     let nothing : time ≡ 0 = omega (arith, place.by, now_is asked past, until_most asked.to (last_time past), no_time past none) in
-    let written : has_written time (waiting asked past cut) ≡ true =
-    (and_parts (has_written time (waiting asked past cut)) (each_before (is_done_by asked past time) time (waiting asked past cut)) place.quiet).0 in
-    true≢false (sym written ∙ ap (λ (t : ℕ). has_written t (waiting asked past cut)) nothing ∙ none_written (waiting asked past cut))
+    let begun : has_job asked time (waiting asked past cut) ≡ true =
+    (and_parts (has_job asked time (waiting asked past cut)) (each_before (is_done_by asked past time) time (waiting asked past cut)) place.quiet).0 in
+    true≢false (sym begun ∙ ap (λ (t : ℕ). has_job asked t (waiting asked past cut)) nothing ∙ none_begun asked (waiting asked past cut))
 
 -- what is known of the jobs of a part that is cut
 abbrev IsOfPart : Asked → List Said → ℕ → ℕ → Judged → Type 0
 IsOfPart asked past boundary time one =
     IsClocked asked (last_asked asked past) one × (boundary ≤ one.job.begin) × ((not (stands one) || ended_by time one.job.end) ≡ true)
 
-of_part : (asked : Asked) (past : List Said) (cut : Cut) (time : ℕ) → AllByRecursion (IsClocked asked (last_asked asked past)) (all_judged asked past) →
+part_done : (asked : Asked) (past : List Said) (cut : Cut) (time : ℕ) → AllByRecursion (IsClocked asked (last_asked asked past)) (all_judged asked past) →
     IsPlace asked past cut time → AllByRecursion (IsOfPart asked past cut.boundary time) (part_until asked past cut (Some time))
-of_part asked past cut time clocked place =
+part_done asked past cut time clocked place =
     let P : Judged → Type 0 = λ one. IsClocked asked (last_asked asked past) one × DoneJudged asked past cut.boundary time one in
     let Q : Judged → Type 0 = λ one. P one × (begins_from cut.boundary one ≡ true) in
-    all_weaker (λ (one : Judged). Q one × (begins_before time one ≡ true)) (IsOfPart asked past cut.boundary time)
+    filter-all (IsOfPart asked past cut.boundary time) (belongs asked) (filter (begins_before time) (waiting asked past cut))
+    (all_weaker (λ (one : Judged). Q one × (begins_before time one ≡ true)) (IsOfPart asked past cut.boundary time)
     (λ one is.
     let from : cut.boundary ≤ one.job.begin = leb-true cut.boundary one.job.begin is.0.1 in (
       is.0.0.0,
       from,
       (and_parts (is_settled asked past one) (not (stands one) || ended_by time one.job.end) (is.0.0.1 from (ltb-true one.job.begin time is.1))).1,
     ))
-    (part_until asked past cut (Some time))
+    (filter (begins_before time) (waiting asked past cut))
     (filter_all_of Q (begins_before time) (waiting asked past cut)
     (filter_all_of P (begins_from cut.boundary) (all_judged asked past)
-    (both_all (IsClocked asked (last_asked asked past)) (DoneJudged asked past cut.boundary time) (all_judged asked past) clocked (judged_done asked past cut time place.quiet))))
+    (both_all (IsClocked asked (last_asked asked past)) (DoneJudged asked past cut.boundary time) (all_judged asked past) clocked (judged_done asked past cut time place.quiet)))))
 
-part_rises : (asked : Asked) (past : List Said) (cut : Cut) (until : Option ℕ) → Rises begin_of (part_until asked past cut until)
-part_rises asked past cut until =
-    rises_filter begin_of (is_before_end until) (waiting asked past cut)
-    (rises_filter begin_of (begins_from cut.boundary) (all_judged asked past) (rises_in_order begin_of (judged_from asked past 0 asked.tasks)))
+-- one part more, or none where it has no job
+join_made : (asked : Asked) (past : List Said) (cut : Cut) (time : ℕ) (whole : Units) (front : List Judged) (parts : List Part) (part : List Judged) →
+    part_until asked past cut (Some time) ≡ part → Joined whole front parts →
+    Joined whole (front ++ part_until asked past cut (Some time)) (parts ++ made asked past cut (Some time) ∷ []) →
+    Joined whole (front ++ part_until asked past cut (Some time)) (parts ++ made_with asked past cut time part)
+join_made asked past cut time whole front parts [] is before now =
+    subst (λ (l : List Part). Joined whole (front ++ part_until asked past cut (Some time)) l) (sym (append-nil parts))
+    (subst (λ (l : List Judged). Joined whole l parts) (sym (ap (λ (l : List Judged). front ++ l) is ∙ append-nil front)) before)
+join_made asked past cut time whole front parts (one ∷ part) is before now = now
 
 part_together : (asked : Asked) (past : List Said) (cut : Cut) (parts : List Part) (o : Option ℕ) → IsAsked asked → place_of asked past cut ≡ o → Together asked past cut parts →
     Together asked past (cut_at asked past cut o) (parts ++ made_at asked past cut o)
@@ -432,17 +440,17 @@ part_together asked past cut parts (Some time) words some together =
     let place : IsPlace asked past cut time = place_is asked past cut time together.stands.holds some in
     let whole : Units = whole_units asked past in
     let now : ℕ = last_asked asked past in
-    let all : List Judged = all_judged asked past in
-    let front : List Judged = filter (begins_before cut.boundary) all in
+    let front : List Judged = own_before asked past cut.boundary in
     let part : List Judged = part_until asked past cut (Some time) in
-    let is : AllByRecursion (IsOfPart asked past cut.boundary time) part = of_part asked past cut time (all_clocked asked past cut words together.stands.holds) place in
-    let both : front ++ part ≡ filter (begins_before time) all = next_part cut.boundary time all place.from (rises_in_order begin_of (judged_from asked past 0 asked.tasks)) in
-    let joined : Joined whole (front ++ part) (parts ++ made asked past cut (Some time) ∷ []) =
+    let is : AllByRecursion (IsOfPart asked past cut.boundary time) part = part_done asked past cut time (all_clocked asked past cut words together.stands.holds) place in
+    let both : front ++ part ≡ own_before asked past time = next_own asked past cut time place.from in
+    let joined : Joined whole (front ++ part) (parts ++ made_with asked past cut time part) =
+    join_made asked past cut time whole front parts part refl together.joined (
     join_part whole (written_time whole cut.boundary) front parts (made asked past cut (Some time)) together.joined
     (part_of_whole asked past cut (Some time) words.has_unit (part_rises asked past cut (Some time))
     (all_weaker (IsOfPart asked past cut.boundary time) (IsClocked asked now) (λ one so. so.0) part is)) together.early
     (part_runs_from whole asked now cut.boundary part words.has_unit
-    (all_weaker (IsOfPart asked past cut.boundary time) (λ (one : Judged). IsClocked asked now one × (cut.boundary ≤ one.job.begin)) (λ one so. (so.0, so.1)) part is)) in
+    (all_weaker (IsOfPart asked past cut.boundary time) (λ (one : Judged). IsClocked asked now one × (cut.boundary ≤ one.job.begin)) (λ one so. (so.0, so.1)) part is))) in
     let Early : List Written → Type 0 = HaveRuns (λ run. run.from ≤ written_time whole time) in
     let first : Early (filter_map (written_of whole) front) =
     all_weaker (λ (job : Written). AllByRecursion (λ run. run.from ≤ written_time whole cut.boundary) job.runs)
@@ -455,7 +463,7 @@ part_together asked past cut parts (Some time) words some together =
     (all_weaker (IsOfPart asked past cut.boundary time) (λ (one : Judged). IsClocked asked now one × ((not (stands one) || ended_by time one.job.end) ≡ true)) (λ one so. (so.0, so.2)) part is) in
     record {
       stands = stands_now;
-      joined = subst (λ (l : List Judged). Joined whole l (parts ++ made asked past cut (Some time) ∷ [])) both joined;
+      joined = subst (λ (l : List Judged). Joined whole l (parts ++ made_with asked past cut time part)) both joined;
       early = subst (λ (l : List Judged). Early (filter_map (written_of whole) l)) both
           (subst Early (sym (filter_map-append (written_of whole) front part))
           (append-all (λ (job : Written). AllByRecursion (λ run. run.from ≤ written_time whole time) job.runs) (filter_map (written_of whole) front) (filter_map (written_of whole) part) first second));
@@ -476,23 +484,22 @@ parts_make_the_document asked past words none kept =
     let cut : Cut = cut_after asked past in
     let whole : Units = whole_units asked past in
     let now : ℕ = last_asked asked past in
-    let all : List Judged = all_judged asked past in
-    let front : List Judged = filter (begins_before cut.boundary) all in
+    let front : List Judged = own_before asked past cut.boundary in
     let part : List Judged = part_until asked past cut None in
-    let last : part ≡ filter (begins_from cut.boundary) all = all_of_them (filter (begins_from cut.boundary) all) in
-    let is : AllByRecursion (λ one. IsClocked asked now one × (cut.boundary ≤ one.job.begin)) part =
-    subst (AllByRecursion (λ one. IsClocked asked now one × (cut.boundary ≤ one.job.begin))) (sym last)
-    (all_weaker (λ (one : Judged). IsClocked asked now one × (begins_from cut.boundary one ≡ true)) (λ (one : Judged). IsClocked asked now one × (cut.boundary ≤ one.job.begin))
-    (λ one so. (so.0, leb-true cut.boundary one.job.begin so.1)) (filter (begins_from cut.boundary) all)
-    (filter_all_of (IsClocked asked now) (begins_from cut.boundary) all (all_clocked asked past cut words together.stands.holds))) in
+    let Waits : Judged → Type 0 = λ one. IsClocked asked now one × (cut.boundary ≤ one.job.begin) in
+    let is : AllByRecursion Waits part =
+    filter-all Waits (belongs asked) (filter (is_before_end None) (waiting asked past cut))
+    (filter-all Waits (is_before_end None) (waiting asked past cut)
+    (all_weaker (λ (one : Judged). IsClocked asked now one × (begins_from cut.boundary one ≡ true)) Waits
+    (λ one so. (so.0, leb-true cut.boundary one.job.begin so.1)) (waiting asked past cut)
+    (filter_all_of (IsClocked asked now) (begins_from cut.boundary) (all_judged asked past) (all_clocked asked past cut words together.stands.holds)))) in
     let joined : Joined whole (front ++ part) (parts_of asked past) =
     join_part whole (written_time whole cut.boundary) front (parts_behind asked past) (made asked past cut None) together.joined
     (part_of_whole asked past cut None words.has_unit (part_rises asked past cut None)
     (all_weaker (λ (one : Judged). IsClocked asked now one × (cut.boundary ≤ one.job.begin)) (IsClocked asked now) (λ one so. so.0) part is)) together.early
     (part_runs_from whole asked now cut.boundary part words.has_unit is) in
-    let both : front ++ part ≡ all =
-    ap (λ (l : List Judged). front ++ l) last ∙ two_parts cut.boundary all (rises_in_order begin_of (judged_from asked past 0 asked.tasks)) in
-    let done : Joined whole all (parts_of asked past) = subst (λ (l : List Judged). Joined whole l (parts_of asked past)) both joined in
+    let done : Joined whole (filter (belongs asked) (all_judged asked past)) (parts_of asked past) =
+    subst (λ (l : List Judged). Joined whole l (parts_of asked past)) (last_own asked past cut) joined in
     ap₂ (λ (jobs : List Written) (runs : List Placed). a_document jobs runs) done.jobs done.runs
 
 -- # With a begin that is asked for
@@ -501,6 +508,13 @@ zero_from : (o : Option ℕ) (from first other : ℕ) → o ≡ Some from → un
 zero_from None from first other is = cc is
 zero_from (Some time) from first other is = refl
 
+-- with one processor each job belongs
+all_belong : (asked : Asked) (jobs : List Judged) → asked.everywhere ≡ false → filter (belongs asked) jobs ≡ jobs
+all_belong asked jobs alone =
+    filter_all (belongs asked) jobs
+    (λ k d within. ap (λ (b : Bool). not b || has_run_on asked.processor (get_or jobs k d).job || (asked.processor == 0 && length (get_or jobs k d).job.stretches == 0)) alone)
+
 pub whole_is_the_document : WholeIsTheDocument
-whole_is_the_document asked past from is =
-    ap (λ (start : ℕ). document_in (in_units asked start) (all_judged asked past)) (zero_from asked.from from (first_time 0 past) _ is)
+whole_is_the_document asked past from alone is =
+    ap₂ (λ (start : ℕ) (jobs : List Judged). document_in (in_units asked start) jobs) (zero_from asked.from from (first_time 0 past) _ is)
+    (all_belong asked (all_judged asked past) alone)

@@ -1,14 +1,14 @@
--- No late job is hidden in the parts of a trace, each part is faithful to the trace, and each is read again.
-use Rattle.yds_model.proofs.Common.{◌≡◌, ℕ, ◌+◌, ◌<◌, List, [], ◌∷◌, length, get_or, Option, Some, None, is_none, refl, sym, subst, All, All-from_recursion, All-contains_itself, AllByRecursion, recursion_from_All, Contains}
+-- No late job is hidden in the parts of a trace, and each part is faithful to the trace.
+use Rattle.yds_model.proofs.Common.{◌≡◌, ℕ, ◌+◌, ◌<◌, List, [], ◌∷◌, filter, length, get_or, Option, Some, None, is_none, refl, sym, subst, All, All-from_recursion, All-contains_itself, AllByRecursion, recursion_from_All, Contains}
 use Rattle.yds_kernel.specs.Event.{Said}
 use Rattle.yds_trace.specs.declared.cut.Cut.{Cut}
 use Rattle.yds_trace.specs.Asked.{Asked, IsAsked}
 use Rattle.yds_trace.specs.Faults.{first_fault, numbered, said_fault}
 use Rattle.yds_trace.specs.Document.{Judged, all_judged}
-use Rattle.yds_trace.specs.Parts.{part_until, place_of, cut_after}
+use Rattle.yds_trace.specs.Parts.{belongs, part_until, place_of, cut_after}
 use Rattle.yds_trace_laws.specs.Faithful.{AreFaithful}
 use Rattle.yds_trace_laws.specs.InUnits.{AreOf, document_in}
-use Rattle.yds_trace_laws.proofs.Ordered.{append-all, append-all_left, append-all_right}
+use Rattle.yds_trace_laws.proofs.Ordered.{filter-all, append-all, append-all_left, append-all_right}
 use Rattle.yds_trace_laws.proofs.Runs.{all_weaker, contained}
 use Rattle.yds_trace_laws.proofs.Begins.{or_none}
 use Rattle.yds_trace_laws.proofs.Seen.{some_are_in_time}
@@ -17,66 +17,50 @@ use Rattle.yds_trace_document.specs.Part.{part_units}
 use Rattle.yds_trace_text.specs.Text.{late_comment, settled_text}
 use Rattle.yds_trace_text.specs.PartText.{part_line}
 use Rattle.yds_trace_again.specs.Holds.{Holds}
-use Rattle.yds_trace_again.proofs.Holding.{on_the_right, held_within, late_jobs_are_named}
-use Rattle.yds_trace_again.proofs.Parts.{part_is_of, part_not_before, parts_are_read_again}
-use Rattle.yds_trace_whole.specs.Parts.{Part, made, made_at, parts_behind, parts_of, judged_in_parts}
-use Rattle.yds_trace_whole.specs.Worth.{IsPartFeasible, NothingLateInParts, IsFaithfulPart, IsReadPart}
-use Rattle.yds_trace_whole.specs.WorthLaws.{NothingIsLateInParts, PartsAreFaithful, EachPartIsRead}
+use Rattle.yds_trace_again.proofs.Holding.{on_the_right, late_jobs_are_named}
+use Rattle.yds_trace_again.proofs.Parts.{part_is_of, part_not_before}
+use Rattle.yds_trace_whole.specs.Parts.{Part, made, made_with, made_at, parts_behind, parts_of, judged_in_parts}
+use Rattle.yds_trace_whole.specs.Worth.{IsPartFeasible, NothingLateInParts, IsFaithfulPart}
+use Rattle.yds_trace_whole.specs.WorthLaws.{NothingIsLateInParts, PartsAreFaithful}
 use Rattle.yds_trace_whole.proofs.Parting.{parts_are_the_whole}
 
--- # Where a part is from
-
--- it is made of the jobs behind some lines, of which Q holds
-record IsMade (asked : Asked) (Q : List Said → Type 0) (part : Part) : Type 0 where
-  past : List Said
-  cut : Cut
-  until : Option ℕ
-  is : made asked past cut until ≡ part
-  holds : Q past
-
-made_here : (asked : Asked) (Q : List Said → Type 0) (past : List Said) (cut : Cut) (until : Option ℕ) → Q past → IsMade asked Q (made asked past cut until)
-made_here asked Q past cut until holds = record { past = past; cut = cut; until = until; is = refl; holds = holds }
-
-made_there : (asked : Asked) (Q : List Said → Type 0) (past : List Said) (cut : Cut) (place : Option ℕ) → Q past → AllByRecursion (IsMade asked Q) (made_at asked past cut place)
-made_there asked Q past cut None holds = tt
-made_there asked Q past cut (Some time) holds = (made_here asked Q past cut (Some time) holds, tt)
+-- # Each part that is made
 
 -- It holds of fewer lines where it holds of more.
 abbrev pub IsKeptBefore : (List Said → Type 0) → Type 0
 IsKeptBefore Q = (said : Said) (past : List Said) → Q (said ∷ past) → Q past
 
-made_behind : (asked : Asked) (Q : List Said → Type 0) (past : List Said) → IsKeptBefore Q → Q past → AllByRecursion (IsMade asked Q) (parts_behind asked past)
-made_behind asked Q [] kept holds = tt
-made_behind asked Q (said ∷ past) kept holds =
-    append-all (IsMade asked Q) (parts_behind asked past) (made_at asked (said ∷ past) (cut_after asked past) (place_of asked (said ∷ past) (cut_after asked past)))
-    (made_behind asked Q past kept (kept said past holds))
-    (made_there asked Q (said ∷ past) (cut_after asked past) (place_of asked (said ∷ past) (cut_after asked past)) holds)
+-- as that no line is refused
+pub none_before : (asked : Asked) → IsKeptBefore (λ lines. first_fault asked lines ≡ None)
+none_before asked said lines none = (or_none (first_fault asked lines) (numbered (length lines + 1) (said_fault asked lines said)) none).0
 
-all_made : (asked : Asked) (Q : List Said → Type 0) (past : List Said) → IsKeptBefore Q → Q past → AllByRecursion (IsMade asked Q) (parts_of asked past)
-all_made asked Q past kept holds =
-    append-all (IsMade asked Q) (parts_behind asked past) (made asked past (cut_after asked past) None ∷ []) (made_behind asked Q past kept holds)
-    (made_here asked Q past (cut_after asked past) None holds, tt)
+-- What holds of each part that is made holds of the one that is written, if one is.
+pub at_place : (P : Part → Type 0) (asked : Asked) (past : List Said) (cut : Cut) (place : Option ℕ) → ((until : Option ℕ) → P (made asked past cut until)) →
+    AllByRecursion P (made_at asked past cut place)
+at_place P asked past cut None each = tt
+at_place P asked past cut (Some time) each = by (part_until asked past cut (Some time))
+  where
+    by : (part : List Judged) → AllByRecursion P (made_with asked past cut time part)
+    by [] = tt
+    by (one ∷ part) = (each (Some time), tt)
 
--- What holds of each part that is made of such lines holds of all parts of a trace.
-pub of_each_made : (P : Part → Type 0) (asked : Asked) (Q : List Said → Type 0) (past : List Said) → IsKeptBefore Q → Q past →
-    ((lines : List Said) (cut : Cut) (until : Option ℕ) → Q lines → P (made asked lines cut until)) → All P (parts_of asked past)
-of_each_made P asked Q past kept holds each =
-    All-from_recursion P (parts_of asked past)
-    (all_weaker (IsMade asked Q) P (λ part from. subst P from.is (each from.past from.cut from.until from.holds)) (parts_of asked past) (all_made asked Q past kept holds))
+-- where none of the lines has a fault
+module _ (P : Part → Type 0) (asked : Asked) (each : (lines : List Said) (cut : Cut) (until : Option ℕ) → first_fault asked lines ≡ None → P (made asked lines cut until)) where
+  each_behind : (past : List Said) → first_fault asked past ≡ None → AllByRecursion P (parts_behind asked past)
+  each_behind [] none = tt
+  each_behind (said ∷ past) none =
+      append-all P (parts_behind asked past) (made_at asked (said ∷ past) (cut_after asked past) (place_of asked (said ∷ past) (cut_after asked past)))
+      (each_behind past (none_before asked said past none))
+      (at_place P asked (said ∷ past) (cut_after asked past) (place_of asked (said ∷ past) (cut_after asked past))
+      (λ until. each (said ∷ past) (cut_after asked past) until none))
 
--- as where none of the lines has a fault
+-- So it holds of all parts of a trace.
 of_each_part : (P : Part → Type 0) (asked : Asked) (past : List Said) → first_fault asked past ≡ None →
     ((lines : List Said) (cut : Cut) (until : Option ℕ) → first_fault asked lines ≡ None → P (made asked lines cut until)) → All P (parts_of asked past)
 of_each_part P asked past none each =
-    of_each_made P asked (λ lines. first_fault asked lines ≡ None) past
-    (λ said lines whole. (or_none (first_fault asked lines) (numbered (length lines + 1) (said_fault asked lines said)) whole).0) none each
-
--- # Each part is read again
-
-pub each_part_is_read : EachPartIsRead
-each_part_is_read asked strict past fit labelled none =
-    of_each_part (IsReadPart strict) asked past none
-    (λ lines cut until whole limits short. parts_are_read_again asked strict lines cut until fit labelled whole limits short)
+    All-from_recursion P (parts_of asked past)
+    (append-all P (parts_behind asked past) (made asked past (cut_after asked past) None ∷ []) (each_behind P asked each past none)
+    (each past (cut_after asked past) None none, tt))
 
 -- # The jobs of parts
 
@@ -94,8 +78,9 @@ in_some all (part ∷ parts) there =
     (recursion_from_All (Contains part.settled.judged) part.settled.judged (All-contains_itself part.settled.judged)))
     (in_some all parts there.1)
 
--- Each job of the whole trace is in a part.
-in_parts : (asked : Asked) (past : List Said) → judged_in_parts (parts_of asked past) ≡ all_judged asked past → All (IsIn (parts_of asked past)) (all_judged asked past)
+-- Each job of the whole trace that belongs to the processor is in a part.
+in_parts : (asked : Asked) (past : List Said) → judged_in_parts (parts_of asked past) ≡ filter (belongs asked) (all_judged asked past) →
+    All (IsIn (parts_of asked past)) (filter (belongs asked) (all_judged asked past))
 in_parts asked past whole =
     let parts : List Part = parts_of asked past in
     subst (λ (ones : List Judged). All (IsIn parts) ones) whole
@@ -110,14 +95,15 @@ of_parts P (part ∷ parts) all = (
 )
 
 -- So the jobs of each part are jobs of the whole trace.
-parts_are_of : (asked : Asked) (past : List Said) → judged_in_parts (parts_of asked past) ≡ all_judged asked past →
+parts_are_of : (asked : Asked) (past : List Said) → judged_in_parts (parts_of asked past) ≡ filter (belongs asked) (all_judged asked past) →
     All (λ part. AreOf asked past part.settled.judged) (parts_of asked past)
 parts_are_of asked past whole =
     let parts : List Part = parts_of asked past in
+    let all : List Judged = all_judged asked past in
     All-from_recursion (λ (part : Part). AreOf asked past part.settled.judged) parts
-    (of_parts (Contains (all_judged asked past)) parts
-    (subst (λ (ones : List Judged). AllByRecursion (Contains (all_judged asked past)) ones) (sym whole)
-    (recursion_from_All (Contains (all_judged asked past)) (all_judged asked past) (All-contains_itself (all_judged asked past)))))
+    (of_parts (Contains all) parts
+    (subst (λ (ones : List Judged). AllByRecursion (Contains all) ones) (sym whole)
+    (filter-all (Contains all) (belongs asked) all (recursion_from_All (Contains all) all (All-contains_itself all)))))
 
 -- # No late job is hidden
 
@@ -143,24 +129,23 @@ naming_parts asked past none =
     of_each_part IsNamingPart asked past none
     (λ lines cut until whole i d within.
     let part : Part = made asked lines cut until in
-    on_the_right (part_line cut (is_none until) part.shift part.settled.document.jobs) (settled_text asked part.settled)
+    on_the_right (part_line asked cut (is_none until) part.shift part.settled.document.jobs) (settled_text asked part.settled)
     (late_comment part.settled.units (get_or part.settled.judged i d)) (late_jobs_are_named asked part.settled i d within))
 
-pub nothing_late : (asked : Asked) (past : List Said) (text : List ℕ) → IsAsked asked → first_fault asked past ≡ None →
-    judged_in_parts (parts_of asked past) ≡ all_judged asked past → All (λ part. Holds text part.text) (parts_of asked past) → NothingLateInParts asked past text
-nothing_late asked past text fit none whole texts feasible i d within by late =
+nothing_late : (asked : Asked) (past : List Said) → IsAsked asked → first_fault asked past ≡ None →
+    judged_in_parts (parts_of asked past) ≡ filter (belongs asked) (all_judged asked past) → NothingLateInParts asked past
+nothing_late asked past fit none whole feasible i d within by late =
     let parts : List Part = parts_of asked past in
-    let one : Judged = get_or (all_judged asked past) i d in
+    let one : Judged = get_or (filter (belongs asked) (all_judged asked past)) i d in
     let found : IsIn parts one = in_parts asked past whole i d within in
     let part : Part = found.part in
     let in_time : All (IsNearlyInTime asked) part.settled.judged =
     contained (IsInTimePart asked) parts part found.is_there (in_time_parts asked past fit none) (contained IsPartFeasible parts part found.is_there feasible) in
-    let outer : Holds text part.text = contained (λ (p : Part). Holds text p.text) parts part found.is_there texts in
-    let inner : Holds part.text (late_comment part.settled.units one) =
+    let named : Holds part.text (late_comment part.settled.units one) =
     contained (λ (job : Judged). Holds part.text (late_comment part.settled.units job)) part.settled.judged one found.has
     (contained IsNamingPart parts part found.is_there (naming_parts asked past none)) in (
       contained (IsNearlyInTime asked) part.settled.judged one found.has in_time by late,
-      record { part = part; is_there = found.is_there; has = found.has; named = held_within text part.text (late_comment part.settled.units one) outer inner },
+      record { part = part; is_there = found.is_there; has = found.has; named = named },
     )
 
 -- # Each part is faithful
@@ -177,7 +162,8 @@ own_documents asked past fit none =
       some_are_faithful asked lines (part_units asked lines (part_until asked lines cut until)) (part_until asked lines cut until) fit.has_unit (part_is_of asked lines cut until),
     ))
 
-pub faithful_parts : (asked : Asked) (past : List Said) → IsAsked asked → first_fault asked past ≡ None → judged_in_parts (parts_of asked past) ≡ all_judged asked past →
+faithful_parts : (asked : Asked) (past : List Said) → IsAsked asked → first_fault asked past ≡ None →
+    judged_in_parts (parts_of asked past) ≡ filter (belongs asked) (all_judged asked past) →
     All (IsFaithfulPart asked past) (parts_of asked past)
 faithful_parts asked past fit none whole i d within =
     let own = own_documents asked past fit none i d within in
@@ -186,7 +172,7 @@ faithful_parts asked past fit none whole i d within =
 -- # The laws
 
 pub nothing_is_late_in_parts : NothingIsLateInParts
-nothing_is_late_in_parts asked past text fit none keeps texts = nothing_late asked past text fit none (parts_are_the_whole asked past none keeps) texts
+nothing_is_late_in_parts asked past fit none keeps = nothing_late asked past fit none (parts_are_the_whole asked past none keeps)
 
 pub parts_are_faithful : PartsAreFaithful
 parts_are_faithful asked past fit none keeps = faithful_parts asked past fit none (parts_are_the_whole asked past none keeps)

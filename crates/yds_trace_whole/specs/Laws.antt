@@ -1,5 +1,5 @@
 -- What follows from the definitions of a trace's parts.
-use Rattle.std.specs.Prelude.{◌≡◌, ℕ, List, map, filter, false, Some, None}
+use Rattle.std.specs.Prelude.{◌≡◌, ℕ, List, filter, false, Some, None}
 use Rattle.std.specs.List.{All}
 use Rattle.yds_kernel.specs.Event.{Said}
 use Rattle.yds_trace.specs.Asked.{Asked, IsAsked, on}
@@ -7,7 +7,6 @@ use Rattle.yds_trace.specs.Faults.{first_fault}
 use Rattle.yds_trace.specs.Document.{all_judged, document_of}
 use Rattle.yds_trace.specs.Parts.{belongs, processors_of}
 use Rattle.yds_trace_whole.specs.Parts.{KeepsParts, KeepsAllParts, parts_of, written_parts, parts_on, judged_in_parts}
-use Rattle.yds_trace_whole.specs.Worth.{BelongsTo, without_reason}
 use Rattle.yds_trace_whole.specs.Whole.{whole_document, put_together}
 
 -- # One processor
@@ -30,15 +29,6 @@ WholeIsTheDocument = (asked : Asked) (past : List Said) (from : ℕ) → asked.e
     whole_document asked past ≡ document_of asked past
 
 -- # All processors
-
--- On each processor the same jobs are judged, and the same is said of them but for the reason why one isn't written as it stands.
-abbrev pub JobsAreTheSame : Type 0
-JobsAreTheSame = (asked : Asked) (past : List Said) (processor : ℕ) →
-    map without_reason (all_judged (on processor asked) past) ≡ map without_reason (all_judged asked past)
-
--- Each job of the trace belongs to a processor that has documents.
-abbrev pub EachJobBelongs : Type 0
-EachJobBelongs = (asked : Asked) (past : List Said) → All (λ judged. BelongsTo asked judged (processors_of asked past)) (all_judged asked past)
 
 -- Of the parts that are written, those of a processor are the parts that it has by itself.
 abbrev pub PartsAreOfProcessors : Type 0

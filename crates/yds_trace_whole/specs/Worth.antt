@@ -1,6 +1,6 @@
 -- What the parts of a trace are worth to whoever asked for them: no late job is hidden in them, each is faithful to the trace, and each is read
 -- again as a document of its own.
-use Rattle.std.specs.Prelude.{◌≡◌, ℕ, ◌<◌, ◌≤◌, List, filter, length, Bool, true, Some, None}
+use Rattle.std.specs.Prelude.{◌≡◌, ℕ, ◌<◌, ◌≤◌, List, filter, length, Bool, Some, None}
 use Rattle.std.specs.List.{All, Contains}
 use Rattle.yds_model.specs.declared.limits.TheConstants.{MAX_INPUT}
 use Rattle.yds_model.specs.Feasible.{IsFeasible}
@@ -11,6 +11,7 @@ use Rattle.yds_trace.specs.Parts.{belongs, processors_of}
 use Rattle.yds_trace_laws.specs.AsSlots.{jobs_read, slots_read}
 use Rattle.yds_trace_laws.specs.InUnits.{document_in, AreOf}
 use Rattle.yds_trace_laws.specs.Faithful.{AreFaithful}
+use Rattle.yds_trace_laws.specs.Processors.{without_reason}
 use Rattle.yds_trace_document.specs.Part.{part_limit_fault}
 use Rattle.yds_trace_text.specs.Text.{late_comment}
 use Rattle.yds_trace_again.specs.Again.{IsReadAs}
@@ -39,16 +40,6 @@ abbrev pub NothingLateInParts : Asked → List Said → Type 0
 NothingLateInParts asked past = All IsPartFeasible (parts_of asked past) → All (IsToldLateIn asked (parts_of asked past)) (filter (belongs asked) (all_judged asked past))
 
 -- # On all processors
-
--- all but the reason, which differs from processor to processor
-abbrev pub without_reason : Judged → Judged
-without_reason judged = record judged { reason = None }
-
--- One of these processors has the job.
-pub record BelongsTo (asked : Asked) (one : Judged) (processors : List ℕ) : Type 0 where
-  pub processor : ℕ
-  pub is_there : Contains processors processor
-  pub has : belongs (on processor asked) one ≡ true
 
 -- One of the processors has the job in a part, and names it there.
 pub record IsNamedSomewhere (asked : Asked) (past : List Said) (one : Judged) : Type 0 where

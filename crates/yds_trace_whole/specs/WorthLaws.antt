@@ -23,10 +23,10 @@ abbrev pub PartsAreFaithful : Type 0
 PartsAreFaithful = (asked : Asked) (past : List Said) → IsAsked asked → first_fault asked past ≡ None → KeepsParts asked past →
     All (IsFaithfulPart asked past) (parts_of asked past)
 
--- Each part of a trace without a fault is read again.
+-- Each part that is written of a trace without a fault is read again.
 abbrev pub EachPartIsRead : Type 0
 EachPartIsRead = (asked : Asked) (strict : Bool) (past : List Said) → IsAsked asked → AreLabelled asked.tasks → first_fault asked past ≡ None →
-    All (IsReadPart asked strict) (parts_of asked past)
+    All (IsReadPart asked strict) (written_parts asked past)
 
 abbrev pub text_of : Part → List ℕ
 text_of part = part.text

@@ -1,10 +1,16 @@
 //! What the parts of a trace are worth to whoever reads them.
-ghost use Rattle.yds_trace_whole.specs.WorthLaws.{EachPartIsRead, NothingIsLateInParts, PartsAreFaithful, SeveralAreRefused};
+ghost use Rattle.yds_trace_whole.specs.WorthLaws.{EachPartIsRead, NothingIsLateAnywhere, NothingIsLateInParts, PartsAreFaithful, SeveralAreRefused};
 
-/// Where no line is refused and each part's document is feasible, each job of the whole trace that is known to be late is late by less than a
-/// unit of time, and a text that has each part's text has a comment that names it.
+/// Where no line is refused and the document of each part of a processor is feasible, each job of the whole trace that belongs to the processor
+/// and is known to be late is late by less than a unit of time, and a part's text has a comment that names it.
 pub fn nothing_is_late_in_parts()
     ensures { NothingIsLateInParts }
+{}
+
+/// Where no line is refused and the document of each part of each processor is feasible, that holds of each job of the whole trace: the job
+/// belongs to a processor that has documents, and a comment of that processor's parts names it.
+pub fn nothing_is_late_anywhere()
+    ensures { NothingIsLateAnywhere }
 {}
 
 /// Where no line is refused, no job and no run of a part is invented, and no run of its jobs is missing.

@@ -1,6 +1,6 @@
 -- What holds of what is asked of a trace, from the words that ask for it.
 use Rattle.std.specs.Prelude.{IfSome}
-use Rattle.yds_model.proofs.Common.{◌≡◌, ◌≢◌, ℕ, ◌+◌, ◌*◌, ◌^◌, ◌≤◌, ◌⊎◌, inl, inr, List, [], ◌∷◌, length, All, All-cons, All-nil, Bool, true, false, nat_le, nat_lt, Option, Some, None, Result, Ok, Err, refl, ap, subst, AllPairs, AllPairs-cons, get_or, list_any_at, bytes_eq, bytes_eq-Decides, cases_Bool, ◌∙◌, arith, if◌then◌else◌, leb-true, ltb-false, codes, and_parts, ◌&&◌, digits_value}
+use Rattle.yds_model.proofs.Common.{◌≡◌, ◌≢◌, ℕ, ◌+◌, ◌*◌, ◌^◌, ◌≤◌, ◌⊎◌, inl, inr, List, [], ◌∷◌, length, All, All-cons, All-nil, Bool, true, false, nat_le, nat_lt, Option, Some, None, is_none, unwrap_or, ◌||◌, Result, Ok, Err, refl, ap, subst, AllPairs, AllPairs-cons, get_or, list_any_at, bytes_eq, bytes_eq-Decides, cases_Bool, ◌∙◌, arith, if◌then◌else◌, leb-true, ltb-false, codes, and_parts, ◌&&◌, digits_value}
 use Rattle.std.specs.List.{slice_split, list_any, before_first, after_first}
 use Rattle.std.specs.Result.{result_ok}
 use Rattle.std.proofs.lemmas.List.Splits.{length-slice_split}
@@ -16,11 +16,11 @@ use Rattle.yds_trace_words.specs.declared.fault.Reason.{Reason}
 use Rattle.yds_trace_words.specs.declared.fault.Reason.TheVariants as reasons
 use Rattle.yds_trace_words.specs.declared.letter.Letter.{Letter}
 use Rattle.yds_trace_words.specs.declared.letter.Sign.TheVariants as signs
-use Rattle.yds_trace_words.specs.Words.{WordFault, refuse, ◌>>=◌, Setting, settings_of, value_of, is_given, given_twice}
+use Rattle.yds_trace_words.specs.Words.{WordFault, refuse, ◌>>=◌, Setting, settings_of, value_of, is_given, other_than, given_twice}
 use Rattle.yds_trace_words.specs.Decimal.{decimal_at, at_most, fraction_at, behind_point, is_point}
 use Rattle.yds_trace_words.specs.Letters.{letters_of, is_at, text_of}
 use Rattle.yds_trace_words.specs.Tasks.{known, is_label, refuse_task, label_at, Called, pid_at, numbered_at, named_at, called_at, milliseconds_at, deadline_at, Times, apart_at, alone_at, times_at, task_of_parts, task_at, tasks_behind, before_tasks, tasks_from, tasks_of, tasks_asked, is_same_label, is_same_thread, again_in, different_from, unless}
-use Rattle.yds_trace_words.specs.Request.{Request, ShowHelp, ShowVersion, ReadTrace, whole_or_refused, whole_or, start_of, time_or_refused, time_of, ordered, only, asked_by, read_trace, asked_once, request_by, request_of, IsFit, IsFitRequest}
+use Rattle.yds_trace_words.specs.Request.{Request, ShowHelp, ShowVersion, ReadTrace, ListThreads, whole_or_refused, whole_or, start_of, time_or_refused, time_of, ordered, only, processor_of, asked_by, read_trace, threads_alone, threads_or_trace, is_question, asked_once, request_by, request_of, IsFit, IsFitRequest}
 
 -- # Steps
 
@@ -298,7 +298,7 @@ record AskedParts (unit khz : ℕ) (to : Option ℕ) (found : Result (List Task)
   pub to_is : to ≡ asked.to
   pub tasks_is : found ≡ Ok asked.tasks
 
-last_parts : (order begin lost : Result Bool WordFault) (parts : Bool) (found : Result (List Task) WordFault) (cpu unit khz : ℕ) (start from to : Option ℕ) (asked : Asked)
+last_parts : (order begin lost : Result Bool WordFault) (parts every : Bool) (found : Result (List Task) WordFault) (cpu unit khz : ℕ) (start from to : Option ℕ) (asked : Asked)
     → (order >>= (λ o. begin >>= (λ b. lost >>= (λ l. found >>= (λ t. Ok (record {
       tasks = t;
       processor = cpu;
@@ -310,13 +310,14 @@ last_parts : (order begin lost : Result Bool WordFault) (parts : Bool) (found : 
       begin_at_run = b;
       cut_losses = l;
       in_parts = parts;
+      everywhere = every;
     }))))))
     ≡ Ok asked → AskedParts unit khz to found asked
-last_parts (Err fault) begin lost parts found cpu unit khz start from to asked is = absurd cc
-last_parts (Ok o) (Err fault) lost parts found cpu unit khz start from to asked is = absurd cc
-last_parts (Ok o) (Ok b) (Err fault) parts found cpu unit khz start from to asked is = absurd cc
-last_parts (Ok o) (Ok b) (Ok l) parts (Err fault) cpu unit khz start from to asked is = absurd cc
-last_parts (Ok o) (Ok b) (Ok l) parts (Ok t) cpu unit khz start from to asked is = record { unit_is = cc; khz_is = cc; to_is = cc; tasks_is = cc }
+last_parts (Err fault) begin lost parts every found cpu unit khz start from to asked is = absurd cc
+last_parts (Ok o) (Err fault) lost parts every found cpu unit khz start from to asked is = absurd cc
+last_parts (Ok o) (Ok b) (Err fault) parts every found cpu unit khz start from to asked is = absurd cc
+last_parts (Ok o) (Ok b) (Ok l) parts every (Err fault) cpu unit khz start from to asked is = absurd cc
+last_parts (Ok o) (Ok b) (Ok l) parts every (Ok t) cpu unit khz start from to asked is = record { unit_is = cc; khz_is = cc; to_is = cc; tasks_is = cc }
 
 record AllParts (us khz : Result ℕ WordFault) (to : Result (Option ℕ) WordFault) (tasks : ℕ → Result (List Task) WordFault) (asked : Asked) : Type 0 where
   pub number : ℕ
@@ -327,11 +328,11 @@ record AllParts (us khz : Result ℕ WordFault) (to : Result (Option ℕ) WordFa
   pub end_is : to ≡ Ok end
   pub rest : AskedParts (number * 1000) speed end (tasks (number * 1000)) asked
 
-all_parts : (cpu us khz : Result ℕ WordFault) (start from to : Result (Option ℕ) WordFault) (order : Option ℕ → Option ℕ → Result Bool WordFault) (begin lost : Result Bool WordFault) (parts : Bool)
+all_parts : (cpu : Result (Option ℕ) WordFault) (us khz : Result ℕ WordFault) (start from to : Result (Option ℕ) WordFault) (order : Option ℕ → Option ℕ → Result Bool WordFault) (begin lost : Result Bool WordFault) (parts : Bool)
     (tasks : ℕ → Result (List Task) WordFault) (asked : Asked)
     → (cpu >>= (λ c. us >>= (λ u. khz >>= (λ k. start >>= (λ s. from >>= (λ f. to >>= (λ e. order f e >>= (λ o. begin >>= (λ b. lost >>= (λ l. tasks (u * 1000) >>= (λ t. Ok (record {
       tasks = t;
-      processor = c;
+      processor = unwrap_or c 0;
       unit = u * 1000;
       khz = k;
       start = s;
@@ -339,7 +340,8 @@ all_parts : (cpu us khz : Result ℕ WordFault) (start from to : Result (Option 
       to = e;
       begin_at_run = b;
       cut_losses = l;
-      in_parts = parts;
+      in_parts = is_none c || parts;
+      everywhere = is_none c;
     }))))))))))))
     ≡ Ok asked → AllParts us khz to tasks asked
 all_parts (Err fault) us khz start from to order begin lost parts tasks asked is = absurd cc
@@ -349,7 +351,7 @@ all_parts (Ok c) (Ok u) (Ok k) (Err fault) from to order begin lost parts tasks 
 all_parts (Ok c) (Ok u) (Ok k) (Ok s) (Err fault) to order begin lost parts tasks asked is = absurd cc
 all_parts (Ok c) (Ok u) (Ok k) (Ok s) (Ok f) (Err fault) order begin lost parts tasks asked is = absurd cc
 all_parts (Ok c) (Ok u) (Ok k) (Ok s) (Ok f) (Ok e) order begin lost parts tasks asked is =
-    record { number = u; speed = k; us_is = refl; khz_is = refl; end = e; end_is = refl; rest = last_parts (order f e) begin lost parts (tasks (u * 1000)) c (u * 1000) k s f e asked is }
+    record { number = u; speed = k; us_is = refl; khz_is = refl; end = e; end_is = refl; rest = last_parts (order f e) begin lost (is_none c || parts) (is_none c) (tasks (u * 1000)) (unwrap_or c 0) (u * 1000) k s f e asked is }
 
 weaker : (P Q : Task → Type 0) (tasks : List Task) → ((task : Task) → P task → Q task) → All P tasks → All Q tasks
 weaker P Q tasks so all = λ i d within. so _ (all i d within)
@@ -367,7 +369,7 @@ to_most name (Some text) (Some time) is = by (decimal_at 9 MAX_TIME text) refl i
 asked_fits : (given : List Setting) (asked : Asked) → asked_by given ≡ Ok asked → IsFit asked
 asked_fits given asked is =
     let value = λ (name : List ℕ). value_of name given in
-    let parts = all_parts (whole_or 0 0 MAX_PROCESSOR (codes "--cpu") reasons.Processor (value (codes "--cpu"))) (whole_or 10 1 MAX_UNIT (codes "--us") reasons.Unit (value (codes "--us")))
+    let parts = all_parts (processor_of (value (codes "--cpu"))) (whole_or 10 1 MAX_UNIT (codes "--us") reasons.Unit (value (codes "--us")))
     (whole_or 10000 1 MAX_NUMBER (codes "--khz") reasons.Speed (value (codes "--khz"))) (start_of (value (codes "--start"))) (time_of (codes "--from") (value (codes "--from")))
     (time_of (codes "--to") (value (codes "--to"))) ordered (only (codes "--begin") (codes "run") reasons.Begin (value (codes "--begin")))
     (only (codes "--lost") (codes "cut") reasons.Lost (value (codes "--lost"))) (is_given (codes "--parts") given) (λ (unit : ℕ). tasks_asked unit (value (codes "--tasks"))) asked is in
@@ -392,6 +394,7 @@ asked_fits given asked is =
 pub request_fits : (words : List (List ℕ)) (request : Request) → request_of words ≡ Ok request → IsFitRequest request
 request_fits words ShowHelp is = tt
 request_fits words ShowVersion is = tt
+request_fits words ListThreads is = tt
 request_fits words (ReadTrace asked strict) is =
     let given = went (settings_of words) request_by (ReadTrace asked strict) is in
     by_help (is_given (codes "--help") given.value) given.value given.is
@@ -400,9 +403,17 @@ request_fits words (ReadTrace asked strict) is =
     by_asked strictly (Err fault) fits same = absurd cc
     by_asked strictly (Ok one) fits same = let even : one ≡ asked = cc in subst IsFit even (fits one refl)
 
+    by_threads : (name : Option (List ℕ)) → threads_alone name ≡ Ok (ReadTrace asked strict) → IsFit asked
+    by_threads None same = absurd cc
+    by_threads (Some name) same = absurd cc
+
+    by_question : (b : Bool) (settings : List Setting) → threads_or_trace b settings ≡ Ok (ReadTrace asked strict) → IsFit asked
+    by_question true settings same = by_threads (other_than (codes "--tasks") settings) same
+    by_question false settings same = by_asked (is_given (codes "--strict") settings) (asked_by settings) (asked_fits settings) same
+
     by_twice : (name : Option (List ℕ)) (settings : List Setting) → asked_once name settings ≡ Ok (ReadTrace asked strict) → IsFit asked
     by_twice (Some again) settings same = absurd cc
-    by_twice None settings same = by_asked (is_given (codes "--strict") settings) (asked_by settings) (asked_fits settings) same
+    by_twice None settings same = by_question (is_question (value_of (codes "--tasks") settings)) settings same
 
     by_version : (b : Bool) (settings : List Setting) → (if b then Ok ShowVersion else asked_once (given_twice settings) settings) ≡ Ok (ReadTrace asked strict) → IsFit asked
     by_version true settings same = absurd cc

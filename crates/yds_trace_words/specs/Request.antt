@@ -1,5 +1,5 @@
 -- What the words of the command line ask for.
-use Rattle.std.specs.Prelude.{◌≡◌, ◌≢◌, ℕ, ◌*◌, ◌≤◌, List, length, codes, Bool, true, false, nat_lt, if◌then◌else◌, Option, Some, None, IfSome, Result, Ok, Err}
+use Rattle.std.specs.Prelude.{◌≡◌, ◌≢◌, ℕ, ◌*◌, ◌≤◌, List, length, codes, Bool, true, false, ◌||◌, nat_lt, if◌then◌else◌, Option, Some, None, is_none, unwrap_or, IfSome, Result, Ok, Err}
 use Rattle.std.specs.List.{All, AllPairs}
 use Rattle.std.specs.Str.{bytes_eq}
 use Rattle.yds_model.specs.Spelling.{number_at}
@@ -9,7 +9,7 @@ use Rattle.yds_trace.specs.Asked.{Asked, IsAsked, IsWithin}
 use Rattle.yds_trace_words.specs.declared.limits.TheConstants.{MAX_UNIT, MAX_TASKS}
 use Rattle.yds_trace_words.specs.declared.fault.Reason.{Reason}
 use Rattle.yds_trace_words.specs.declared.fault.Reason.TheVariants as reasons
-use Rattle.yds_trace_words.specs.Words.{WordFault, refuse, ◌>>=◌, Setting, settings_of, value_of, is_given, given_twice}
+use Rattle.yds_trace_words.specs.Words.{WordFault, refuse, ◌>>=◌, Setting, settings_of, value_of, is_given, other_than, given_twice}
 use Rattle.yds_trace_words.specs.Decimal.{decimal_at}
 use Rattle.yds_trace_words.specs.Tasks.{is_label, tasks_asked}
 
@@ -54,6 +54,12 @@ abbrev pub ordered : Option ℕ → Option ℕ → Result Bool WordFault
 ordered (Some from) (Some to) = if nat_lt from to then Ok true else refuse (codes "--from") reasons.FromNotBefore
 ordered _ _ = Ok true
 
+-- A processor's number; `all` is none of them by itself.
+abbrev pub processor_of : Option (List ℕ) → Result (Option ℕ) WordFault
+processor_of None = Ok (Some 0)
+processor_of (Some text) =
+    if bytes_eq text (codes "all") then Ok None else some_of (whole_at 0 MAX_PROCESSOR (codes "--cpu") reasons.Processor text)
+
 -- # Requests
 
 pub data Request : Type 0 where
@@ -61,11 +67,13 @@ pub data Request : Type 0 where
   ShowVersion : Request
   -- With `strict` a trace is refused of which a job is left out for another reason than `--from` and `--to`.
   ReadTrace : (asked : Asked) (strict : Bool) → Request
+  -- the threads of a trace, by `--tasks ?`
+  ListThreads : Request
 
 -- what is asked of a trace, by these settings
 abbrev pub asked_by : List Setting → Result Asked WordFault
 asked_by given = do
-  cpu ← whole_or 0 0 MAX_PROCESSOR (codes "--cpu") reasons.Processor (value_of (codes "--cpu") given)
+  cpu ← processor_of (value_of (codes "--cpu") given)
   us ← whole_or 10 1 MAX_UNIT (codes "--us") reasons.Unit (value_of (codes "--us") given)
   khz ← whole_or 10000 1 MAX_NUMBER (codes "--khz") reasons.Speed (value_of (codes "--khz") given)
   start ← start_of (value_of (codes "--start") given)
@@ -77,7 +85,7 @@ asked_by given = do
   tasks ← tasks_asked (us * 1000) (value_of (codes "--tasks") given)
   Ok (record {
     tasks = tasks;
-    processor = cpu;
+    processor = unwrap_or cpu 0;
     unit = us * 1000;
     khz = khz;
     start = start;
@@ -85,17 +93,31 @@ asked_by given = do
     to = to;
     begin_at_run = begin;
     cut_losses = lost;
-    in_parts = is_given (codes "--parts") given;
+    in_parts = is_none cpu || is_given (codes "--parts") given;
+    everywhere = is_none cpu;
   })
 
 abbrev pub read_trace : Bool → Result Asked WordFault → Result Request WordFault
 read_trace strict (Ok asked) = Ok (ReadTrace asked strict)
 read_trace strict (Err fault) = Err fault
 
+abbrev pub is_question : Option (List ℕ) → Bool
+is_question None = false
+is_question (Some text) = bytes_eq text (codes "?")
+
+-- No other word says anything of the list of threads.
+abbrev pub threads_alone : Option (List ℕ) → Result Request WordFault
+threads_alone None = Ok ListThreads
+threads_alone (Some name) = refuse name reasons.Threads
+
+abbrev pub threads_or_trace : Bool → List Setting → Result Request WordFault
+threads_or_trace true given = threads_alone (other_than (codes "--tasks") given)
+threads_or_trace false given = read_trace (is_given (codes "--strict") given) (asked_by given)
+
 -- Nothing is set twice.
 abbrev pub asked_once : Option (List ℕ) → List Setting → Result Request WordFault
 asked_once (Some name) given = refuse name reasons.Twice
-asked_once None given = read_trace (is_given (codes "--strict") given) (asked_by given)
+asked_once None given = threads_or_trace (is_question (value_of (codes "--tasks") given)) given
 
 abbrev pub request_by : List Setting → Result Request WordFault
 request_by given =

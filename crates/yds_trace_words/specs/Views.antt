@@ -18,7 +18,7 @@ use Rattle.yds_trace_words.specs.declared.tasks.Called.{Called as CalledKept}
 use Rattle.yds_trace_words.specs.declared.tasks.Times.{Times as TimesKept}
 use Rattle.yds_trace_words.specs.Tasks.{Called, Times}
 use Rattle.yds_trace_words.specs.Words.{WordFault, Setting, Word, Whole, Waits, Wrong}
-use Rattle.yds_trace_words.specs.Request.{Request, ShowHelp, ShowVersion, ReadTrace}
+use Rattle.yds_trace_words.specs.Request.{Request, ShowHelp, ShowVersion, ReadTrace, ListThreads}
 
 abbrev pub words_of : List (String Global) → List (List ℕ)
 words_of words = map string_bytes words
@@ -33,6 +33,7 @@ abbrev pub request_read : RequestMade → Request
 request_read requests.Help = ShowHelp
 request_read requests.Version = ShowVersion
 request_read (requests.Trace asked strict) = ReadTrace (asked_read asked) strict
+request_read requests.Threads = ListThreads
 
 -- What was read is what the definition reads, or it is refused for the same reason, or memory ran out.
 abbrev pub Reads : {X Y : Type 0} → (X → Y) → Result X NoRequest → Result Y WordFault → Type 0

@@ -103,6 +103,11 @@ value_of name (setting ∷ settings) = if bytes_eq setting.name name then Some s
 abbrev pub is_given : List ℕ → List Setting → Bool
 is_given name settings = is_some (value_of name settings)
 
+-- the first name that is set and isn't this one
+abbrev pub other_than : List ℕ → List Setting → Option (List ℕ)
+other_than name [] = None
+other_than name (setting ∷ settings) = if bytes_eq setting.name name then other_than name settings else Some setting.name
+
 -- the first name that is set again
 abbrev pub given_twice : List Setting → Option (List ℕ)
 given_twice [] = None

@@ -30,6 +30,8 @@ pub enum Reason {
     Begin,
     /// It is no way to go on where events were lost.
     Lost,
+    /// It says nothing of the list of threads.
+    Threads,
     /// No tasks are given.
     NoTasks,
     /// There are too many tasks.

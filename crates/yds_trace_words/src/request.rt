@@ -9,7 +9,7 @@ ghost use Rattle.yds_trace_words.specs.Views.{words_of, request_read, setting_re
 use crate::decimal::decimal;
 use crate::fault::{NoRequest, Reason, WordFault};
 use crate::limits::MAX_UNIT;
-use crate::setting::{Setting, settings, twice, value};
+use crate::setting::{Setting, other_than, settings, twice, value};
 use crate::tasks::tasks;
 use std::alloc::Global;
 use yds_kernel::MAX_NUMBER;
@@ -30,6 +30,8 @@ pub enum Request {
         /// Whether a trace is refused of which a job is left out for another reason than `--from` and `--to`.
         strict: bool,
     },
+    /// The threads of a trace.
+    Threads,
 }
 
 /// What the words ask for, without the program's name among them, or why they can't be taken.
@@ -54,16 +56,39 @@ fn request_by<'a>(alloc: Global, given: &[Setting<'a>]) -> Result<Request, NoReq
     if let Some(name) = twice(given) {
         return Err(NoRequest::Fault(WordFault::of(name, Reason::Twice)));
     }
+    if asks_threads(value(given, b"--tasks")) {
+        return threads_alone(given);
+    }
     let asked = asked_by(alloc, given)?;
     let strict = value(given, b"--strict").is_some();
     Ok(Request::Trace { asked, strict })
+}
+
+/// Whether this value of `--tasks` asks for the list of threads.
+fn asks_threads(value: Option<&[u8]>) -> bool
+    ensures { result ≡ spec.is_question (option_map (λ value. value.now) value.entry) }
+{
+    match value {
+        Some(text) => text == b"?".as_slice(),
+        None => false,
+    }
+}
+
+/// The list of threads, of which no other word says anything.
+fn threads_alone<'a>(given: &[Setting<'a>]) -> Result<Request, NoRequest<'a>>
+    ensures { Reads request_read result (spec.threads_or_trace true (map setting_read given.now)) }
+{
+    match other_than(given, b"--tasks") {
+        Some(name) => Err(NoRequest::Fault(WordFault::of(name, Reason::Threads))),
+        None => Ok(Request::Threads),
+    }
 }
 
 /// What they ask of a trace.
 fn asked_by<'a>(alloc: Global, given: &[Setting<'a>]) -> Result<Asked, NoRequest<'a>>
     ensures { Reads asked_read result (spec.asked_by (map setting_read given.now)) }
 {
-    let processor = whole(given, b"--cpu", 0, (0, MAX_PROCESSOR), Reason::Processor)?;
+    let processor = processor(value(given, b"--cpu"))?;
     let unit = whole(given, b"--us", 10, (1, MAX_UNIT), Reason::Unit)?;
     let khz = whole(given, b"--khz", 10_000, (1, MAX_NUMBER), Reason::Speed)?;
     let start = start(value(given, b"--start"))?;
@@ -72,11 +97,12 @@ fn asked_by<'a>(alloc: Global, given: &[Setting<'a>]) -> Result<Asked, NoRequest
     check_order(from, to)?;
     let begin_at_run = only(b"--begin", b"run", Reason::Begin, value(given, b"--begin"))?;
     let cut_losses = only(b"--lost", b"cut", Reason::Lost, value(given, b"--lost"))?;
-    let in_parts = value(given, b"--parts").is_some();
+    let everywhere = processor.is_none();
+    let in_parts = everywhere || value(given, b"--parts").is_some();
     let tasks = tasks_asked(alloc, unit * 1000, value(given, b"--tasks"))?;
     Ok(Asked {
         tasks,
-        processor,
+        processor: processor.unwrap_or(0),
         unit: unit * 1000,
         khz,
         start,
@@ -85,6 +111,7 @@ fn asked_by<'a>(alloc: Global, given: &[Setting<'a>]) -> Result<Asked, NoRequest
         begin_at_run,
         cut_losses,
         in_parts,
+        everywhere,
     })
 }
 
@@ -119,6 +146,22 @@ fn whole<'a>(
     match number_of(text, limits.0, limits.1) {
         Ok(number) => Ok(number),
         Err(_) => Err(WordFault::of(name, reason)),
+    }
+}
+
+/// The processor that is asked for: `all` is none of them by itself.
+fn processor<'a>(value: Option<&[u8]>) -> Result<Option<u64>, WordFault<'a>>
+    ensures { Takes (λ processor. processor) result (spec.processor_of (option_map (λ value. value.now) value.entry)) }
+{
+    let Some(text) = value else {
+        return Ok(Some(0));
+    };
+    if text == b"all".as_slice() {
+        return Ok(None);
+    }
+    match number_of(text, 0, MAX_PROCESSOR) {
+        Ok(number) => Ok(Some(number)),
+        Err(_) => Err(WordFault::of(b"--cpu", Reason::Processor)),
     }
 }
 

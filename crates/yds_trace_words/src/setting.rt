@@ -2,7 +2,7 @@
 ghost use Rattle.std.specs.Prelude.{◌≡◌, ◌==◌, map, true, false, option_map, MatchOption};
 ghost use Rattle.std.specs.List.{list_any, before_first, after_first};
 ghost use Rattle.yds_trace_words.specs.Words as spec;
-ghost use Rattle.yds_trace_words.specs.Words.{settings_of, value_of, given_twice};
+ghost use Rattle.yds_trace_words.specs.Words.{settings_of, value_of, other_than, given_twice};
 ghost use Rattle.yds_trace_words.specs.Views.{words_of, setting_read, settings_read, fault_read, Reads, IsWord};
 
 use crate::fault::{NoRequest, Reason, WordFault};
@@ -132,6 +132,18 @@ pub(crate) fn value<'a>(settings: &[Setting<'a>], name: &[u8]) -> Option<&'a [u8
     for setting in settings {
         if setting.name == name {
             return Some(setting.value);
+        }
+    }
+    None
+}
+
+/// The first name that is set and isn't this one.
+pub(crate) fn other_than<'a>(settings: &[Setting<'a>], name: &[u8]) -> Option<&'a [u8]>
+    ensures { option_map (λ name. name.now) result ≡ other_than name.now (map setting_read settings.now) }
+{
+    for setting in settings {
+        if setting.name != name {
+            return Some(setting.name);
         }
     }
     None

@@ -19,6 +19,7 @@ fn asked(alloc: Global, line: &str) -> Result<String, Fail> {
     match read_words(alloc, &words) {
         Ok(Request::Help) => Ok(String::from_str(alloc, "help")?),
         Ok(Request::Version) => Ok(String::from_str(alloc, "version")?),
+        Ok(Request::Threads) => Ok(String::from_str(alloc, "threads")?),
         Ok(Request::Trace { asked, strict }) => { Ok(format!(in alloc; "{:?} {strict}", asked)?) }
         Err(NoRequest::Fault(fault)) => {
             Ok(String::from_str(alloc, fault_line(&fault).as_str())?)
@@ -34,12 +35,17 @@ fn words_ask(rt: HostRuntime) -> Result<(), Fail> {
         ("--cpu 1 --version", "version"),
         (
             "--tasks a:16.667:2 --cpu=3 --strict --from 1.5 --to 9223372036.854775807 --start 600000 --begin run --lost=cut --us 1 --khz 7 --parts",
-            "Asked { tasks: [Task { label: [97], thread: Named([97]), deadline: 16667000, apart: 2000000 }], processor: 3, unit: 1000, khz: 7, start: Some(600000), from: Some(1500000000), to: Some(9223372036854775807), begin_at_run: true, cut_losses: true, in_parts: true } true",
+            "Asked { tasks: [Task { label: [97], thread: Named([97]), deadline: 16667000, apart: 2000000 }], processor: 3, unit: 1000, khz: 7, start: Some(600000), from: Some(1500000000), to: Some(9223372036854775807), begin_at_run: true, cut_losses: true, in_parts: true, everywhere: false } true",
         ),
         (
             "--tasks 7=a\\,b:1,c\\:\\d:0.01",
-            "Asked { tasks: [Task { label: [97, 44, 98], thread: Numbered(7), deadline: 1000000, apart: 0 }, Task { label: [99, 58, 92, 100], thread: Named([99, 58, 92, 100]), deadline: 10000, apart: 0 }], processor: 0, unit: 10000, khz: 10000, start: None, from: None, to: None, begin_at_run: false, cut_losses: false, in_parts: false } false",
+            "Asked { tasks: [Task { label: [97, 44, 98], thread: Numbered(7), deadline: 1000000, apart: 0 }, Task { label: [99, 58, 92, 100], thread: Named([99, 58, 92, 100]), deadline: 10000, apart: 0 }], processor: 0, unit: 10000, khz: 10000, start: None, from: None, to: None, begin_at_run: false, cut_losses: false, in_parts: false, everywhere: false } false",
         ),
+        (
+            "--cpu all --tasks a:1",
+            "Asked { tasks: [Task { label: [97], thread: Named([97]), deadline: 1000000, apart: 0 }], processor: 0, unit: 10000, khz: 10000, start: None, from: None, to: None, begin_at_run: false, cut_losses: false, in_parts: true, everywhere: true } false",
+        ),
+        ("--tasks ?", "threads"),
     ];
     for (line, want) in cases {
         assert_eq!(rt; asked(rt.alloc(), line)?.as_str(), want, "{line}");
@@ -88,7 +94,11 @@ fn words_are_refused_by_name(rt: HostRuntime) -> Result<(), Fail> {
         ),
         (
             "--cpu 8192",
-            "# --cpu: no number of a processor; write a whole number from 0 to 8191\nfailed\n",
+            "# --cpu: no number of a processor; write a whole number from 0 to 8191, or all\nfailed\n",
+        ),
+        (
+            "--tasks ? --from 1",
+            "# --from: it says nothing of the list of threads; leave it out, or name the tasks\nfailed\n",
         ),
         (
             "--parts --tasks a:1 --parts",

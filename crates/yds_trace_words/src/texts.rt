@@ -21,7 +21,9 @@ thread is woken and ends where that leaves the processor to sleep.
   --tasks LIST   the tasks, parted by commas: NAME:DEADLINE or PID=NAME:DEADLINE, in milliseconds from a job's begin.
                  With :APART behind, a wake-up less than so many milliseconds after a job's begin goes on with that job.
                  A backslash before a comma, a colon or an equals sign makes it a byte of a name
+  --tasks ?      writes no document: the threads of the trace, those that ran longest first
   --cpu N        the processor (0)
+  --cpu all      each processor, in documents of its own, as with --parts
   --us N         so many microseconds are a unit of time (10)
   --khz N        so many kilohertz are a unit of speed (10000)
   --start KHZ    the speed before the trace tells one
@@ -98,7 +100,7 @@ fn reason_text(reason: Reason) -> &'static str
         Reason::Needless => "it has no value; leave out the equals sign and what is behind it",
         Reason::NoValue => "its value is missing; write it behind",
         Reason::Twice => "given twice; give it once",
-        Reason::Processor => "no number of a processor; write a whole number from 0 to 8191",
+        Reason::Processor => "no number of a processor; write a whole number from 0 to 8191, or all",
         Reason::Unit => "no unit of time; write whole microseconds from 1 to 1000000000",
         Reason::Speed => "no speed; write whole kilohertz from 1 to 4294967295",
         Reason::Time => {
@@ -109,6 +111,9 @@ fn reason_text(reason: Reason) -> &'static str
             "no way in which jobs begin; write run, or leave it out for jobs that begin at wake-ups"
         }
         Reason::Lost => "no way to go on behind lost events; write cut, or leave it out",
+        Reason::Threads => {
+            "it says nothing of the list of threads; leave it out, or name the tasks"
+        }
         Reason::NoTasks => {
             "missing; write --tasks NAME:DEADLINE, with the deadline in milliseconds"
         }

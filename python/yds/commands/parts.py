@@ -28,13 +28,14 @@ there is such an instant within the limits; else the first line of the part behi
 and members are left out, and said so.
 
 With --split the input is the parts themselves, one behind the other, as yds_trace --parts writes them. Each goes to its
-file, with the points and comments that stand before the first one.
+file, with the points and comments that stand before the first one. Those of several processors, as yds_trace --cpu all
+writes them, go to DIR/cpu0-part-00001.txt and so on, each processor's counted by themselves.
 """,
     [
         Option("folder", "where the parts go; those of an earlier cut, and their answers, are taken away", "DIR"),
         Option("jobs", "at most so many jobs in a part, up to 4000 (4000)", "N"),
         Option("shift", "times begin at 0 in each part, and those of the document may be above 1000000000"),
-        Option("split", "the input is parts already, as yds_trace --parts writes them"),
+        Option("split", "the input is parts already, as yds_trace --parts or --cpu all writes them"),
     ],
     Files("DOCUMENT", 0, 1),
     "0 done; 1 a fault in the input, or no place to cut: then DIR/part-00001.txt has the one line `failed`, which "
@@ -64,7 +65,7 @@ def cut(given: Given, write: Callable[[str], None]) -> int:
     except BaseException:
         if os.path.isdir(given.folder):
             take_away_old(given.folder)
-            with open(place_of(given.folder, 1), "wb") as target:
+            with open(place_of(given.folder, 1, None), "wb") as target:
                 target.write(b"failed\n")
         raise
     if left_out:
@@ -87,20 +88,20 @@ def write_parts(folder: str, found: Iterable[parts.Part]) -> int:
     left_out = 0
     for part in found:
         left_out = part.left_out
-        with open(place_of(folder, part.head.number), "wb") as target:
+        with open(place_of(folder, part.head.number, part.head.cpu), "wb") as target:
             target.write(part.text)
     return left_out
 
 
-def place_of(folder: str, number: int) -> str:
-    """The file of a part."""
-    return os.path.join(folder, f"part-{number:05d}.txt")
+def place_of(folder: str, number: int, cpu: Optional[int]) -> str:
+    """The file of a part, with its processor where there are documents of several."""
+    return os.path.join(folder, f"{'' if cpu is None else f'cpu{cpu}-'}part-{number:05d}.txt")
 
 
 def take_away_old(folder: str) -> None:
     """Takes away parts and answers of an earlier cut."""
     for name in os.listdir(folder):
-        if re.fullmatch(r"part-[0-9]{5}\..*", name):
+        if re.fullmatch(r"(cpu[0-9]+-)?part-[0-9]{5}\..*", name):
             os.remove(os.path.join(folder, name))
 
 

@@ -5,7 +5,7 @@ from __future__ import annotations
 import re
 import sys
 from pathlib import Path
-from typing import Callable, Optional, Sequence
+from typing import Callable, List, Optional, Sequence
 
 from yds import parts
 from yds._program import of_environment
@@ -20,6 +20,9 @@ Input: one answer for each part, all to the same command, beside the parts: DIR/
 DIR/part-00001.txt. Output: what the program would answer to the long document.
 
     yds-whole parts/part-*.audit
+    yds-whole --cpu 3 parts/cpu*-part-*.audit
+
+The parts are of one processor. Of several ones, as yds_trace --cpu all writes them, --cpu takes those of one.
 
 Answers of audit and yds-energy can be put together wherever the parts were cut, and those of plan, round, avr, oa,
 check and report where no window is open at a cut. Where windows are open, the lines of compare become lower bounds:
@@ -33,6 +36,7 @@ jobs, else the library.
 """,
     [
         Option("folder", "where the parts are, if the answers stand elsewhere", "DIR"),
+        Option("cpu", "of the files, those of this processor", "N"),
         Option("grid", "the grid that compare was given", "G"),
         Option("bounds", "the files are the parts: between which energies the least lies"),
         Option("spent", "with --bounds: a file with lines `SIDE energy E` for the whole", "ENERGIES"),
@@ -53,6 +57,8 @@ def main(words: Sequence[str]) -> int:
 def whole(given: Given, write: Callable[[str], None]) -> int:
     """Writes the answer, or the bounds."""
     files = [Path(name) for name in given.files]
+    if given.cpu is not None:
+        files = of_processor(files, cpu_of(given.cpu), given.folder, bool(given.bounds))
     if given.bounds:
         return bound(files, given.spent, write)
     if given.spent is not None:
@@ -78,6 +84,31 @@ def bound(files: Sequence[Path], spent: Optional[str], write: Callable[[str], No
     for line in [*found.lines(), *(found.waste(side) for side in sides)]:
         write(line.decode("latin-1")[:-1])
     return NO if found.lower is None else DONE
+
+
+def cpu_of(word: str) -> int:
+    """The word of --cpu."""
+    if re.fullmatch("0|[1-9][0-9]{0,3}", word) is None:
+        raise WordsError(f"--cpu {word} is no number of a processor")
+    return int(word)
+
+
+def of_processor(files: Sequence[Path], cpu: int, folder: Optional[str], are_parts: bool) -> List[Path]:
+    """The files of this processor: parts, or answers to parts. One without a part is left for the message on it."""
+    heads = [head_of(file if are_parts else part_of(file, folder)) for file in files]
+    found = [file for file, head in zip(files, heads) if head is None or head.cpu == cpu]
+    if not any(head is not None and head.cpu == cpu for head in heads):
+        raise parts.PartsError(f"no part of processor {cpu} is among those of the files")
+    return found
+
+
+def head_of(part: Path) -> Optional[parts.Head]:
+    """The head of a part; None where there is none."""
+    try:
+        with part.open("rb") as source:
+            return parts.read_head(source.readline(1000))
+    except OSError:
+        return None
 
 
 def grid_of(word: Optional[str]) -> Optional[int]:

@@ -28,8 +28,8 @@ tell_parts-requires g c = granted (asked_read c.args.asked) c.requires.fit
 
 pub returns-in-Ok-clause-answer : goal.returns-in-Ok-clause-answer
 returns-in-Ok-clause-answer g c =
-    done_writes g.K.Sink.written g.K.Sink.flushed g.K.Sink.flushes g.K.Sink.faults (asked_read c.args.asked) c.args.strict (g.S.Source.left c.args.source.now) c.deliver.result
-    c.args.sink.now c.tell_parts.new.sink c.deliver.new.sink c.requires.in_parts c.in-Ok.ensures.told c.deliver.ensures
+    done_writes g.K.Sink.written g.K.Sink.flushed g.K.Sink.flushes g.K.Sink.faults (asked_read c.args.asked) c.args.strict (g.S.Source.left c.args.source.now) c.finish.result
+    c.args.sink.now c.tell_parts.new.sink c.finish.new.sink c.requires.in_parts c.in-Ok.ensures.told c.finish.ensures
 
 pub returns-in-Err-clause-answer : goal.returns-in-Err-clause-answer
 returns-in-Err-clause-answer g c =
@@ -38,8 +38,8 @@ returns-in-Err-clause-answer g c =
 
 pub returns-in-Ok-clause-sink : goal.returns-in-Ok-clause-sink
 returns-in-Ok-clause-sink g c =
-    delivered_behind g.K.Sink.written g.K.Sink.flushed g.K.Sink.flushes g.K.Sink.faults [] statuses.Done c.deliver.result c.args.sink.now c.tell_parts.new.sink c.deliver.new.sink
-    c.in-Ok.ensures.sink_later (λ more. not_failed halts.WriteFault (c.in-Ok.ensures.sink_rose more)) c.in-Ok.ensures.flushes_stay c.deliver.ensures
+    delivered_behind g.K.Sink.written g.K.Sink.flushed g.K.Sink.flushes g.K.Sink.faults [] statuses.Done c.finish.result c.args.sink.now c.tell_parts.new.sink c.finish.new.sink
+    c.in-Ok.ensures.sink_later (λ more. not_failed halts.WriteFault (c.in-Ok.ensures.sink_rose more)) c.in-Ok.ensures.flushes_stay c.finish.ensures
 
 pub returns-in-Err-clause-sink : goal.returns-in-Err-clause-sink
 returns-in-Err-clause-sink g c =
@@ -49,7 +49,7 @@ returns-in-Err-clause-sink g c =
 
 pub returns-in-Ok-clause-read_to_its_end : goal.returns-in-Ok-clause-read_to_its_end
 returns-in-Ok-clause-read_to_its_end g c =
-    leaves_nothing (g.S.Source.left c.args.source.now) (g.S.Source.left c.tell_parts.new.source) c.deliver.result _ _ c.in-Ok.ensures.none_left
+    leaves_nothing (g.S.Source.left c.args.source.now) (g.S.Source.left c.tell_parts.new.source) c.finish.result _ _ c.in-Ok.ensures.none_left
 
 pub returns-in-Err-clause-read_to_its_end : goal.returns-in-Err-clause-read_to_its_end
 returns-in-Err-clause-read_to_its_end g c =

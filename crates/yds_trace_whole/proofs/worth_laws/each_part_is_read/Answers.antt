@@ -1,4 +1,4 @@
-use Rattle.yds_trace_whole.proofs.Worth.{each_part_is_read}
+use Rattle.yds_trace_whole.proofs.Everywhere.{each_part_is_read}
 use Rattle.yds_trace_whole.proofs.worth_laws.each_part_is_read.Goals as goal
 
 pub returns : goal.returns

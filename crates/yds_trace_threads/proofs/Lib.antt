@@ -1,0 +1,5 @@
+pub mod Rows
+pub mod Facts
+pub mod Examples
+pub mod Passing
+pub mod Told

@@ -1,0 +1,74 @@
+use Rattle.yds_model.proofs.Common.{◌∙◌, arith, refl, err_from_is_err_and}
+use Rattle.yds_trace_reading.proofs.Passing.{counts_on}
+use Rattle.yds_trace_reading.proofs.Draining.{rest_same, rest_of, nothing_left}
+use Rattle.yds_trace_threads.proofs.Passing.{at_begin, one_more, not_taken, made_whole, halted_whole, too_many_bytes, too_many_lines}
+use Rattle.yds_trace_threads.proofs.driver.read_table.Goals as goal
+
+-- # Lines
+
+pub loop-lines-init : goal.loop-lines-init
+loop-lines-init g c = record {
+  ahead = at_begin (g.S.Source.left c.args.source.now) _ _ c.in_ok-reader.ensures c.in_ok-tally.ensures;
+  faults = refl;
+}
+
+pub loop-lines-preserved : goal.loop-lines-preserved
+loop-lines-preserved g c = record {
+  ahead = one_more _ _ _ _ _ _ _ _ _ _ c.loop-lines.invariant.ahead c.in-Line.ensures.advances c.in-Line.ensures.counts
+      (c.in_ok-take_line-in-Line.ensures.taken c.loop-lines.invariant.ahead.past c.loop-lines.invariant.ahead.stands);
+  faults = c.in-Line.ensures.advances.no_fault ∙ c.loop-lines.invariant.faults;
+}
+
+-- # How it ends
+
+pub returns-in_err-take_line-in-Line-clause-halted : goal.returns-in_err-take_line-in-Line-clause-halted
+returns-in_err-take_line-in-Line-clause-halted g c =
+    let told = err_from_is_err_and c.from_residual-in_err-take_line-in-Line.result c.from_residual-in_err-take_line-in-Line.ensures.1 in
+    rw (told.1, told.2)
+    (not_taken _ _ _ _ _ _ _ _ _ _ c.loop-lines.invariant.ahead c.in-Line.ensures.advances
+    (c.in_err-take_line-in-Line.ensures.refused c.loop-lines.invariant.ahead.past c.loop-lines.invariant.ahead.stands))
+
+pub returns-in-End-clause-made : goal.returns-in-End-clause-made
+returns-in-End-clause-made g c =
+    made_whole _ _ c.loop-lines.reader _ _ _ c.loop-lines.invariant.ahead c.in-End.ensures.advances.at_end
+    (c.table.ensures.made c.loop-lines.invariant.ahead.past c.loop-lines.invariant.ahead.stands)
+
+pub returns-in-End-clause-halted : goal.returns-in-End-clause-halted
+returns-in-End-clause-halted g c =
+    halted_whole _ _ c.loop-lines.reader _ _ _ c.loop-lines.invariant.ahead c.in-End.ensures.advances.at_end
+    (c.table.ensures.refused c.loop-lines.invariant.ahead.past c.loop-lines.invariant.ahead.stands)
+
+pub returns-clause-halted : goal.returns-clause-halted
+returns-clause-halted g c = too_many_lines _ _ _ _ _ c.loop-lines.invariant.ahead (omega (arith, c.loop-lines-test.false))
+
+pub returns-in-TooLong-clause-halted : goal.returns-in-TooLong-clause-halted
+returns-in-TooLong-clause-halted g c =
+    too_many_bytes _ _ _ _ _ _ _ c.loop-lines.invariant.ahead c.in-TooLong.ensures.counts c.in-TooLong.ensures.advances.counted
+
+-- # What is left
+
+pub returns-in_err-reader-clause-rest : goal.returns-in_err-reader-clause-rest
+returns-in_err-reader-clause-rest g c = rest_same (g.S.Source.left c.args.source.now)
+
+pub returns-in_err-tally-clause-rest : goal.returns-in_err-tally-clause-rest
+returns-in_err-tally-clause-rest g c = rest_same (g.S.Source.left c.args.source.now)
+
+pub returns-in_err-take_line-in-Line-clause-rest : goal.returns-in_err-take_line-in-Line-clause-rest
+returns-in_err-take_line-in-Line-clause-rest g c = rest_of _ _ _ (counts_on (g.S.Source.left c.args.source.now) _ _ _ _ c.loop-lines.invariant.ahead.counts c.in-Line.ensures.counts)
+
+pub returns-in-End-clause-rest : goal.returns-in-End-clause-rest
+returns-in-End-clause-rest g c = rest_of _ _ _ (counts_on (g.S.Source.left c.args.source.now) _ _ _ _ c.loop-lines.invariant.ahead.counts c.in-End.ensures.counts)
+
+pub returns-in-End-clause-none_left : goal.returns-in-End-clause-none_left
+returns-in-End-clause-none_left g c =
+    nothing_left (g.S.Source.left c.args.source.now) _ _ _ (counts_on (g.S.Source.left c.args.source.now) _ _ _ _ c.loop-lines.invariant.ahead.counts c.in-End.ensures.counts)
+    c.in-End.ensures.advances.none_left
+
+pub returns-in-Failed-clause-rest : goal.returns-in-Failed-clause-rest
+returns-in-Failed-clause-rest g c = rest_of _ _ _ (counts_on (g.S.Source.left c.args.source.now) _ _ _ _ c.loop-lines.invariant.ahead.counts c.in-Failed.ensures.counts)
+
+pub returns-in-TooLong-clause-rest : goal.returns-in-TooLong-clause-rest
+returns-in-TooLong-clause-rest g c = rest_of _ _ _ (counts_on (g.S.Source.left c.args.source.now) _ _ _ _ c.loop-lines.invariant.ahead.counts c.in-TooLong.ensures.counts)
+
+pub returns-clause-rest : goal.returns-clause-rest
+returns-clause-rest g c = rest_of _ _ _ c.loop-lines.invariant.ahead.counts
