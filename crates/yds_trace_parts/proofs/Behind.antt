@@ -1,15 +1,15 @@
 -- A line behind which it is looked for parts: what was written then of all processors.
-use Rattle.yds_model.proofs.Common.{◌≡◌, ℕ, ◌+◌, ◌≤◌, Bool, true, false, List, [], ◌∷◌, map, length, Option, Some, None, refl, sym, ap, subst, ◌∙◌, arith, le_refl, length-map, if◌then◌else◌}
+use Rattle.yds_model.proofs.Common.{◌≡◌, ℕ, ◌≤◌, Bool, true, false, List, [], ◌∷◌, map, length, Option, Some, None, refl, sym, ap, subst, ◌∙◌, arith, le_refl, length-map}
 use Rattle.yds_kernel.specs.Event.{Said}
 use Rattle.yds_trace.specs.declared.cut.Cut.{Cut}
 use Rattle.yds_trace.specs.Asked.{Asked, on}
 use Rattle.yds_trace.specs.Document.{Judged}
-use Rattle.yds_trace.specs.Parts.{part_until, place_of, with_part, cut_at, processor_count, first_numbers, processors_of}
+use Rattle.yds_trace.specs.Parts.{place_of, with_part, cut_at, processor_count, processors_of}
 use Rattle.yds_trace_laws.proofs.Processors.{some_processor, part_unseen, cut_unseen}
 use Rattle.yds_trace_parts.specs.declared.processors.Processor.{Processor}
 use Rattle.yds_trace_parts.specs.declared.processors.Pieces.{Pieces}
-use Rattle.yds_trace_parts.specs.Told.{Told, pieces}
-use Rattle.yds_trace_parts.specs.Telling.{text_alone, pieces_at, with_piece_at, ArePieces, without_job_at, unseen_at, cut_on, told_on, IsUnseen, cuts_of, NoneBefore, IsLatest, IsWritten}
+use Rattle.yds_trace_parts.specs.Told.{pieces}
+use Rattle.yds_trace_parts.specs.Telling.{text_alone, pieces_at, with_piece_at, ArePieces, without_job_at, unseen_at, cut_on, told_on, IsUnseen, cuts_of, NoneBefore, IsWritten}
 use Rattle.yds_trace_parts.proofs.Joined.{pieces_are}
 use Rattle.yds_trace_parts.proofs.Numbers.{length-first_numbers}
 use Rattle.yds_trace_parts.proofs.Steps.{place_behind}
@@ -44,13 +44,15 @@ no_job asked past processor cut (Some time) everywhere beyond =
 
 unseen_some : (asked : Asked) (past : List Said) (said : Said) (processor : ℕ) (cut : Cut) → processor ≡ processor_count (said ∷ past) → IsUnseen asked past (Some cut) →
     IsUnseen asked (said ∷ past) (Some (without_job_at (said ∷ past) cut (place_of (on processor asked) (said ∷ past) cut)))
-unseen_some asked past said processor cut is unseen =
-    (unseen.0, λ other beyond.
-    let here : processor_count (said ∷ past) ≤ processor = omega (arith, is) in
-    let before : processor_count past ≤ processor = omega (arith, here, more_processors past said) in
-    cut_unseen asked (said ∷ past) other processor unseen.0 beyond here
-    ∙ ap (λ (one : Cut). cut_at (on processor asked) (said ∷ past) one (place_of (on processor asked) (said ∷ past) one)) (unseen.1 processor before)
-    ∙ no_job asked (said ∷ past) processor cut (place_of (on processor asked) (said ∷ past) cut) unseen.0 here)
+unseen_some asked past said processor cut is unseen = (
+  unseen.0,
+  λ other beyond.
+      let here : processor_count (said ∷ past) ≤ processor = omega (arith, is) in
+      let before : processor_count past ≤ processor = omega (arith, here, more_processors past said) in
+      cut_unseen asked (said ∷ past) other processor unseen.0 beyond here
+      ∙ ap (λ (one : Cut). cut_at (on processor asked) (said ∷ past) one (place_of (on processor asked) (said ∷ past) one)) (unseen.1 processor before)
+      ∙ no_job asked (said ∷ past) processor cut (place_of (on processor asked) (said ∷ past) cut) unseen.0 here,
+)
 
 unseen_by : (asked : Asked) (past : List Said) (said : Said) (processor : ℕ) (unseen : Option Cut) → (asked.everywhere ≡ true → processor ≡ processor_count (said ∷ past)) →
     IsUnseen asked past unseen → IsUnseen asked (said ∷ past) (unseen_at (on processor asked) (said ∷ past) unseen)
@@ -73,9 +75,10 @@ grows_by asked past cut (Some time) is = place_behind asked past cut time is
 all_grow : (asked : Asked) (past : List Said) (said : Said) (time : ℕ) (numbers : List ℕ) → NoneBefore time (map (cut_on asked past) numbers) →
     NoneBefore time (map (cut_on asked (said ∷ past)) numbers)
 all_grow asked past said time [] none = tt
-all_grow asked past said time (number ∷ numbers) none =
-    (omega (arith, none.0, grows_by (on number asked) (said ∷ past) (cut_on asked past number) (place_of (on number asked) (said ∷ past) (cut_on asked past number)) refl),
-    all_grow asked past said time numbers none.1)
+all_grow asked past said time (number ∷ numbers) none = (
+  omega (arith, none.0, grows_by (on number asked) (said ∷ past) (cut_on asked past number) (place_of (on number asked) (said ∷ past) (cut_on asked past number)) refl),
+  all_grow asked past said time numbers none.1,
+)
 
 without_grows : (asked : Asked) (past : List Said) (cut : Cut) (place : Option ℕ) → place_of asked past cut ≡ place → cut.boundary ≤ (without_job_at past cut place).boundary
 without_grows asked past cut None is = le_refl cut.boundary
@@ -85,6 +88,11 @@ without_grows asked past cut (Some time) is = place_behind asked past cut time i
 pub of_told : (time : ℕ) (processors : List Processor) (unseen : Option Cut) → NoneBefore time (cuts_of processors unseen) → NoneBefore time (map cut_in processors)
 of_told time processors None none = none
 of_told time processors (Some cut) none = none.1
+
+-- those of the others
+pub of_unseen : (time : ℕ) (processors : List Processor) (unseen : Option Cut) → NoneBefore time (cuts_of processors unseen) → NoneBefore time (cuts_of [] unseen)
+of_unseen time processors None none = tt
+of_unseen time processors (Some cut) none = (none.0, tt)
 
 with_unseen : (asked : Asked) (past : List Said) (time : ℕ) (old new : List Processor) (unseen : Option Cut) → NoneBefore time (cuts_of old unseen) →
     NoneBefore time (map cut_in new) → NoneBefore time (cuts_of new (unseen_at asked past unseen))

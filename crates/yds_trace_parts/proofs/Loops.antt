@@ -1,12 +1,15 @@
 -- What the loops over the processors keep.
-use Rattle.yds_model.proofs.Common.{◌≡◌, ℕ, ◌+◌, ◌<◌, ◌≤◌, ◌||◌, ◌⊎◌, inl, inr, Bool, true, false, List, [], ◌∷◌, ◌++◌, map, max, min, length, list_any, Option, Some, None, unwrap_or, refl, sym, ap, ap₂, subst, ◌∙◌, arith, append_assoc, append-nil, le_refl, length-append, length-map}
-use Rattle.yds_kernel.specs.Event.{Said}
+use Rattle.yds_model.proofs.Common.{◌≡◌, ℕ, ◌+◌, ◌<◌, ◌≤◌, ◌||◌, ◌⊎◌, inl, inr, Bool, true, false, List, [], ◌∷◌, ◌++◌, map, max, min, length, list_any, Option, Some, None, unwrap_or, refl, sym, ap, ap₂, subst, ◌∙◌, arith, append_assoc, append-nil, le_refl, le-ltb, nat_lt, get_or, drop, drop-cons, add-one, not, is_some, ◌&&◌, length-append, length-map}
+use Rattle.std.proofs.lemmas.List.{drop_all}
+use Rattle.yds_kernel.specs.declared.loss.Since.TheVariants as since
+use Rattle.yds_kernel.specs.Event.{Said, Stamped, Lost, Nothing, Event, Happening, Switch, WakeUp, Speed, Loss, Marker, Other}
 use Rattle.yds_trace.specs.declared.cut.Cut.{Cut}
 use Rattle.yds_trace.specs.declared.pass.Pass.{Pass}
 use Rattle.yds_trace.specs.declared.shown.Shown.{Shown}
-use Rattle.yds_trace.specs.Asked.{Asked, on}
+use Rattle.yds_trace.specs.Asked.{Asked, on, task_of}
 use Rattle.yds_trace.specs.Kept.{IsAtBehind}
-use Rattle.yds_trace.specs.Parts.{no_cut, later, changes_parts, is_due}
+use Rattle.yds_trace.specs.Parts.{no_cut, later, was_there_before, changes_parts, is_due}
+use Rattle.yds_trace.specs.Past.{is_loss, lost_since, whole_since, has_switched, up_to}
 use Rattle.yds_trace.specs.Shown.{IsShown}
 use Rattle.yds_trace.proofs.Later.{later_changes}
 use Rattle.yds_trace.proofs.OnProcessor.{shown_on}
@@ -18,12 +21,17 @@ use Rattle.yds_trace_parts.specs.declared.processors.Processor.{Processor}
 use Rattle.yds_trace_parts.specs.declared.processors.Pieces.{Pieces}
 use Rattle.yds_trace_parts.specs.Plain.{IsPlainLook}
 use Rattle.yds_trace_parts.specs.Told.{Halt, part_halt, piece_unless}
-use Rattle.yds_trace_parts.specs.Telling.{IsHaltFor, text_alone, IsPiece, HaltsBehind, IsLast, told_behind, pieces_at, with_piece_at, ArePieces, told_at_last, last_at, one_has_written, AreLast, IsTurned, each_of, cuts_of, IsLatest, NoneBefore}
+use Rattle.yds_trace_parts.specs.Telling.{IsHaltFor, IsPiece, HaltsBehind, IsLast, told_behind, pieces_at, with_piece_at, ArePieces, told_at_last, last_at, one_has_written, AreLast, IsTurned, each_of, cuts_of, boundary_before, IsLatest, NoneBefore}
 use Rattle.yds_trace_parts.proofs.Joined.{IsSoFar, joined_first, joined_more, joined_halts, joined_last}
 use Rattle.yds_trace_parts.proofs.Numbers.{length-each_of, each_push}
 use Rattle.yds_trace_parts.proofs.Plain.{look_turned}
 use Rattle.yds_trace_parts.proofs.Taking.{halts_as}
 use Rattle.yds_trace_parts.proofs.Unseen.{cut_in}
+
+-- # The rest
+
+pub rest_at : {A : Type 0} (xs : List A) (i : ℕ) (d : A) → i < length xs → drop i xs ≡ get_or xs i d ∷ drop (i + 1) xs
+rest_at xs i d within = drop-cons xs i d within ∙ ap (λ (n : ℕ). get_or xs i d ∷ drop n xs) (sym (add-one i))
 
 -- # The pass, as it is turned from one to the next
 
@@ -221,8 +229,31 @@ pub record LatestSoFar (all : List Cut) (rest : List Processor) (latest : Cut) :
       (changes_parts asked past latest said || list_any (λ cut. changes_parts asked past cut said) (map cut_in rest)) ≡ list_any (λ cut. changes_parts asked past cut said) all
   pub behind : (time : ℕ) → NoneBefore time all → 1 ≤ length all → NoneBefore time (map cut_in rest) × ((time ≤ latest.boundary) ⊎ (1 ≤ length rest))
 
+none_under : (time : ℕ) → nat_lt time 0 ≡ false
+none_under time = le-ltb time 0 (omega arith)
+
+and_false : (a b : Bool) → b ≡ false → (a && b) ≡ false
+and_false true b is = is
+and_false false b is = refl
+
+was_there : (asked : Asked) (past : List Said) (event : Event) (happening : Happening) → was_there_before asked past no_cut event happening ≡ false
+was_there asked past event (Switch previous state next) =
+    and_false (is_some (task_of asked.tasks previous) && not (has_switched event.processor (up_to asked.to past))) (nat_lt (whole_since event.time (up_to asked.to past)) 0)
+    (none_under (whole_since event.time (up_to asked.to past)))
+was_there asked past event (WakeUp thread) = refl
+was_there asked past event (Speed processor khz) = refl
+was_there asked past event Loss = refl
+was_there asked past event Marker = refl
+was_there asked past event Other = refl
+
+-- no line changes a part where there is none
 not_before_0 : (asked : Asked) (past : List Said) (said : Said) → changes_parts asked past no_cut said ≡ false
-not_before_0 asked past said = ?
+not_before_0 asked past (Stamped event) =
+    ap₂ (λ (a b : Bool). a || b)
+    (and_false (is_loss event.happening) (nat_lt (lost_since event.processor since.ItsLastLine past) 0) (none_under (lost_since event.processor since.ItsLastLine past)))
+    (was_there asked past event event.happening)
+not_before_0 asked past (Lost processor reach) = none_under (lost_since processor reach past)
+not_before_0 asked past Nothing = refl
 
 pub latest_first : (processors : List Processor) (unseen : Option Cut) (latest : Cut) → latest ≡ unwrap_or unseen no_cut →
     LatestSoFar (cuts_of processors unseen) processors latest
@@ -267,19 +298,24 @@ pub record LeastSoFar (all : List Cut) (rest : List Processor) (limit least : �
   pub each : (time : ℕ) → time ≤ least → NoneBefore time (map cut_in rest) → NoneBefore time all
   pub first : (time : ℕ) → NoneBefore time all → time ≤ limit → (time ≤ least) × NoneBefore time (map cut_in rest)
 
-pub least_none : (processors : List Processor) (limit : ℕ) → LeastSoFar (cuts_of processors None) processors limit limit
+least_none : (processors : List Processor) (limit : ℕ) → LeastSoFar (cuts_of processors None) processors limit limit
 least_none processors limit = record {
   within = le_refl limit;
   each = λ time less none. none;
   first = λ time none less. (less, none);
 }
 
-pub least_some : (processors : List Processor) (cut : Cut) (limit : ℕ) → LeastSoFar (cuts_of processors (Some cut)) processors limit (min cut.boundary limit)
+least_some : (processors : List Processor) (cut : Cut) (limit : ℕ) → LeastSoFar (cuts_of processors (Some cut)) processors limit (min cut.boundary limit)
 least_some processors cut limit = record {
   within = omega arith;
   each = λ time less none. (omega (arith, less), none);
   first = λ time none less. (omega (arith, none.0, less), none.1);
 }
+
+pub least_first : (processors : List Processor) (unseen : Option Cut) (limit least : ℕ) → least ≡ boundary_before unseen limit →
+    LeastSoFar (cuts_of processors unseen) processors limit least
+least_first processors None limit least is = subst (LeastSoFar (cuts_of processors None) processors limit) (sym is) (least_none processors limit)
+least_first processors (Some cut) limit least is = subst (LeastSoFar (cuts_of processors (Some cut)) processors limit) (sym is) (least_some processors cut limit)
 
 pub least_more : (all : List Cut) (rest : List Processor) (one : Processor) (limit least : ℕ) → LeastSoFar all (one ∷ rest) limit least →
     LeastSoFar all rest limit (min least one.cut.boundary)
@@ -307,10 +343,12 @@ pub grows_more : (old now next : List Processor) (cut : Cut) (last : ℕ) → le
     GrowsTo old now cut last → GrowsTo old next cut last
 grows_more old now next cut last less is grows = λ cuts count old_is same.
     let known = grows cuts count old_is same in
-    let many : length next ≡ length now + 1 = ap length is ∙ length-append now (record { number = length now; cut = cut } ∷ []) in
-    (is ∙ ap₂ (λ (front : List Processor) (one : Cut). front ++ record { number = length now; cut = one } ∷ []) known.0 (sym (same (length now) known.1))
-    ∙ each_push cuts (length now) ∙ ap (each_of cuts) (sym many),
-    omega (arith, many, known.1), omega (arith, many, less))
+    let many : length next ≡ length now + 1 = ap length is ∙ length-append now (record { number = length now; cut = cut } ∷ []) in (
+      is ∙ ap₂ (λ (front : List Processor) (one : Cut). front ++ record { number = length now; cut = one } ∷ []) known.0 (sym (same (length now) known.1))
+          ∙ each_push cuts (length now) ∙ ap (each_of cuts) (sym many),
+      omega (arith, many, known.1),
+      omega (arith, many, less),
+    )
 
 pub grows_last : (old now : List Processor) (cut : Cut) (last : ℕ) → last < length now → GrowsTo old now cut last → (cuts : ℕ → Cut) (count : ℕ) → old ≡ each_of cuts count →
     ((number : ℕ) → count ≤ number → cuts number ≡ cut) → now ≡ each_of cuts (max (last + 1) count)
@@ -318,3 +356,66 @@ grows_last old now cut last more grows cuts count is same =
     let known = grows cuts count is same in
     let many : length now ≡ max (last + 1) count = omega (arith, more, known.1, known.2) in
     known.0 ∙ ap (each_of cuts) many
+
+-- # By their place
+
+-- the processor at this place, and the rest behind it
+pub next_at : (strict : Bool) (number : ℕ) (before pass new : Pass) (shown : Shown) (all : List Processor) (i : ℕ) (d : Processor) (piece : Piece) (made more : Pieces) →
+    i < length all → Turns (get_or all i d).number pass new → Makes strict number pass shown (get_or all i d) piece → more.text.items ≡ made.text.items ++ piece.text.items →
+    more.processors.items ≡ made.processors.items ++ record { number = (get_or all i d).number; cut = piece.cut } ∷ [] →
+    AreNext strict number before pass shown all (drop i all) made → AreNext strict number before new shown all (drop (i + 1) all) more
+next_at strict number before pass new shown all i d piece made more within turns makes text ones next =
+    next_more strict number before pass new shown all (drop (i + 1) all) (get_or all i d) piece made more turns makes text ones
+    (subst (λ (rest : List Processor). AreNext strict number before pass shown all rest made) (rest_at all i d within) next)
+
+pub next_halts_at : (asked : Asked) (strict : Bool) (past : List Said) (number boundary : ℕ) (before pass : Pass) (shown : Shown) (all : List Processor) (i : ℕ) (d : Processor)
+    (made : Pieces) (halt : HaltKept) → i < length all → AreNext strict number before pass shown all (drop i all) made → HaltsOn strict number pass shown (get_or all i d) halt →
+    IsAtBehind asked past boundary before → IsShown asked past boundary shown → NoneBefore boundary (map cut_in all) → number ≡ length past → is_due past ≡ true →
+    IsHaltFor (pieces_at asked strict past all).halt halt
+next_halts_at asked strict past number boundary before pass shown all i d made halt within next halts at shows later counted due =
+    next_halts asked strict past number boundary before pass shown all (drop (i + 1) all) (get_or all i d) made halt
+    (subst (λ (rest : List Processor). AreNext strict number before pass shown all rest made) (rest_at all i d within) next) halts at shows later counted due
+
+pub next_end : (asked : Asked) (strict : Bool) (past : List Said) (boundary : ℕ) (all : List Processor) (i : ℕ) (made : Pieces) → length all ≤ i →
+    NextSoFar asked strict past boundary all (drop i all) made → ArePieces asked strict past all made
+next_end asked strict past boundary all i made over far =
+    next_last asked strict past boundary all made (subst (λ (rest : List Processor). NextSoFar asked strict past boundary all rest made) (drop_all i all over) far)
+
+pub last_at_place : (strict : Bool) (before pass new : Pass) (shown : Shown) (all : List Processor) (i : ℕ) (d : Processor) (last : Last) (text more : List ℕ) (has_job also : Bool) →
+    i < length all → Turns (get_or all i d).number pass new → Ends strict pass shown (get_or all i d) last → more ≡ text ++ last.text.items → also ≡ (has_job || last.has_job) →
+    AreLastOf strict before pass shown all (drop i all) text has_job → AreLastOf strict before new shown all (drop (i + 1) all) more also
+last_at_place strict before pass new shown all i d last text more has_job also within turns ends longer or_is now =
+    last_more strict before pass new shown all (drop (i + 1) all) (get_or all i d) last text more has_job also turns ends longer or_is
+    (subst (λ (rest : List Processor). AreLastOf strict before pass shown all rest text has_job) (rest_at all i d within) now)
+
+pub last_halts_at : (asked : Asked) (strict : Bool) (past : List Said) (boundary : ℕ) (before pass : Pass) (shown : Shown) (all : List Processor) (i : ℕ) (d : Processor)
+    (text : List ℕ) (has_job : Bool) (halt : HaltKept) → i < length all → AreLastOf strict before pass shown all (drop i all) text has_job →
+    EndHalts strict pass shown (get_or all i d) halt → IsAtBehind asked past boundary before → IsShown asked past boundary shown → NoneBefore boundary (map cut_in all) →
+    IsHaltFor (last_at asked strict past all).halt halt
+last_halts_at asked strict past boundary before pass shown all i d text has_job halt within now halts at shows later =
+    last_halts asked strict past boundary before pass shown all (drop (i + 1) all) (get_or all i d) text has_job halt
+    (subst (λ (rest : List Processor). AreLastOf strict before pass shown all rest text has_job) (rest_at all i d within) now) halts at shows later
+
+pub last_end : (asked : Asked) (strict : Bool) (past : List Said) (boundary : ℕ) (all : List Processor) (i : ℕ) (last : Last) → length all ≤ i →
+    LastSoFar asked strict past boundary all (drop i all) last.text.items last.has_job → AreLast asked strict past all last
+last_end asked strict past boundary all i last over far =
+    last_last asked strict past boundary all last
+    (subst (λ (rest : List Processor). LastSoFar asked strict past boundary all rest last.text.items last.has_job) (drop_all i all over) far)
+
+pub latest_at : (cuts : List Cut) (all : List Processor) (i : ℕ) (d : Processor) (latest next : Cut) → i < length all → next ≡ later latest (get_or all i d).cut →
+    LatestSoFar cuts (drop i all) latest → LatestSoFar cuts (drop (i + 1) all) next
+latest_at cuts all i d latest next within is far =
+    latest_more cuts (drop (i + 1) all) (get_or all i d) latest next is
+    (subst (λ (rest : List Processor). LatestSoFar cuts rest latest) (rest_at all i d within) far)
+
+pub latest_end : (cuts : List Cut) (all : List Processor) (i : ℕ) (latest : Cut) → length all ≤ i → LatestSoFar cuts (drop i all) latest → LatestSoFar cuts [] latest
+latest_end cuts all i latest over far = subst (λ (rest : List Processor). LatestSoFar cuts rest latest) (drop_all i all over) far
+
+pub least_at : (cuts : List Cut) (all : List Processor) (i : ℕ) (d : Processor) (limit least next : ℕ) → i < length all → next ≡ min least (get_or all i d).cut.boundary →
+    LeastSoFar cuts (drop i all) limit least → LeastSoFar cuts (drop (i + 1) all) limit next
+least_at cuts all i d limit least next within is far =
+    subst (LeastSoFar cuts (drop (i + 1) all) limit) (sym is) (least_more cuts (drop (i + 1) all) (get_or all i d) limit least
+    (subst (λ (rest : List Processor). LeastSoFar cuts rest limit least) (rest_at all i d within) far))
+
+pub least_end : (cuts : List Cut) (all : List Processor) (i limit least : ℕ) → length all ≤ i → LeastSoFar cuts (drop i all) limit least → LeastSoFar cuts [] limit least
+least_end cuts all i limit least over far = subst (λ (rest : List Processor). LeastSoFar cuts rest limit least) (drop_all i all over) far

@@ -1,5 +1,5 @@
 -- The first numbers, and the cuts of the processors that have them.
-use Rattle.yds_model.proofs.Common.{◌≡◌, ℕ, zero, suc, ◌+◌, ◌<◌, ◌≤◌, ◌||◌, Bool, true, false, nat_le, nat_tests, List, [], ◌∷◌, ◌++◌, map, max, length, list_any, refl, sym, ap, ap₂, subst, ◌∙◌, arith, add-one, map-append, length-append, length-map, leb-true, leb-false}
+use Rattle.yds_model.proofs.Common.{◌≡◌, ℕ, zero, suc, ◌+◌, ◌≤◌, ◌||◌, Bool, true, false, nat_le, List, [], ◌∷◌, ◌++◌, map, length, list_any, refl, sym, ap, subst, ◌∙◌, arith, add-one, map-append, length-append, length-map, leb-true, leb-false}
 use Rattle.yds_trace.specs.declared.cut.Cut.{Cut}
 use Rattle.yds_trace.specs.Parts.{first_numbers}
 use Rattle.yds_trace_parts.specs.declared.processors.Processor.{Processor}
@@ -37,14 +37,15 @@ pub alike : (test : ℕ → Bool) (seen : Bool) (count : ℕ) → ((number : ℕ
 alike test seen count same zero within =
     let none : count ≡ 0 = omega (arith, within) in
     ap (λ (n : ℕ). seen || list_any test (first_numbers n)) (sym none)
-alike test seen count same (suc more) within = by (nat_le count more) refl
+alike test seen count same (suc more) within = by (nat_le count more) refl (alike test seen count same more)
   where
-    by : (b : Bool) → nat_le count more ≡ b → (seen || list_any test (first_numbers (suc more))) ≡ (seen || list_any test (first_numbers count))
-    by true is =
+    by : (b : Bool) → nat_le count more ≡ b → (count ≤ more → (seen || list_any test (first_numbers more)) ≡ (seen || list_any test (first_numbers count))) →
+        (seen || list_any test (first_numbers (suc more))) ≡ (seen || list_any test (first_numbers count))
+    by true is rest =
         ap (λ (b : Bool). seen || b) (any_push test (first_numbers more) more
         ∙ ap (λ (b : Bool). list_any test (first_numbers more) || b) (same more (leb-true count more is)))
-        ∙ or_twice (list_any test (first_numbers more)) seen ∙ alike test seen count same more (leb-true count more is)
-    by false is =
+        ∙ or_twice (list_any test (first_numbers more)) seen ∙ rest (leb-true count more is)
+    by false is rest =
         let here : suc more ≡ count = omega (arith, leb-false count more is, within) in
         ap (λ (n : ℕ). seen || list_any test (first_numbers n)) here
 
@@ -57,13 +58,13 @@ none_push time (first ∷ cuts) cut none last = (none.0, none_push time cuts cut
 pub none_more : (time : ℕ) (cuts : ℕ → Cut) (cut : Cut) (count : ℕ) → ((number : ℕ) → count ≤ number → cuts number ≡ cut) → time ≤ cut.boundary →
     NoneBefore time (map cuts (first_numbers count)) → (more : ℕ) → count ≤ more → NoneBefore time (map cuts (first_numbers more))
 none_more time cuts cut count same later none zero within = tt
-none_more time cuts cut count same later none (suc more) within = by (nat_le count more) refl
+none_more time cuts cut count same later none (suc more) within = by (nat_le count more) refl (none_more time cuts cut count same later none more)
   where
-    by : (b : Bool) → nat_le count more ≡ b → NoneBefore time (map cuts (first_numbers (suc more)))
-    by true is =
+    by : (b : Bool) → nat_le count more ≡ b → (count ≤ more → NoneBefore time (map cuts (first_numbers more))) → NoneBefore time (map cuts (first_numbers (suc more)))
+    by true is rest =
         subst (NoneBefore time) (sym (map-append cuts (first_numbers more) (more ∷ [])))
-        (none_push time (map cuts (first_numbers more)) (cuts more) (none_more time cuts cut count same later none more (leb-true count more is))
+        (none_push time (map cuts (first_numbers more)) (cuts more) (rest (leb-true count more is))
         (subst (λ (one : Cut). time ≤ one.boundary) (sym (same more (leb-true count more is))) later))
-    by false is =
+    by false is rest =
         let here : count ≡ suc more = omega (arith, leb-false count more is, within) in
         subst (λ (n : ℕ). NoneBefore time (map cuts (first_numbers n))) here none

@@ -1,5 +1,5 @@
 -- What is shown of a pass is what a part's calls need, and what holds of it when a line more is taken.
-use Rattle.yds_model.proofs.Common.{◌≡◌, ℕ, ◌+◌, ◌*◌, ◌≤◌, List, ◌∷◌, ◌++◌, length, map, All, All-back, Option, Some, None, refl, sym, ap, subst, ◌∙◌, arith, le_refl, length-append, length-map, slice_index_or}
+use Rattle.yds_model.proofs.Common.{◌≡◌, ℕ, ◌+◌, ◌*◌, ◌≤◌, List, ◌∷◌, ◌++◌, length, map, All, All-back, Option, None, sym, ap, subst, ◌∙◌, arith, le_refl, length-append, length-map, slice_index_or}
 use Rattle.yds_kernel.specs.declared.limits.TheConstants.{MAX_U64}
 use Rattle.yds_kernel.specs.Event.{Said}
 use Rattle.yds_kernel.specs.Parts.{or_else}
@@ -22,6 +22,7 @@ use Rattle.yds_trace_laws.proofs.Begins.{begins_in_time}
 use Rattle.yds_trace_laws.proofs.Few.{jobs_few}
 use Rattle.yds_trace_laws.proofs.Ordered.{All-map_back}
 use Rattle.yds_trace_document.specs.Kept.{IsPlainTask, IsPlainShown}
+use Rattle.yds_trace_parts.specs.Telling.{IsTurned}
 use Rattle.yds_trace_parts.specs.Plain.{IsGranted, IsOfSome, IsPlainPass, HasRoom, IsPlainLook}
 
 -- # What is shown
@@ -79,6 +80,27 @@ look_turned processor old new shown look turns =
       };
       few = look.few;
       shows = shown_on some.asked processor some.past look.boundary look.boundary shown (le_refl look.boundary) look.shows;
+    }
+
+-- or may ask for another
+pub look_moved : (old new : Pass) (shown : Shown) → IsPlainLook old shown →
+    ((asked : Asked) (past : List Said) (boundary : ℕ) → IsAtBehind asked past boundary old → IsTurned asked past boundary new) → IsPlainLook new shown
+look_moved old new shown look turns =
+    let some = look.of_some in
+    let turned : IsTurned some.asked some.past look.boundary new = turns some.asked some.past look.boundary some.stands in
+    record {
+      number = look.number;
+      boundary = look.boundary;
+      of_some = record {
+        asked = on turned.processor some.asked;
+        past = some.past;
+        granted = granted_on some.asked turned.processor some.granted;
+        sound = first_fault_on some.asked turned.processor some.past ∙ some.sound;
+        stands = turned.stands;
+        as_many = some.as_many;
+      };
+      few = look.few;
+      shows = shown_on some.asked turned.processor some.past look.boundary look.boundary shown (le_refl look.boundary) look.shows;
     }
 
 pub look_plain : (asked : AskedKept) (pass : Pass) (shown : Shown) → IsPlainLook pass shown →

@@ -1,10 +1,10 @@
 -- A line more: what is told behind it, and where the last part ends.
-use Rattle.yds_model.proofs.Common.{◌≡◌, ℕ, ◌+◌, ◌<◌, ◌≤◌, ◌%◌, ◌==◌, List, [], ◌∷◌, ◌++◌, length, map, filter, cond, Bool, true, false, ◌&&◌, not, Option, Some, None, refl, sym, ap, subst, ◌∙◌, arith, leb-true, mod-eq_of_lt, ne_eqb, eqb-true, append-nil, ap₂, ◌||◌, list_any, if◌then◌else◌}
+use Rattle.yds_model.proofs.Common.{◌≡◌, ℕ, ◌<◌, ◌≤◌, ◌%◌, ◌==◌, List, [], ◌∷◌, ◌++◌, length, map, filter, cond, Bool, true, false, ◌&&◌, not, Option, Some, None, refl, ap, subst, ◌∙◌, arith, leb-true, mod-eq_of_lt, ne_eqb, eqb-true, false≢true, append-nil, ap₂, ◌||◌, list_any, if◌then◌else◌}
 use Rattle.yds_kernel.specs.Event.{Said}
 use Rattle.yds_kernel.specs.Parts.{or_else}
 use Rattle.yds_trace.specs.declared.cut.Cut.{Cut}
 use Rattle.yds_trace.specs.declared.limits.TheConstants.{LOOK_EVERY}
-use Rattle.yds_trace.specs.Asked.{Asked, on}
+use Rattle.yds_trace.specs.Asked.{Asked}
 use Rattle.yds_trace.specs.Document.{Judged}
 use Rattle.yds_trace.specs.Parts.{has_run_on, belongs, begin_of, begins_from, begins_before, is_written, waiting, of_part, part_until, is_before_end, is_much, is_due, has_job, is_done_by, is_closed_by, each_before, is_quiet, is_closed, may_write, last_where, place_among, place_of, processor_count, first_numbers, processors_of, cut_at, cut_after, no_cut}
 use Rattle.yds_trace_text.specs.PartText.{part_text}
@@ -118,7 +118,7 @@ IsThere found = (time : ℕ) × (found ≡ Some time)
 
 there_first : (one other : Option ℕ) → IsThere one → IsThere (or_else one other)
 there_first (Some time) other there = (time, refl)
-there_first None other there = cc (there.1)
+there_first None other there = absurd (cc (there.1))
 
 there_second : (one other : Option ℕ) → IsThere other → IsThere (or_else one other)
 there_second (Some time) other there = (time, refl)
@@ -126,16 +126,17 @@ there_second None other there = there
 
 there_if : (b : Bool) (time : ℕ) → b ≡ true → IsThere (if b then Some time else None)
 there_if true time is = (time, refl)
-there_if false time is = cc
+there_if false time is = absurd (false≢true is)
 
 last_there : (test : ℕ → Bool) (times : List ℕ) (time : ℕ) → test time ≡ true → list_any (λ other. other == time) times ≡ true → IsThere (last_where test times)
-last_there test [] time held any = cc
-last_there test (other ∷ times) time held any = by (other == time) refl any
+last_there test [] time held any = absurd (false≢true any)
+last_there test (other ∷ times) time held any = by (other == time) refl any (last_there test times time held)
   where
-    by : (same : Bool) → (other == time) ≡ same → (same || list_any (λ one. one == time) times) ≡ true → IsThere (last_where test (other ∷ times))
-    by true is one = there_second (last_where test times) (if test other then Some other else None)
+    by : (same : Bool) → (other == time) ≡ same → (same || list_any (λ one. one == time) times) ≡ true →
+        (list_any (λ one. one == time) times ≡ true → IsThere (last_where test times)) → IsThere (last_where test (other ∷ times))
+    by true is one rest = there_second (last_where test times) (if test other then Some other else None)
         (there_if (test other) other (ap test (eqb-true other time is) ∙ held))
-    by false is one = there_first (last_where test times) (if test other then Some other else None) (last_there test times time held one)
+    by false is one rest = there_first (last_where test times) (if test other then Some other else None) (rest one)
 
 -- where it is looked for one and much waits, a quiet begin is enough
 pub place_there : (asked : Asked) (past : List Said) (cut : Cut) (time : ℕ) → is_due past ≡ true → may_write asked past ≡ true → is_much (waiting asked past cut) ≡ true →
@@ -145,10 +146,11 @@ place_there asked past cut time due may much any quiet =
     let there : IsThere (place_among asked past (waiting asked past cut)) =
     there_second (last_where (is_closed asked past (waiting asked past cut)) (map begin_of (waiting asked past cut)))
     (last_where (is_quiet asked past (waiting asked past cut)) (map begin_of (waiting asked past cut)))
-    (last_there (is_quiet asked past (waiting asked past cut)) (map begin_of (waiting asked past cut)) time quiet any) in
-    (there.0,
-    ap₂ (λ (one other : Bool). if one && other && is_much (waiting asked past cut) then place_among asked past (waiting asked past cut) else None) due may
-    ∙ ap (λ (one : Bool). if one then place_among asked past (waiting asked past cut) else None) much ∙ there.1)
+    (last_there (is_quiet asked past (waiting asked past cut)) (map begin_of (waiting asked past cut)) time quiet any) in (
+      there.0,
+      ap₂ (λ (one other : Bool). if one && other && is_much (waiting asked past cut) then place_among asked past (waiting asked past cut) else None) due may
+          ∙ ap (λ (one : Bool). if one then place_among asked past (waiting asked past cut) else None) much ∙ there.1,
+    )
 
 -- # A part with a job
 
@@ -210,13 +212,14 @@ of_one asked judged jobs one = record {
 
 -- With one processor a place has a job before it.
 some_before : (asked : Asked) (time : ℕ) (jobs : List Judged) → asked.everywhere ≡ false → has_job asked time jobs ≡ true → IsSome (of_part asked (Some time) jobs)
-some_before asked time [] one has = cc
-some_before asked time (judged ∷ jobs) one has = by (begins_before time judged) has
+some_before asked time [] one has = absurd (false≢true has)
+some_before asked time (judged ∷ jobs) one has = by (begins_before time judged) has (some_before asked time jobs one)
   where
     by : (b : Bool) → ((b && (asked.everywhere || is_written judged)) || has_job asked time jobs) ≡ true →
+        (has_job asked time jobs ≡ true → IsSome (of_part asked (Some time) jobs)) →
         IsSome (filter (belongs asked) (cond b (judged ∷ filter (is_before_end (Some time)) jobs) (filter (is_before_end (Some time)) jobs)))
-    by true is = of_one asked judged (filter (is_before_end (Some time)) jobs) one
-    by false is = some_before asked time jobs one is
+    by true is rest = of_one asked judged (filter (is_before_end (Some time)) jobs) one
+    by false is rest = rest is
 
 pub part_some : (asked : Asked) (past : List Said) (cut : Cut) (time : ℕ) → asked.everywhere ≡ false → place_of asked past cut ≡ Some time →
     IsSome (part_until asked past cut (Some time))

@@ -1,17 +1,20 @@
 -- A line behind which it isn't looked for parts, or behind which little waits, leaves what was written as it is.
-use Rattle.yds_model.proofs.Common.{◌≡◌, ℕ, ◌+◌, ◌≤◌, ◌⊎◌, inl, inr, ◌&&◌, ◌||◌, Bool, true, false, not, nat_lt, nat_tests, List, [], ◌∷◌, map, filter, cond, length, Option, Some, None, refl, sym, ap, ap₂, subst, ◌∙◌, arith, length-map, if◌then◌else◌}
+use Rattle.yds_model.proofs.Common.{◌≡◌, ℕ, ◌+◌, ◌≤◌, ◌⊎◌, inl, inr, ◌&&◌, ◌||◌, Bool, true, false, not, nat_lt, nat_tests, List, [], ◌∷◌, map, filter, cond, length, Option, Some, None, refl, sym, ap, ap₂, subst, ◌∙◌, arith, ◌%◌, eq-eqb, ne_eqb, length-map, if◌then◌else◌}
+use Rattle.std.proofs.lemmas.List.Sums.{sum_by-cons}
 use Rattle.yds_kernel.specs.Event.{Said}
 use Rattle.yds_trace.specs.declared.cut.Cut.{Cut}
 use Rattle.yds_trace.specs.declared.fault.Cause.TheVariants as causes
-use Rattle.yds_trace.specs.declared.limits.TheConstants.{PART_JOBS, PART_STRETCHES, WAITING_JOBS, WAITING_STRETCHES}
+use Rattle.yds_trace.specs.declared.limits.TheConstants.{LOOK_EVERY, PART_JOBS, PART_STRETCHES, WAITING_JOBS, WAITING_STRETCHES}
+use Rattle.yds_trace.specs.declared.pass.Pass.{Pass}
 use Rattle.yds_trace.specs.Asked.{Asked, on}
+use Rattle.yds_trace.specs.Kept.{IsAtBehind}
 use Rattle.yds_trace.specs.Document.{Judged, all_judged}
-use Rattle.yds_trace.specs.Parts.{begins_from, waiting_from, waiting, stretches_of, is_much, is_too_much, is_due, may_write, place_among, place_of, processors_of, processor_count}
+use Rattle.yds_trace.specs.Parts.{begins_from, waiting_from, waiting, stretches_of, is_much, is_too_much, is_due, may_write, place_among, place_of, processor_count}
 use Rattle.yds_trace_laws.specs.Processors.{without_reason}
 use Rattle.yds_trace_laws.proofs.Processors.{jobs_are_the_same}
 use Rattle.yds_trace_parts.specs.declared.processors.Processor.{Processor}
 use Rattle.yds_trace_parts.specs.Told.{Halt, Told, AtLine, no_piece, both, piece_at, piece_of, no_place as no_place_halt, open_longest, waiting_halt, pieces}
-use Rattle.yds_trace_parts.specs.Telling.{cut_on, told_on, IsUnseen, NoneBefore}
+use Rattle.yds_trace_parts.specs.Telling.{cut_on, told_on, IsUnseen, NoneBefore, IsStill}
 use Rattle.yds_trace_parts.proofs.Steps.{same_cut}
 use Rattle.yds_trace_parts.proofs.Unseen.{more_processors}
 
@@ -29,7 +32,10 @@ kept_from boundary (judged ∷ jobs) =
 
 same_stretches : (jobs : List Judged) → stretches_of (map without_reason jobs) ≡ stretches_of jobs
 same_stretches [] = refl
-same_stretches (judged ∷ jobs) = ap (λ (n : ℕ). length judged.job.stretches + n) (same_stretches jobs)
+same_stretches (judged ∷ jobs) =
+    sum_by-cons (λ (one : Judged). length one.job.stretches) (without_reason judged) (map without_reason jobs)
+    ∙ ap (λ (n : ℕ). length judged.job.stretches + n) (same_stretches jobs)
+    ∙ sym (sum_by-cons (λ (one : Judged). length one.job.stretches) judged jobs)
 
 much_without : (jobs : List Judged) → is_much (map without_reason jobs) ≡ is_much jobs
 much_without jobs =
@@ -43,10 +49,6 @@ much_on asked past processor boundary =
     ∙ much_without (waiting_from asked past boundary)
 
 -- # Nothing is written
-
--- it isn't looked for parts, or so little waits behind each cut
-abbrev pub IsStill : Asked → List Said → ℕ → Type 0
-IsStill asked past time = (is_due past ≡ false) ⊎ ((boundary : ℕ) → time ≤ boundary → is_much (waiting_from asked past boundary) ≡ false)
 
 none_if : (due may much : Bool) (place : Option ℕ) → (due ≡ false) ⊎ (much ≡ false) → (if due && may && much then place else None) ≡ None
 none_if due may much place (inl is) = ap (λ (b : Bool). if b && may && much then place else None) is
@@ -115,8 +117,24 @@ still_told asked past said time still (number ∷ numbers) none =
 
 pub still_unseen : (asked : Asked) (past : List Said) (said : Said) (time : ℕ) → IsStill asked (said ∷ past) time → (cut : Cut) → time ≤ cut.boundary →
     IsUnseen asked past (Some cut) → IsUnseen asked (said ∷ past) (Some cut)
-still_unseen asked past said time still cut later is =
-    (is.0, λ processor beyond.
-    let before : processor_count past ≤ processor = omega (arith, beyond, more_processors past said) in
-    let same : cut_on asked past processor ≡ cut = is.1 processor before in
-    still_cut asked past said time processor still (subst (λ (one : Cut). time ≤ one.boundary) (sym same) later) ∙ same)
+still_unseen asked past said time still cut later is = (
+  is.0,
+  λ processor beyond.
+      let before : processor_count past ≤ processor = omega (arith, beyond, more_processors past said) in
+      let same : cut_on asked past processor ≡ cut = is.1 processor before in
+      still_cut asked past said time processor still (subst (λ (one : Cut). time ≤ one.boundary) (sym same) later) ∙ same,
+)
+
+-- # Whether it is looked for parts
+
+-- behind the line of this number
+pub looked : (past : List Said) (number : ℕ) → number ≡ length past → number % LOOK_EVERY ≡ 0 → is_due past ≡ true
+looked past number counted none = eq-eqb (length past % LOOK_EVERY) 0 (ap (λ (n : ℕ). n % LOOK_EVERY) (sym counted) ∙ none)
+
+pub not_looked : (past : List Said) (number : ℕ) → number ≡ length past → (number % LOOK_EVERY ≡ 0 → ⊥) → is_due past ≡ false
+not_looked past number counted some =
+    ne_eqb (length past % LOOK_EVERY) 0 (λ (none : length past % LOOK_EVERY ≡ 0). some (ap (λ (n : ℕ). n % LOOK_EVERY) counted ∙ none))
+
+pub behind_later : (asked : Asked) (past : List Said) (before boundary : ℕ) (pass : Pass) → before ≤ boundary → IsAtBehind asked past before pass → IsAtBehind asked past boundary pass
+behind_later asked past before boundary pass later at =
+    record { same_asked = at.same_asked; lines = at.lines; counted = at.counted; within = omega (arith, at.within, later) }

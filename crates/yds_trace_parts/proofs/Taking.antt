@@ -1,5 +1,5 @@
 -- What a line makes of what is kept, and what is written at the end.
-use Rattle.yds_model.proofs.Common.{◌≡◌, ◌≤◌, ◌+◌, ◌&&◌, ◌||◌, ◌⊎◌, inl, inr, ℕ, List, [], ◌∷◌, ◌++◌, map, length, Bool, true, false, not, list_any, Option, Some, None, is_some, Result, Ok, Err, OnOk, IfErr, refl, sym, ap, ap₂, subst, ◌∙◌, arith, append-nil, le_refl, if◌then◌else◌}
+use Rattle.yds_model.proofs.Common.{◌≡◌, ◌≤◌, ◌+◌, ◌&&◌, ◌||◌, ℕ, List, [], ◌∷◌, ◌++◌, map, max, length, Bool, true, false, not, list_any, Option, Some, None, is_some, Result, Ok, Err, OnOk, IfErr, refl, sym, ap, ap₂, subst, ◌∙◌, append-nil, if◌then◌else◌}
 use Rattle.yds_kernel.specs.Event.{Said}
 use Rattle.yds_kernel.specs.Parts.{or_else}
 use Rattle.yds_trace.specs.declared.cut.Cut.{Cut}
@@ -16,12 +16,12 @@ use Rattle.yds_trace_parts.specs.declared.part.Last.{Last}
 use Rattle.yds_trace_parts.specs.declared.processors.Processor.{Processor}
 use Rattle.yds_trace_parts.specs.declared.processors.Pieces.{Pieces}
 use Rattle.yds_trace_parts.specs.declared.telling.Telling.{Telling}
-use Rattle.yds_trace_parts.specs.Told.{Halt, OfDocument, Told, at_line, both, piece_unless, has_written, line_halt, pieces, last_pieces, no_job_halt, last_piece, told_after}
-use Rattle.yds_trace_parts.specs.Telling.{IsHaltFor, text_alone, pieces_at, ArePieces, last_at, one_has_written, AreLast, cut_on, told_on, IsUnseen, cuts_of, IsLatest, NoneBefore, IsWritten, IsTelling, IsTaken, Adds, IsEnd}
+use Rattle.yds_trace_parts.specs.Told.{Halt, OfDocument, Told, at_line, both, piece_unless, has_written, line_halt, last_pieces, no_job_halt, last_piece, told_after}
+use Rattle.yds_trace_parts.specs.Telling.{IsHaltFor, text_alone, next_of, each_of, pieces_at, ArePieces, last_at, one_has_written, AreLast, cut_on, told_on, IsUnseen, cuts_of, IsLatest, NoneBefore, IsWritten, IsTelling, IsTaken, IsStill, Adds, IsEnd}
 use Rattle.yds_trace_parts.proofs.Joined.{pieces_are, last_are}
 use Rattle.yds_trace_parts.proofs.Steps.{refused_is, halts_behind, told_more}
 use Rattle.yds_trace_parts.proofs.Unseen.{cut_in, cuts_are, IsGrown, fault_same, written_grown}
-use Rattle.yds_trace_parts.proofs.Still.{IsStill, still_pieces, still_told, still_unseen}
+use Rattle.yds_trace_parts.proofs.Still.{still_pieces, still_told, still_unseen, behind_later}
 use Rattle.yds_trace_parts.proofs.Behind.{IsBehindLine, of_told, pieces_written}
 
 -- # The line is taken
@@ -47,6 +47,20 @@ taken_so asked strict past said telling next is stands forgets taken unchanged g
   goes_on = is.goes_on;
   sound = sound_so asked past said (part_fault asked past telling.latest said) taken unchanged
       (fault_same asked past said (told_to_forget telling.pass) telling.processors.items telling.unseen telling.latest is.is_written);
+}
+
+-- What is kept stands for the last cut of all too.
+pub at_latest : (asked : Asked) (strict : Bool) (past : List Said) (telling : Telling) → IsTelling asked strict past telling → IsAtBehind asked past telling.latest.boundary telling.pass
+at_latest asked strict past telling is =
+    behind_later asked past (told_to_forget telling.pass) telling.latest.boundary telling.pass is.is_written.later.0 is.stands
+
+-- what `grow` says of the processors
+pub grown_of : (old new : List Processor) (unseen : Option Cut) (told : Option ℕ) (count : ℕ) → next_of told ≡ count → (unseen ≡ None → new ≡ old) →
+    ((cut : Cut) (cuts : ℕ → Cut) (before : ℕ) → unseen ≡ Some cut → old ≡ each_of cuts before → ((number : ℕ) → before ≤ number → cuts number ≡ cut) →
+    new ≡ each_of cuts (max (next_of told) before)) → IsGrown old new unseen count
+grown_of old new unseen told count is same grown = record {
+  same = same;
+  grown = λ cut cuts before some are alike. grown cut cuts before some are alike ∙ ap (λ (n : ℕ). each_of cuts (max n before)) is;
 }
 
 -- # Nothing is written behind it
@@ -115,6 +129,23 @@ pieces_taken asked strict past said telling next made is are behind latest stand
   same_strict = strictness ∙ is.same_strict;
   goes_on = ap (λ (told : Told). told.halt) (pieces_told asked strict past said telling made is are);
 }
+
+-- what is kept when what comes before the first cut is forgotten
+pub pieces_forgotten : (asked : Asked) (strict : Bool) (past : List Said) (said : Said) (telling next : Telling) (made : Pieces) (pass : Pass) (least : ℕ) →
+    IsTaken asked strict past said telling → ArePieces asked telling.strict (said ∷ past) telling.processors.items made →
+    IsBehindLine asked (said ∷ past) (told_to_forget telling.pass) next.processors.items next.unseen → IsLatest (cuts_of next.processors.items next.unseen) next.latest →
+    IsAtBehind asked (said ∷ past) (told_to_forget telling.pass) pass →
+    ((time : ℕ) → NoneBefore time (cuts_of next.processors.items next.unseen) → 1 ≤ length (cuts_of next.processors.items next.unseen) → time ≤ next.latest.boundary) →
+    NoneBefore least (cuts_of next.processors.items next.unseen) → least ≤ next.latest.boundary →
+    ((time : ℕ) → NoneBefore time (cuts_of next.processors.items next.unseen) → time ≤ next.latest.boundary → time ≤ least) →
+    ((words : Asked) (lines : List Said) (before : ℕ) → IsAtBehind words lines before pass → before ≤ least → IsAtBehind words lines least next.pass) →
+    told_to_forget next.pass ≡ least → next.strict ≡ telling.strict → IsTelling asked strict (said ∷ past) next
+pieces_forgotten asked strict past said telling next made pass least is are behind latest stands last none within first forgets told strictness =
+    let before : told_to_forget telling.pass ≤ next.latest.boundary = last (told_to_forget telling.pass) behind.later behind.some in
+    pieces_taken asked strict past said telling next made is are behind latest
+    (subst (λ (time : ℕ). IsAtBehind asked (said ∷ past) time next.pass) (sym told)
+    (forgets asked (said ∷ past) (told_to_forget telling.pass) stands (first (told_to_forget telling.pass) behind.later before)))
+    (subst (λ (time : ℕ). NoneBefore time (next.latest ∷ cuts_of next.processors.items next.unseen)) (sym told) (within, none)) strictness
 
 -- # It isn't
 

@@ -1,15 +1,13 @@
 -- What was written of each processor, of which lines tell or not, and the last of all of it.
-use Rattle.yds_model.proofs.Common.{◌≡◌, ℕ, suc, ◌+◌, ◌≤◌, ◌||◌, Bool, true, false, List, [], ◌∷◌, ◌++◌, map, max, length, list_any, Option, Some, None, refl, sym, ap, ap₂, subst, ◌∙◌, arith, add-one, map-append, if◌then◌else◌}
+use Rattle.yds_model.proofs.Common.{◌≡◌, ℕ, ◌+◌, ◌≤◌, ◌||◌, Bool, true, false, List, [], ◌∷◌, map, max, list_any, Option, Some, None, refl, sym, ap, ap₂, subst, ◌∙◌, arith, add-one, if◌then◌else◌}
 use Rattle.yds_kernel.specs.Event.{Said}
 use Rattle.yds_trace.specs.declared.cut.Cut.{Cut}
-use Rattle.yds_trace.specs.declared.fault.Cause.{Cause}
 use Rattle.yds_trace.specs.declared.fault.Cause.TheVariants as causes
-use Rattle.yds_trace.specs.Asked.{Asked, on}
+use Rattle.yds_trace.specs.Asked.{Asked}
 use Rattle.yds_trace.specs.Parts.{changes_parts, changes_one, next_processor, processor_count, first_numbers, processors_of, watched_of, part_fault, parts_fault}
 use Rattle.yds_trace.proofs.OnProcessor.{changes_parts_on}
-use Rattle.yds_trace_laws.proofs.Processors.{some_processor}
 use Rattle.yds_trace_parts.specs.declared.processors.Processor.{Processor}
-use Rattle.yds_trace_parts.specs.Telling.{next_of, each_of, cut_on, told_on, IsUnseen, cuts_of, IsLatest, NoneBefore, IsWritten}
+use Rattle.yds_trace_parts.specs.Telling.{each_of, cut_on, told_on, IsUnseen, cuts_of, IsLatest, NoneBefore, IsWritten}
 use Rattle.yds_trace_parts.proofs.Numbers.{alike, none_more}
 use Rattle.yds_trace_parts.proofs.Placed.{any_push}
 
@@ -161,6 +159,9 @@ written_grown asked past said time old new unseen latest is grown =
       unseen_is = is.unseen_is;
       latest_is = subst (λ (ones : List Processor). IsLatest (cuts_of ones unseen) latest) (sym are)
           (latest_grown asked past said unseen latest is.unseen_is (subst (λ (ones : List Processor). IsLatest (cuts_of ones unseen) latest) is.processors_are is.latest_is));
-      later = (is.later.0, subst (λ (ones : List Processor). NoneBefore time (cuts_of ones unseen)) (sym are)
-          (before_grown asked past said time unseen is.unseen_is (subst (λ (ones : List Processor). NoneBefore time (cuts_of ones unseen)) is.processors_are is.later.1)));
+      later = (
+        is.later.0,
+        subst (λ (ones : List Processor). NoneBefore time (cuts_of ones unseen)) (sym are)
+            (before_grown asked past said time unseen is.unseen_is (subst (λ (ones : List Processor). NoneBefore time (cuts_of ones unseen)) is.processors_are is.later.1)),
+      );
     }

@@ -1,11 +1,11 @@
 -- What is kept while a trace is told in parts, and what a line makes of it.
-use Rattle.std.specs.Prelude.{◌≡◌, ℕ, ◌+◌, ◌≤◌, ⊤, List, [], ◌∷◌, ◌++◌, map, Bool, true, false, Option, Some, None}
+use Rattle.std.specs.Prelude.{◌≡◌, ℕ, ◌+◌, ◌≤◌, ◌⊎◌, ⊤, List, [], ◌∷◌, ◌++◌, map, min, Bool, true, false, Option, Some, None}
 use Rattle.std.specs.List.{list_any}
 use Rattle.yds_kernel.specs.Event.{Said}
 use Rattle.yds_trace.specs.declared.cut.Cut.{Cut}
 use Rattle.yds_trace.specs.Asked.{Asked, on}
 use Rattle.yds_trace.specs.Kept.{IsAtBehind, told_to_forget}
-use Rattle.yds_trace.specs.Parts.{cut_at, cut_after, place_of, waiting, with_part, is_due, is_much, may_write, changes_parts, processor_count, processors_of, first_numbers}
+use Rattle.yds_trace.specs.Parts.{cut_at, cut_after, place_of, waiting, waiting_from, with_part, is_due, is_much, may_write, changes_parts, processor_count, processors_of, first_numbers}
 use Rattle.yds_trace.specs.declared.pass.Pass.{Pass}
 use Rattle.yds_trace_text.specs.declared.fault.NoText.{NoText}
 use Rattle.yds_trace_text.specs.declared.fault.NoText.TheVariants as texts
@@ -162,6 +162,10 @@ cuts_of processors (Some cut) = cut ∷ map (λ one. one.cut) processors
 abbrev pub IsLatest : List Cut → Cut → Type 0
 IsLatest cuts latest = (asked : Asked) (past : List Said) (said : Said) → changes_parts asked past latest said ≡ list_any (λ cut. changes_parts asked past cut said) cuts
 
+abbrev pub boundary_before : Option Cut → ℕ → ℕ
+boundary_before None latest = latest
+boundary_before (Some cut) latest = min cut.boundary latest
+
 -- None of these ends before this time.
 abbrev pub NoneBefore : ℕ → List Cut → Type 0
 NoneBefore time [] = ⊤
@@ -189,6 +193,10 @@ pub record IsTaken (asked : Asked) (strict : Bool) (past : List Said) (said : Sa
   pub same_strict : telling.strict ≡ strict
   pub goes_on : (told_after asked strict past).halt ≡ None
   pub sound : line_halt asked past said ≡ None
+
+-- It isn't looked for parts behind these lines; or of all jobs that begin at this time or later, so few wait that none is to be written.
+abbrev pub IsStill : Asked → List Said → ℕ → Type 0
+IsStill asked past time = (is_due past ≡ false) ⊎ ((boundary : ℕ) → time ≤ boundary → is_much (waiting_from asked past boundary) ≡ false)
 
 -- With a line more the text has this piece more.
 abbrev pub Adds : Asked → Bool → List Said → List Said → List ℕ → Type 0

@@ -86,11 +86,7 @@ fn tell<S: Source, K: Sink>(
 }
 
 /// Takes the line that was given last. It gives the texts of the parts that are whole with it.
-fn take_line(
-    alloc: Global,
-    reader: &TraceReader,
-    telling: &mut Telling,
-) -> Result<Vec<u8>, Halt>
+fn take_line(alloc: Global, reader: &TraceReader, telling: &mut Telling) -> Result<Vec<u8>, Halt>
     requires { HasRoom (told_to_forget telling.old.pass) telling.old.pass }
     ensures said { (asked : asking.Asked) (strict : Bool) (past : List trace.Said) → IsTelling asked strict past telling.old → reader.now.number ≡ length past + 1
         → OnOk result (IsSaid asked strict past (said_by reader.now) telling.new) }

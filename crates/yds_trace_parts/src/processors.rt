@@ -264,9 +264,19 @@ pub(crate) fn least_boundary(processors: &[Processor], unseen: Option<Cut>, late
     ensures before { result ≤ latest }
     ensures first { (time : ℕ) → spec.NoneBefore time (spec.cuts_of processors.now unseen) → time ≤ latest → time ≤ result }
 {
-    let mut least = unseen.map_or(latest, |cut| cut.boundary.min(latest));
+    let mut least = boundary_before(unseen, latest);
     for one in processors {
         least = least.min(one.cut.boundary);
     }
     least
+}
+
+/// The boundary of what was written of processors of which no line tells, where it is before this time.
+fn boundary_before(unseen: Option<Cut>, latest: u64) -> u64
+    ensures { result ≡ spec.boundary_before unseen latest }
+{
+    match unseen {
+        Some(cut) => cut.boundary.min(latest),
+        None => latest,
+    }
 }

@@ -1,5 +1,5 @@
 //! What is kept while a trace is told in parts.
-ghost use Rattle.std.specs.Prelude.{◌≡◌, ◌+◌, List, [], ◌∷◌, length, None, Bool, true, ℕ, IfOk, OnOk, IfErr};
+ghost use Rattle.std.specs.Prelude.{◌≡◌, ◌+◌, List, [], ◌∷◌, length, None, is_some, not, ◌&&◌, Bool, true, false, ℕ, IfOk, OnOk, IfErr};
 ghost use Rattle.yds_kernel.specs.Event as trace;
 ghost use Rattle.yds_kernel.specs.Parts.{or_else};
 ghost use Rattle.yds_kernel.specs.Views.{said_read};
@@ -9,7 +9,7 @@ ghost use Rattle.yds_trace.specs.Kept.{IsAtBehind, IsEnough, told_to_forget};
 ghost use Rattle.yds_trace.specs.Parts as parts;
 ghost use Rattle.yds_trace.specs.Views.{asked_read};
 ghost use Rattle.yds_trace_parts.specs.Plain.{HasRoom, IsPlainPass};
-ghost use Rattle.yds_trace_parts.specs.Telling.{IsTelling, IsTaken, IsHaltFor, IsEnd, Adds};
+ghost use Rattle.yds_trace_parts.specs.Telling.{IsTelling, IsTaken, IsStill, IsHaltFor, IsEnd, Adds};
 ghost use Rattle.yds_trace_parts.specs.Told.{told_after, at_line, last_piece};
 
 use crate::halt::Halt;
@@ -20,9 +20,7 @@ use crate::processors::{
 use std::alloc::Global;
 use yds_kernel::Said;
 use yds_model::Memory;
-use yds_trace::{
-    Asked, Cut, Kept, LOOK_EVERY, NO_CUT, PART_JOBS, PART_STRETCHES, Pass, Refused,
-};
+use yds_trace::{Asked, Cut, Kept, LOOK_EVERY, NO_CUT, PART_JOBS, PART_STRETCHES, Pass, Refused};
 use yds_trace_document::DocumentFault;
 
 /// What is known of the tasks behind some lines, and what was written of them.
@@ -48,11 +46,7 @@ impl Telling {
             number: first_processor(&asked),
             cut: NO_CUT,
         };
-        let unseen = if asked.everywhere {
-            Some(NO_CUT)
-        } else {
-            None
-        };
+        let unseen = if asked.everywhere { Some(NO_CUT) } else { None };
         Ok(Telling {
             pass: Pass::new(alloc, asked)?,
             processors: vec![in alloc; first]?,
@@ -80,7 +74,7 @@ impl Telling {
         let told = processor_of(&said);
         take_line(alloc, &mut self.pass, self.latest, number, said)?;
         grow(&mut self.processors, self.unseen, told)?;
-        if number % LOOK_EVERY != 0 || is_little(self.pass.kept()) {
+        if !looks(&self.pass, number) {
             return Ok(Vec::new(alloc));
         }
         self.write(alloc, number)
@@ -97,8 +91,8 @@ impl Telling {
             → number ≡ length past + 1 → parts.is_due (said ∷ past) ≡ true → IfErr result (IsHaltFor (told_after asked strict (said ∷ past)).halt) }
     {
         let shown = self.pass.shown(alloc)?;
-        let asked = self.pass.asked().processor;
-        let Pieces { text, processors } = next_pieces(
+        let processor = self.pass.asked().processor;
+        let pieces = next_pieces(
             alloc,
             &mut self.pass,
             &self.processors,
@@ -106,13 +100,16 @@ impl Telling {
             self.strict,
             number,
         )?;
-        let next = processors.len() as u64;
-        self.unseen = unseen_behind(alloc, &mut self.pass, self.unseen, next, &shown)?;
-        self.processors = processors;
-        self.pass.turn_to(asked);
-        self.latest = latest_of(&self.processors, self.unseen);
-        let least = least_boundary(&self.processors, self.unseen, self.latest.boundary);
+        let next = pieces.processors.len() as u64;
+        let unseen = unseen_behind(alloc, &mut self.pass, self.unseen, next, &shown)?;
+        self.pass.turn_to(processor);
+        let latest = latest_of(&pieces.processors, unseen);
+        let least = least_boundary(&pieces.processors, unseen, latest.boundary);
         self.pass.forget(least);
+        let Pieces { text, processors } = pieces;
+        self.processors = processors;
+        self.unseen = unseen;
+        self.latest = latest;
         Ok(text)
     }
 
@@ -142,7 +139,7 @@ impl Telling {
     {
         let shown = self.pass.shown(alloc)?;
         let last = last_pieces(alloc, &mut self.pass, &self.processors, &shown, self.strict)?;
-        if self.unseen.is_some() && !last.has_job {
+        if lacks_job(self.unseen, last.has_job) {
             return Err(Halt::Limit {
                 part: 1,
                 fault: DocumentFault::NoJob,
@@ -150,6 +147,22 @@ impl Telling {
         }
         Ok(last.text)
     }
+}
+
+/// Whether no document has a job, where each processor has documents of its own.
+fn lacks_job(unseen: Option<Cut>, has_job: bool) -> bool
+    ensures { result ≡ (is_some unseen && not has_job) }
+{
+    unseen.is_some() && !has_job
+}
+
+/// Whether it is looked for parts behind the line of this number: behind each so many lines, where so much is kept.
+fn looks(pass: &Pass, number: u64) -> bool
+    ensures due { (past : List trace.Said) → number ≡ length past → result ≡ true → parts.is_due past ≡ true }
+    ensures still { (asked : asking.Asked) (past : List trace.Said) (boundary : ℕ) → IsAtBehind asked past boundary pass.now → number ≡ length past
+        → result ≡ false → IsStill asked past boundary }
+{
+    number % LOOK_EVERY == 0 && !is_little(pass.kept())
 }
 
 /// Whether so little is kept that no part is to be written.

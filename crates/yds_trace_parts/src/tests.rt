@@ -20,8 +20,15 @@ const BOTH: &[u8] = b"\
 # part 2: jobs 2047 to 2047, from 40940 to 40950, shift 40940, the last
 ";
 
-/// The jobs of `t` on processor 0, each due 10 microseconds after its first run.
-fn asked(alloc: Global) -> Result<Asked, AllocError>
+/// Where each processor has documents of its own: one thread runs on processor 1, and none on the others.
+const EACH: &[u8] = b"\
+# part 1: jobs 1 to 2046, from 20 to 40930, shift 0, cpu 1
+# part 1: jobs 1 to 0, from 0 to 0, shift 0, cpu 0, the last
+# part 2: jobs 2047 to 2047, from 40940 to 40950, shift 40940, cpu 1, the last
+";
+
+/// The jobs of `t` on processor 0, or on each one, each due 10 microseconds after its first run.
+fn asked(alloc: Global, everywhere: bool) -> Result<Asked, AllocError>
     ensures { IfOk result (λ asked. IsGranted (asked_read asked)) }
 {
     let task = Task {
@@ -41,7 +48,7 @@ fn asked(alloc: Global) -> Result<Asked, AllocError>
         begin_at_run: true,
         cut_losses: false,
         in_parts: true,
-        everywhere: false,
+        everywhere,
     })
 }
 
@@ -49,24 +56,26 @@ fn asked(alloc: Global) -> Result<Asked, AllocError>
 fn push_switch(
     text: &mut Vec<u8>,
     alloc: Global,
+    processor: u64,
     micros: u64,
     from: &str,
     to: &str,
 ) -> Result<(), AllocError> {
     let line = format!(in alloc;
-        "  x-1 [000] d..2. 5.{micros}: sched_switch: prev_comm={from} prev_prio=120 prev_state=S ==> next_comm={to} next_prio=120\n"
+        "  x-1 [00{processor}] d..2. 5.{micros}: sched_switch: prev_comm={from} prev_prio=120 prev_state=S ==> next_comm={to} next_prio=120\n"
     )?;
     text.extend_from_slice(line.as_bytes())
 }
 
-/// The lines of these jobs, each of 10 microseconds, one begun every 20.
-fn trace(alloc: Global) -> Result<Vec<u8>, AllocError> {
+/// The lines of these jobs on a processor, each of 10 microseconds, one begun every 20.
+fn trace(alloc: Global, processor: u64) -> Result<Vec<u8>, AllocError> {
     let mut text = Vec::new(alloc);
     for number in 0..JOBS {
         let begin = 100_000 + 20 * number;
         push_switch(
             &mut text,
             alloc,
+            processor,
             begin,
             "swapper prev_pid=0",
             "t next_pid=7",
@@ -74,6 +83,7 @@ fn trace(alloc: Global) -> Result<Vec<u8>, AllocError> {
         push_switch(
             &mut text,
             alloc,
+            processor,
             begin + 10,
             "t prev_pid=7",
             "swapper next_pid=0",
@@ -115,11 +125,22 @@ fn parts_are_written_as_they_are_whole(rt: HostRuntime) -> Result<(), Fail> {
         (1, 0, b'r', b"".as_slice()),
     ];
     for (read, write, end, parts) in cases {
-        let mut source = MemorySource::new(trace(alloc)?, 1_000_000, [read].to_vec(alloc)?);
+        let mut source = MemorySource::new(trace(alloc, 0)?, 1_000_000, [read].to_vec(alloc)?);
         let mut sink = MemorySink::with_room(alloc, 200_000, 200_000, [write].to_vec(alloc)?)?;
-        let told = tell_parts(alloc, asked(alloc)?, false, &mut source, &mut sink);
+        let told = tell_parts(alloc, asked(alloc, false)?, false, &mut source, &mut sink);
         assert_eq!(rt; letter(&told), end);
         assert_eq!(rt; heads(alloc, sink.bytes())?.as_slice(), parts);
     }
+    Ok(())
+}
+
+#[test]
+fn each_processor_has_parts_of_its_own(rt: HostRuntime) -> Result<(), Fail> {
+    let alloc = rt.alloc();
+    let mut source = MemorySource::new(trace(alloc, 1)?, 1_000_000, Vec::new(alloc));
+    let mut sink = MemorySink::with_room(alloc, 400_000, 400_000, Vec::new(alloc))?;
+    let told = tell_parts(alloc, asked(alloc, true)?, false, &mut source, &mut sink);
+    assert_eq!(rt; letter(&told), b'.');
+    assert_eq!(rt; heads(alloc, sink.bytes())?.as_slice(), EACH);
     Ok(())
 }

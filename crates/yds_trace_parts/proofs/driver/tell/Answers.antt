@@ -36,13 +36,13 @@ loop-lines-preserved g c =
     let number : c.advance.new.self.number ≡ length known.past + 1 = omega (arith, c.in-Line.ensures.advances.next, known.number, known.many) in
     record {
       behind = one_more (asked_read c.args.asked) c.args.strict _ _ _ _ _ _ _ _ _ _ _ _ _ _ known c.in-Line.ensures.advances c.in-Line.ensures.counts
-          (c.in_ok-piece-in-Line.ensures.said (asked_read c.args.asked) c.args.strict known.past known.stands number)
-          (c.in_ok-piece-in-Line.ensures.adds (asked_read c.args.asked) c.args.strict known.past known.stands number)
-          c.in_ok-put-in-Line.ensures.puts.delivers.0;
+          (c.in_ok-pieces-in-Line.ensures.said (asked_read c.args.asked) c.args.strict known.past known.stands number)
+          (c.in_ok-pieces-in-Line.ensures.adds (asked_read c.args.asked) c.args.strict known.past known.stands number)
+          (rw c.deref.ensures.value at c.in_ok-write_all-in-Line.ensures.puts.delivers.0);
       read = c.in-Line.ensures.advances.no_fault ∙ c.loop-lines.invariant.read;
-      wrote = c.in_ok-put-in-Line.ensures.puts.delivers.1 ∙ c.loop-lines.invariant.wrote;
-      flushed = c.in_ok-put-in-Line.ensures.puts.flushed_stays ∙ c.loop-lines.invariant.flushed;
-      flushes = c.in_ok-put-in-Line.ensures.puts.flushes_stay ∙ c.loop-lines.invariant.flushes;
+      wrote = c.in_ok-write_all-in-Line.ensures.puts.delivers.1 ∙ c.loop-lines.invariant.wrote;
+      flushed = c.in_ok-write_all-in-Line.ensures.puts.flushed_stays ∙ c.loop-lines.invariant.flushed;
+      flushes = c.in_ok-write_all-in-Line.ensures.puts.flushes_stay ∙ c.loop-lines.invariant.flushes;
     }
 
 -- # How it ends
@@ -61,29 +61,29 @@ returns-in_err-telling g c =
     (tells_halt g.S.Source.left g.S.Source.faults g.K.Sink.written g.K.Sink.flushed g.K.Sink.flushes g.K.Sink.faults (asked_read c.args.asked) c.args.strict _ _ _ _ _ tt refl refl refl refl
     (nothing_written (asked_read c.args.asked) c.args.strict (g.S.Source.left c.args.source.now) (g.K.Sink.written c.args.sink.now)) (rest_same (g.S.Source.left c.args.source.now)))
 
-pub returns-in_err-piece-in-Line : goal.returns-in_err-piece-in-Line
-returns-in_err-piece-in-Line g c =
-    let told = err_from_is_err_and c.from_residual-in_err-piece-in-Line.result c.from_residual-in_err-piece-in-Line.ensures.1 in
+pub returns-in_err-pieces-in-Line : goal.returns-in_err-pieces-in-Line
+returns-in_err-pieces-in-Line g c =
+    let told = err_from_is_err_and c.from_residual-in_err-pieces-in-Line.result c.from_residual-in_err-pieces-in-Line.ensures.1 in
     let known = c.loop-lines.invariant.behind in
     let number : c.advance.new.self.number ≡ length known.past + 1 = omega (arith, c.in-Line.ensures.advances.next, known.number, known.many) in
-    let why = c.in_err-piece-in-Line.ensures.halts (asked_read c.args.asked) c.args.strict known.past known.stands number in
+    let why = c.in_err-pieces-in-Line.ensures.halts (asked_read c.args.asked) c.args.strict known.past known.stands number in
     rw (told.1, told.2)
     (tells_halt g.S.Source.left g.S.Source.faults g.K.Sink.written g.K.Sink.flushed g.K.Sink.flushes g.K.Sink.faults (asked_read c.args.asked) c.args.strict _ _ _ _ _ (own_line (asked_read c.args.asked) c.args.strict known.past _ _ _ why)
     (c.in-Line.ensures.advances.no_fault ∙ c.loop-lines.invariant.read) c.loop-lines.invariant.wrote c.loop-lines.invariant.flushed c.loop-lines.invariant.flushes
     (not_taken (asked_read c.args.asked) c.args.strict (g.S.Source.left c.args.source.now) _ _ _ _ _ _ _ _ _ _ _ known c.in-Line.ensures.advances why)
     (rest_of _ _ _ (counts_on (g.S.Source.left c.args.source.now) _ _ _ _ c.loop-lines.invariant.behind.counts c.in-Line.ensures.counts)))
 
-pub returns-in_err-put-in-Line : goal.returns-in_err-put-in-Line
-returns-in_err-put-in-Line g c =
-    let told = err_from_is_err_and c.from_residual-in_err-put-in-Line.result c.from_residual-in_err-put-in-Line.ensures.1 in
+pub returns-in_err-write_all-in-Line : goal.returns-in_err-write_all-in-Line
+returns-in_err-write_all-in-Line g c =
+    let told = err_from_is_err_and c.from_residual-in_err-write_all-in-Line.result c.from_residual-in_err-write_all-in-Line.ensures.1 in
     let known = c.loop-lines.invariant.behind in
     let number : c.advance.new.self.number ≡ length known.past + 1 = omega (arith, c.in-Line.ensures.advances.next, known.number, known.many) in
     rw (told.1, told.2)
-    (tells_write_fault g.S.Source.left g.S.Source.faults g.K.Sink.written g.K.Sink.flushed g.K.Sink.flushes g.K.Sink.faults (asked_read c.args.asked) c.args.strict _ _ _ _ _ c.loop-lines.invariant.wrote c.in_err-put-in-Line.ensures.puts.delivers.1
+    (tells_write_fault g.S.Source.left g.S.Source.faults g.K.Sink.written g.K.Sink.flushed g.K.Sink.flushes g.K.Sink.faults (asked_read c.args.asked) c.args.strict _ _ _ _ _ c.loop-lines.invariant.wrote c.in_err-write_all-in-Line.ensures.puts.delivers.1
     (c.in-Line.ensures.advances.no_fault ∙ c.loop-lines.invariant.read)
-    (c.in_err-put-in-Line.ensures.puts.flushed_stays ∙ c.loop-lines.invariant.flushed) (c.in_err-put-in-Line.ensures.puts.flushes_stay ∙ c.loop-lines.invariant.flushes)
+    (c.in_err-write_all-in-Line.ensures.puts.flushed_stays ∙ c.loop-lines.invariant.flushed) (c.in_err-write_all-in-Line.ensures.puts.flushes_stay ∙ c.loop-lines.invariant.flushes)
     (piece_cut (asked_read c.args.asked) c.args.strict (g.S.Source.left c.args.source.now) _ _ _ _ _ _ _ _ _ _ _ _ known c.in-Line.ensures.advances
-    (c.in_ok-piece-in-Line.ensures.adds (asked_read c.args.asked) c.args.strict known.past known.stands number) c.in_err-put-in-Line.ensures.puts.delivers.0)
+    (c.in_ok-pieces-in-Line.ensures.adds (asked_read c.args.asked) c.args.strict known.past known.stands number) (rw c.deref.ensures.value at c.in_err-write_all-in-Line.ensures.puts.delivers.0))
     (rest_of _ _ _ (counts_on (g.S.Source.left c.args.source.now) _ _ _ _ c.loop-lines.invariant.behind.counts c.in-Line.ensures.counts)))
 
 pub returns-in_err-text-in-End : goal.returns-in_err-text-in-End
@@ -108,7 +108,7 @@ returns-in_err-write_all-in-End g c =
     (end_cut (asked_read c.args.asked) c.args.strict (g.S.Source.left c.args.source.now) _ _ _ _ _ _ _ _ known c.in-End.ensures.advances.at_end
     (c.in_ok-text-in-End.ensures.sound (asked_read c.args.asked) c.args.strict known.past known.stands (sym known.many))
     (c.in_ok-text-in-End.ensures.told (asked_read c.args.asked) c.args.strict known.past known.stands (sym known.many))
-    (rw c.deref.ensures.value at c.in_err-write_all-in-End.ensures.puts.delivers.0))
+    (rw c.deref-in-End.ensures.value at c.in_err-write_all-in-End.ensures.puts.delivers.0))
     (rest_of _ _ _ (counts_on (g.S.Source.left c.args.source.now) _ _ _ _ c.loop-lines.invariant.behind.counts c.in-End.ensures.counts)))
 
 pub returns-in-End : goal.returns-in-End
@@ -120,7 +120,7 @@ returns-in-End g c =
     (end_told (asked_read c.args.asked) c.args.strict (g.S.Source.left c.args.source.now) _ _ _ _ _ _ _ _ known c.in-End.ensures.advances.at_end
     (c.in_ok-text-in-End.ensures.sound (asked_read c.args.asked) c.args.strict known.past known.stands (sym known.many))
     (c.in_ok-text-in-End.ensures.told (asked_read c.args.asked) c.args.strict known.past known.stands (sym known.many))
-    (rw c.deref.ensures.value at c.in_ok-write_all-in-End.ensures.puts.delivers.0))
+    (rw c.deref-in-End.ensures.value at c.in_ok-write_all-in-End.ensures.puts.delivers.0))
     (nothing_left {A = Unit {0}} {E = HaltKept} (g.S.Source.left c.args.source.now) _ _ (Ok tt) (counts_on (g.S.Source.left c.args.source.now) _ _ _ _ known.counts c.in-End.ensures.counts) c.in-End.ensures.advances.none_left)
     (rest_of _ _ _ (counts_on (g.S.Source.left c.args.source.now) _ _ _ _ c.loop-lines.invariant.behind.counts c.in-End.ensures.counts))
 

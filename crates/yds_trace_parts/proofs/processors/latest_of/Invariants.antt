@@ -4,4 +4,4 @@ use Rattle.yds_trace_parts.proofs.Loops.{LatestSoFar}
 use Rattle.yds_trace_parts.proofs.processors.latest_of.Given as goal
 
 abbrev pub invariant-loop-one : goal.invariant-loop-one
-invariant-loop-one l = LatestSoFar (cuts_of l.processors l.unseen) (drop l.one-index l.processors) l.latest
+invariant-loop-one l = LatestSoFar (cuts_of l.processors l.fn.unseen) (drop l.one-index l.processors) l.latest
