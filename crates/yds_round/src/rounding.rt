@@ -20,7 +20,7 @@ use std::alloc::Global;
 use yds_certificate::Level;
 use yds_fraction::Amount;
 use yds_model::{JobRow, Memory};
-use yds_plan::Planned;
+use yds_plan::{Planned, read_rows};
 use yds_slots::{Schedule, Slot};
 use yds_spending::plan_spent;
 use yds_table::Table;
@@ -169,6 +169,7 @@ pub fn round(
     let paces = paces_of(alloc, table, levels)?;
     let schedule = round_slots(alloc, rows, plan, table, &paces)?;
     // The rounded slots spend what the plan does.
+    read_rows(rows);
     let spent = plan_spent(alloc, rows, levels, table)?;
     // Reading the points shows that they are a table, and reading the slots that they are within the limits.
     let _points = table.points();

@@ -1,4 +1,5 @@
-use Rattle.yds_model.proofs.Common.{◌≡◌, ◌≤◌, ◌∙◌, List, length, ap, sym, subst, arith, sum_by, All, slots_at, Point, AreRising, horizon, hull_of, stretches, top_of, last_within}
+use Rattle.yds_model.proofs.Common.{WrittenSlot, IsPlan, IsSpent, ◌≡◌, ◌≤◌, ◌∙◌, List, length, ap, sym, subst, arith, sum_by, All, slots_at, Point, AreRising, horizon, hull_of, stretches, top_of, last_within}
+use Rattle.std.proofs.lemmas.Result.{IfOk-weaker}
 use Rattle.yds_events.specs.Stretch.{length_of}
 use Rattle.yds_energy.proofs.LevelTimes.{levels_fit_the_horizon}
 use Rattle.yds_spending.specs.declared.load.Load.{Load}
@@ -38,11 +39,12 @@ returns c =
     let time = sum_by length_of (stretches c.args.rows.now) in
     let is : c.deref.result.now ≡ level_loads c.args.levels.now time =
     c.deref.ensures.value ∙ c.in_ok-loads.ensures ∙ ap (level_loads c.args.levels.now) (time_is c.args.rows.now c.requires.jobs c.from.ensures c.horizon.ensures) in
-    λ spent made slots plan. let spent_on : IsSpentOn c.args.table.now 1 (level_loads c.args.levels.now time) spent =
-    subst (λ (loads : List Load). IsSpentOn c.args.table.now 1 loads spent) is (c.spend.ensures spent made) in
-    record {
+    IfOk-weaker c.spend.result (IsSpentOn c.args.table.now 1 c.deref.result.now)
+    (λ spent. (slots : List WrittenSlot) → IsPlan c.args.rows.now slots c.args.levels.now → IsSpent c.args.rows.now c.args.table.now slots spent)
+    (λ spent made slots plan. record {
       solid = plan.proper.feasible.solid;
-      holds = λ scale at. spent_at c.args.rows.now c.args.table.now 1 (level_loads c.args.levels.now time) scale (slots_at scale slots)
-          spent at.positive (omega arith)
-          (λ speed. plan_as_long c.args.rows.now c.requires.jobs slots c.args.levels.now c.args.table.now plan rising some scale at speed) spent_on;
-    }
+      holds = λ scale at. spent_at c.args.rows.now c.args.table.now 1 (level_loads c.args.levels.now time) scale (slots_at scale slots) spent at.positive (omega arith)
+          (λ speed. plan_as_long c.args.rows.now c.requires.jobs slots c.args.levels.now c.args.table.now plan rising some scale at speed)
+          (subst (λ (loads : List Load). IsSpentOn c.args.table.now 1 loads spent) is made);
+    })
+    c.spend.ensures
