@@ -1,6 +1,9 @@
 -- The energy of a plan that is rounded fits.
-use Rattle.yds_model.proofs.Common.{◌≡◌, ℕ, ◌+◌, ◌-◌, ◌*◌, ◌<◌, ◌≤◌, List, [], ◌∷◌, arith, All, All-contains, All-weaker, sum_by-cons, mul-le-mul_right, mul-pos, le_of_mul-le-mul_right, Job, Fraction, numerator, WrittenSlot, WholeSlot, IsSolid, IsFeasible, slots_at, Point, no_point, point_at, busy, horizon, idle, SpendsAtPoints, busy_and_idle, IsEnergyOf, IsSlot, scale_exists, IsTable}
-use Rattle.yds_fraction.proofs.WithinLimits.{some_parts}
+use Rattle.yds_model.proofs.Common.{◌≡◌, ℕ, ◌+◌, ◌-◌, ◌*◌, ◌<◌, ◌≤◌, List, [], ◌∷◌, arith, All, All-contains, All-weaker, sum_by-cons, mul-le-mul_right, mul-pos, le_of_mul-le-mul_right, Job, Fraction, numerator, WrittenSlot, WholeSlot, IsSolid, IsFeasible, slots_at, Point, no_point, point_at, busy, horizon, idle, SpendsAtPoints, busy_and_idle, IsEnergyOf, IsSlot, scale_exists, IsTable, IsJob, IsFraction, IsPlan, IsRounding, Level, last_within}
+use Rattle.yds_model.specs.declared.limits.TheConstants.{MAX_ENERGY, MAX_POINT_POWER, MAX_WHOLE}
+use Rattle.yds_fraction.proofs.WithinLimits.{some_parts, IsFraction-within}
+use Rattle.yds_energy.proofs.RoundedOnPoints.{rounded_is_feasible}
+use Rattle.yds_table.specs.Table.{IsPointTable}
 
 pub slots_solid : (slots : List WrittenSlot) → All IsSlot slots → All IsSolid slots
 slots_solid slots each = grind (arith, All-weaker, some_parts)
@@ -25,11 +28,20 @@ whole_within most long busy_time idle_time scale spent idle_power energy whole n
     le_of_mul-le-mul_right {k = den * scale} (omega (arith, same, mul-le-mul_right den all)) (mul-pos parts some)
 
 -- a feasible schedule's energy on points is at most the greatest power over the horizon
-pub energy_within : (most : ℕ) (jobs : List Job) (points : List Point) (slots : List WrittenSlot) (energy : Fraction) → All (λ point. point.power ≤ most) points → IsTable points →
+energy_within : (most : ℕ) (jobs : List Job) (points : List Point) (slots : List WrittenSlot) (energy : Fraction) → All (λ point. point.power ≤ most) points → IsTable points →
     IsFeasible jobs slots → IsEnergyOf jobs points slots energy → energy.whole ≤ most * horizon jobs
 energy_within most jobs points slots energy each table feasible is =
     let scale = scale_exists slots feasible.solid in
-    let (spent, (at_points, spends, is_spent), same) = is.at_scales.holds scale.0 scale.1 in
-    whole_within most (horizon jobs) (busy (slots_at scale.0 slots)) (idle jobs scale.0 (slots_at scale.0 slots)) scale.0 at_points (point_at points 0).power spent energy.whole energy.num
+    let at = is.at_scales.holds scale.0 scale.1 in
+    whole_within most (horizon jobs) (busy (slots_at scale.0 slots)) (idle jobs scale.0 (slots_at scale.0 slots)) scale.0 at.1.0 (point_at points 0).power at.0 energy.whole energy.num
     energy.den scale.1.positive is.has_parts (busy_and_idle jobs scale.0 (slots_at scale.0 slots) (feasible.holds scale.0 scale.1))
-    (spends_at_most most points (slots_at scale.0 slots) at_points each spends) (each 0 no_point table.some) is_spent same
+    (spends_at_most most points (slots_at scale.0 slots) at.1.0 each at.1.1) (each 0 no_point table.some) at.1.2 at.2
+
+-- so the energy of a rounding fits
+pub rounding_within : (jobs : List Job) (points : List Point) (planned : List WrittenSlot) (levels : List Level) (written : List WrittenSlot) (energy : Fraction) →
+    All IsJob jobs → IsPlan jobs planned levels → IsPointTable points → IsRounding jobs points planned levels written energy → IsFraction MAX_WHOLE energy →
+    IsFraction MAX_ENERGY energy
+rounding_within jobs points planned levels written energy fit plan are rounding kept =
+    let on_points = rounded_is_feasible jobs points planned levels written energy plan are.table rounding in
+    let within = energy_within MAX_POINT_POWER jobs points written energy (λ i d inside. (are.within.fit i d inside).power_in_range) are.table on_points.feasible rounding.energy_of in
+    IsFraction-within MAX_WHOLE MAX_ENERGY energy kept (omega (arith, within, last_within jobs fit))

@@ -54,12 +54,7 @@ fn time_at(shares: &[TimeShare], speed: u32) -> u128
 
 /// What these loads spend, of which `unit` parts make a unit: each at the points of the hull around its speed, as long at each
 /// as gives that speed.
-pub fn spend(
-    alloc: Global,
-    loads: &[Load],
-    unit: u64,
-    table: &Table,
-) -> Result<Spent, Memory>
+pub fn spend(alloc: Global, loads: &[Load], unit: u64, table: &Table) -> Result<Spent, Memory>
     requires some_unit { 1 ≤ unit }
     requires unit_in_range { unit ≤ MAX_GRID }
     requires time_in_range { sum_by (λ load. load.time) loads.now ≤ MAX_TIME * unit }
