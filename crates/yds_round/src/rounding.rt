@@ -171,11 +171,10 @@ pub fn round(
     // The rounded slots spend what the plan does.
     read_rows(rows);
     let spent = plan_spent(alloc, rows, levels, table)?;
-    // Reading the points shows that they are a table, and reading the slots that they are within the limits.
+    let energy = spent.energy;
+    // Reading the points shows that they are a table, and reading the slots and the energy that they are within the limits.
     let _points = table.points();
     let _slots = schedule.slots();
-    Ok(Rounded {
-        schedule,
-        energy: spent.energy,
-    })
+    let _whole = energy.whole();
+    Ok(Rounded { schedule, energy })
 }

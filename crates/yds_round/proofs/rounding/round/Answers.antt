@@ -3,7 +3,7 @@ use Rattle.yds_slots.specs.Schedule.{WrittenSchedule}
 use Rattle.yds_round.specs.LevelPace.{RunsAs}
 use Rattle.yds_round.specs.Fault.{HasFastLevel}
 use Rattle.yds_round.proofs.Faults.{all_slow}
-use Rattle.yds_round.proofs.RoundedEnergies.{slots_solid}
+use Rattle.yds_round.proofs.RoundedEnergies.{slots_solid, rounding_within}
 use Rattle.yds_round.proofs.RoundedPlans.{is_rounding}
 use Rattle.yds_round.proofs.rounding.round.Goals as goal
 
@@ -42,4 +42,6 @@ returns-clause-rounding c =
     (c.in_ok-spent.ensures planned (subst (IsPlan c.args.rows.now planned) (sym same) c.requires.plan))
 
 pub returns-clause-energy : goal.returns-clause-energy
-returns-clause-energy c = let rounding = returns-clause-rounding c in ?
+returns-clause-energy c =
+    rounding_within c.args.rows.now c.args.table.now c.args.plan.now.schedule.slots c.args.plan.now.certificate c.in_ok-schedule.schedule.slots _ c.read_rows.ensures
+    c.requires.plan c.points-points.ensures.kept (returns-clause-rounding c) c.whole-whole.ensures.kept.fraction
