@@ -1,5 +1,5 @@
 -- The laws of schedules on a table's points. Each is the contract of a public function of this crate.
-use Rattle.std.specs.Prelude.{◌≡◌, ℕ, ◌+◌, ◌-◌, ◌*◌, ◌≤◌, ◌↔◌, List, ◌∷◌, ◌++◌, Some, sum_by, pos}
+use Rattle.std.specs.Prelude.{◌≡◌, ℕ, ◌*◌, ◌≤◌, ◌↔◌, List, ◌∷◌, ◌++◌, Some, sum_by, pos}
 use Rattle.std.specs.List.{All}
 use Rattle.yds_model.specs.Job.{Job}
 use Rattle.yds_model.specs.Scale.{Fraction, numerator, IsSame, IsAtMost}
