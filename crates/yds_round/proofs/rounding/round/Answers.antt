@@ -1,4 +1,4 @@
-use Rattle.yds_model.proofs.Common.{◌≡◌, List, sym, ap, subst, All, AllZip, Job, WrittenSlot, Level, Point, IsPlan, IsTooFast, IsSpent}
+use Rattle.yds_model.proofs.Common.{◌≡◌, List, sym, ap, subst, All, AllZip, Job, WrittenSlot, Level, Point, IsPlan, IsTooFast, IsRounding, Spent, IsSpent}
 use Rattle.yds_slots.specs.Schedule.{WrittenSchedule}
 use Rattle.yds_round.specs.LevelPace.{RunsAs}
 use Rattle.yds_round.specs.Fault.{HasFastLevel}
@@ -34,12 +34,13 @@ returns-clause-rounding c =
     c.levels-levels.result.now c.args.table.now same c.requires.plan c.in_default.ensures) in
     let are : AllZip (RunsAs c.args.table.now) c.args.plan.now.certificate c.in_ok-paces.paces.items =
     subst (λ (levels : List Level). AllZip (RunsAs c.args.table.now) levels c.in_ok-paces.paces.items) same c.in_ok-paces.ensures in
-    is_rounding c.args.rows.now c.args.table.now planned c.args.plan.now.certificate c.in_ok-paces.paces.items c.args.plan.now.timetable
+    subst (λ (spent : Spent). IsRounding c.args.rows.now c.args.table.now planned c.args.plan.now.certificate c.in_ok-schedule.schedule.slots spent.energy) (sym c.spent.view_is)
+    (is_rounding c.args.rows.now c.args.table.now planned c.args.plan.now.certificate c.in_ok-paces.paces.items c.args.plan.now.timetable
     c.args.plan.now.level_of_stretch.items c.in_ok-schedule.schedule.slots c.in_ok-spent.spent c.read_rows.ensures c.requires.plan c.points-points.ensures.kept.table
     slow are c.requires.timetable c.in_ok-schedule.ensures.rows
     (ap (λ (schedule : WrittenSchedule). schedule.slots) (rw (c.deref.ensures.value) at c.in_ok-schedule.ensures.written))
     (slots_solid c.in_ok-schedule.schedule.slots c.slots-slots.ensures.kept.fit)
-    (c.in_ok-spent.ensures planned (subst (IsPlan c.args.rows.now planned) (sym same) c.requires.plan))
+    (c.in_ok-spent.ensures planned (subst (IsPlan c.args.rows.now planned) (sym same) c.requires.plan)))
 
 pub returns-clause-energy : goal.returns-clause-energy
 returns-clause-energy c =
