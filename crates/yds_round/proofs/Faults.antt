@@ -1,5 +1,5 @@
 -- When a plan is too fast for a table.
-use Rattle.yds_model.proofs.Common.{◌≡◌, ℕ, zero, suc, ◌*◌, ◌<◌, ◌≤◌, List, [], ◌∷◌, length, arith, inl, inr, All, All-from_get_or, cases_lt, mul-le-mul_right, le_of_mul-le-mul_right, Job, WrittenSlot, Level, no_level, level_at, IsPlan, Point, top_of, IsTooFast}
+use Rattle.yds_model.proofs.Common.{ℕ, zero, suc, ◌*◌, ◌<◌, ◌≤◌, List, [], ◌∷◌, length, arith, inl, inr, All, All-from_get_or, cases_lt, mul-le-mul_right, le_of_mul-le-mul_right, Job, WrittenSlot, Level, no_level, level_at, IsPlan, Point, top_of, IsTooFast}
 use Rattle.yds_round.specs.Fault.{HasFastLevel}
 
 -- the first level is the one that may be too fast

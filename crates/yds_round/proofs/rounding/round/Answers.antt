@@ -1,4 +1,4 @@
-use Rattle.yds_model.proofs.Common.{◌≡◌, List, sym, ap, subst, All, AllZip, Job, WrittenSlot, Level, Point, IsPlan, IsTooFast, IsRounding, Spent, IsSpent}
+use Rattle.yds_model.proofs.Common.{◌≡◌, List, sym, ap, subst, All, AllZip, Job, WrittenSlot, Level, Point, IsPlan, IsTooFast, IsRounding, Spent}
 use Rattle.yds_slots.specs.Schedule.{WrittenSchedule}
 use Rattle.yds_round.specs.LevelPace.{RunsAs}
 use Rattle.yds_round.specs.Fault.{HasFastLevel}
