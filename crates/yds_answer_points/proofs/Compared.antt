@@ -2,8 +2,7 @@
 use Rattle.yds_model.proofs.Common.{◌≡◌, ℕ, ◌<◌, ◌≤◌, ◌⊎◌, List, [], ◌∷◌, ◌++◌, length, get_or, refl, sym, ap, ap₂, subst, ◌∙◌, append_assoc, arith, inl, inr, codes, Job, Document, WrittenSlot, Level, Point, line, IsPlan, IsAverageRateRun, IsOptimalAvailableRun, IsSpent, CompareAnswer, spent_lines, side_lines, rounded_line, OnPoints, zip, append-nil, length-zip, get_or-zip, Fraction}
 use Rattle.yds_model.specs.declared.status.Status.TheVariants as statuses
 use Rattle.yds_round.specs.Fault.{HasFastLevel}
-use Rattle.yds_round.proofs.Faults.{fast_first}
-use Rattle.yds_round.proofs.RoundedEnergies.{all_slow}
+use Rattle.yds_round.proofs.Faults.{all_slow}
 use Rattle.yds_compare.specs.declared.comparison.Comparison.{Comparison}
 use Rattle.yds_compare.specs.Side.{side_view, IsSideOfRun}
 use Rattle.yds_answer_points.specs.Compare.{sides_text}
@@ -31,7 +30,7 @@ answers_itself document grid planned levels comparison some plan slow spent aver
       planned = planned;
       levels = levels;
       plan = plan;
-      fast_enough = all_slow document.jobs planned levels points plan (λ first fast. slow (fast_first levels points first fast));
+      fast_enough = all_slow document.jobs planned levels points plan slow;
       plan_spent = comparison.plan;
       plan_spends = spent;
       average_slots = average.0;

@@ -18,7 +18,7 @@ ghost use Rattle.yds_answer.specs.WithPoints.{text_with_points, status_with_poin
 use crate::round::too_slow_line;
 use std::alloc::Global;
 use yds_answer::{Answer, WithPoints, reply};
-use yds_compare::{Comparison, Side, Spent, compare};
+use yds_compare::{Comparison, Side, compare};
 use yds_document::{Document, LineBuffer};
 use yds_fraction::Amount;
 use yds_model::limits::MAX_GRID;
@@ -26,6 +26,7 @@ use yds_model::{Memory, Status};
 use yds_plan::plan_levels;
 use yds_port::{Sink, WriteFault, write_all};
 use yds_round::RoundFault;
+use yds_spending::Spent;
 use yds_table::Table;
 
 /// What a plan and the runs of both policies spend on the points of a table.

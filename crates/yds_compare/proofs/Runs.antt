@@ -5,11 +5,12 @@ use Rattle.yds_timetable.specs.Timetable.{Row, row_at, stretches_of, slots_of}
 use Rattle.yds_timetable.proofs.Rows.{no_row, rows_solid, row_work}
 use Rattle.yds_edf.specs.PolicyRun.{AreRowsOf}
 use Rattle.yds_edf.proofs.Standing.{as_many_rows, row_stretch, rows_order}
-use Rattle.yds_compare.specs.declared.load.Load.{Load}
-use Rattle.yds_compare.specs.Load.{load_of, loads_of, load_at, IsHeldAt}
-use Rattle.yds_compare.specs.Spent.{time_of_loads, IsSpentOn}
+use Rattle.yds_spending.specs.declared.load.Load.{Load}
+use Rattle.yds_compare.specs.Load.{load_of, loads_of}
+use Rattle.yds_spending.specs.Load.{load_at, IsHeldAt}
+use Rattle.yds_spending.specs.Spent.{time_of_loads, IsSpentOn}
 use Rattle.yds_energy.proofs.SpentScale.{time_scaled}
-use Rattle.yds_compare.proofs.Agreeing.{TakeAsLong, spent_at}
+use Rattle.yds_spending.proofs.Agreeing.{TakeAsLong, spent_at}
 
 -- # A run on a grid
 

@@ -1,4 +1,2 @@
 pub mod Load
-pub mod TimeShare
-pub mod Spent
 pub mod Side

@@ -1,6 +1,5 @@
-ghost use Rattle.std.specs.Prelude.{◌≡◌, ◌≤◌, List, All, length, IfOk, IfErr, Err};
+ghost use Rattle.std.specs.Prelude.{◌≡◌, ◌≤◌, List, length, IfOk, IfErr, Err};
 ghost use Rattle.yds_model.specs.declared.limits.TheConstants.{MAX_GRID, MAX_JOBS, MAX_ROUNDED};
-ghost use Rattle.yds_model.specs.Job.{IsJob};
 ghost use Rattle.yds_model.specs.Slot.{WrittenSlot};
 ghost use Rattle.yds_model.specs.Plan.{IsPlan};
 ghost use Rattle.yds_model.specs.Comparison.{IsSpent};
@@ -10,16 +9,15 @@ ghost use Rattle.yds_plan.specs.PlanLevels.{AreLevelsOfPlan};
 ghost use Rattle.yds_round.specs.Fault.{IsCauseOfRoundFault, HasFastLevel, too_slow};
 ghost use Rattle.yds_compare.specs.Side.{IsSideOfRun};
 
-use crate::load::loads_of_levels;
 use crate::side::{Side, side_of};
-use crate::spent::{Spent, spend};
 use std::alloc::Global;
 use yds_avr::avr_timetable;
-use yds_certificate::{Certificate, Level};
-use yds_events::{horizon, stretches};
+use yds_certificate::Certificate;
+use yds_events::stretches;
 use yds_model::{JobRow, Memory};
 use yds_oa::oa_timetable;
 use yds_round::{RoundFault, fault_of};
+use yds_spending::{Spent, plan_spent};
 use yds_table::Table;
 
 /// What a plan and the runs of both policies on a grid spend on the operating points of a table.
@@ -37,33 +35,12 @@ pub struct Comparison {
     pub oa_rounded: u32,
 }
 
-/// What a plan of these levels spends, level by level.
-///
-/// The stretches of a level run at its speed and are together as long as it, so no finer parts are needed than those of the hull.
-fn plan_spent(
-    alloc: Global,
-    rows: &[JobRow],
-    levels: &[Level],
-    table: &Table,
-) -> Result<Spent, Memory>
-    requires jobs { All IsJob rows.now }
-    requires plan { AreLevelsOfPlan rows.now levels.now }
-    requires fast_enough { HasFastLevel levels.now table.now → ⊥ }
-    ensures { IfOk result (λ spent. (slots : List WrittenSlot) → IsPlan rows.now slots levels.now → IsSpent rows.now table.now slots spent) }
-{
-    // Reading the hull shows that its speeds rise.
-    let _hull = table.hull();
-    let loads = loads_of_levels(alloc, levels, u64::from(horizon(rows)))?;
-    let spent = spend(alloc, &loads, 1, table)?;
-    Ok(spent)
-}
-
 /// Compares the plan of these jobs with the runs of Average Rate and of Optimal Available on the grid. Of the plan the levels are
 /// enough: all slots with which they are a plan spend the same.
 ///
 /// Each stretch between event points runs at the points of the table's lower hull around its speed, as long at each as gives that
 /// speed. Where the plan's first level is faster than the last point, that is told as by `round`, before any memory is taken.
-#[tactic(auto, using(crate::proofs::Lengths::no_longer))]
+#[tactic(auto, using(yds_spending::proofs::Lengths::no_longer))]
 pub fn compare(
     alloc: Global,
     rows: &[JobRow],

@@ -8,9 +8,9 @@ ghost use Rattle.yds_edf.specs.PolicyRun.{AreRowsOf};
 ghost use Rattle.yds_compare.specs.Side.{side_view};
 
 use crate::load::{first_above, loads_of};
-use crate::spent::{Spent, spend};
 use std::alloc::Global;
 use yds_model::{JobRow, Memory};
+use yds_spending::{Spent, spend};
 use yds_table::Table;
 use yds_timetable::Timetable;
 

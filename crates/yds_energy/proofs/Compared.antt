@@ -1,11 +1,12 @@
 -- What a plan spends on the points: the energy of its rounded slots, and no more than the run of any policy.
-use Rattle.yds_model.proofs.Common.{◌≡◌, ℕ, ◌-◌, ◌*◌, ◌/◌, ◌<◌, ◌≤◌, List, [], ◌∷◌, ◌++◌, get_or, sym, ap, ap₂, subst, ◌∙◌, arith, inl, inr, sum_by, All, All-append, All-weaker, mul-pos, mul-le-mul_right, div-mul_cancel, le_of_mul-le-mul_right, Job, IsJob, Fraction, numerator, of_parts, IsAtMost, WrittenSlot, WholeSlot, IsSolid, IsScale, slots_at, Piece, Level, excess, IsPlan, common_divisor, multiple_of_all, in_lowest_terms, Point, AreRising, IsTable, hull_of, hull_multiple, gaps_of, stretches, slots_in, IsRunAt, top_of, IsTooFast, all_energy, HoldsStretch, CanServe, divisor_is_greatest, lowest_terms_are_one, pieces_forward, hull_exists, run_forward, scale_exists, sum_by_zero, lowest_value, lowest_is, factors}
+use Rattle.yds_model.proofs.Common.{◌≡◌, ℕ, ◌-◌, ◌*◌, ◌/◌, ◌<◌, ◌≤◌, List, [], ◌∷◌, ◌++◌, get_or, sym, ap, ap₂, subst, ◌∙◌, arith, inl, inr, sum_by, All, All-append, All-weaker, mul-pos, mul-le-mul_right, div-mul_cancel, le_of_mul-le-mul_right, Job, IsJob, Fraction, numerator, of_parts, IsAtMost, WrittenSlot, WholeSlot, IsSolid, IsScale, slots_at, Piece, Level, excess, IsPlan, common_divisor, multiple_of_all, in_lowest_terms, Point, AreRising, IsTable, hull_of, hull_multiple, gaps_of, stretches, slots_in, IsRunAt, top_of, IsTooFast, all_energy, HoldsStretch, CanServe, divisor_is_greatest, lowest_terms_are_one, pieces_forward, hull_exists, run_forward, scale_exists, sum_by_zero, lowest_value, lowest_is, lowest_is_lowest, factors, HasValue, eq_of_mul-eq-mul_left, IsLowest, Spent, IsSpent, RoundsStretches, IsEnergyOf}
 use Rattle.yds_events.proofs.Neighbours.{stretches_run}
 use Rattle.yds_energy.specs.ComparisonLaws.{PlanSpendsItsRounding, PlanSpendsLeast}
 use Rattle.yds_laws.proofs.Bound.{scale_left, scale_right}
 use Rattle.yds_energy.proofs.EvenStretches.{run_even, plan_even, plan_holds, held_at}
 use Rattle.yds_energy.proofs.PlansEnergy.{plans_cost_least, hull_table}
-use Rattle.yds_energy.proofs.RoundedEnergy.{rounded_attains_the_hull}
+use Rattle.yds_energy.proofs.RoundedEnergy.{attains_the_hull, rounded_attains_the_hull}
+use Rattle.yds_energy.proofs.RoundingScale.{one_scale_decides_energy}
 use Rattle.yds_energy.proofs.RoundedRuns.{all_work}
 use Rattle.yds_energy.proofs.SpentEnergy.{IsEven, IsEnergy, even_energy, spends_no_more, spends_energy}
 use Rattle.yds_energy.proofs.StretchSlots.{sum_in_stretches}
@@ -115,6 +116,41 @@ plan_spends_least jobs points planned levels spent grid capacity slots other tab
     let most = terms_at_most (all_energy jobs points scale (slots_at scale planned)) (all_energy jobs points scale whole) (scale * hull_multiple points)
     (mul-pos some.1.positive (hull_some_multiple points table)) less in
     subst (λ (x : Fraction). IsAtMost x other.energy) (sym mine) (subst (IsAtMost (in_lowest_terms (all_energy jobs points scale (slots_at scale planned)) (scale * hull_multiple points))) (sym theirs) most)
+
+-- # The rounded slots
+
+-- in plain numbers: what is spent is the quotient's at the scale
+same_spent : (cost multiple spent den num scale : ℕ) → 1 ≤ multiple → cost ≡ multiple * spent → num * (scale * multiple) ≡ cost * den → spent * den ≡ num * scale
+same_spent cost multiple spent den num scale some is energy =
+    eq_of_mul-eq-mul_left multiple some (spent * den) (num * scale) (omega (arith, ap (λ n. n * den) is, energy))
+
+-- what a plan spends is the energy of the slots to which it is rounded
+pub rounded_energy : (jobs : List Job) (points : List Point) (planned : List WrittenSlot) (levels : List Level) (written : List WrittenSlot) (spent : Spent) →
+    All IsJob jobs → IsTable points → IsPlan jobs planned levels → All (λ level. IsTooFast points level → ⊥) levels →
+    RoundsStretches (hull_of points) levels (stretches jobs) planned written → All IsSolid written → IsSpent jobs points planned spent →
+    IsEnergyOf jobs points written spent.energy
+rounded_energy jobs points planned levels written spent fit table plan slow rounds solid spends =
+    let some = scale_exists (planned ++ written) (All-append IsSolid planned written plan.proper.feasible.solid solid) in
+    let scale = some.0 in
+    let left = scale_left scale planned written some.1 in
+    let slots : List WholeSlot = slots_at scale planned in
+    let attained = attains_the_hull jobs points planned levels written scale plan table rounds some.1 in
+    let windows : All (λ job. job.release < job.deadline) jobs = All-weaker IsJob (λ job. job.release < job.deadline) (λ job is. is.has_window) jobs fit in
+    let cost = spends_energy jobs points scale attained.spent slots table (plan.proper.feasible.holds scale left) (stretches_long jobs windows)
+    (plan_energy jobs points planned levels scale table plan left slow) attained.energy in
+    let multiple = hull_some_multiple points table in
+    let value = subst (HasValue (all_energy jobs points scale slots) (scale * hull_multiple points)) (sym (spends.holds scale left).energy)
+    (lowest_value (all_energy jobs points scale slots) (scale * hull_multiple points) (mul-pos some.1.positive multiple)) in
+    one_scale_decides_energy jobs points written spent.energy scale attained.spent value.has_parts (scale_right scale planned written some.1) attained.on_points
+    (same_spent (all_energy jobs points scale slots) (hull_multiple points) attained.spent spent.energy.den (numerator spent.energy) scale multiple cost value.same)
+
+-- what is spent is in lowest terms
+pub spent_lowest : (jobs : List Job) (points : List Point) (slots : List WrittenSlot) (spent : Spent) → IsTable points → All IsSolid slots →
+    IsSpent jobs points slots spent → IsLowest spent.energy
+spent_lowest jobs points slots spent table solid spends =
+    let scale = scale_exists slots solid in
+    subst IsLowest (sym (spends.holds scale.0 scale.1).energy)
+    (lowest_is_lowest (all_energy jobs points scale.0 (slots_at scale.0 slots)) (scale.0 * hull_multiple points) (mul-pos scale.1.positive (hull_some_multiple points table)))
 
 -- in plain numbers: the quotient of what is spent is the energy's
 same_quotient : (cost multiple spent den num scale : ℕ) → cost ≡ multiple * spent → spent * den ≡ num * scale → cost * den ≡ num * (scale * multiple)

@@ -16,11 +16,9 @@ pub mod HullEnergy
 pub mod LineEnergy
 pub mod PlansEnergy
 pub mod HullCosts
-pub mod LevelCosts
 pub mod Members
 pub mod LevelTimes
-pub mod LevelShares
-pub mod LevelsEnergy
+pub mod LevelRates
 pub mod RoundedEnergy
 pub mod RoundedCheapest
 pub mod RoundedRuns

@@ -1,5 +1,5 @@
 -- Each line between neighbours of a table, against the greatest of all.
-use Rattle.yds_model.proofs.Common.{◌≡◌, ℕ, zero, suc, ◌+◌, ◌-◌, ◌*◌, ◌<◌, ◌≤◌, List, [], ◌∷◌, length, refl, subst, arith, ap, add-one, ℤ, pos, ◌*ℤ◌, ◌≤ℤ◌, mul-le-mul_left, int_max, ints, clamps, Point, point_at, gaps_of, product, on_lines, greatest}
+use Rattle.yds_model.proofs.Common.{◌≡◌, ℕ, zero, suc, ◌+◌, ◌-◌, ◌*◌, ◌<◌, List, [], ◌∷◌, length, refl, subst, arith, ap, add-one, ℤ, pos, ◌*ℤ◌, ◌≤ℤ◌, mul-le-mul_left, int_max, ints, clamps, Point, point_at, gaps_of, product, on_lines, greatest}
 use borrow.Author.Differences.{up, down}
 use Rattle.yds_model.specs.Energy.{on_line}
 use Rattle.yds_energy.specs.EnergyLaws.{LinesAreAtMostEnergy}

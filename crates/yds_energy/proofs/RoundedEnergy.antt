@@ -1,5 +1,5 @@
 -- What the rounded slots of a plan spend on a table's points: the energy of the plan's schedule by the lower hull.
-use Rattle.yds_model.proofs.Common.{◌≡◌, ℕ, ◌+◌, ◌-◌, ◌*◌, ◌<◌, ◌≤◌, List, [], ◌∷◌, ◌++◌, length, get_or, map, refl, sym, ap, subst, ◌∙◌, arith, inl, inr, ℤ, pos, ◌+ℤ◌, ◌≤ℤ◌, All, Contains, ints, All-head, All-tail, All-contains, Contains-get_or, sum_by-cons, sum_by-append, mul-sub, mul-le-mul_right, lt_of_mul-lt-mul_right, eq_of_mul-eq-mul_left, eq_of_mul-eq-mul_right, Job, WrittenSlot, WholeSlot, IsScale, slots_at, Piece, Level, IsPlan, Point, no_point, point_at, AreRising, IsTable, IsHullOf, hull_of, gaps_of, busy, idle, horizon, product, total, interpolated_energy, SpendsAtPoints, stretches, AreNeighbours, IsSplitAt, RoundsStretches, busy_and_idle, hull_exists}
+use Rattle.yds_model.proofs.Common.{◌≡◌, ℕ, ◌+◌, ◌-◌, ◌*◌, ◌<◌, ◌≤◌, List, [], ◌∷◌, ◌++◌, length, get_or, map, refl, sym, ap, subst, ◌∙◌, arith, inl, inr, ℤ, pos, ◌+ℤ◌, ◌≤ℤ◌, All, Contains, ints, All-head, All-tail, All-contains, Contains-get_or, sum_by-cons, sum_by-append, mul-sub, mul-le-mul_right, lt_of_mul-lt-mul_right, eq_of_mul-eq-mul_left, eq_of_mul-eq-mul_right, Job, WrittenSlot, WholeSlot, IsScale, slots_at, Piece, Level, IsPlan, Point, no_point, point_at, AreRising, IsTable, IsHullOf, hull_of, gaps_of, busy, idle, horizon, product, total, interpolated_energy, SpendsAtPoints, IsEnergyOnPoints, stretches, AreNeighbours, IsSplitAt, RoundsStretches, busy_and_idle, hull_exists}
 use Rattle.yds_energy.specs.RoundingLaws.{RoundedAttainsTheHull}
 use Rattle.yds_laws.proofs.Bound.{scale_left, scale_right}
 use Rattle.yds_energy.proofs.Differences.{total-cons}
@@ -108,10 +108,8 @@ pub record SplitSpends (points : List Point) (power : ℕ) (level : Level) (low 
   pub rest : ℕ
   pub fills : busy planned ≡ time + rest
   pub does : all_work planned ≡ (low.speed + (high.speed - low.speed)) * time + low.speed * rest
-  pub is_time : time * (level.length * (high.speed - low.speed)) ≡ (level.work - low.speed * level.length) * (time + rest)
   pub spent : ℕ
   pub spends : SpendsAtPoints points written spent
-  pub shorter : busy written ≤ busy planned
   pub is_spent : spent + power * busy planned ≡ (low.power * rest + high.power * time) + power * busy written
 
 -- a point of speed 0 is the first of the table
@@ -164,11 +162,9 @@ split_spends points hull scale level low high stretch planned fast slow table is
       rest = rest;
       fills = fills;
       does = does;
-      is_time = is_time;
       spent = high.power * busy fast + low.power * busy slow;
       spends = spends_joined points fast slow (high.power * busy fast) (low.power * busy slow)
           (at_spend points high fast (hull_in points hull high is_hull has_high) (runs_at high.speed start switch fast is.first)) slower.spends;
-      shorter = omega (arith, sum_by-append (λ (slot : WholeSlot). slot.to - slot.from) fast slow, fast_busy, fills, slower.shorter);
       is_spent = split_sum low.power high.power idle_power is.time rest (busy fast) (busy slow) (busy planned) (busy (fast ++ slow)) fast_busy fills slower.rest
           (sum_by-append (λ (slot : WholeSlot). slot.to - slot.from) fast slow);
     }
@@ -260,21 +256,41 @@ with_idle all power spent energy busy_planned busy_written idle_planned idle_wri
       ap (λ n. all * n) is,
     )
 
--- the law: what is spent is the energy by the hull
-pub rounded_attains_the_hull : RoundedAttainsTheHull
-rounded_attains_the_hull jobs points planned levels written energy scale spent plan table rounding is (at_points, spends, is_spent) =
+-- What the rounded slots spend at a scale, which is the energy of the plan's by the hull.
+pub record Attains (jobs : List Job) (points : List Point) (scale : ℕ) (planned written : List WholeSlot) : Type 0 where
+  pub spent : ℕ
+  pub on_points : IsEnergyOnPoints jobs points scale written spent
+  pub energy : interpolated_energy jobs (hull_of points) scale planned ≡ pos (product (gaps_of (hull_of points)) * spent)
+
+pub attains_the_hull : (jobs : List Job) (points : List Point) (planned : List WrittenSlot) (levels : List Level) (written : List WrittenSlot) (scale : ℕ) →
+    IsPlan jobs planned levels → IsTable points → RoundsStretches (hull_of points) levels (stretches jobs) planned written → IsScale scale (planned ++ written) →
+    Attains jobs points scale (slots_at scale planned) (slots_at scale written)
+attains_the_hull jobs points planned levels written scale plan table rounds is =
     let hull : List Point = hull_of points in
     let is_hull = hull_exists points table.rising in
     let left = scale_left scale planned written is in
-    let feasible = written_feasible jobs hull levels planned written scale plan rounding.rounds is in
-    let costs = written_costs jobs points hull levels scale planned written plan table is_hull left (scale_right scale planned written is) rounding.rounds in
-    let same : at_points ≡ costs.spent = spends_once points 0 (slots_at scale written) at_points costs.spent table.rising feasible.one_at_a_time spends costs.spends in
+    let feasible = written_feasible jobs hull levels planned written scale plan rounds is in
+    let costs = written_costs jobs points hull levels scale planned written plan table is_hull left (scale_right scale planned written is) rounds in
     let bottom : (point_at points 0).power ≡ (point_at hull 0).power = ap (λ (x : Point). x.power) (hull_first points hull is_hull) in
-    both_ways (interpolated_energy jobs hull scale (slots_at scale planned)) (product (gaps_of hull) * spent)
-    (plans_cost_least_on_points jobs planned levels points hull scale spent (slots_at scale written) plan table is_hull left feasible (at_points, spends, is_spent))
-    (subst (λ (power : ℕ). pos (product (gaps_of hull) * spent) ≤ℤ (total (map (power_of hull) (slots_at scale planned)) +ℤ pos (product (gaps_of hull) * (power * idle jobs scale (slots_at scale planned)))))
-    bottom
-    (with_idle (product (gaps_of hull)) (point_at points 0).power costs.spent spent (busy (slots_at scale planned)) (busy (slots_at scale written))
-    (idle jobs scale (slots_at scale planned)) (idle jobs scale (slots_at scale written)) (scale * horizon jobs) (total (map (power_of hull) (slots_at scale planned)))
-    costs.bound (busy_and_idle jobs scale (slots_at scale planned) (plan.proper.feasible.holds scale left)) (busy_and_idle jobs scale (slots_at scale written) feasible)
-    (omega (arith, is_spent, same))))
+    let spent : ℕ = costs.spent + (point_at points 0).power * idle jobs scale (slots_at scale written) in
+    record {
+      spent = spent;
+      on_points = (costs.spent, costs.spends, refl);
+      energy = both_ways (interpolated_energy jobs hull scale (slots_at scale planned)) (product (gaps_of hull) * spent)
+          (plans_cost_least_on_points jobs planned levels points hull scale spent (slots_at scale written) plan table is_hull left feasible (costs.spent, costs.spends, refl))
+          (subst (λ (power : ℕ). pos (product (gaps_of hull) * spent) ≤ℤ (total (map (power_of hull) (slots_at scale planned)) +ℤ pos (product (gaps_of hull) * (power * idle jobs scale (slots_at scale planned)))))
+          bottom
+          (with_idle (product (gaps_of hull)) (point_at points 0).power costs.spent spent (busy (slots_at scale planned)) (busy (slots_at scale written))
+          (idle jobs scale (slots_at scale planned)) (idle jobs scale (slots_at scale written)) (scale * horizon jobs) (total (map (power_of hull) (slots_at scale planned)))
+          costs.bound (busy_and_idle jobs scale (slots_at scale planned) (plan.proper.feasible.holds scale left)) (busy_and_idle jobs scale (slots_at scale written) feasible)
+          refl));
+    }
+
+-- the law: what is spent is the energy by the hull
+pub rounded_attains_the_hull : RoundedAttainsTheHull
+rounded_attains_the_hull jobs points planned levels written energy scale spent plan table rounding is (at_points, spends, is_spent) =
+    let attained = attains_the_hull jobs points planned levels written scale plan table rounding.rounds is in
+    let feasible = written_feasible jobs (hull_of points) levels planned written scale plan rounding.rounds is in
+    let (other, other_spends, is_other) = attained.on_points in
+    let same : at_points ≡ other = spends_once points 0 (slots_at scale written) at_points other table.rising feasible.one_at_a_time spends other_spends in
+    attained.energy ∙ ap (λ n. pos (product (gaps_of (hull_of points)) * n)) (omega (arith, is_spent, is_other, ap (λ n. (point_at points 0).power * n) same, same))

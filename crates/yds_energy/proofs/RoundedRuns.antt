@@ -85,7 +85,6 @@ runs_on_work (suc speed) from to slots within runs =
 -- costs as much.
 pub record SpendsOn (points : List Point) (idle_power power time : ℕ) (slots : List WholeSlot) : Type 0 where
   pub spends : SpendsAtPoints points slots (power * busy slots)
-  pub shorter : busy slots ≤ time
   pub rest : power * busy slots + idle_power * time ≡ power * time + idle_power * busy slots
 
 -- so it is for the slots of a split
@@ -94,7 +93,6 @@ pub runs_on_spend : (points : List Point) (speed : ℕ) (point : Point) (idle_po
     SpendsOn points idle_power point.power (to - from) slots
 runs_on_spend points zero point idle_power from to [] has is idle within runs = record {
   spends = omega arith;
-  shorter = omega arith;
   rest = omega (arith, ap (λ n. n * (to - from)) (idle (omega arith)));
 }
 runs_on_spend points zero point idle_power from to (slot ∷ slots) has is idle within runs = absurd cc
@@ -102,6 +100,5 @@ runs_on_spend points (suc speed) point idle_power from to slots has is idle with
     let long : busy slots ≡ to - from = omega (arith, runs_busy (suc speed) from to slots runs) in
     record {
       spends = at_spend points point slots has (runs_at point.speed from to slots (rw is runs));
-      shorter = omega (arith, long);
       rest = omega (arith, ap (λ n. point.power * n) long, ap (λ n. idle_power * n) long);
     }

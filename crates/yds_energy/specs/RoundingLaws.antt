@@ -1,19 +1,16 @@
 -- The laws of schedules on a table's points. Each is the contract of a public function of this crate.
-use Rattle.std.specs.Prelude.{◌≡◌, ℕ, ◌+◌, ◌-◌, ◌*◌, ◌≤◌, ◌⊎◌, ◌↔◌, List, ◌∷◌, ◌++◌, Some, sum, sum_by, nat_le, pos}
-use Rattle.std.specs.List.{All, AllZip, Contains, filter}
-use Rattle.yds_model.specs.Numbers.{count}
+use Rattle.std.specs.Prelude.{◌≡◌, ℕ, ◌*◌, ◌≤◌, ◌↔◌, List, ◌∷◌, ◌++◌, Some, sum_by, pos}
+use Rattle.std.specs.List.{All}
 use Rattle.yds_model.specs.Job.{Job}
 use Rattle.yds_model.specs.Scale.{Fraction, numerator, IsSame, IsAtMost}
 use Rattle.yds_model.specs.Slot.{WrittenSlot, WholeSlot, IsScale, AtEachScale, slots_at}
 use Rattle.yds_model.specs.Feasible.{IsFeasibleAt, IsFeasible}
-use Rattle.yds_model.specs.Piece.{Piece}
 use Rattle.yds_model.specs.Level.{Level}
 use Rattle.yds_model.specs.Plan.{IsPlan}
 use Rattle.yds_model.specs.Audit.{IsOnTable}
-use Rattle.yds_model.specs.Table.{Point, point_at, AreRising, IsTable, hull_of, gaps_of}
-use Rattle.yds_model.specs.Energy.{horizon, busy, product, interpolated_energy, SpendsAtPoints, IsEnergyOnPoints}
-use Rattle.yds_model.specs.Event.{stretches}
-use Rattle.yds_model.specs.Rounding.{top_of, IsTooFast, HasPointSpeed, AreNeighbours, RoundsStretches, IsEnergyOf, IsRounding}
+use Rattle.yds_model.specs.Table.{Point, AreRising, IsTable, hull_of, gaps_of}
+use Rattle.yds_model.specs.Energy.{horizon, product, interpolated_energy, IsEnergyOnPoints}
+use Rattle.yds_model.specs.Rounding.{top_of, IsTooFast, IsEnergyOf, IsRounding}
 use Rattle.yds_model.specs.Admission.{IsWithinTop, CanServe}
 
 -- Energy: a fraction that is the schedule's energy on the points at one scale is so at each.
@@ -45,36 +42,6 @@ RoundedAttainsTheHull = (jobs : List Job) (points : List Point) (planned : List 
     (scale spent : ℕ) → IsPlan jobs planned levels → IsTable points → IsRounding jobs points planned levels written energy →
     IsScale scale (planned ++ written) → IsEnergyOnPoints jobs points scale (slots_at scale written) spent →
     interpolated_energy jobs (hull_of points) scale (slots_at scale planned) ≡ pos (product (gaps_of (hull_of points)) * spent)
-
--- What a level costs, in parts: for its length at the power of the hull's point that has its speed, or at the power on the line between
--- the hull's neighbours around its speed.
-abbrev pub IsLevelCost : List Point → ℕ → Level → ℕ → Type 0
-IsLevelCost hull parts level cost =
-    ((point : Point) × Contains hull point × HasPointSpeed level point × (cost ≡ parts * (point.power * level.length)))
-    ⊎ ((low : Point) × (high : Point) × AreNeighbours hull level low high
-    × (cost * (high.speed - low.speed) ≡ parts * (high.power * (level.work - low.speed * level.length) + low.power * (high.speed * level.length - level.work))))
-
--- the slots of a level's members
-abbrev pub member_slots : Level → List WholeSlot → List WholeSlot
-member_slots level slots = filter (λ slot. nat_le 1 (count slot.job level.members)) slots
-
--- Rounding: what the rounded slots of a level spend is what the level costs, with the power of the first point for the time that they
--- leave of its length. They take no more time than that.
-abbrev pub RoundedCostsItsLevel : Type 0
-RoundedCostsItsLevel = (jobs : List Job) (points : List Point) (planned : List WrittenSlot) (levels : List Level) (written : List WrittenSlot) (level : Level)
-    (parts cost scale : ℕ) → IsPlan jobs planned levels → IsTable points → RoundsStretches (hull_of points) levels (stretches jobs) planned written →
-    Contains levels level → IsLevelCost (hull_of points) parts level cost → IsScale scale (planned ++ written) →
-    (spent : ℕ) × SpendsAtPoints points (member_slots level (slots_at scale written)) spent × (busy (member_slots level (slots_at scale written)) ≤ scale * level.length)
-    × (parts * (spent + (point_at points 0).power * (scale * level.length - busy (member_slots level (slots_at scale written)))) ≡ scale * cost)
-
--- Rounding: the energy of the rounded slots is what the levels cost together, and the power of the first point for what the levels'
--- lengths leave of the horizon.
-abbrev pub RoundedCostsItsLevels : Type 0
-RoundedCostsItsLevels = (jobs : List Job) (points : List Point) (planned : List WrittenSlot) (levels : List Level) (written : List WrittenSlot) (costs : List ℕ)
-    (parts scale : ℕ) → IsPlan jobs planned levels → IsTable points → RoundsStretches (hull_of points) levels (stretches jobs) planned written →
-    AllZip (IsLevelCost (hull_of points) parts) levels costs → IsScale scale (planned ++ written) →
-    (energy : ℕ) × IsEnergyOnPoints jobs points scale (slots_at scale written) energy
-    × (parts * energy ≡ scale * (sum costs + parts * ((point_at points 0).power * (horizon jobs - sum_by (λ level. level.length) levels))))
 
 -- The lengths of a plan's levels are together at most the horizon.
 abbrev pub LevelsFitTheHorizon : Type 0

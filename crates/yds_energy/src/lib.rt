@@ -21,7 +21,6 @@ pub use energy_laws::{
 pub use hull_laws::{hull_exists, hull_is_computed, hull_is_lowest};
 pub use rounding_laws::{
     energy_is_one, levels_fit_the_horizon, one_scale_decides_energy, rounded_attains_the_hull,
-    rounded_costs_its_level, rounded_costs_its_levels, rounded_is_cheapest, rounded_is_feasible,
-    too_slow_is_exact,
+    rounded_is_cheapest, rounded_is_feasible, too_slow_is_exact,
 };
 pub use split_laws::one_scale_decides_split;

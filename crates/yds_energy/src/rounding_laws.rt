@@ -1,7 +1,7 @@
 //! The laws of schedules on the operating points of a table, each as the contract of a call that does nothing.
 //!
 //! Two points around a level's speed are enough: Ishihara and Yasuura (ISLPED 1998).
-ghost use Rattle.yds_energy.specs.RoundingLaws.{OneScaleDecidesEnergy, EnergyIsOne, LevelsFitTheHorizon, RoundedAttainsTheHull, RoundedCostsItsLevel, RoundedCostsItsLevels, RoundedIsCheapest, RoundedIsFeasible, TooSlowIsExact};
+ghost use Rattle.yds_energy.specs.RoundingLaws.{OneScaleDecidesEnergy, EnergyIsOne, LevelsFitTheHorizon, RoundedAttainsTheHull, RoundedIsCheapest, RoundedIsFeasible, TooSlowIsExact};
 
 /// A fraction that is a written schedule's energy on the points at one of its scales is so at each.
 pub fn one_scale_decides_energy()
@@ -25,17 +25,6 @@ pub fn rounded_is_feasible()
 #[tactic(auto, using(crate::proofs::RoundedEnergy::rounded_attains_the_hull))]
 pub fn rounded_attains_the_hull()
     ensures { RoundedAttainsTheHull }
-{}
-
-/// What the rounded slots of a level's members spend, with the idle time that they leave of the level's length, is
-/// what the level costs: at the point of its speed, or on the line between the two points around it.
-pub fn rounded_costs_its_level()
-    ensures { RoundedCostsItsLevel }
-{}
-
-/// The energy of a plan's rounded slots is what its levels cost together, with the idle time outside them.
-pub fn rounded_costs_its_levels()
-    ensures { RoundedCostsItsLevels }
 {}
 
 /// The lengths of a plan's levels are together at most the horizon.

@@ -1,15 +1,14 @@
 -- The laws of rounding at the two nested jobs: what they say of the rounded plan and of the answer of `round`, and what they rule out.
-use Rattle.yds_model.proofs.Common.{◌≡◌, ℕ, List, [], ◌∷◌, Ok, refl, ap, subst, ◌∙◌, arith, inl, inr, codes, MatchOption, digits, Job, of_whole, WholeSlot, IsPlan, Point, IsTable, hull_of, top_of, IsEnergyOf, CanServe, Document, no_document, canonical_text, reading, IsDocument, Answers}
+use Rattle.yds_model.proofs.Common.{◌≡◌, ℕ, List, [], ◌∷◌, Ok, refl, ap, subst, ◌∙◌, arith, inl, inr, codes, MatchOption, digits, Job, of_whole, WholeSlot, IsPlan, Point, IsTable, top_of, IsEnergyOf, CanServe, Document, no_document, canonical_text, reading, IsDocument, Answers}
 use Rattle.yds_model.specs.declared.status.Status.TheVariants.{Done, No}
-use Rattle.yds_energy.specs.RoundingLaws.{IsFeasibleOnPoints, IsLevelCost, IsLeastEnergy}
+use Rattle.yds_energy.specs.RoundingLaws.{IsFeasibleOnPoints, IsLeastEnergy}
 use Rattle.yds_texts.specs.RoundText.{with_energy, HoldsLeastEnergy, too_slow_line, HoldsTooSlow}
 use Rattle.yds_laws.proofs.Plans.{plans_have_the_same_levels}
 use Rattle.yds_energy.proofs.OneEnergy.{energy_is_one}
 use Rattle.yds_texts.proofs.Within.{read_is_within_limits}
 use Rattle.yds_examples.proofs.Tests.{proved, refuted, test_numbers}
 use Rattle.yds_examples.proofs.TestedPlans.{served_by_test, plan_by_test}
-use Rattle.yds_examples.proofs.TestedRounding.{slow_enough, neighbours_by_test, can_serve}
-use Rattle.yds_energy.proofs.LevelCosts.{cost_between}
+use Rattle.yds_examples.proofs.TestedRounding.{slow_enough, can_serve}
 use Rattle.yds_energy.proofs.RoundedOnPoints.{rounded_is_feasible}
 use Rattle.yds_energy.proofs.RoundedCheapest.{rounded_is_cheapest}
 use Rattle.yds_energy.proofs.TooSlow.{too_slow_is_exact}
@@ -37,21 +36,6 @@ least = rounded_is_cheapest jobs points planned levels written (of_whole 25) pla
 -- 26 isn't the least energy: these slots spend less.
 not_least : IsLeastEnergy jobs points (of_whole 26) → ⊥
 not_least is = absurd (omega (arith, is.of_written written (of_whole 25) written_feasible energy))
-
--- # The levels' costs
-
--- b's level costs 13: in its two time units at the speed 3, half way from the point (2, 3) to (4, 10)
-cost_of_b : IsLevelCost (hull_of points) 1 level_b 13
-cost_of_b = inr (point 2 3, point 4 10, neighbours_by_test 2 (hull_of points) level_b refl, refl)
-
--- and a's level 12: in eight time units at 5/4, a quarter of the way from (1, 1) to (2, 3)
-cost_of_a : IsLevelCost (hull_of points) 1 level_a 12
-cost_of_a = inr (point 1 1, point 2 3, neighbours_by_test 1 (hull_of points) level_a refl, refl)
-
--- The next point above alone would cost b's level 15 (6 units of work at the point 4, so 3/2 time units at 10): that isn't its cost.
-not_above_alone : IsLevelCost (hull_of points) 1 level_b 15 → ⊥
-not_above_alone is =
-    absurd (omega (arith, cost_between (hull_of points) 1 15 level_b (point 2 3) (point 4 10) rising is (neighbours_by_test 2 (hull_of points) level_b refl)))
 
 -- # Too slow
 

@@ -10,8 +10,8 @@ use Rattle.yds_timetable.proofs.Filling.{length_from}
 use Rattle.yds_timetable.proofs.Lists.{all_of_part, zipped_at, length_zipped}
 use Rattle.yds_timetable.proofs.Rows.{no_row}
 use Rattle.yds_plan.specs.Timetabled.{pace_of_level, RunsAtLevel, IsTimetabled}
-use Rattle.yds_round.specs.declared.level_pace.LevelPace.{LevelPace}
-use Rattle.yds_round.specs.LevelPace.{IsLevelPaceOf, no_pace, pace_at}
+use Rattle.yds_round.specs.declared.split.Split.{Split}
+use Rattle.yds_round.specs.LevelPace.{RunsAs, pace_at}
 use Rattle.yds_round.specs.Written.{written_at, FitsJob}
 use Rattle.yds_round.specs.Cut.{CanRound}
 use Rattle.yds_round.specs.Rounded.{written_row, written_to, level_number_at}
@@ -95,14 +95,14 @@ runs_there levels None (Some number) at = absurd at
 runs_there levels (Some pace) None at = absurd at
 runs_there levels (Some pace) (Some number) at = inr (number, refl, at.0, ap (λ (p : Speed). Some p) at.1)
 
-module _ (jobs : List Job) (points : List Point) (planned : List WrittenSlot) (levels : List Level) (paces : List LevelPace) (rows : List Row) (numbers : List (Option ℕ))
-    (plan : IsPlan jobs planned levels) (are : AllZip (IsLevelPaceOf points) levels paces) (on : IsTimetabled jobs rows numbers planned levels) (all_rows : All IsRow rows) where
+module _ (jobs : List Job) (points : List Point) (planned : List WrittenSlot) (levels : List Level) (paces : List (Option Split)) (rows : List Row) (numbers : List (Option ℕ))
+    (plan : IsPlan jobs planned levels) (are : AllZip (RunsAs points) levels paces) (on : IsTimetabled jobs rows numbers planned levels) (all_rows : All IsRow rows) where
   scale : (n : ℕ) × IsScale n planned
   scale = scale_exists planned plan.proper.feasible.solid
 
   -- the denominator that the works of a level's jobs are written in
   abbrev grain_at : ℕ → ℕ
-  grain_at place = pace_grain (level_at levels place) (pace_at paces place).split
+  grain_at place = pace_grain (level_at levels place) (pace_at paces place)
 
   abbrev KeepsGrain : WrittenSlot → Type 0
   KeepsGrain slot = (place : ℕ) → place < length levels → Contains (level_at levels place).members slot.job → WorksOver (grain_at place) slot
@@ -137,15 +137,15 @@ module _ (jobs : List Job) (points : List Point) (planned : List WrittenSlot) (l
       slots_are : row_slots row ≡ level_slots (level_at levels n) row.stretch row.shares
       slots_are = held_slots jobs planned levels plan scale.0 scale.1 rows on.stretches_are on.slots_are all_rows k within n is_level at
 
-      written_is : made ≡ written_at row.stretch row.shares (level_slots (level_at levels n) row.stretch row.shares) (pace_at paces n).split
-      written_is = ap (written_row paces row) is_number ∙ ap (λ (slots : List WrittenSlot). written_at row.stretch row.shares slots (pace_at paces n).split) slots_are
+      written_is : made ≡ written_at row.stretch row.shares (level_slots (level_at levels n) row.stretch row.shares) (pace_at paces n)
+      written_is = ap (written_row paces row) is_number ∙ ap (λ (slots : List WrittenSlot). written_at row.stretch row.shares slots (pace_at paces n)) slots_are
 
-      pace_is : IsLevelPaceOf points (level_at levels n) (pace_at paces n)
-      pace_is = zipped_at (IsLevelPaceOf points) levels paces n no_level no_pace are is_level
+      pace_is : RunsAs points (level_at levels n) (pace_at paces n)
+      pace_is = zipped_at (RunsAs points) levels paces n no_level None are is_level
 
       level_rounds : RoundsStretch (hull_of points) levels row.stretch (row_slots row) made
       level_rounds = rw (written_is, slots_are)
-          (rounds_by points levels (level_at levels n) (pace_at paces n).energy (pace_at paces n).split row.stretch row.shares pace_is holds)
+          (rounds_by points levels (level_at levels n) (pace_at paces n) row.stretch row.shares pace_is holds)
 
       known_jobs : All (λ job. job < length jobs) (share_jobs row.shares)
       known_jobs = subst (All (λ job. job < length jobs)) (ap jobs_of slots_are ∙ same_jobs (pace_of_level (level_at levels n)) row.stretch.from 0 row.shares)
@@ -153,7 +153,7 @@ module _ (jobs : List Job) (points : List Point) (planned : List WrittenSlot) (l
 
       level_keeps : All KeepsGrain made
       level_keeps =
-          let split = (pace_at paces n).split in
+          let split = pace_at paces n in
           let level = level_at levels n in
           let works = over_by levels level split row.stretch row.shares holds in
           let members = jobs_by (λ job. Contains level.members job) level split row.stretch row.shares holds.members in
@@ -164,7 +164,7 @@ module _ (jobs : List Job) (points : List Point) (planned : List WrittenSlot) (l
           subst (λ (m : ℕ). WorksOver (grain_at m) slot) same (works i d inside))
 
       level_more : length made ≤ length (row_slots row) + 1
-      level_more = rw (written_is, slots_are) (more_by points (level_at levels n) (pace_at paces n).energy (pace_at paces n).split row.stretch row.shares pace_is)
+      level_more = rw (written_is, slots_are) (more_by points (level_at levels n) (pace_at paces n) row.stretch row.shares pace_is)
 
     rounds : RoundsStretch (hull_of points) levels row.stretch (row_slots row) made
     rounds = grind (arith, level_rounds, none_planned, none_written, there)
@@ -258,10 +258,10 @@ module _ (jobs : List Job) (points : List Point) (planned : List WrittenSlot) (l
     ]
 
     pub pace_known : n < length paces
-    pace_known = omega (arith, level_there.0, length_zipped (IsLevelPaceOf points) levels paces are)
+    pace_known = omega (arith, level_there.0, length_zipped (RunsAs points) levels paces are)
 
     pub can_round : length jobs ≤ MAX_JOBS →
-        CanRound (pace_at paces n).split next.stretch (length jobs) (written_to paces rows numbers k) next.shares (row_slots next)
+        CanRound (pace_at paces n) next.stretch (length jobs) (written_to paces rows numbers k) next.shares (row_slots next)
     can_round few =
         let level = level_at levels n in
         let before = written_to paces rows numbers k in
@@ -272,7 +272,7 @@ module _ (jobs : List Job) (points : List Point) (planned : List WrittenSlot) (l
         let fits : All (λ job. FitsJob (grain_at n) before job) (share_jobs next.shares) = λ i d inside.
         λ j e there same. keeps_to k so_far j e there n is_level (subst (Contains level.members) (sym same) (holding.members i d inside)) in
         rw (slots_are k within n is_number is_level at)
-        (can_round_by points levels level (pace_at paces n).energy (pace_at paces n).split next.stretch (length jobs) before next.shares
+        (can_round_by points levels level (pace_at paces n) next.stretch (length jobs) before next.shares
         (pace_is k within n is_number is_level at) holding (known_jobs k within n is_number is_level at) fits (omega (
           arith,
           few,

@@ -7,7 +7,6 @@ pub mod Cuts
 pub mod Serving
 pub mod Paces
 pub mod KeptSlots
-pub mod Energies
 pub mod Courses
 pub mod Shares
 pub mod InTurn

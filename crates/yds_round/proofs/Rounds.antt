@@ -51,8 +51,8 @@ pub full_of : (level : Level) (low high : Point) (split : Split) (stretch : Piec
     Fills (pace_of_level level) stretch shares → total_units shares ≡ all_units split stretch
 full_of level low high split stretch shares is fills = units_held level stretch shares fills ∙ sym (all_of_level level low high split stretch is)
 
-module _ (points : List Point) (levels : List Level) (level : Level) (parts : ℕ) (split : Split) (stretch : Piece) (shares : List JobShare)
-    (at : RunsAtTwo points level parts split) (held : IsHeld levels level stretch shares) where
+module _ (points : List Point) (levels : List Level) (level : Level) (split : Split) (stretch : Piece) (shares : List JobShare)
+    (at : RunsAtTwo points level split) (held : IsHeld levels level stretch shares) where
   abbrev here : List WrittenSlot
   here = slots_from (pace_of_level level) stretch.from 0 shares
 
@@ -122,22 +122,22 @@ module _ (points : List Point) (levels : List Level) (level : Level) (parts : �
 abbrev pub level_slots : Level → Piece → List JobShare → List WrittenSlot
 level_slots level stretch shares = slots_from (pace_of_level level) stretch.from 0 shares
 
-pub rounds_by : (points : List Point) (levels : List Level) (level : Level) (parts : ℕ) (split : Option Split) (stretch : Piece) (shares : List JobShare) →
-    RunsAs points level parts split → IsHeld levels level stretch shares →
+pub rounds_by : (points : List Point) (levels : List Level) (level : Level) (split : Option Split) (stretch : Piece) (shares : List JobShare) →
+    RunsAs points level split → IsHeld levels level stretch shares →
     RoundsStretch (hull_of points) levels stretch (level_slots level stretch shares) (written_at stretch shares (level_slots level stretch shares) split)
-rounds_by points levels level parts None stretch shares at held =
+rounds_by points levels level None stretch shares at held =
     inr (
       level,
       held.has,
       jobs_planned (λ job. Contains level.members job) (pace_of_level level) stretch.from 0 shares held.members,
-      inl (record { at_point = (at.in_hull.0, at.point, at.in_hull.1, at.in_hull.2, at.has_speed); kept = refl }),
+      inl (record { at_point = at; kept = refl }),
     )
-rounds_by points levels level parts (Some split) stretch shares at held =
+rounds_by points levels level (Some split) stretch shares at held =
     inr (
       level,
       held.has,
       jobs_planned (λ job. Contains level.members job) (pace_of_level level) stretch.from 0 shares held.members,
-      inr (splits points levels level parts split stretch shares at held),
+      inr (splits points levels level split stretch shares at held),
     )
 
 -- the denominator of a level's works
@@ -165,10 +165,10 @@ jobs_by P level (Some split) stretch shares each =
     (jobs_after P (fast_course split stretch) stretch 0 shares each) (jobs_after P (slow_course split stretch) stretch 0 shares each)
 
 -- at most one slot more than the plan has
-pub more_by : (points : List Point) (level : Level) (parts : ℕ) (split : Option Split) (stretch : Piece) (shares : List JobShare) → RunsAs points level parts split →
+pub more_by : (points : List Point) (level : Level) (split : Option Split) (stretch : Piece) (shares : List JobShare) → RunsAs points level split →
     length (written_at stretch shares (level_slots level stretch shares) split) ≤ length (level_slots level stretch shares) + 1
-more_by points level parts None stretch shares at = omega arith
-more_by points level parts (Some split) stretch shares at = omega (
+more_by points level None stretch shares at = omega arith
+more_by points level (Some split) stretch shares at = omega (
   arith,
   one_more split stretch at.numbers.kept.some_gap 0 shares,
   length_from (pace_of_level level) stretch.from 0 shares,
@@ -176,18 +176,18 @@ more_by points level parts (Some split) stretch shares at = omega (
 )
 
 -- the slots can be put after others
-pub can_round_by : (points : List Point) (levels : List Level) (level : Level) (parts : ℕ) (split : Option Split) (stretch : Piece) (jobs : ℕ) (before : List WrittenSlot)
-    (shares : List JobShare) → RunsAs points level parts split → IsHeld levels level stretch shares → All (λ job. job < jobs) (share_jobs shares) →
+pub can_round_by : (points : List Point) (levels : List Level) (level : Level) (split : Option Split) (stretch : Piece) (jobs : ℕ) (before : List WrittenSlot)
+    (shares : List JobShare) → RunsAs points level split → IsHeld levels level stretch shares → All (λ job. job < jobs) (share_jobs shares) →
     All (λ job. FitsJob (pace_grain level split) before job) (share_jobs shares) → length before + 2 * length shares ≤ MAX_SLOTS →
     CanRound split stretch jobs before shares (level_slots level stretch shares)
-can_round_by points levels level parts None stretch jobs before shares at held known fits room = record {
+can_round_by points levels level None stretch jobs before shares at held known fits room = record {
   grain = speed_den level;
   works = over_planned levels level stretch shares held;
   known = jobs_planned (λ job. job < jobs) (pace_of_level level) stretch.from 0 shares known;
   grains = jobs_planned (λ job. FitsJob (speed_den level) before job) (pace_of_level level) stretch.from 0 shares fits;
   room = omega (arith, room, length_from (pace_of_level level) stretch.from 0 shares);
 }
-can_round_by points levels level parts (Some split) stretch jobs before shares at held known fits room = (
+can_round_by points levels level (Some split) stretch jobs before shares at held known fits room = (
   at.numbers.kept,
   record {
     full = full_of level at.low at.high split stretch shares at.numbers held.fills;

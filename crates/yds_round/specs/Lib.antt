@@ -5,4 +5,3 @@ pub mod LevelPace
 pub mod Written
 pub mod Cut
 pub mod Rounded
-pub mod Energy

@@ -7,21 +7,22 @@ ghost use Rattle.yds_model.specs.Within.{IsFraction, AreSlotsOf};
 ghost use Rattle.yds_timetable.specs.Timetable.{row_at, IsRow};
 ghost use Rattle.yds_plan.specs.Timetabled.{IsTimetabled};
 ghost use Rattle.yds_round.specs.Fault.{IsCauseOfRoundFault, HasFastLevel, too_slow};
-ghost use Rattle.yds_round.specs.LevelPace.{IsLevelPaceOf};
+ghost use Rattle.yds_round.specs.LevelPace.{RunsAs};
 ghost use Rattle.yds_round.specs.Written.{written_at};
 ghost use Rattle.yds_round.specs.Cut.{CanKeep, CanRound};
 ghost use Rattle.yds_round.specs.Rounded.{written_to};
 
 use crate::cut::Cut;
-use crate::energy::energy;
 use crate::fault::RoundFault;
-use crate::level_pace::LevelPace;
+use crate::level_pace::pace_of;
+use crate::split::Split;
 use std::alloc::Global;
 use yds_certificate::Level;
 use yds_fraction::Amount;
 use yds_model::{JobRow, Memory};
-use yds_plan::Planned;
+use yds_plan::{Planned, read_rows};
 use yds_slots::{Schedule, Slot};
+use yds_spending::plan_spent;
 use yds_table::Table;
 use yds_timetable::Timetable;
 
@@ -52,14 +53,14 @@ pub fn fault_of(table: &Table, levels: &[Level]) -> Option<RoundFault>
     })
 }
 
-/// The pace of each level on the table.
-fn paces_of(alloc: Global, table: &Table, levels: &[Level]) -> Result<Vec<LevelPace>, Memory>
+/// How each level runs on the table.
+fn paces_of(alloc: Global, table: &Table, levels: &[Level]) -> Result<Vec<Option<Split>>, Memory>
     requires { All (λ level. ¬ (IsTooFast table.now level)) levels.now }
-    ensures { IfOk result (λ paces. AllZip (IsLevelPaceOf table.now) levels.now paces.items) }
+    ensures { IfOk result (λ paces. AllZip (RunsAs table.now) levels.now paces.items) }
 {
     let mut paces = Vec::with_capacity(alloc, levels.len())?;
     for level in levels {
-        paces.push(LevelPace::of(level, table))?;
+        paces.push(pace_of(level, table))?;
     }
     Ok(paces)
 }
@@ -80,18 +81,18 @@ fn round_stretch(
     timetable: &Timetable,
     number: usize,
     planned: &[Slot],
-    pace: &LevelPace,
+    pace: Option<Split>,
     rounded: &mut Schedule,
 ) -> Result<(), Memory>
     requires known { number < length timetable.now }
-    requires can { CanRound pace.now.split (row_at timetable.now number).stretch rounded.old.jobs rounded.old.slots
+    requires can { CanRound pace (row_at timetable.now number).stretch rounded.old.jobs rounded.old.slots
         (row_at timetable.now number).shares planned.now }
     ensures { OnOk result (rounded.new ≡ record {
       jobs = rounded.old.jobs;
-      slots = rounded.old.slots ++ written_at (row_at timetable.now number).stretch (row_at timetable.now number).shares planned.now pace.now.split;
+      slots = rounded.old.slots ++ written_at (row_at timetable.now number).stretch (row_at timetable.now number).shares planned.now pace;
     }) }
 {
-    match pace.split {
+    match pace {
         Some(split) => {
             Cut::of(split, timetable.stretch(number)).serve(timetable.shares(number), rounded)
         }
@@ -105,12 +106,12 @@ fn round_slots(
     rows: &[JobRow],
     plan: &Planned,
     table: &Table,
-    paces: &[LevelPace],
+    paces: &[Option<Split>],
 ) -> Result<Schedule, Memory>
     requires few { length rows.now ≤ MAX_JOBS }
     requires plan { IsPlan rows.now plan.now.schedule.slots plan.now.certificate }
     requires timetable { IsTimetabled rows.now plan.now.timetable plan.now.level_of_stretch.items plan.now.schedule.slots plan.now.certificate }
-    requires paces { AllZip (IsLevelPaceOf table.now) plan.now.certificate paces.now }
+    requires paces { AllZip (RunsAs table.now) plan.now.certificate paces.now }
     ensures written { IfOk result (λ rounded. rounded ≡ record {
       jobs = length rows.now;
       slots = written_to paces.now plan.now.timetable plan.now.level_of_stretch.items (length plan.now.timetable);
@@ -131,7 +132,7 @@ fn round_slots(
                 timetable,
                 number,
                 planned,
-                &paces[level as usize],
+                paces[level as usize],
                 &mut rounded,
             )?;
         }
@@ -167,9 +168,13 @@ pub fn round(
     }
     let paces = paces_of(alloc, table, levels)?;
     let schedule = round_slots(alloc, rows, plan, table, &paces)?;
-    let energy = energy(rows, table, levels, &paces);
-    // Reading the points shows that they are a table, and reading the slots that they are within the limits.
+    // The rounded slots spend what the plan does.
+    read_rows(rows);
+    let spent = plan_spent(alloc, rows, levels, table)?;
+    let energy = spent.energy;
+    // Reading the points shows that they are a table, and reading the slots and the energy that they are within the limits.
     let _points = table.points();
     let _slots = schedule.slots();
+    let _whole = energy.whole();
     Ok(Rounded { schedule, energy })
 }

@@ -1,5 +1,5 @@
 use Rattle.yds_model.proofs.Common.{ℕ, ◌<◌}
-use Rattle.yds_compare.specs.Load.{load_at, IsHeldAt}
+use Rattle.yds_spending.specs.Load.{load_at, IsHeldAt}
 use Rattle.yds_compare.proofs.load.first_above.Given as goal
 
 abbrev pub invariant-loop-place : goal.invariant-loop-place

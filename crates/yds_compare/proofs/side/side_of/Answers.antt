@@ -1,8 +1,9 @@
 use Rattle.yds_model.proofs.Common.{◌≡◌, ◌*◌, ◌<◌, List, length, ap, sym, ◌∙◌, arith, sum_by, get_or_read, mul-le-mul_right, IsFirstFailure, Piece, top_of}
 use Rattle.yds_events.specs.Stretch.{length_of}
 use Rattle.yds_timetable.specs.Timetable.{stretches_of}
-use Rattle.yds_compare.specs.declared.load.Load.{Load}
-use Rattle.yds_compare.specs.Load.{loads_of, load_at, IsHeldAt}
+use Rattle.yds_spending.specs.declared.load.Load.{Load}
+use Rattle.yds_compare.specs.Load.{loads_of}
+use Rattle.yds_spending.specs.Load.{load_at, IsHeldAt}
 use Rattle.yds_compare.proofs.Runs.{spends, too_slow_for, load_times}
 use Rattle.yds_compare.proofs.side.side_of.Goals as goal
 

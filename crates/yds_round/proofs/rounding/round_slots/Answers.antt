@@ -87,7 +87,7 @@ loop-number-preserved c =
     elim c.match-index.branch [
       | in-Some+in_ok-round_stretch w ↦
           let number : level_number_at numbers k ≡ Some w.in-Some.level = sym read ∙ w.in-Some.is in
-          let at : List WrittenSlot → List WrittenSlot = λ slots. written_at (row_at rows k).stretch (row_at rows k).shares slots (pace_at paces w.in-Some.level).split in
+          let at : List WrittenSlot → List WrittenSlot = λ slots. written_at (row_at rows k).stretch (row_at rows k).shares slots (pace_at paces w.in-Some.level) in
           let grown : WrittenSchedule → WrittenSchedule = λ before. record { jobs = before.jobs; slots = before.slots ++ at c.split_at.result.0.now } in
           record {
             written = rw add-one (w.rounded-is ∙ w.in_ok-round_stretch.ensures ∙ ap grown c.loop-number.invariant.written ∙ ap (λ slots. made (at slots)) planned

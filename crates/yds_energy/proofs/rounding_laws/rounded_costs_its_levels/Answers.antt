@@ -1,5 +1,0 @@
-use Rattle.yds_energy.proofs.LevelsEnergy.{rounded_costs_its_levels as law}
-use Rattle.yds_energy.proofs.rounding_laws.rounded_costs_its_levels.Goals as goal
-
-pub returns : goal.returns
-returns c = law

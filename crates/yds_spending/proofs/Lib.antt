@@ -1,0 +1,5 @@
+pub mod Points
+pub mod Lengths
+pub mod Spending
+pub mod Agreeing
+pub mod Planned
