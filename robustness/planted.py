@@ -119,13 +119,13 @@ MISTAKES = [
     Mistake("no_place_behind_jobs_left_out", "yds_trace_parts/src/place.rt", (
         ("self.some || asked.everywhere || written", "self.some || written"),), "all"),
     Mistake("the_cut_of_unseen_processors_not_moved", "yds_trace_parts/src/telling.rt", (
-        ("        self.unseen = unseen_behind(", "        let _ = unseen_behind("),), "all"),
+        ("        self.unseen = unseen;\n", "        let _ = unseen;\n"),), "all"),
     Mistake("new_processors_begin_uncut", "yds_trace_parts/src/processors.rt", (
         ("=> grow_to(processors, cut, last),", "=> grow_to(processors, if last == 0 { cut } else { NO_CUT }, last),"),), "all"),
     Mistake("a_line_checked_for_the_first_processor_alone", "yds_trace_parts/src/telling.rt", (
-        ("        self.latest = latest_of(&self.processors, self.unseen);\n", "        self.latest = latest_of(&self.processors[..1], None);\n"),), "all"),
+        ("        let latest = latest_of(&pieces.processors, unseen);\n", "        let latest = latest_of(&pieces.processors[..1], None);\n"),), "all"),
     Mistake("forgotten_up_to_the_greatest_boundary", "yds_trace_parts/src/telling.rt", (
-        ("        self.pass.forget(least);\n", "        self.pass.forget(least.max(self.latest.boundary));\n"),), "all"),
+        ("        self.pass.forget(least);\n", "        self.pass.forget(least.max(latest.boundary));\n"),), "all"),
 ]
 
 
