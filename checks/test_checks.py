@@ -353,6 +353,13 @@ class Version(unittest.TestCase):
         self.assertIn(f'b"yds_trace {version}\\n"', told)
 
 
+class Readme(unittest.TestCase):
+    """Who reads README.md reads all of it."""
+
+    def test_it_is_short(self) -> None:
+        self.assertLessEqual(len((ROOT / "README.md").read_text(encoding="utf-8").splitlines()), 150)
+
+
 def main() -> int:
     suite = unittest.defaultTestLoader.loadTestsFromModule(sys.modules[__name__])
     result = unittest.TextTestRunner(stream=sys.stdout).run(suite)
