@@ -4,10 +4,10 @@
 
 `rt ci` leaves each program in the folder out of its crate, so nothing is proved a second time. The programs answer each
 stored row and trace, byte for byte (examples/check.sh, examples/check-traces.sh). Then the commands of README.md are
-typed with them, as a reader types them (packaging/typed.py). Of what `rt ci` has proved library.py makes the C library,
-which answers the rows and the examples (library/test/test.sh) and the calls of the Python package (tools.py). FOLDER is
-another folder that has yds_cli, yds_trace, libyds.a and libyds.so. The last line is 'N passed, M failed'; the status is
-1 where M isn't 0.
+typed with them, as a reader types them (packaging/typed.py). Over what `rt ci` has proved packaging/over.py makes the C
+library, which answers the rows and the examples (library/test/test.sh) and the calls of the Python package (tools.py).
+FOLDER is another folder that has yds_cli, yds_trace, libyds.a and libyds.so. The last line is 'N passed, M failed'; the
+status is 1 where M isn't 0.
 """
 
 import os
@@ -64,7 +64,7 @@ def of_library(folder: Path, is_there: bool) -> List[Command]:
         ["env", f"BUILT={built}", "sh", "library/test/test.sh", *parts],
         ["env", *asked, sys.executable, "checks/tools.py", "--built"],
     ]
-    return tried if is_there else [[sys.executable, "checks/library.py", str(built)], *tried]
+    return tried if is_there else [[sys.executable, "packaging/over.py", "library", str(built)], *tried]
 
 
 def main(words: List[str]) -> int:

@@ -15,9 +15,9 @@ from pathlib import Path
 from typing import List, Tuple
 from unittest import mock
 
-import library
-
 ROOT = Path(__file__).resolve().parent.parent
+sys.path.insert(0, str(ROOT / "packaging"))
+import over  # noqa: E402
 
 RUN_ALL = "import sys; sys.path.insert(0, 'checks'); import gate; sys.exit(gate.run_all([gate.PROOFS, ('check',)]))"
 
@@ -130,15 +130,15 @@ class Built(InFolder):
         self.assertEqual(self.built(), ([*wanted, "0 passed, 2 failed"], 1))
 
 
-class Library(InFolder):
-    """How the library is made of what `rt ci` left, with a stand-in for the toolchain."""
+class Over(InFolder):
+    """How the library is made over what `rt ci` left, with a stand-in for the toolchain."""
 
     def make(self, compiler: str) -> Tuple[str, int]:
         """What is written where the toolchain's compiler is this script, and the status. Without a script there is no toolchain."""
         for name, script in (("bin/rt", ":"), ("bin/rattle", compiler)) if compiler else ():
             self.write(name, f"#!/bin/sh\n{script}\n").chmod(0o755)
         environment = {**os.environ, "PATH": f"{self.folder}/bin:/usr/bin:/bin", "PYTHONDONTWRITEBYTECODE": "1"}
-        command = [sys.executable, "checks/library.py", str(self.folder / "made")]
+        command = [sys.executable, "packaging/over.py", "library", str(self.folder / "made")]
         done = subprocess.run(command, cwd=ROOT, env=environment, stdout=subprocess.PIPE, encoding="utf-8")
         return done.stdout, done.returncode
 
@@ -151,11 +151,11 @@ class Library(InFolder):
         self.assertEqual(self.make("echo fn yds_answer: not proved; exit 1"), (told, 1))
 
     def test_the_crate_alone_is_compiled_over_all_below(self) -> None:
-        crates, graph = Path("/crates"), {"a": [], "b": ["a"], "c": ["b"], library.LIBRARY: ["c", "b"], "d": ["c"]}
+        crates, graph = Path("/crates"), {"a": [], "b": ["a"], "c": ["b"], over.LIBRARY: ["c", "b"], "d": ["c"]}
         environment = {"PATH": f"{self.folder}/bin:/usr/bin:/bin"}
         self.write("bin/rt", "#!/bin/sh\n").chmod(0o755)
         with mock.patch.dict(os.environ, environment):
-            words = " ".join(library.compiler(crates, graph, Path("/made.a")))
+            words = " ".join(over.compiler(crates, graph, over.LIBRARY, Path("/made.a")))
         self.assertEqual(words.count("/crates/"), 5)
         for name in "bc":
             self.assertIn(f"--extern {name}=/crates/{name}/out/rlib/{name}.rlib ", words)
@@ -164,12 +164,12 @@ class Library(InFolder):
 
     def test_a_library_of_an_earlier_check(self) -> None:
         self.write("crates/a/out/rlib/a.rlib/format", "")
-        self.assertFalse(library.was_put_back(self.folder / "crates", ["a", "b"]))
+        self.assertFalse(over.was_put_back(self.folder / "crates", ["a", "b"]))
         self.write("crates/b/out/rlib/stamp", "")
-        self.assertTrue(library.was_put_back(self.folder / "crates", ["a", "b"]))
+        self.assertTrue(over.was_put_back(self.folder / "crates", ["a", "b"]))
 
     def test_a_copy_has_the_sources_and_nothing_that_is_built(self) -> None:
-        made = library.copy_of(ROOT / "crates", ["yds_model", "yds_port"], self.folder)
+        made = over.copy_of(ROOT / "crates", ["yds_model", "yds_port"], self.folder)
         self.assertEqual(sorted(place.name for place in made.iterdir()), ["yds_model", "yds_port"])
         self.assertTrue((made / "yds_port" / "src" / "lib.rt").is_file())
         self.assertFalse((made / "yds_port" / "out").exists())
