@@ -4,7 +4,9 @@
 #   make trace      proves what the reader of kernel traces is made of, and builds build/yds_trace
 #   make try        runs the program on DOCUMENT with the words of COMMAND, unproved, after a minute or two
 #   make run        plans the document EXAMPLE with the program unproved, says so, proves what it is made of, builds it, and plans it again
-#   make test       the gate: every proof, test, refused edit and stored run, and the checks that checks/gate.py lists
+#   make test       the gate: every proof, test, refused edit and stored run, and the checks that checks/gate.py lists, with the programs and the
+#                   library that it has proved
+#   make built      fills build with the programs and the library, over what `rt ci` has proved here, within some minutes
 #   make tools-check    the tests of the commands that need Python's own library alone; the gate has them, too
 #   make tools-test     their other tests, which need matplotlib, mypy, pytest and others: what isn't there is left out, and named
 #   make check      the built programs answer every example and stored row byte for byte, within seconds
@@ -39,8 +41,8 @@
 #                       needs root and debootstrap
 #   make clean      removes what was built
 #
-# faults, fuzz, costly, library and bench-library need a C compiler (Debian: gcc and libc6-dev), bench and library-test also one for C++ (g++), and
-# library-test pkg-config and python3-venv.
+# faults, fuzz, costly, library and bench-library need a C compiler (Debian: gcc and libc6-dev), bench, test and library-test also one for C++ (g++),
+# and library-test pkg-config and python3-venv.
 # JOBS crates are proved side by side, each in up to 2 GB of memory. With LINK=dynamic the program is the toolchain's own, which needs glibc.
 
 SHELL := /bin/bash
@@ -65,7 +67,7 @@ export PREFIX DESTDIR LIBDIR INSTALLED DOCUMENT EXAMPLE
 LIBRARY := build/libyds.so
 LINKER_CACHE = test -n "$$DESTDIR" || ldconfig 2>/dev/null || echo "ldconfig, run by root, lets programs find libyds.so.1 there"
 
-.PHONY: all help run try trace test tools-check tools-test check recipes faults fuzz traces planted record costly bench bench-trace bench-library library library-test wheel sdist install install-program install-tools install-pages install-library uninstall uninstall-program uninstall-tools uninstall-pages uninstall-library map deb dist check-build record-build packages-test clean tool
+.PHONY: all help run try trace test built tools-check tools-test check recipes faults fuzz traces planted record costly bench bench-trace bench-library library library-test wheel sdist install install-program install-tools install-pages install-library uninstall uninstall-program uninstall-tools uninstall-pages uninstall-library map deb dist check-build record-build packages-test clean tool
 
 all: $(BINARY) $(TRACER) build/proved
 
@@ -113,6 +115,11 @@ try: tool
 
 test: tool
 	@python3 checks/gate.py
+
+built: tool
+	@python3 packaging/over.py programs build
+	@for name in $(PROGRAM) yds_trace; do CC=$(CC) LINK=$(LINK) sh packaging/link.sh $$name || exit 1; done
+	@CC=$(CC) python3 packaging/over.py library build
 
 tools-check:
 	@python3 checks/tools.py

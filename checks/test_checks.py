@@ -13,8 +13,11 @@ import time
 import unittest
 from pathlib import Path
 from typing import List, Tuple
+from unittest import mock
 
 ROOT = Path(__file__).resolve().parent.parent
+sys.path.insert(0, str(ROOT / "packaging"))
+import over  # noqa: E402
 
 RUN_ALL = "import sys; sys.path.insert(0, 'checks'); import gate; sys.exit(gate.run_all([gate.PROOFS, ('check',)]))"
 
@@ -113,17 +116,65 @@ class Gate(InFolder):
 
 
 class Built(InFolder):
-    """What is said where a program isn't there."""
+    """What is said where something that was built isn't there."""
 
     def built(self) -> Tuple[List[str], int]:
         command = [sys.executable, "checks/built.py", str(self.folder)]
         done = subprocess.run(command, cwd=ROOT, stdout=subprocess.PIPE, stderr=subprocess.DEVNULL, encoding="utf-8")
         return done.stdout.splitlines(), done.returncode
 
-    def test_a_program_that_isnt_there(self) -> None:
-        self.write("yds_cli", "#!/bin/sh\n").chmod(0o755)
-        wanted = [f"{self.folder.resolve()}/yds_trace isn't there; rt ci builds it", "0 passed, 1 failed"]
-        self.assertEqual(self.built(), (wanted, 1))
+    def test_each_file_that_isnt_there_is_named(self) -> None:
+        for name in ("yds_cli", "libyds.so"):
+            self.write(name, "")
+        wanted = [f"{self.folder.resolve()}/{name} isn't there" for name in ("yds_trace", "libyds.a")]
+        self.assertEqual(self.built(), ([*wanted, "0 passed, 2 failed"], 1))
+
+
+class Over(InFolder):
+    """How the library is made over what `rt ci` left, with a stand-in for the toolchain."""
+
+    def make(self, compiler: str) -> Tuple[str, int]:
+        """What is written where the toolchain's compiler is this script, and the status. Without a script there is no toolchain."""
+        for name, script in (("bin/rt", ":"), ("bin/rattle", compiler)) if compiler else ():
+            self.write(name, f"#!/bin/sh\n{script}\n").chmod(0o755)
+        environment = {**os.environ, "PATH": f"{self.folder}/bin:/usr/bin:/bin", "PYTHONDONTWRITEBYTECODE": "1"}
+        command = [sys.executable, "packaging/over.py", "library", str(self.folder / "made")]
+        done = subprocess.run(command, cwd=ROOT, env=environment, stdout=subprocess.PIPE, encoding="utf-8")
+        return done.stdout, done.returncode
+
+    def test_no_toolchain(self) -> None:
+        told = "the command 'rt' of the Rattle toolchain isn't on the PATH\n0 passed, 1 failed\n"
+        self.assertEqual(self.make(""), (told, 1))
+
+    def test_what_isnt_proved_is_told(self) -> None:
+        told = "fn yds_answer: not proved\n\nrattle build ended with status 1\n0 passed, 1 failed\n"
+        self.assertEqual(self.make("echo fn yds_answer: not proved; exit 1"), (told, 1))
+
+    def test_the_crate_alone_is_compiled_over_all_below(self) -> None:
+        crates, graph = Path("/crates"), {"a": [], "b": ["a"], "c": ["b"], over.LIBRARY: ["c", "b"], "d": ["c"]}
+        environment = {"PATH": f"{self.folder}/bin:/usr/bin:/bin"}
+        self.write("bin/rt", "#!/bin/sh\n").chmod(0o755)
+        with mock.patch.dict(os.environ, environment):
+            words = " ".join(over.compiler(crates, graph, over.LIBRARY, Path("/made.a")))
+        self.assertEqual(words.count("/crates/"), 5)
+        for name in "bc":
+            self.assertIn(f"--extern {name}=/crates/{name}/out/rlib/{name}.rlib ", words)
+        for name in "abc":
+            self.assertIn(f"-L dependency=/crates/{name}/out/rlib ", words)
+
+    def test_a_library_of_an_earlier_check(self) -> None:
+        self.write("crates/a/out/rlib/a.rlib/format", "")
+        self.assertFalse(over.was_put_back(self.folder / "crates", ["a", "b"]))
+        self.write("crates/b/out/rlib/stamp", "")
+        self.assertTrue(over.was_put_back(self.folder / "crates", ["a", "b"]))
+
+    def test_a_copy_has_the_sources_and_nothing_that_is_built(self) -> None:
+        made = over.copy_of(ROOT / "crates", ["yds_model", "yds_port"], self.folder)
+        self.assertEqual(sorted(place.name for place in made.iterdir()), ["yds_model", "yds_port"])
+        self.assertTrue((made / "yds_port" / "src" / "lib.rt").is_file())
+        self.assertFalse((made / "yds_port" / "out").exists())
+        lines = (self.folder / "crates.txt").read_text(encoding="utf-8").splitlines()
+        self.assertEqual(lines, ["yds_model: thiserror", "yds_port: yds_model thiserror"])
 
 
 class Pages(InFolder):
@@ -300,6 +351,13 @@ class Version(unittest.TestCase):
         told = (ROOT / "crates" / "yds_trace_words" / "src" / "texts.rt").read_text(encoding="utf-8")
         version = (ROOT / "VERSION").read_text(encoding="utf-8").strip()
         self.assertIn(f'b"yds_trace {version}\\n"', told)
+
+
+class Readme(unittest.TestCase):
+    """Who reads README.md reads all of it."""
+
+    def test_it_is_short(self) -> None:
+        self.assertLessEqual(len((ROOT / "README.md").read_text(encoding="utf-8").splitlines()), 150)
 
 
 def main() -> int:

@@ -3,13 +3,16 @@
 #
 #   sh library/test/test.sh [PART ..]      parts: names rows words threads memory examples earlier install fuzz; all without one
 #
-# It needs build/yds_cli, build/libyds.a and build/libyds.so, compilers for C and C++, nm, readelf and pkg-config. The example in Rust is
-# tried where rustc is. DOCUMENTS drawn documents (20,000 without it) of SEED (1) are answered by the library and by the program. CC, CXX
-# and RUSTC name other compilers.
+# It needs yds_cli, libyds.a and libyds.so in build, or in the folder that BUILT names, compilers for C and C++, nm, readelf and pkg-config.
+# The example in Rust is tried where rustc is. DOCUMENTS drawn documents (20,000 without it) of SEED (1) are answered by the library and by
+# the program. CC, CXX and RUSTC name other compilers.
 # The last line is 'N passed, M failed'; the exit status is 1 where M isn't 0.
 
 cd "$(dirname "$0")/../.." || exit 1
 here=$(pwd)
+built=${BUILT:-build}
+case $built in /*) ;; *) built=$here/$built ;; esac
+export built
 CC=${CC:-gcc} CXX=${CXX:-g++} RUSTC=${RUSTC:-rustc}
 SEED=${SEED:-1} DOCUMENTS=${DOCUMENTS:-20000}
 LC_ALL=C
@@ -48,7 +51,7 @@ counted() {
 }
 
 # A shared object is found by the name that the loader knows.
-ln -s "$here/build/libyds.so" "$work/libyds.so.1"
+ln -s "$built/libyds.so" "$work/libyds.so.1"
 LD_LIBRARY_PATH=$work
 export LD_LIBRARY_PATH
 
@@ -56,17 +59,17 @@ c() { "$CC" -std=c11 -Wall -Wextra -Werror -O2 -Ilibrary "$@"; }
 cxx() { "$CXX" -std=c++17 -Wall -Wextra -pedantic-errors -Werror -O2 -Ilibrary "$@"; }
 
 answers() {
-	[ -x "$work/shared" ] || try "answers.c with the shared object" c -o "$work/shared" library/test/answers.c build/libyds.so -pthread
-	[ -x "$work/static" ] || try "answers.c with the archive" c -DREFUSING -o "$work/static" library/test/answers.c build/libyds.a -pthread \
+	[ -x "$work/shared" ] || try "answers.c with the shared object" c -o "$work/shared" library/test/answers.c "$built/libyds.so" -pthread
+	[ -x "$work/static" ] || try "answers.c with the archive" c -DREFUSING -o "$work/static" library/test/answers.c "$built/libyds.a" -pthread \
 		-Wl,--wrap=malloc,--wrap=realloc,--wrap=free
 }
 
 part_names() {
-	try "the archive shows two names" sh -c '[ "$(nm -g --defined-only build/libyds.a | awk "NF == 3 { print \$3 }" | sort | xargs)" = "yds_answer yds_version" ]'
-	try "the shared object shows two names" sh -c '[ "$(nm -D --defined-only build/libyds.so | awk "\$2 == \"T\" { print \$3 }" | sort | xargs)" = "yds_answer@@YDS_1 yds_version@@YDS_1.1" ]'
-	try "the soname" sh -c 'readelf -d build/libyds.so | grep -q "SONAME.*\[libyds.so.1\]"'
-	try "the shared object needs the C library alone" sh -c '[ "$(readelf -d build/libyds.so | grep -c NEEDED)" = 1 ] && readelf -d build/libyds.so | grep -q "NEEDED.*\[libc.so.6\]"'
-	try "no relocation of code" sh -c '! readelf -d build/libyds.so | grep -q TEXTREL'
+	try "the archive shows two names" sh -c '[ "$(nm -g --defined-only "$built/libyds.a" | awk "NF == 3 { print \$3 }" | sort | xargs)" = "yds_answer yds_version" ]'
+	try "the shared object shows two names" sh -c '[ "$(nm -D --defined-only "$built/libyds.so" | awk "\$2 == \"T\" { print \$3 }" | sort | xargs)" = "yds_answer@@YDS_1 yds_version@@YDS_1.1" ]'
+	try "the soname" sh -c 'readelf -d "$built/libyds.so" | grep -q "SONAME.*\[libyds.so.1\]"'
+	try "the shared object needs the C library alone" sh -c '[ "$(readelf -d "$built/libyds.so" | grep -c NEEDED)" = 1 ] && readelf -d "$built/libyds.so" | grep -q "NEEDED.*\[libc.so.6\]"'
+	try "no relocation of code" sh -c '! readelf -d "$built/libyds.so" | grep -q TEXTREL'
 	for standard in c99 c11 c17; do
 		try "the header in $standard" "$CC" -std=$standard -Wall -Wextra -pedantic-errors -Werror -fsyntax-only -x c library/yds.h
 	done
@@ -108,22 +111,22 @@ example() {
 }
 
 part_examples() {
-	try "slack.c" c -o "$work/slack" library/examples/slack.c build/libyds.so
-	try "answer.cpp" cxx -o "$work/answer" library/examples/answer.cpp build/libyds.so
+	try "slack.c" c -o "$work/slack" library/examples/slack.c "$built/libyds.so"
+	try "answer.cpp" cxx -o "$work/answer" library/examples/answer.cpp "$built/libyds.so"
 	example "the example in C" library/examples/slack.txt "$work/slack"
 	# The example in C++ is the program again: it answers every row.
 	counted "the example in C++" sh examples/check.sh "$work/answer"
 	"$work/answer" "$(printf '\377')" </dev/null >"$work/out" 2>/dev/null
 	if [ $? -gt 7 ]; then pass; else fail "the example in C++ throws where a word isn't UTF-8"; fi
-	try "slots.cpp" cxx -o "$work/slots" library/examples/slots.cpp build/libyds.so
+	try "slots.cpp" cxx -o "$work/slots" library/examples/slots.cpp "$built/libyds.so"
 	example "the example of jobs and slots" library/examples/slots.txt "$work/slots"
-	try "rows.cpp" cxx -o "$work/typed" library/test/rows.cpp build/libyds.so
+	try "rows.cpp" cxx -o "$work/typed" library/test/rows.cpp "$built/libyds.so"
 	counted "the header for C++" "$work/typed"
 	if ! command -v "$RUSTC" >/dev/null 2>&1; then
 		echo "the example in Rust is left out; on Debian: apt-get install rustc"
 		return
 	fi
-	try "answer.rs" "$RUSTC" -O -D warnings -o "$work/rust" library/examples/answer.rs -L build
+	try "answer.rs" "$RUSTC" -O -D warnings -o "$work/rust" library/examples/answer.rs -L "$built"
 	counted "the example in Rust" sh examples/check.sh "$work/rust"
 }
 
@@ -161,10 +164,10 @@ part_install() {
 
 # Each processor draws a range of the documents.
 part_fuzz() {
-	try "fuzz.c" "$CC" -std=gnu11 -O2 -Wall -Ilibrary -DLIBRARY -o "$work/fuzz" robustness/fuzz.c build/libyds.so
+	try "fuzz.c" "$CC" -std=gnu11 -O2 -Wall -Ilibrary -DLIBRARY -o "$work/fuzz" robustness/fuzz.c "$built/libyds.so"
 	jobs=$(nproc) each=$(((DOCUMENTS + jobs - 1) / jobs)) number=0
 	while [ $number -lt "$jobs" ]; do
-		(cd "$work" && ./fuzz "$here/build/yds_cli" "$here/$rows" "$SEED" $each $((number * each + 1)) >fuzz.$number 2>&1) &
+		(cd "$work" && ./fuzz "$built/yds_cli" "$here/$rows" "$SEED" $each $((number * each + 1)) >fuzz.$number 2>&1) &
 		number=$((number + 1))
 	done
 	wait
@@ -175,8 +178,8 @@ part_fuzz() {
 	done
 }
 
-for file in build/yds_cli build/libyds.a build/libyds.so; do
-	[ -f $file ] || { echo "test.sh: $file isn't there; make library builds it" >&2; exit 1; }
+for file in "$built/yds_cli" "$built/libyds.a" "$built/libyds.so"; do
+	[ -f "$file" ] || { echo "test.sh: $file isn't there; make library builds it" >&2; exit 1; }
 done
 for part in ${*:-names rows words threads memory examples earlier install fuzz}; do
 	before=$passed

@@ -7,6 +7,8 @@ from importlib.util import find_spec
 
 from stored import ROOT
 
+NEEDS = ("distributed", "libyds")
+
 
 class Cluster(unittest.TestCase):
     @unittest.skipUnless(find_spec("distributed"), "dask.distributed isn't here; on Debian: python3-distributed")

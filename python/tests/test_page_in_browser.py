@@ -17,6 +17,7 @@ from page_reading import Page
 from yds import page
 from yds._look import SCRIPT
 
+NEEDS = ("matplotlib", "chromium")
 CHROMIUM = shutil.which("chromium")
 HEAD = "# CPU 0 of a kernel trace; time 0 is 100.500000000 s\n# time unit 10 us, speed unit 10000 kHz, work unit 100 cycles\n"
 

@@ -712,6 +712,18 @@ class Words(unittest.TestCase):
             )
             self.assertEqual(done.returncode, 0, words)
 
+    def test_matplotlib_looks_for_fonts_in_silence(self) -> None:
+        """It tells that it does where its first picture takes more than some seconds."""
+        said = "import logging\nlogging.getLogger('matplotlib.font_manager').warning('building the font cache')\n"
+        with TemporaryDirectory() as folder:
+            Path(folder, "looking_for_fonts.py").write_text(said)
+            code = "from yds._canvas import loaded; loaded('looking_for_fonts'); import logging; logging.warning('later')"
+            path = os.pathsep.join([str(ROOT / "python"), folder])
+            done = subprocess.run(
+                [sys.executable, "-c", code], capture_output=True, text=True, env={**os.environ, "PYTHONPATH": path}
+            )
+        self.assertEqual((done.returncode, done.stderr), (0, "WARNING:root:later\n"))
+
     def test_where_there_is_no_matplotlib(self) -> None:
         code = "import sys; sys.modules['matplotlib'] = sys.modules['matplotlib.figure'] = None; from yds.commands.plot import main; sys.exit(main(sys.argv[1:]))"
         words = [sys.executable, "-c", code, "gantt", str(self.file(DOCUMENT))]

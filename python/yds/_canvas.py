@@ -5,6 +5,7 @@ A picture is measured in pixels of 1/72 of an inch, in each form of file. matplo
 
 from __future__ import annotations
 
+import logging
 import warnings
 from contextlib import contextmanager
 from importlib import import_module
@@ -54,10 +55,23 @@ class Size(NamedTuple):
     height: int
 
 
+@contextmanager
+def _quiet() -> Iterator[None]:
+    """While it is open, matplotlib doesn't tell that it looks for fonts, as it does where its first picture takes long."""
+    log = logging.getLogger("matplotlib.font_manager")
+    level = log.level
+    log.setLevel(logging.ERROR)
+    try:
+        yield
+    finally:
+        log.setLevel(level)
+
+
 def loaded(name: str) -> Any:
     """A module of matplotlib. ImportError says what to install."""
     try:
-        return import_module(name)
+        with _quiet():
+            return import_module(name)
     except ImportError as fault:
         raise ImportError(
             f"a picture needs matplotlib ({fault}); pip install matplotlib, or on Debian apt-get install "

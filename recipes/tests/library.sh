@@ -1,7 +1,7 @@
-# The commands of docs/library.md. They need the library, which `make library` builds, and a C compiler.
+# The commands of docs/library.md. They need the library, which `make library` builds (or BUILT names its folder), and a C compiler.
 
 test_library() {
-	build=$(cd "$here/../build" && pwd)
+	build=${BUILT:-$(cd "$here/../build" && pwd)}
 	if [ ! -f "$build/libyds.so" ] || ! has cc || ! has c++ || ! has python3; then left_out=$((left_out + 1)); return; fi
 	mkdir "$work/lib"
 	ln -s "$build/libyds.so" "$work/lib/libyds.so.1"
