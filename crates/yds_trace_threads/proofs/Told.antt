@@ -1,5 +1,5 @@
 -- What is written of a trace, by what its reading gave.
-use Rattle.yds_model.proofs.Common.{◌≡◌, ℕ, List, Option, Some, None, Result, Ok, Err, refl, sym, subst}
+use Rattle.yds_model.proofs.Common.{◌≡◌, ℕ, List, Option, Some, None, Ok, Err, refl, subst}
 use Rattle.std.specs.Prelude.{IfSome}
 use Rattle.std.specs.Io.KnownBytes.{Appends, Keeps}
 use Rattle.yds_port.specs.Sink.{AppendsFront}
