@@ -1,10 +1,9 @@
 -- What is kept of threads, behind an act and behind more time.
-use Rattle.yds_model.proofs.Common.{◌≡◌, ℕ, suc, ◌+◌, ◌-◌, ◌<◌, ◌≤◌, ◌==◌, ◌&&◌, Bool, true, false, not, cond, List, [], ◌∷◌, ◌++◌, length, take, refl, sym, ap, ◌∙◌, arith, eq-eqb, eqb-true, ne_eqb, true≢false, or_parts, cond_both, ltb-true, ltb-false, ◌||◌, nat_le, nat_lt, nat_tests, sum_by-cons, count_by, sum_by, lt-ltb, add-zero, add-one, Option, Some, None, fun_ext, subst}
+use Rattle.yds_model.proofs.Common.{◌≡◌, ℕ, suc, ◌+◌, ◌-◌, ◌<◌, ◌==◌, ◌&&◌, Bool, true, false, not, cond, List, [], ◌∷◌, ◌++◌, length, take, refl, sym, ap, ◌∙◌, arith, eq-eqb, ne_eqb, true≢false, or_parts, cond_both, ltb-true, ltb-false, ◌||◌, nat_lt, nat_tests, sum_by-cons, lt-ltb, add-zero, add-one, Some, fun_ext, subst}
 use Rattle.std.specs.Prelude.{nat_eq}
 use Rattle.std.specs.List.{list_any}
 use Rattle.std.proofs.lemmas.List.Folds.{list_any-append}
 use Rattle.indexmap.specs.IndexSet.{insert_key}
-use Rattle.yds_kernel.specs.declared.limits.TheConstants.{MAX_U64}
 use Rattle.yds_kernel.specs.Parts.{capped}
 use Rattle.yds_kernel.specs.Event.{Thread, Said}
 use Rattle.yds_model.specs.Numbers.{sum_below}
@@ -17,7 +16,7 @@ use Rattle.yds_trace_threads.specs.declared.act.Holder.{Holder}
 use Rattle.yds_trace_threads.specs.declared.threads.Threads.{Threads}
 use Rattle.yds_trace_threads.specs.Table.{processors, still}
 use Rattle.yds_trace_threads.specs.Threads.{with_thread, threads_of, own, time_in, ran_in, is_coming, switches_in, is_waking, is_woken, wake_ups_in}
-use Rattle.yds_trace_threads.specs.Kept.{Facts, facts_from, facts_of, facts_behind, facts_with, one_more_if, time_behind, more_for, no_more, nothing_of, Holds}
+use Rattle.yds_trace_threads.specs.Kept.{facts_from, facts_of, facts_behind, facts_with, one_more_if, time_behind, more_for, no_more, nothing_of, Holds}
 use Rattle.yds_trace_threads.proofs.Rows.{AgreeBut, turned}
 
 -- # Numbers that stay within 64 bits

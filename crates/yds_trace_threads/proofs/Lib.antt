@@ -2,4 +2,3 @@ pub mod Rows
 pub mod Facts
 pub mod Examples
 pub mod Passing
-pub mod Told

@@ -14,7 +14,7 @@ use Rattle.yds_kernel_text.specs.Reading.{Reading, said_by, unread}
 use Rattle.yds_kernel_text.specs.Advancing.{Gives, Counts, GivesLine}
 use Rattle.yds_trace.specs.declared.fault.Cause.{Cause}
 use Rattle.yds_trace.specs.Faults.{numbered}
-use Rattle.yds_trace_reading.specs.LineFault.{LineFault, InForm, AtLine, at_line, in_form, past_of}
+use Rattle.yds_trace_reading.specs.LineFault.{InForm, AtLine, at_line, in_form, past_of}
 use Rattle.yds_trace_reading.specs.Ahead.{ahead, Agrees}
 use Rattle.yds_trace_reading.specs.Reading.{IsTooLong}
 use Rattle.yds_trace_reading.proofs.Passing.{ahead_past, ahead_fault, counts_on, agrees_on, whole_trace, taken_bytes, taken_lines, agrees_first, counts_first}

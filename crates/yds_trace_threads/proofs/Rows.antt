@@ -1,7 +1,7 @@
 -- Rows of the first of some threads: one changes, or one comes.
-use Rattle.yds_model.proofs.Common.{◌≡◌, ℕ, zero, suc, ◌+◌, ◌<◌, ◌≤◌, ◌==◌, Bool, true, false, List, [], ◌∷◌, ◌++◌, length, map, take, set, Option, Some, None, refl, sym, ap, ap₂, subst, ◌∙◌, arith, eqb-false, ne_eqb, true≢false, or_parts, position, position-Some, cond_both, take_all, take-append-le, map-append, length-append, eqb-true, get_or, nat_lt, ltb-true, lt-ltb, cases_lt, inl, inr, cond, not, or_from, length-map, length-take, cases_Bool, get_or-map, map-set}
+use Rattle.yds_model.proofs.Common.{◌≡◌, ℕ, zero, suc, ◌+◌, ◌<◌, ◌≤◌, ◌==◌, Bool, false, List, [], ◌∷◌, ◌++◌, length, map, take, set, Option, Some, None, refl, sym, ap, ap₂, subst, ◌∙◌, arith, eqb-false, ne_eqb, or_parts, position, position-Some, take_all, take-append-le, map-append, length-append, eqb-true, get_or, lt-ltb, cases_lt, inl, inr, cond, not, or_from, length-map, length-take, cases_Bool, get_or-map, map-set}
 use Rattle.std.specs.Prelude.{nat_eq, slice_get}
-use Rattle.std.specs.List.{AllByRecursion, IsDistinct, list_any, position_or_len, prefix_len}
+use Rattle.std.specs.List.{AllByRecursion, IsDistinct, list_any, position_or_len}
 use Rattle.std.proofs.lemmas.Map.Keys.{IsDistinct-head, IsDistinct-tail}
 use Rattle.std.proofs.lemmas.Option.{slice_get-get_or, slice_get_within}
 use Rattle.yds_trace_threads.specs.Kept.{IsPlace}

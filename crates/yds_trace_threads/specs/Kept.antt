@@ -1,9 +1,8 @@
 -- What the code keeps of a trace, against the definitions.
-use Rattle.std.specs.Prelude.{◌≡◌, ℕ, ◌+◌, ◌<◌, ◌≤◌, List, [], ◌∷◌, length, take, map, Bool, true, false, not, ◌==◌, ◌&&◌, if◌then◌else◌, Option, Some, None, Result, Ok, Err, slice_get, nat_eq, IfSome}
+use Rattle.std.specs.Prelude.{◌≡◌, ℕ, ◌+◌, ◌<◌, ◌≤◌, List, [], ◌∷◌, take, map, Bool, false, not, ◌==◌, ◌&&◌, if◌then◌else◌, Option, Some, None, Result, Ok, Err, slice_get, nat_eq}
 use Rattle.std.specs.List.{list_any, slice_index_or}
 use Rattle.indexmap.specs.IndexSet.{IsUnique}
 use Rattle.yds_model.specs.Fields.{Spot}
-use Rattle.yds_model.specs.Numbers.{sum_below}
 use Rattle.yds_kernel.specs.declared.fault.Reason.{Reason}
 use Rattle.yds_kernel.specs.Event.{Said, Stamped, Lost, Nothing}
 use Rattle.yds_kernel.specs.Parts.{capped}
@@ -21,7 +20,7 @@ use Rattle.yds_trace_threads.specs.declared.processors.Processors.{Processors}
 use Rattle.yds_trace_threads.specs.declared.tally.Tally.{Tally}
 use Rattle.yds_trace_threads.specs.declared.limits.TheConstants.{PROCESSORS, MOST_THREADS, MOST_NAME}
 use Rattle.yds_trace_threads.specs.Acts.{Act, holder, acts}
-use Rattle.yds_trace_threads.specs.Threads.{with_thread, threads_of, own, name_of, time_in, ran_in, is_coming, switches_in, is_waking, is_woken, wake_ups_in}
+use Rattle.yds_trace_threads.specs.Threads.{threads_of, own, name_of, ran_in, is_coming, switches_in, is_waking, is_woken, wake_ups_in}
 use Rattle.yds_trace_threads.specs.declared.halt.Halt.{Halt}
 use Rattle.yds_trace_threads.specs.declared.halt.Halt.TheVariants as halts
 use Rattle.yds_trace_threads.specs.Faults.{said_fault, whole_fault}

@@ -3,7 +3,7 @@ use Rattle.std.specs.Prelude.{◌≡◌, ℕ, List, Option, Some, None, Result, 
 use Rattle.std.specs.Io.KnownBytes.{Appends, Keeps}
 use Rattle.yds_port.specs.Sink.{AppendsFront}
 use Rattle.yds_kernel.specs.Text.{trace_of}
-use Rattle.yds_trace_reading.specs.LineFault.{LineFault, InForm, AtLine, past_of}
+use Rattle.yds_trace_reading.specs.LineFault.{InForm, AtLine, past_of}
 use Rattle.yds_trace_reading.specs.Reading.{IsTooLong}
 use Rattle.yds_trace_threads.specs.declared.halt.Halt.{Halt}
 use Rattle.yds_trace_threads.specs.declared.halt.Halt.TheVariants as halts
