@@ -14,7 +14,9 @@
 #   others      few lines are of the task, and 2,000 other threads
 #   pipe        `few` through a pipe
 #   --cpu 3     `few`, of another processor
+#   --tasks ?   `few`, the table of threads
 #   .. in parts     the same with --parts; `parts` counts those that were written
+#   .. everywhere   the same with --cpu all
 #
 # A trace may end with status 3 for its size, as `periods` does with more than 4,000 jobs, and `hangs` in parts: it is read to its end
 # all the same. The last line is 'N passed, M failed': a run fails that ends with another status than 0 and 3, or takes more than 64 MB.
@@ -100,9 +102,11 @@ while [ "$lines" -le "$most" ]; do
 		case $kind in periods | hangs) words=$two ;; *) words=$one ;; esac
 		row $kind $lines "$work/trace" $words
 		row "$kind in parts" $lines "$work/trace" $words --parts
+		row "$kind everywhere" $lines "$work/trace" $words --cpu all
 		if [ $kind = few ]; then
 			row pipe $lines "$work/trace" $words
 			row "--cpu 3" $lines "$work/trace" $words --cpu 3
+			row "--tasks ?" $lines "$work/trace" --tasks '?'
 		fi
 	done
 	lines=$((10 * lines))
