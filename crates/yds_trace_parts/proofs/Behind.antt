@@ -9,7 +9,7 @@ use Rattle.yds_trace_laws.proofs.Processors.{some_processor, part_unseen, cut_un
 use Rattle.yds_trace_parts.specs.declared.processors.Processor.{Processor}
 use Rattle.yds_trace_parts.specs.declared.processors.Pieces.{Pieces}
 use Rattle.yds_trace_parts.specs.Told.{pieces}
-use Rattle.yds_trace_parts.specs.Telling.{text_alone, pieces_at, with_piece_at, ArePieces, without_job_at, unseen_at, cut_on, told_on, IsUnseen, cuts_of, NoneBefore, IsWritten}
+use Rattle.yds_trace_parts.specs.Telling.{text_alone, pieces_at, with_piece_at, ArePieces, without_job_at, unseen_at, cut_on, told_on, IsUnseen, cuts_of, NoneEndsBefore, IsWritten}
 use Rattle.yds_trace_parts.proofs.Joined.{pieces_are}
 use Rattle.yds_trace_parts.proofs.Numbers.{length-first_numbers}
 use Rattle.yds_trace_parts.proofs.Steps.{place_behind}
@@ -72,8 +72,8 @@ grows_by : (asked : Asked) (past : List Said) (cut : Cut) (place : Option ℕ) �
 grows_by asked past cut None is = le_refl cut.boundary
 grows_by asked past cut (Some time) is = place_behind asked past cut time is
 
-all_grow : (asked : Asked) (past : List Said) (said : Said) (time : ℕ) (numbers : List ℕ) → NoneBefore time (map (cut_on asked past) numbers) →
-    NoneBefore time (map (cut_on asked (said ∷ past)) numbers)
+all_grow : (asked : Asked) (past : List Said) (said : Said) (time : ℕ) (numbers : List ℕ) → NoneEndsBefore time (map (cut_on asked past) numbers) →
+    NoneEndsBefore time (map (cut_on asked (said ∷ past)) numbers)
 all_grow asked past said time [] none = tt
 all_grow asked past said time (number ∷ numbers) none = (
   omega (arith, none.0, grows_by (on number asked) (said ∷ past) (cut_on asked past number) (place_of (on number asked) (said ∷ past) (cut_on asked past number)) refl),
@@ -85,17 +85,17 @@ without_grows asked past cut None is = le_refl cut.boundary
 without_grows asked past cut (Some time) is = place_behind asked past cut time is
 
 -- those of the processors of which lines tell
-pub of_told : (time : ℕ) (processors : List Processor) (unseen : Option Cut) → NoneBefore time (cuts_of processors unseen) → NoneBefore time (map cut_in processors)
+pub of_told : (time : ℕ) (processors : List Processor) (unseen : Option Cut) → NoneEndsBefore time (cuts_of processors unseen) → NoneEndsBefore time (map cut_in processors)
 of_told time processors None none = none
 of_told time processors (Some cut) none = none.1
 
 -- those of the others
-pub of_unseen : (time : ℕ) (processors : List Processor) (unseen : Option Cut) → NoneBefore time (cuts_of processors unseen) → NoneBefore time (cuts_of [] unseen)
+pub of_unseen : (time : ℕ) (processors : List Processor) (unseen : Option Cut) → NoneEndsBefore time (cuts_of processors unseen) → NoneEndsBefore time (cuts_of [] unseen)
 of_unseen time processors None none = tt
 of_unseen time processors (Some cut) none = (none.0, tt)
 
-with_unseen : (asked : Asked) (past : List Said) (time : ℕ) (old new : List Processor) (unseen : Option Cut) → NoneBefore time (cuts_of old unseen) →
-    NoneBefore time (map cut_in new) → NoneBefore time (cuts_of new (unseen_at asked past unseen))
+with_unseen : (asked : Asked) (past : List Said) (time : ℕ) (old new : List Processor) (unseen : Option Cut) → NoneEndsBefore time (cuts_of old unseen) →
+    NoneEndsBefore time (map cut_in new) → NoneEndsBefore time (cuts_of new (unseen_at asked past unseen))
 with_unseen asked past time old new None none all = all
 with_unseen asked past time old new (Some cut) none all =
     (omega (arith, none.0, without_grows asked past cut (place_of asked past cut) refl), all)
@@ -116,7 +116,7 @@ some_cut processors (Some cut) some = omega arith
 pub record IsBehindLine (asked : Asked) (past : List Said) (time : ℕ) (processors : List Processor) (unseen : Option Cut) : Type 0 where
   pub processors_are : processors ≡ map (told_on asked past) (processors_of asked past)
   pub unseen_is : IsUnseen asked past unseen
-  pub later : NoneBefore time (cuts_of processors unseen)
+  pub later : NoneEndsBefore time (cuts_of processors unseen)
   pub some : 1 ≤ length (cuts_of processors unseen)
 
 pub behind_line : (asked : Asked) (strict : Bool) (past : List Said) (said : Said) (time : ℕ) (processors : List Processor) (unseen : Option Cut) (latest : Cut) (made : Pieces)
@@ -126,17 +126,17 @@ pub behind_line : (asked : Asked) (strict : Bool) (past : List Said) (said : Sai
 behind_line asked strict past said time processors unseen latest made next then_unseen is are counted then_is =
     let now : made.processors.items ≡ map (told_on asked (said ∷ past)) (processors_of asked (said ∷ past)) =
     processors_moved asked strict past said processors made is.processors_are are in
-    let before : NoneBefore time (map (cut_on asked past) (processors_of asked (said ∷ past))) =
-    subst (NoneBefore time) (ap (map cut_in) is.processors_are ∙ cuts_are asked past (processors_of asked (said ∷ past)))
+    let before : NoneEndsBefore time (map (cut_on asked past) (processors_of asked (said ∷ past))) =
+    subst (NoneEndsBefore time) (ap (map cut_in) is.processors_are ∙ cuts_are asked past (processors_of asked (said ∷ past)))
     (of_told time processors unseen is.later.1) in
-    let after : NoneBefore time (map cut_in made.processors.items) =
-    subst (NoneBefore time) (sym (ap (map cut_in) now ∙ cuts_are asked (said ∷ past) (processors_of asked (said ∷ past))))
+    let after : NoneEndsBefore time (map cut_in made.processors.items) =
+    subst (NoneEndsBefore time) (sym (ap (map cut_in) now ∙ cuts_are asked (said ∷ past) (processors_of asked (said ∷ past))))
     (all_grow asked past said time (processors_of asked (said ∷ past)) before) in
     record {
       processors_are = now;
       unseen_is = subst (IsUnseen asked (said ∷ past)) (sym then_is)
           (unseen_by asked past said next unseen (λ everywhere. counted ∙ behind_last asked (said ∷ past) made.processors.items now everywhere) is.unseen_is);
-      later = subst (λ (one : Option Cut). NoneBefore time (cuts_of made.processors.items one)) (sym then_is)
+      later = subst (λ (one : Option Cut). NoneEndsBefore time (cuts_of made.processors.items one)) (sym then_is)
           (with_unseen (on next asked) (said ∷ past) time processors made.processors.items unseen is.later.1 after);
       some = some_cut made.processors.items then_unseen
           (subst (λ (ones : List Processor). 1 ≤ length ones) (sym now)

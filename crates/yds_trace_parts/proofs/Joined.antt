@@ -38,10 +38,6 @@ both_empty first second found is = empty_by first.text first.halt second.text se
 
 -- # One behind the other
 
-pub joined_empty : (pieces : List Told) (found : Halt) → (joined pieces).halt ≡ Some found → (joined pieces).text ≡ []
-joined_empty [] found is = refl
-joined_empty (piece ∷ more) found is = both_empty piece (joined more) found is
-
 pub joined_first : (pieces : List Told) → both no_piece (joined pieces) ≡ joined pieces
 joined_first [] = refl
 joined_first (piece ∷ more) = idle_by piece.text piece.halt (joined more).text (joined more).halt

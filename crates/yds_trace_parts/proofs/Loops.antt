@@ -21,7 +21,7 @@ use Rattle.yds_trace_parts.specs.declared.processors.Processor.{Processor}
 use Rattle.yds_trace_parts.specs.declared.processors.Pieces.{Pieces}
 use Rattle.yds_trace_parts.specs.Plain.{IsPlainLook}
 use Rattle.yds_trace_parts.specs.Told.{Halt, part_halt, piece_unless}
-use Rattle.yds_trace_parts.specs.Telling.{IsHaltFor, IsPiece, HaltsBehind, IsLast, told_behind, pieces_at, with_piece_at, ArePieces, told_at_last, last_at, one_has_written, AreLast, IsTurned, each_of, cuts_of, boundary_before, IsLatest, NoneBefore}
+use Rattle.yds_trace_parts.specs.Telling.{IsHaltFor, IsPiece, HaltsBehind, IsLast, told_behind, pieces_at, with_piece_at, ArePieces, told_at_last, last_at, one_has_written, AreLast, IsTurned, each_of, cuts_of, boundary_before, IsLatest, NoneEndsBefore}
 use Rattle.yds_trace_parts.proofs.Joined.{IsSoFar, joined_first, joined_more, joined_halts, joined_last}
 use Rattle.yds_trace_parts.proofs.Numbers.{length-each_of, each_push}
 use Rattle.yds_trace_parts.proofs.Plain.{look_turned}
@@ -43,14 +43,14 @@ turned_first asked past boundary pass at = record { processor = asked.processor;
 pub record NextSoFar (asked : Asked) (strict : Bool) (past : List Said) (boundary : ℕ) (all rest : List Processor) (made : Pieces) : Type 0 where
   pub written : IsSoFar (told_behind asked strict past) made.text.items rest (pieces_at asked strict past all)
   pub moved : made.processors.items ++ map (with_piece_at asked past) rest ≡ map (with_piece_at asked past) all
-  pub later : NoneBefore boundary (map cut_in rest)
+  pub later : NoneEndsBefore boundary (map cut_in rest)
 
 -- what is made of the first processors, and these are the rest
 pub record AreNext (strict : Bool) (number : ℕ) (before pass : Pass) (shown : Shown) (all rest : List Processor) (made : Pieces) : Type 0 where
   pub look : IsPlainLook pass shown
   pub turned : (asked : Asked) (past : List Said) (boundary : ℕ) → IsAtBehind asked past boundary before → IsTurned asked past boundary pass
   pub far : (asked : Asked) (past : List Said) (boundary : ℕ) → IsAtBehind asked past boundary before → IsShown asked past boundary shown →
-      NoneBefore boundary (map cut_in all) → number ≡ length past → is_due past ≡ true → NextSoFar asked strict past boundary all rest made
+      NoneEndsBefore boundary (map cut_in all) → number ≡ length past → is_due past ≡ true → NextSoFar asked strict past boundary all rest made
 
 pub next_first : (strict : Bool) (number : ℕ) (pass : Pass) (shown : Shown) (all : List Processor) (made : Pieces) → IsPlainLook pass shown → made.text.items ≡ [] →
     made.processors.items ≡ [] → AreNext strict number pass pass shown all all made
@@ -118,7 +118,7 @@ HaltsOn strict number pass shown one halt = (asked : Asked) (past : List Said) (
 
 pub next_halts : (asked : Asked) (strict : Bool) (past : List Said) (number boundary : ℕ) (before pass : Pass) (shown : Shown) (all rest : List Processor) (one : Processor)
     (made : Pieces) (halt : HaltKept) → AreNext strict number before pass shown all (one ∷ rest) made → HaltsOn strict number pass shown one halt →
-    IsAtBehind asked past boundary before → IsShown asked past boundary shown → NoneBefore boundary (map cut_in all) → number ≡ length past → is_due past ≡ true →
+    IsAtBehind asked past boundary before → IsShown asked past boundary shown → NoneEndsBefore boundary (map cut_in all) → number ≡ length past → is_due past ≡ true →
     IsHaltFor (pieces_at asked strict past all).halt halt
 next_halts asked strict past number boundary before pass shown all rest one made halt next halts at shows later counted due =
     let far : NextSoFar asked strict past boundary all (one ∷ rest) made = next.far asked past boundary at shows later counted due in
@@ -139,13 +139,13 @@ next_last asked strict past boundary all made far = record {
 pub record LastSoFar (asked : Asked) (strict : Bool) (past : List Said) (boundary : ℕ) (all rest : List Processor) (text : List ℕ) (has_job : Bool) : Type 0 where
   pub written : IsSoFar (told_at_last asked strict past) text rest (last_at asked strict past all)
   pub some : (has_job || one_has_written asked past rest) ≡ one_has_written asked past all
-  pub later : NoneBefore boundary (map cut_in rest)
+  pub later : NoneEndsBefore boundary (map cut_in rest)
 
 pub record AreLastOf (strict : Bool) (before pass : Pass) (shown : Shown) (all rest : List Processor) (text : List ℕ) (has_job : Bool) : Type 0 where
   pub look : IsPlainLook pass shown
   pub turned : (asked : Asked) (past : List Said) (boundary : ℕ) → IsAtBehind asked past boundary before → IsTurned asked past boundary pass
   pub far : (asked : Asked) (past : List Said) (boundary : ℕ) → IsAtBehind asked past boundary before → IsShown asked past boundary shown →
-      NoneBefore boundary (map cut_in all) → LastSoFar asked strict past boundary all rest text has_job
+      NoneEndsBefore boundary (map cut_in all) → LastSoFar asked strict past boundary all rest text has_job
 
 pub last_first : (strict : Bool) (pass : Pass) (shown : Shown) (all : List Processor) (text : List ℕ) → IsPlainLook pass shown → text ≡ [] →
     AreLastOf strict pass pass shown all all text false
@@ -203,7 +203,7 @@ unless_halts asked strict past one found is =
 
 pub last_halts : (asked : Asked) (strict : Bool) (past : List Said) (boundary : ℕ) (before pass : Pass) (shown : Shown) (all rest : List Processor) (one : Processor)
     (text : List ℕ) (has_job : Bool) (halt : HaltKept) → AreLastOf strict before pass shown all (one ∷ rest) text has_job → EndHalts strict pass shown one halt →
-    IsAtBehind asked past boundary before → IsShown asked past boundary shown → NoneBefore boundary (map cut_in all) → IsHaltFor (last_at asked strict past all).halt halt
+    IsAtBehind asked past boundary before → IsShown asked past boundary shown → NoneEndsBefore boundary (map cut_in all) → IsHaltFor (last_at asked strict past all).halt halt
 last_halts asked strict past boundary before pass shown all rest one text has_job halt now halts at shows later =
     let far : LastSoFar asked strict past boundary all (one ∷ rest) text has_job = now.far asked past boundary at shows later in
     let turned : IsTurned asked past boundary pass = now.turned asked past boundary at in
@@ -227,7 +227,7 @@ last_last asked strict past boundary all last far = record {
 pub record LatestSoFar (all : List Cut) (rest : List Processor) (latest : Cut) : Type 0 where
   pub changes : (asked : Asked) (past : List Said) (said : Said) →
       (changes_parts asked past latest said || list_any (λ cut. changes_parts asked past cut said) (map cut_in rest)) ≡ list_any (λ cut. changes_parts asked past cut said) all
-  pub behind : (time : ℕ) → NoneBefore time all → 1 ≤ length all → NoneBefore time (map cut_in rest) × ((time ≤ latest.boundary) ⊎ (1 ≤ length rest))
+  pub behind : (time : ℕ) → NoneEndsBefore time all → 1 ≤ length all → NoneEndsBefore time (map cut_in rest) × ((time ≤ latest.boundary) ⊎ (1 ≤ length rest))
 
 none_under : (time : ℕ) → nat_lt time 0 ≡ false
 none_under time = le-ltb time 0 (omega arith)
@@ -276,7 +276,7 @@ latest_more all rest one latest next is far = record {
       ∙ or_assoc (changes_parts asked past latest said) (changes_parts asked past one.cut said) (list_any (λ cut. changes_parts asked past cut said) (map cut_in rest))
       ∙ far.changes asked past said;
   behind = λ time none some.
-      let known : NoneBefore time (map cut_in (one ∷ rest)) × ((time ≤ latest.boundary) ⊎ (1 ≤ length (one ∷ rest))) = far.behind time none some in
+      let known : NoneEndsBefore time (map cut_in (one ∷ rest)) × ((time ≤ latest.boundary) ⊎ (1 ≤ length (one ∷ rest))) = far.behind time none some in
       let behind : time ≤ (later latest one.cut).boundary = omega (arith, known.0.0) in
       (known.0.1, inl (subst (λ (cut : Cut). time ≤ cut.boundary) (sym is) behind));
 }
@@ -288,15 +288,15 @@ or_none false = refl
 pub latest_last : (all : List Cut) (latest : Cut) → LatestSoFar all [] latest → IsLatest all latest
 latest_last all latest far asked past said = sym (or_none (changes_parts asked past latest said)) ∙ far.changes asked past said
 
-pub latest_behind : (all : List Cut) (latest : Cut) (time : ℕ) → LatestSoFar all [] latest → NoneBefore time all → 1 ≤ length all → time ≤ latest.boundary
+pub latest_behind : (all : List Cut) (latest : Cut) (time : ℕ) → LatestSoFar all [] latest → NoneEndsBefore time all → 1 ≤ length all → time ≤ latest.boundary
 latest_behind all latest time far none some = elim (far.behind time none some).1 [ inl is ↦ is | inr more ↦ absurd (omega (arith, more)) ]
 
 -- # The first boundary
 
 pub record LeastSoFar (all : List Cut) (rest : List Processor) (limit least : ℕ) : Type 0 where
   pub within : least ≤ limit
-  pub each : (time : ℕ) → time ≤ least → NoneBefore time (map cut_in rest) → NoneBefore time all
-  pub first : (time : ℕ) → NoneBefore time all → time ≤ limit → (time ≤ least) × NoneBefore time (map cut_in rest)
+  pub each : (time : ℕ) → time ≤ least → NoneEndsBefore time (map cut_in rest) → NoneEndsBefore time all
+  pub first : (time : ℕ) → NoneEndsBefore time all → time ≤ limit → (time ≤ least) × NoneEndsBefore time (map cut_in rest)
 
 least_none : (processors : List Processor) (limit : ℕ) → LeastSoFar (cuts_of processors None) processors limit limit
 least_none processors limit = record {
@@ -325,7 +325,7 @@ least_more all rest one limit least far = record {
   first = λ time none less. let known = far.first time none less in (omega (arith, known.0, known.1.0), known.1.1);
 }
 
-pub least_last : (all : List Cut) (limit least : ℕ) → LeastSoFar all [] limit least → NoneBefore least all
+pub least_last : (all : List Cut) (limit least : ℕ) → LeastSoFar all [] limit least → NoneEndsBefore least all
 least_last all limit least far = far.each least (le_refl least) tt
 
 -- # More processors
@@ -370,7 +370,7 @@ next_at strict number before pass new shown all i d piece made more within turns
 
 pub next_halts_at : (asked : Asked) (strict : Bool) (past : List Said) (number boundary : ℕ) (before pass : Pass) (shown : Shown) (all : List Processor) (i : ℕ) (d : Processor)
     (made : Pieces) (halt : HaltKept) → i < length all → AreNext strict number before pass shown all (drop i all) made → HaltsOn strict number pass shown (get_or all i d) halt →
-    IsAtBehind asked past boundary before → IsShown asked past boundary shown → NoneBefore boundary (map cut_in all) → number ≡ length past → is_due past ≡ true →
+    IsAtBehind asked past boundary before → IsShown asked past boundary shown → NoneEndsBefore boundary (map cut_in all) → number ≡ length past → is_due past ≡ true →
     IsHaltFor (pieces_at asked strict past all).halt halt
 next_halts_at asked strict past number boundary before pass shown all i d made halt within next halts at shows later counted due =
     next_halts asked strict past number boundary before pass shown all (drop (i + 1) all) (get_or all i d) made halt
@@ -390,7 +390,7 @@ last_at_place strict before pass new shown all i d last text more has_job also w
 
 pub last_halts_at : (asked : Asked) (strict : Bool) (past : List Said) (boundary : ℕ) (before pass : Pass) (shown : Shown) (all : List Processor) (i : ℕ) (d : Processor)
     (text : List ℕ) (has_job : Bool) (halt : HaltKept) → i < length all → AreLastOf strict before pass shown all (drop i all) text has_job →
-    EndHalts strict pass shown (get_or all i d) halt → IsAtBehind asked past boundary before → IsShown asked past boundary shown → NoneBefore boundary (map cut_in all) →
+    EndHalts strict pass shown (get_or all i d) halt → IsAtBehind asked past boundary before → IsShown asked past boundary shown → NoneEndsBefore boundary (map cut_in all) →
     IsHaltFor (last_at asked strict past all).halt halt
 last_halts_at asked strict past boundary before pass shown all i d text has_job halt within now halts at shows later =
     last_halts asked strict past boundary before pass shown all (drop (i + 1) all) (get_or all i d) text has_job halt

@@ -3,7 +3,7 @@ use Rattle.yds_model.proofs.Common.{◌≡◌, ℕ, zero, suc, ◌+◌, ◌≤�
 use Rattle.yds_trace.specs.declared.cut.Cut.{Cut}
 use Rattle.yds_trace.specs.Parts.{first_numbers}
 use Rattle.yds_trace_parts.specs.declared.processors.Processor.{Processor}
-use Rattle.yds_trace_parts.specs.Telling.{each_of, NoneBefore}
+use Rattle.yds_trace_parts.specs.Telling.{each_of, NoneEndsBefore}
 use Rattle.yds_trace_parts.proofs.Placed.{any_push}
 
 -- # So many numbers
@@ -51,20 +51,20 @@ alike test seen count same (suc more) within = by (nat_le count more) refl (alik
 
 -- # None ends before a time
 
-pub none_push : (time : ℕ) (cuts : List Cut) (cut : Cut) → NoneBefore time cuts → time ≤ cut.boundary → NoneBefore time (cuts ++ cut ∷ [])
+pub none_push : (time : ℕ) (cuts : List Cut) (cut : Cut) → NoneEndsBefore time cuts → time ≤ cut.boundary → NoneEndsBefore time (cuts ++ cut ∷ [])
 none_push time [] cut none last = (last, tt)
 none_push time (first ∷ cuts) cut none last = (none.0, none_push time cuts cut none.1 last)
 
 pub none_more : (time : ℕ) (cuts : ℕ → Cut) (cut : Cut) (count : ℕ) → ((number : ℕ) → count ≤ number → cuts number ≡ cut) → time ≤ cut.boundary →
-    NoneBefore time (map cuts (first_numbers count)) → (more : ℕ) → count ≤ more → NoneBefore time (map cuts (first_numbers more))
+    NoneEndsBefore time (map cuts (first_numbers count)) → (more : ℕ) → count ≤ more → NoneEndsBefore time (map cuts (first_numbers more))
 none_more time cuts cut count same later none zero within = tt
 none_more time cuts cut count same later none (suc more) within = by (nat_le count more) refl (none_more time cuts cut count same later none more)
   where
-    by : (b : Bool) → nat_le count more ≡ b → (count ≤ more → NoneBefore time (map cuts (first_numbers more))) → NoneBefore time (map cuts (first_numbers (suc more)))
+    by : (b : Bool) → nat_le count more ≡ b → (count ≤ more → NoneEndsBefore time (map cuts (first_numbers more))) → NoneEndsBefore time (map cuts (first_numbers (suc more)))
     by true is rest =
-        subst (NoneBefore time) (sym (map-append cuts (first_numbers more) (more ∷ [])))
+        subst (NoneEndsBefore time) (sym (map-append cuts (first_numbers more) (more ∷ [])))
         (none_push time (map cuts (first_numbers more)) (cuts more) (rest (leb-true count more is))
         (subst (λ (one : Cut). time ≤ one.boundary) (sym (same more (leb-true count more is))) later))
     by false is rest =
         let here : count ≡ suc more = omega (arith, leb-false count more is, within) in
-        subst (λ (n : ℕ). NoneBefore time (map cuts (first_numbers n))) here none
+        subst (λ (n : ℕ). NoneEndsBefore time (map cuts (first_numbers n))) here none

@@ -1,10 +1,10 @@
 -- A line behind which it isn't looked for parts, or behind which little waits, leaves what was written as it is.
-use Rattle.yds_model.proofs.Common.{◌≡◌, ℕ, ◌+◌, ◌≤◌, ◌⊎◌, inl, inr, ◌&&◌, ◌||◌, Bool, true, false, not, nat_lt, nat_tests, List, [], ◌∷◌, map, filter, cond, length, Option, Some, None, refl, sym, ap, ap₂, subst, ◌∙◌, arith, ◌%◌, eq-eqb, ne_eqb, length-map, if◌then◌else◌}
+use Rattle.yds_model.proofs.Common.{◌≡◌, ℕ, ◌+◌, ◌≤◌, ◌⊎◌, inl, inr, ◌&&◌, ◌||◌, Bool, true, false, not, nat_lt, nat_tests, List, [], ◌∷◌, map, filter, cond, length, Option, Some, None, refl, sym, ap, ap₂, subst, ◌∙◌, arith, length-map, if◌then◌else◌}
 use Rattle.std.proofs.lemmas.List.Sums.{sum_by-cons}
 use Rattle.yds_kernel.specs.Event.{Said}
 use Rattle.yds_trace.specs.declared.cut.Cut.{Cut}
 use Rattle.yds_trace.specs.declared.fault.Cause.TheVariants as causes
-use Rattle.yds_trace.specs.declared.limits.TheConstants.{LOOK_EVERY, PART_JOBS, PART_STRETCHES, WAITING_JOBS, WAITING_STRETCHES}
+use Rattle.yds_trace.specs.declared.limits.TheConstants.{PART_JOBS, PART_STRETCHES, WAITING_JOBS, WAITING_STRETCHES}
 use Rattle.yds_trace.specs.declared.pass.Pass.{Pass}
 use Rattle.yds_trace.specs.Asked.{Asked, on}
 use Rattle.yds_trace.specs.Kept.{IsAtBehind}
@@ -14,7 +14,7 @@ use Rattle.yds_trace_laws.specs.Processors.{without_reason}
 use Rattle.yds_trace_laws.proofs.Processors.{jobs_are_the_same}
 use Rattle.yds_trace_parts.specs.declared.processors.Processor.{Processor}
 use Rattle.yds_trace_parts.specs.Told.{Halt, Told, AtLine, no_piece, both, piece_at, piece_of, no_place as no_place_halt, open_longest, waiting_halt, pieces}
-use Rattle.yds_trace_parts.specs.Telling.{cut_on, told_on, IsUnseen, NoneBefore, IsStill}
+use Rattle.yds_trace_parts.specs.Telling.{cut_on, told_on, IsUnseen, NoneEndsBefore, IsStill}
 use Rattle.yds_trace_parts.proofs.Steps.{same_cut}
 use Rattle.yds_trace_parts.proofs.Unseen.{more_processors}
 
@@ -102,14 +102,14 @@ still_cut asked past said time processor still later =
     same_cut (on processor asked) past said (still_place asked (said ∷ past) processor time (cut_on asked past processor) still later)
 
 pub still_pieces : (asked : Asked) (strict : Bool) (past : List Said) (said : Said) (time : ℕ) → IsStill asked (said ∷ past) time → (numbers : List ℕ) →
-    NoneBefore time (map (cut_on asked past) numbers) → pieces asked strict past said numbers ≡ no_piece
+    NoneEndsBefore time (map (cut_on asked past) numbers) → pieces asked strict past said numbers ≡ no_piece
 still_pieces asked strict past said time still [] none = refl
 still_pieces asked strict past said time still (number ∷ numbers) none =
     ap₂ both (still_piece asked strict (said ∷ past) number time (cut_on asked past number) still none.0)
     (still_pieces asked strict past said time still numbers none.1)
 
 pub still_told : (asked : Asked) (past : List Said) (said : Said) (time : ℕ) → IsStill asked (said ∷ past) time → (numbers : List ℕ) →
-    NoneBefore time (map (cut_on asked past) numbers) → map (told_on asked past) numbers ≡ map (told_on asked (said ∷ past)) numbers
+    NoneEndsBefore time (map (cut_on asked past) numbers) → map (told_on asked past) numbers ≡ map (told_on asked (said ∷ past)) numbers
 still_told asked past said time still [] none = refl
 still_told asked past said time still (number ∷ numbers) none =
     ap₂ (λ (cut : Cut) (more : List Processor). record { number = number; cut = cut } ∷ more) (sym (still_cut asked past said time number still none.0))
@@ -125,15 +125,7 @@ still_unseen asked past said time still cut later is = (
       still_cut asked past said time processor still (subst (λ (one : Cut). time ≤ one.boundary) (sym same) later) ∙ same,
 )
 
--- # Whether it is looked for parts
-
--- behind the line of this number
-pub looked : (past : List Said) (number : ℕ) → number ≡ length past → number % LOOK_EVERY ≡ 0 → is_due past ≡ true
-looked past number counted none = eq-eqb (length past % LOOK_EVERY) 0 (ap (λ (n : ℕ). n % LOOK_EVERY) (sym counted) ∙ none)
-
-pub not_looked : (past : List Said) (number : ℕ) → number ≡ length past → (number % LOOK_EVERY ≡ 0 → ⊥) → is_due past ≡ false
-not_looked past number counted some =
-    ne_eqb (length past % LOOK_EVERY) 0 (λ (none : length past % LOOK_EVERY ≡ 0). some (ap (λ (n : ℕ). n % LOOK_EVERY) counted ∙ none))
+-- # The pass
 
 pub behind_later : (asked : Asked) (past : List Said) (before boundary : ℕ) (pass : Pass) → before ≤ boundary → IsAtBehind asked past before pass → IsAtBehind asked past boundary pass
 behind_later asked past before boundary pass later at =

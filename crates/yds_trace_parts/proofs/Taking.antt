@@ -17,7 +17,7 @@ use Rattle.yds_trace_parts.specs.declared.processors.Processor.{Processor}
 use Rattle.yds_trace_parts.specs.declared.processors.Pieces.{Pieces}
 use Rattle.yds_trace_parts.specs.declared.telling.Telling.{Telling}
 use Rattle.yds_trace_parts.specs.Told.{Halt, OfDocument, Told, at_line, both, piece_unless, has_written, line_halt, last_pieces, no_job_halt, last_piece, told_after}
-use Rattle.yds_trace_parts.specs.Telling.{IsHaltFor, text_alone, next_of, each_of, pieces_at, ArePieces, last_at, one_has_written, AreLast, cut_on, told_on, IsUnseen, cuts_of, IsLatest, NoneBefore, IsWritten, IsTelling, IsTaken, IsStill, Adds, IsEnd}
+use Rattle.yds_trace_parts.specs.Telling.{IsHaltFor, text_alone, next_of, each_of, pieces_at, ArePieces, last_at, one_has_written, AreLast, cut_on, told_on, IsUnseen, cuts_of, IsLatest, NoneEndsBefore, IsWritten, IsTelling, IsTaken, IsStill, Adds, IsEnd}
 use Rattle.yds_trace_parts.proofs.Joined.{pieces_are, last_are}
 use Rattle.yds_trace_parts.proofs.Steps.{refused_is, halts_behind, told_more}
 use Rattle.yds_trace_parts.proofs.Unseen.{cut_in, cuts_are, IsGrown, fault_same, written_grown}
@@ -66,9 +66,9 @@ grown_of old new unseen told count is same grown = record {
 -- # Nothing is written behind it
 
 still_before : (asked : Asked) (strict : Bool) (past : List Said) (said : Said) (telling : Telling) → IsTaken asked strict past said telling →
-    NoneBefore (told_to_forget telling.pass) (map (cut_on asked past) (processors_of asked (said ∷ past)))
+    NoneEndsBefore (told_to_forget telling.pass) (map (cut_on asked past) (processors_of asked (said ∷ past)))
 still_before asked strict past said telling is =
-    subst (NoneBefore (told_to_forget telling.pass)) (ap (map cut_in) is.is_written.processors_are ∙ cuts_are asked past (processors_of asked (said ∷ past)))
+    subst (NoneEndsBefore (told_to_forget telling.pass)) (ap (map cut_in) is.is_written.processors_are ∙ cuts_are asked past (processors_of asked (said ∷ past)))
     (of_told (told_to_forget telling.pass) telling.processors.items telling.unseen is.is_written.later.1)
 
 still_none : (asked : Asked) (strict : Bool) (past : List Said) (said : Said) (telling : Telling) → IsTaken asked strict past said telling →
@@ -78,7 +78,7 @@ still_none asked strict past said telling is still =
     (still_pieces asked strict past said (told_to_forget telling.pass) still (processors_of asked (said ∷ past)) (still_before asked strict past said telling is))
 
 unseen_still : (asked : Asked) (past : List Said) (said : Said) (time : ℕ) (processors : List Processor) (unseen : Option Cut) → IsStill asked (said ∷ past) time →
-    NoneBefore time (cuts_of processors unseen) → IsUnseen asked past unseen → IsUnseen asked (said ∷ past) unseen
+    NoneEndsBefore time (cuts_of processors unseen) → IsUnseen asked past unseen → IsUnseen asked (said ∷ past) unseen
 unseen_still asked past said time processors None still none one = one
 unseen_still asked past said time processors (Some cut) still none is = still_unseen asked past said time still cut none.0 is
 
@@ -121,7 +121,7 @@ pieces_add asked strict past said telling made is are = ap (λ (told : Told). to
 pub pieces_taken : (asked : Asked) (strict : Bool) (past : List Said) (said : Said) (telling next : Telling) (made : Pieces) → IsTaken asked strict past said telling →
     ArePieces asked telling.strict (said ∷ past) telling.processors.items made →
     IsBehindLine asked (said ∷ past) (told_to_forget telling.pass) next.processors.items next.unseen → IsLatest (cuts_of next.processors.items next.unseen) next.latest →
-    IsAtBehind asked (said ∷ past) (told_to_forget next.pass) next.pass → NoneBefore (told_to_forget next.pass) (next.latest ∷ cuts_of next.processors.items next.unseen) →
+    IsAtBehind asked (said ∷ past) (told_to_forget next.pass) next.pass → NoneEndsBefore (told_to_forget next.pass) (next.latest ∷ cuts_of next.processors.items next.unseen) →
     next.strict ≡ telling.strict → IsTelling asked strict (said ∷ past) next
 pieces_taken asked strict past said telling next made is are behind latest stands later strictness = record {
   stands = stands;
@@ -135,9 +135,9 @@ pub pieces_forgotten : (asked : Asked) (strict : Bool) (past : List Said) (said 
     IsTaken asked strict past said telling → ArePieces asked telling.strict (said ∷ past) telling.processors.items made →
     IsBehindLine asked (said ∷ past) (told_to_forget telling.pass) next.processors.items next.unseen → IsLatest (cuts_of next.processors.items next.unseen) next.latest →
     IsAtBehind asked (said ∷ past) (told_to_forget telling.pass) pass →
-    ((time : ℕ) → NoneBefore time (cuts_of next.processors.items next.unseen) → 1 ≤ length (cuts_of next.processors.items next.unseen) → time ≤ next.latest.boundary) →
-    NoneBefore least (cuts_of next.processors.items next.unseen) → least ≤ next.latest.boundary →
-    ((time : ℕ) → NoneBefore time (cuts_of next.processors.items next.unseen) → time ≤ next.latest.boundary → time ≤ least) →
+    ((time : ℕ) → NoneEndsBefore time (cuts_of next.processors.items next.unseen) → 1 ≤ length (cuts_of next.processors.items next.unseen) → time ≤ next.latest.boundary) →
+    NoneEndsBefore least (cuts_of next.processors.items next.unseen) → least ≤ next.latest.boundary →
+    ((time : ℕ) → NoneEndsBefore time (cuts_of next.processors.items next.unseen) → time ≤ next.latest.boundary → time ≤ least) →
     ((words : Asked) (lines : List Said) (before : ℕ) → IsAtBehind words lines before pass → before ≤ least → IsAtBehind words lines least next.pass) →
     told_to_forget next.pass ≡ least → next.strict ≡ telling.strict → IsTelling asked strict (said ∷ past) next
 pieces_forgotten asked strict past said telling next made pass least is are behind latest stands last none within first forgets told strictness =
@@ -145,7 +145,7 @@ pieces_forgotten asked strict past said telling next made pass least is are behi
     pieces_taken asked strict past said telling next made is are behind latest
     (subst (λ (time : ℕ). IsAtBehind asked (said ∷ past) time next.pass) (sym told)
     (forgets asked (said ∷ past) (told_to_forget telling.pass) stands (first (told_to_forget telling.pass) behind.later before)))
-    (subst (λ (time : ℕ). NoneBefore time (next.latest ∷ cuts_of next.processors.items next.unseen)) (sym told) (within, none)) strictness
+    (subst (λ (time : ℕ). NoneEndsBefore time (next.latest ∷ cuts_of next.processors.items next.unseen)) (sym told) (within, none)) strictness
 
 -- # It isn't
 

@@ -7,7 +7,7 @@ use Rattle.yds_trace.specs.Asked.{Asked}
 use Rattle.yds_trace.specs.Parts.{changes_parts, changes_one, next_processor, processor_count, first_numbers, processors_of, watched_of, part_fault, parts_fault}
 use Rattle.yds_trace.proofs.OnProcessor.{changes_parts_on}
 use Rattle.yds_trace_parts.specs.declared.processors.Processor.{Processor}
-use Rattle.yds_trace_parts.specs.Telling.{each_of, cut_on, told_on, IsUnseen, cuts_of, IsLatest, NoneBefore, IsWritten}
+use Rattle.yds_trace_parts.specs.Telling.{each_of, cut_on, told_on, IsUnseen, cuts_of, IsLatest, NoneEndsBefore, IsWritten}
 use Rattle.yds_trace_parts.proofs.Numbers.{alike, none_more}
 use Rattle.yds_trace_parts.proofs.Placed.{any_push}
 
@@ -111,12 +111,12 @@ latest_more asked past seen cut latest everywhere more same is = λ words lines 
 
 before_more : (asked : Asked) (past seen : List Said) (time : ℕ) (cut : Cut) → asked.everywhere ≡ true → processor_count past ≤ processor_count seen →
     ((number : ℕ) → processor_count past ≤ number → cut_on asked past number ≡ cut) → time ≤ cut.boundary →
-    NoneBefore time (map cut_in (map (told_on asked past) (processors_of asked past))) →
-    NoneBefore time (map cut_in (map (told_on asked past) (processors_of asked seen)))
+    NoneEndsBefore time (map cut_in (map (told_on asked past) (processors_of asked past))) →
+    NoneEndsBefore time (map cut_in (map (told_on asked past) (processors_of asked seen)))
 before_more asked past seen time cut everywhere more same later none =
-    subst (NoneBefore time) (sym (cuts_are asked past (processors_of asked seen) ∙ ap (map (cut_on asked past)) (numbers_where asked seen everywhere)))
+    subst (NoneEndsBefore time) (sym (cuts_are asked past (processors_of asked seen) ∙ ap (map (cut_on asked past)) (numbers_where asked seen everywhere)))
     (none_more time (cut_on asked past) cut (processor_count past) same later
-    (subst (NoneBefore time) (cuts_are asked past (processors_of asked past) ∙ ap (map (cut_on asked past)) (numbers_where asked past everywhere)) none)
+    (subst (NoneEndsBefore time) (cuts_are asked past (processors_of asked past) ∙ ap (map (cut_on asked past)) (numbers_where asked past everywhere)) none)
     (processor_count seen) more)
 
 -- what `grow` makes of the processors
@@ -142,10 +142,10 @@ latest_grown asked past said None latest one is =
 latest_grown asked past said (Some cut) latest unseen is = latest_more asked past (said ∷ past) cut latest unseen.0 (more_processors past said) unseen.1 is
 
 before_grown : (asked : Asked) (past : List Said) (said : Said) (time : ℕ) (unseen : Option Cut) → IsUnseen asked past unseen →
-    NoneBefore time (cuts_of (map (told_on asked past) (processors_of asked past)) unseen) →
-    NoneBefore time (cuts_of (map (told_on asked past) (processors_of asked (said ∷ past))) unseen)
+    NoneEndsBefore time (cuts_of (map (told_on asked past) (processors_of asked past)) unseen) →
+    NoneEndsBefore time (cuts_of (map (told_on asked past) (processors_of asked (said ∷ past))) unseen)
 before_grown asked past said time None one none =
-    subst (λ (numbers : List ℕ). NoneBefore time (map cut_in (map (told_on asked past) numbers))) (one_where asked past one ∙ sym (one_where asked (said ∷ past) one)) none
+    subst (λ (numbers : List ℕ). NoneEndsBefore time (map cut_in (map (told_on asked past) numbers))) (one_where asked past one ∙ sym (one_where asked (said ∷ past) one)) none
 before_grown asked past said time (Some cut) unseen none =
     (none.0, before_more asked past (said ∷ past) time cut unseen.0 (more_processors past said) unseen.1 none.0 none.1)
 
@@ -161,7 +161,7 @@ written_grown asked past said time old new unseen latest is grown =
           (latest_grown asked past said unseen latest is.unseen_is (subst (λ (ones : List Processor). IsLatest (cuts_of ones unseen) latest) is.processors_are is.latest_is));
       later = (
         is.later.0,
-        subst (λ (ones : List Processor). NoneBefore time (cuts_of ones unseen)) (sym are)
-            (before_grown asked past said time unseen is.unseen_is (subst (λ (ones : List Processor). NoneBefore time (cuts_of ones unseen)) is.processors_are is.later.1)),
+        subst (λ (ones : List Processor). NoneEndsBefore time (cuts_of ones unseen)) (sym are)
+            (before_grown asked past said time unseen is.unseen_is (subst (λ (ones : List Processor). NoneEndsBefore time (cuts_of ones unseen)) is.processors_are is.later.1)),
       );
     }

@@ -167,9 +167,9 @@ boundary_before None latest = latest
 boundary_before (Some cut) latest = min cut.boundary latest
 
 -- None of these ends before this time.
-abbrev pub NoneBefore : ℕ → List Cut → Type 0
-NoneBefore time [] = ⊤
-NoneBefore time (cut ∷ cuts) = (time ≤ cut.boundary) × NoneBefore time cuts
+abbrev pub NoneEndsBefore : ℕ → List Cut → Type 0
+NoneEndsBefore time [] = ⊤
+NoneEndsBefore time (cut ∷ cuts) = (time ≤ cut.boundary) × NoneEndsBefore time cuts
 
 -- What was written of all processors up to these lines, and the last of all of it; they are those of `seen`. No part still to come has a job
 -- that begins before `time`.
@@ -177,7 +177,7 @@ pub record IsWritten (asked : Asked) (past seen : List Said) (time : ℕ) (proce
   pub processors_are : processors ≡ map (told_on asked past) (processors_of asked seen)
   pub unseen_is : IsUnseen asked past unseen
   pub latest_is : IsLatest (cuts_of processors unseen) latest
-  pub later : NoneBefore time (latest ∷ cuts_of processors unseen)
+  pub later : NoneEndsBefore time (latest ∷ cuts_of processors unseen)
 
 -- What is kept stands for these lines, and nothing was refused.
 pub record IsTelling (asked : Asked) (strict : Bool) (past : List Said) (telling : Telling) : Type 0 where

@@ -107,10 +107,10 @@ pub(crate) fn next_pieces(
     ensures turned { (asked : asking.Asked) (past : List trace.Said) (boundary : ℕ) → IsAtBehind asked past boundary pass.old
         → OnOk result (spec.IsTurned asked past boundary pass.new) }
     ensures made { (asked : asking.Asked) (past : List trace.Said) (boundary : ℕ) → IsAtBehind asked past boundary pass.old → IsShown asked past boundary shown.now
-        → spec.NoneBefore boundary (spec.cuts_of processors.now None) → number ≡ length past → parts.is_due past ≡ true
+        → spec.NoneEndsBefore boundary (spec.cuts_of processors.now None) → number ≡ length past → parts.is_due past ≡ true
         → IfOk result (spec.ArePieces asked strict past processors.now) }
     ensures halts { (asked : asking.Asked) (past : List trace.Said) (boundary : ℕ) → IsAtBehind asked past boundary pass.old → IsShown asked past boundary shown.now
-        → spec.NoneBefore boundary (spec.cuts_of processors.now None) → number ≡ length past → parts.is_due past ≡ true
+        → spec.NoneEndsBefore boundary (spec.cuts_of processors.now None) → number ≡ length past → parts.is_due past ≡ true
         → IfErr result (spec.IsHaltFor (spec.pieces_at asked strict past processors.now).halt) }
 {
     let mut pieces = Pieces {
@@ -169,7 +169,7 @@ pub(crate) fn unseen_behind(
     ensures turned { (asked : asking.Asked) (past : List trace.Said) (boundary : ℕ) → IsAtBehind asked past boundary pass.old
         → OnOk result (spec.IsTurned asked past boundary pass.new) }
     ensures made { (asked : asking.Asked) (past : List trace.Said) (boundary : ℕ) → IsAtBehind asked past boundary pass.old → IsShown asked past boundary shown.now
-        → spec.NoneBefore boundary (spec.cuts_of [] unseen) → parts.is_due past ≡ true
+        → spec.NoneEndsBefore boundary (spec.cuts_of [] unseen) → parts.is_due past ≡ true
         → IfOk result (λ next. next ≡ spec.unseen_at (asking.on processor asked) past unseen) }
     ensures halts { IfErr result (spec.IsHaltFor None) }
 {
@@ -212,9 +212,9 @@ pub(crate) fn last_pieces(
 ) -> Result<Last, Halt>
     requires { IsPlainLook pass.old shown.now }
     ensures made { (asked : asking.Asked) (past : List trace.Said) (boundary : ℕ) → IsAtBehind asked past boundary pass.old → IsShown asked past boundary shown.now
-        → spec.NoneBefore boundary (spec.cuts_of processors.now None) → IfOk result (spec.AreLast asked strict past processors.now) }
+        → spec.NoneEndsBefore boundary (spec.cuts_of processors.now None) → IfOk result (spec.AreLast asked strict past processors.now) }
     ensures halts { (asked : asking.Asked) (past : List trace.Said) (boundary : ℕ) → IsAtBehind asked past boundary pass.old → IsShown asked past boundary shown.now
-        → spec.NoneBefore boundary (spec.cuts_of processors.now None) → IfErr result (spec.IsHaltFor (spec.last_at asked strict past processors.now).halt) }
+        → spec.NoneEndsBefore boundary (spec.cuts_of processors.now None) → IfErr result (spec.IsHaltFor (spec.last_at asked strict past processors.now).halt) }
 {
     let mut text = Vec::new(alloc);
     let mut has_job = false;
@@ -249,7 +249,7 @@ fn last_on(
 /// What changes a part of one of these changes one of this.
 pub(crate) fn latest_of(processors: &[Processor], unseen: Option<Cut>) -> Cut
     ensures latest { spec.IsLatest (spec.cuts_of processors.now unseen) result }
-    ensures last { (time : ℕ) → spec.NoneBefore time (spec.cuts_of processors.now unseen) → 1 ≤ length (spec.cuts_of processors.now unseen) → time ≤ result.boundary }
+    ensures last { (time : ℕ) → spec.NoneEndsBefore time (spec.cuts_of processors.now unseen) → 1 ≤ length (spec.cuts_of processors.now unseen) → time ≤ result.boundary }
 {
     let mut latest = unseen.unwrap_or(NO_CUT);
     for one in processors {
@@ -260,9 +260,9 @@ pub(crate) fn latest_of(processors: &[Processor], unseen: Option<Cut>) -> Cut
 
 /// The first boundary of these, or else this time.
 pub(crate) fn least_boundary(processors: &[Processor], unseen: Option<Cut>, latest: u64) -> u64
-    ensures least { spec.NoneBefore result (spec.cuts_of processors.now unseen) }
+    ensures least { spec.NoneEndsBefore result (spec.cuts_of processors.now unseen) }
     ensures before { result ≤ latest }
-    ensures first { (time : ℕ) → spec.NoneBefore time (spec.cuts_of processors.now unseen) → time ≤ latest → time ≤ result }
+    ensures first { (time : ℕ) → spec.NoneEndsBefore time (spec.cuts_of processors.now unseen) → time ≤ latest → time ≤ result }
 {
     let mut least = boundary_before(unseen, latest);
     for one in processors {

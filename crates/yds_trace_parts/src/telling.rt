@@ -71,13 +71,26 @@ impl Telling {
         ensures halts { (asked : asking.Asked) (strict : Bool) (past : List trace.Said) → IsTelling asked strict past self.old → number ≡ length past + 1
             → IfErr result (IsHaltFor (told_after asked strict (said_read said.entry ∷ past)).halt) }
     {
-        let told = processor_of(&said);
-        take_line(alloc, &mut self.pass, self.latest, number, said)?;
-        grow(&mut self.processors, self.unseen, told)?;
+        self.take_said(alloc, number, said)?;
         if !looks(&self.pass, number) {
             return Ok(Vec::new(alloc));
         }
         self.write(alloc, number)
+    }
+
+    /// Takes what the line of this number says, and all processors up to the one of which it tells.
+    fn take_said(&mut self, alloc: Global, number: u64, said: Said<'_>) -> Result<(), Halt>
+        requires { HasRoom (told_to_forget self.old.pass) self.old.pass }
+        ensures plain { OnOk result (IsPlainPass (told_to_forget self.new.pass) self.new.pass) }
+        ensures taken { (asked : asking.Asked) (strict : Bool) (past : List trace.Said) → IsTelling asked strict past self.old → number ≡ length past + 1
+            → OnOk result (IsTaken asked strict past (said_read said.entry) self.new) }
+        ensures halts { (asked : asking.Asked) (strict : Bool) (past : List trace.Said) → IsTelling asked strict past self.old → number ≡ length past + 1
+            → IfErr result (IsHaltFor (told_after asked strict (said_read said.entry ∷ past)).halt) }
+    {
+        let told = processor_of(&said);
+        take_line(alloc, &mut self.pass, self.latest, number, said)?;
+        grow(&mut self.processors, self.unseen, told)?;
+        Ok(())
     }
 
     /// Writes the parts that are whole behind the line of this number, where it is looked for parts. It gives their texts.

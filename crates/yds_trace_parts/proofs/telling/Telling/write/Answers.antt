@@ -4,7 +4,7 @@ use Rattle.yds_trace.specs.Kept.{IsAtBehind, told_to_forget}
 use Rattle.yds_trace.specs.Shown.{IsShown}
 use Rattle.yds_trace.proofs.OnProcessor.{shown_on}
 use Rattle.yds_trace_parts.specs.declared.processors.Processor.{Processor}
-use Rattle.yds_trace_parts.specs.Telling.{IsHaltFor, IsTurned, pieces_at, ArePieces, NoneBefore, cuts_of, IsLatest}
+use Rattle.yds_trace_parts.specs.Telling.{IsHaltFor, IsTurned, pieces_at, ArePieces, NoneEndsBefore, cuts_of, IsLatest}
 use Rattle.yds_trace_parts.proofs.Behind.{of_told, of_unseen, behind_line}
 use Rattle.yds_trace_parts.proofs.Parting.{memory_halts}
 use Rattle.yds_trace_parts.proofs.Plain.{look_shown, look_moved}
@@ -33,8 +33,8 @@ returns-in_err-pieces-clause-halts c = λ asked strict past said is many due.
     let told = err_from_is_err_and c.from_residual-in_err-pieces.result c.from_residual-in_err-pieces.ensures.1 in
     let time = told_to_forget c.args.self.now.pass in
     let shown : IsShown asked (said ∷ past) time c.in_ok-shown.shown = c.in_ok-shown.ensures asked (said ∷ past) time is.stands in
-    let none : NoneBefore time (cuts_of c.deref.result.now None) =
-    subst (λ (ones : List Processor). NoneBefore time (cuts_of ones None)) (sym c.deref.ensures.value)
+    let none : NoneEndsBefore time (cuts_of c.deref.result.now None) =
+    subst (λ (ones : List Processor). NoneEndsBefore time (cuts_of ones None)) (sym c.deref.ensures.value)
     (of_told time c.args.self.now.processors.items c.args.self.now.unseen is.is_written.later.1) in
     rw (told.1, told.2) (pieces_halted asked strict past said c.args.self.now _ is
     (subst (λ (ones : List Processor). IsHaltFor (pieces_at asked c.args.self.now.strict (said ∷ past) ones).halt c.in_err-pieces.field-0.0) c.deref.ensures.value
@@ -49,8 +49,8 @@ pub returns-clause-adds : goal.returns-clause-adds
 returns-clause-adds c = λ asked strict past said is many due.
     let time = told_to_forget c.args.self.now.pass in
     let shown : IsShown asked (said ∷ past) time c.in_ok-shown.shown = c.in_ok-shown.ensures asked (said ∷ past) time is.stands in
-    let none : NoneBefore time (cuts_of c.deref.result.now None) =
-    subst (λ (ones : List Processor). NoneBefore time (cuts_of ones None)) (sym c.deref.ensures.value)
+    let none : NoneEndsBefore time (cuts_of c.deref.result.now None) =
+    subst (λ (ones : List Processor). NoneEndsBefore time (cuts_of ones None)) (sym c.deref.ensures.value)
     (of_told time c.args.self.now.processors.items c.args.self.now.unseen is.is_written.later.1) in
     let made : ArePieces asked c.args.self.now.strict (said ∷ past) c.args.self.now.processors.items c.in_ok-pieces.pieces =
     subst (λ (ones : List Processor). ArePieces asked c.args.self.now.strict (said ∷ past) ones c.in_ok-pieces.pieces) c.deref.ensures.value
@@ -61,8 +61,8 @@ pub returns-clause-told : goal.returns-clause-told
 returns-clause-told c = λ asked strict past said is many due.
     let time = told_to_forget c.args.self.now.pass in
     let shown : IsShown asked (said ∷ past) time c.in_ok-shown.shown = c.in_ok-shown.ensures asked (said ∷ past) time is.stands in
-    let none : NoneBefore time (cuts_of c.deref.result.now None) =
-    subst (λ (ones : List Processor). NoneBefore time (cuts_of ones None)) (sym c.deref.ensures.value)
+    let none : NoneEndsBefore time (cuts_of c.deref.result.now None) =
+    subst (λ (ones : List Processor). NoneEndsBefore time (cuts_of ones None)) (sym c.deref.ensures.value)
     (of_told time c.args.self.now.processors.items c.args.self.now.unseen is.is_written.later.1) in
     let made : ArePieces asked c.args.self.now.strict (said ∷ past) c.args.self.now.processors.items c.in_ok-pieces.pieces =
     subst (λ (ones : List Processor). ArePieces asked c.args.self.now.strict (said ∷ past) ones c.in_ok-pieces.pieces) c.deref.ensures.value
