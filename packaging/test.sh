@@ -220,12 +220,13 @@ try_wheel() {
 	name="the wheel alone"
 	[ "$1" = pip ] || name="the wheel beside the manual's packages"
 	places /home/reader/yds
+	log=wheel-$1.log
 	shift
 	try "$suite: $name: install as the manual says" as_manual_says "$@"
 	try "$suite: $name: rows" rows "$root" "$bin/yds_cli"
 	try "$suite: $name: the first example" user /srv/tests/first-example
 	try "$suite: $name: manual pages" pages_of_man
-	try "$suite: $name: README's and the manual's commands" type_pages "wheel$1.log" "$(hour)"
+	try "$suite: $name: README's and the manual's commands" type_pages "$log" "$(hour)"
 	try "$suite: $name: a page to send on" a_page
 	try "$suite: $name: remove" no_wheel
 }
