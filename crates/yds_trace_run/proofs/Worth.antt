@@ -1,5 +1,5 @@
 -- What was written names each late job, is read again, and is faithful to the trace, in one document or in parts.
-use Rattle.yds_model.proofs.Common.{◌≡◌, ℕ, inl, inr, List, length, get_or, All, Bool, Option, Some, None, Ok, refl, sym, subst, ◌≢◌, ◌≤◌, true, false, nat_lt, if◌then◌else◌, ltb-false, and_parts, AllPairs, is_name}
+use Rattle.yds_model.proofs.Common.{◌≡◌, ℕ, inl, inr, List, length, get_or, All, Bool, Option, Some, None, Ok, refl, sym, subst, ◌∙◌, ◌≢◌, ◌≤◌, true, false, nat_lt, if◌then◌else◌, ltb-false, and_parts, AllPairs, is_name}
 use Rattle.std.specs.Prelude.{IfSome}
 use Rattle.std.specs.Io.KnownBytes.{Appends}
 use Rattle.yds_model.specs.declared.status.Status.{Status}
