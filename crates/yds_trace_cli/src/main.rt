@@ -99,13 +99,7 @@ fn run_words(rt: &HostRuntime) -> io::Result<Status> {
     let mut source = StdSource::new(rt.stdin());
     let mut sink = SmallWrites::new(StdSink::new(output));
     let keys = drawn_keys(rt)?;
-    Ok(run(
-        rt.alloc(),
-        keys,
-        words_of(&line),
-        &mut source,
-        &mut sink,
-    ))
+    Ok(run(rt.alloc(), keys, words_of(&line), &mut source, &mut sink))
 }
 
 /// The keys that threads are looked up with, drawn anew in each run, so that nobody can choose threads that are slow to look up.

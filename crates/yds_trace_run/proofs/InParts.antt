@@ -75,8 +75,7 @@ both_put asked strict one more text None later None first second goes_on = joine
 may_stand : (asked : Asked) (strict : Bool) (past : List Said) (cut : Cut) (until : Option ℕ) → part_halt asked strict past cut until ≡ None
     → MayStand asked strict (made asked past cut until)
 may_stand asked strict past cut until none =
-    let parts = no_fault (of_document (next_number cut) (part_limit_fault asked strict cut (part_of asked past cut until))) (of_text (next_number cut) (part_text asked past cut until)) none in
-    (
+    let parts = no_fault (of_document (next_number cut) (part_limit_fault asked strict cut (part_of asked past cut until))) (of_text (next_number cut) (part_text asked past cut until)) none in (
       no_limit (next_number cut) (part_limit_fault asked strict cut (part_of asked past cut until)) parts.0,
       not_long (next_number cut) (part_text asked past cut until) parts.1,
     )

@@ -100,7 +100,8 @@ fn reason_text(reason: Reason) -> &'static str
         Reason::Needless => "it has no value; leave out the equals sign and what is behind it",
         Reason::NoValue => "its value is missing; write it behind",
         Reason::Twice => "given twice; give it once",
-        Reason::Processor => "no number of a processor; write a whole number from 0 to 8191, or all",
+        Reason::Processor =>
+            "no number of a processor; write a whole number from 0 to 8191, or all",
         Reason::Unit => "no unit of time; write whole microseconds from 1 to 1000000000",
         Reason::Speed => "no speed; write whole kilohertz from 1 to 4294967295",
         Reason::Time => {
