@@ -4,8 +4,7 @@
 #   make trace      proves what the reader of kernel traces is made of, and builds build/yds_trace
 #   make try        runs the program on DOCUMENT with the words of COMMAND, unproved, after a minute or two
 #   make run        plans the document EXAMPLE with the program unproved, says so, proves what it is made of, builds it, and plans it again
-#   make test       the gate: every proof, test, refused edit and stored run, and the checks that checks/gate.py lists, with the programs and the
-#                   library that it has proved
+#   make test       the gate: every proof, test, refused edit and stored run, and the checks that checks/gate.py lists
 #   make built      fills build with the programs and the library, over what `rt ci` has proved here, within some minutes
 #   make tools-check    the tests of the commands that need Python's own library alone; the gate has them, too
 #   make tools-test     their other tests, which need matplotlib, mypy, pytest and others: what isn't there is left out, and named
@@ -41,8 +40,8 @@
 #                       needs root and debootstrap
 #   make clean      removes what was built
 #
-# faults, fuzz, costly, library and bench-library need a C compiler (Debian: gcc and libc6-dev), bench, test and library-test also one for C++ (g++),
-# and library-test pkg-config and python3-venv.
+# faults, fuzz, costly, library and bench-library need a C compiler (Debian: gcc and libc6-dev), bench and library-test also one for C++ (g++), and
+# library-test pkg-config and python3-venv.
 # JOBS crates are proved side by side, each in up to 2 GB of memory. With LINK=dynamic the program is the toolchain's own, which needs glibc.
 
 SHELL := /bin/bash
