@@ -43,6 +43,10 @@ pub record Asked : Type 0 where
   pub in_parts : Bool
   -- each processor has documents of its own
   pub everywhere : Bool
+  -- of a job that ran on several processors, the documents of each have what it ran there
+  pub moved_parts : Bool
+  -- of this processor it is told who else had it while a job waited
+  pub others : Option ℕ
 
 -- the same, asked of this processor
 abbrev pub on : ℕ → Asked → Asked

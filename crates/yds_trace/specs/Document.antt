@@ -1,5 +1,5 @@
 -- The document of one processor: which jobs of the tasks it has, with their windows, works and runs, and which are left out.
-use Rattle.std.specs.Prelude.{ℕ, zero, suc, ◌+◌, List, [], ◌∷◌, ◌++◌, map, reverse, max, min, codes, decimal, Bool, true, false, not, ◌==◌, ◌&&◌, ◌||◌, nat_le, nat_lt, if◌then◌else◌, Option, Some, None, is_some, is_none}
+use Rattle.std.specs.Prelude.{ℕ, zero, suc, ◌+◌, List, [], ◌∷◌, ◌++◌, map, filter, reverse, max, min, codes, decimal, Bool, true, false, not, ◌==◌, ◌&&◌, ◌||◌, nat_le, nat_lt, if◌then◌else◌, Option, Some, None, is_some, is_none}
 use Rattle.std.specs.List.{list_any, flat_map, filter_map, enumerate_from}
 use Rattle.yds_kernel.specs.Event.{Said}
 use Rattle.yds_trace.specs.declared.job.End.{End}
@@ -40,6 +40,10 @@ is_lost last _ = false
 abbrev pub is_elsewhere : ℕ → Stretch → Bool
 is_elsewhere processor stretch = not (stretch.processor == processor)
 
+-- The job has run on this processor.
+abbrev pub has_run_on : ℕ → Job → Bool
+has_run_on processor job = list_any (λ stretch. stretch.processor == processor) job.stretches
+
 abbrev pub is_of_unknown_speed : Stretch → Bool
 is_of_unknown_speed stretch = nat_lt stretch.from stretch.to && is_none stretch.khz
 
@@ -59,6 +63,24 @@ reason_of asked past task job =
     else (if list_any (is_elsewhere asked.processor) job.stretches then Some reasons.Moved
     else (if list_any is_of_unknown_speed job.stretches then Some reasons.SpeedUnknown else None))))))
 
+-- # Jobs that moved
+
+-- It ran on this processor, and on another one.
+abbrev pub is_shared_by : ℕ → Job → Bool
+is_shared_by processor job = has_run_on processor job && list_any (is_elsewhere processor) job.stretches
+
+-- what it ran on this processor, in the window of the whole job
+abbrev pub share_on : ℕ → Job → Job
+share_on processor job = record job { stretches = filter (λ stretch. stretch.processor == processor) job.stretches; shared = true }
+
+-- the job as the documents of the processor that is asked for have it
+abbrev pub share_of : Asked → Job → Job
+share_of asked job = if asked.moved_parts && is_shared_by asked.processor job then share_on asked.processor job else job
+
+-- a task's jobs so, in order of their begins
+abbrev pub shares_of : Asked → List Said → ℕ → List Job
+shares_of asked past number = map (share_of asked) (jobs_of asked past number)
+
 -- # Names
 
 -- The k-th job of a task is LABEL.k, counted from 0. Where its first began before the trace, that is LABEL.before, and the next one is LABEL.0.
@@ -77,6 +99,8 @@ began_before (job ∷ jobs) = not job.begin_known
 pub record Judged : Type 0 where
   pub task : ℕ
   pub name : List ℕ
+  -- of a job that moved and is told in parts: this one is what it ran on this processor
+  pub part : Option ℕ
   pub job : Job
   -- nanoseconds
   pub due : ℕ
@@ -87,6 +111,7 @@ abbrev pub judged : Asked → List Said → ℕ → Bool → ℕ × Job → Judg
 judged asked past number before numbered = record {
   task = number;
   name = named (task_at asked number).label before numbered.0;
+  part = if numbered.1.shared then Some asked.processor else None;
   job = numbered.1;
   due = due (task_at asked number) numbered.1;
   late = lateness asked (task_at asked number) (last_asked asked past) numbered.1;
@@ -95,7 +120,7 @@ judged asked past number before numbered = record {
 
 abbrev pub judged_of : Asked → List Said → ℕ → List Judged
 judged_of asked past number =
-    map (judged asked past number (began_before (jobs_of asked past number))) (enumerate_from 0 (jobs_of asked past number))
+    map (judged asked past number (began_before (jobs_of asked past number))) (enumerate_from 0 (shares_of asked past number))
 
 -- these tasks', from this number on
 abbrev pub judged_from : Asked → List Said → ℕ → List Task → List Judged
@@ -169,10 +194,18 @@ is_hidden units judged =
 abbrev pub owed : Units → Judged → ℕ
 owed units judged = if is_some judged.late && is_hidden units judged then 1 else 0
 
+-- Of a job that moved, what it ran on processor P is called NAME@P.
+abbrev pub name_in_parts : List ℕ → Option ℕ → List ℕ
+name_in_parts name None = name
+name_in_parts name (Some processor) = name ++ codes "@" ++ decimal processor
+
+abbrev pub written_name : Judged → List ℕ
+written_name judged = name_in_parts judged.name judged.part
+
 -- a job as it stands
 abbrev pub with_runs : Units → Judged → Written
 with_runs units judged = record {
-  name = judged.name;
+  name = written_name judged;
   release = written_time units judged.job.begin;
   deadline = written_time units judged.due;
   work = work_of_runs (written_runs units judged.job) + owed units judged;
@@ -185,7 +218,7 @@ release_without_runs units job = if job.begin_known then written_time units job.
 
 abbrev pub without_runs : Units → Judged → Written
 without_runs units judged = record {
-  name = judged.name;
+  name = written_name judged;
   release = release_without_runs units judged.job;
   deadline = max (release_without_runs units judged.job + 1) (written_time units judged.due);
   work = 1;

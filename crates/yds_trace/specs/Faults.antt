@@ -11,6 +11,7 @@ use Rattle.yds_trace.specs.declared.fault.Cause.TheVariants as causes
 use Rattle.yds_trace.specs.Asked.{Task, Asked, task_of, is_number, is_numbered, is_named, is_before_to, is_within_to, is_behind_from}
 use Rattle.yds_trace.specs.Past.{last_time, lost_since, is_loss, is_first_switch, up_to}
 use Rattle.yds_trace.specs.Jobs.{stands_on, known_after}
+use Rattle.yds_trace.specs.Others.{any_waits}
 
 -- # Which thread a task is
 
@@ -90,8 +91,10 @@ runs_on asked past processor number [] = false
 runs_on asked past processor number (task ∷ tasks) =
     stands_on processor (known_after asked number past).on || runs_on asked past processor (number + 1) tasks
 
+-- Where it is told who was in the way, each switch tells of them while a job waits.
 abbrev pub touches : Asked → List Said → Happening → Bool
-touches asked past (Switch previous state next) = is_some (task_of asked.tasks previous) || is_some (task_of asked.tasks next)
+touches asked past (Switch previous state next) =
+    is_some (task_of asked.tasks previous) || is_some (task_of asked.tasks next) || (is_some asked.others && any_waits asked past)
 touches asked past (WakeUp thread) = is_some (task_of asked.tasks thread)
 touches asked past (Speed processor khz) = runs_on asked past processor 0 asked.tasks
 touches asked past _ = false

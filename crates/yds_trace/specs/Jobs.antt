@@ -27,6 +27,8 @@ pub record Job : Type 0 where
   pub wake_ups : ℕ
   -- a switch of its thread is missing, so not all that it ran is known
   pub switch_missing : Bool
+  -- it ran on several processors, and these are its stretches on one of them
+  pub shared : Bool
 
 -- what is known of a task's thread after some lines
 pub record Known : Type 0 where
@@ -44,7 +46,7 @@ unknown = record { jobs = []; on = None; woken = false }
 
 abbrev pub new_job : ℕ → Bool → Job
 new_job time certain =
-    record { begin = time; begin_known = certain; end = ends.Open; stretches = []; wake_ups = 0; switch_missing = false }
+    record { begin = time; begin_known = certain; end = ends.Open; stretches = []; wake_ups = 0; switch_missing = false; shared = false }
 
 abbrev pub began : ℕ → Bool → List Job → List Job
 began time certain jobs = new_job time certain ∷ jobs

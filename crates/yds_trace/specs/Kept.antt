@@ -1,5 +1,5 @@
 -- What a pass keeps of the lines so far, and when that stands for them.
-use Rattle.std.specs.Prelude.{◌≡◌, ℕ, ◌<◌, ◌≤◌, List, [], ◌∷◌, ◌++◌, length, reverse, Bool, false, Option, None, unwrap_or, is_some, vec_len}
+use Rattle.std.specs.Prelude.{◌≡◌, ℕ, ◌<◌, ◌≤◌, List, [], ◌∷◌, ◌++◌, map, length, reverse, Bool, false, Option, Some, None, option_map, unwrap_or, is_some, vec_len}
 use Rattle.std.specs.List.{slice_index_or, All}
 use Rattle.yds_kernel.specs.Event.{Said}
 use Rattle.yds_kernel.specs.Parts.{capped}
@@ -10,14 +10,16 @@ use Rattle.yds_trace.specs.declared.past.Past.{Past as PastKept}
 use Rattle.yds_trace.specs.declared.followed.Followed.{Followed}
 use Rattle.yds_trace.specs.declared.counted.Counted.{Counted}
 use Rattle.yds_trace.specs.declared.lines.Lines.{Lines}
+use Rattle.yds_trace.specs.declared.others.Others.{Others as OthersKept}
 use Rattle.yds_trace.specs.declared.pass.Pass.{Pass}
 use Rattle.yds_trace.specs.Asked.{Asked}
 use Rattle.yds_trace.specs.Past.{first_time, last_time, last_time_on, whole_since, has_switched, up_to, speed_after}
 use Rattle.yds_trace.specs.Jobs.{Job, Known, known_after}
 use Rattle.yds_trace.specs.Document.{began_before}
 use Rattle.yds_trace.specs.Faults.{pid_before, lost_just_before, touched, has_stamp, has_wake_up}
+use Rattle.yds_trace.specs.Others.{Span, who_has, shortened, other_of, spans_after, others_from}
 use Rattle.yds_trace.specs.Parts.{waiting_from, stretches_of}
-use Rattle.yds_trace.specs.Views.{jobs_listed, known_read, asked_read}
+use Rattle.yds_trace.specs.Views.{jobs_listed, known_read, asked_read, another_read, going_read, span_read}
 
 -- # Lines
 
@@ -61,11 +63,25 @@ pub record IsFollowed (asked : Asked) (counting : List Said) (boundary number : 
   pub are_forgotten : AreForgotten boundary forgotten followed.forgotten followed.before
   pub pid : followed.pid ≡ pid_before asked number counting
 
+-- What is kept of who was in the way on this processor. The first spans may be forgotten that end at the boundary or before it.
+pub record AreOthers (asked : Asked) (counting : List Said) (boundary processor : ℕ) (kept : OthersKept) : Type 0 where
+  pub holder : option_map another_read kept.holder ≡ option_map shortened (other_of asked.tasks (who_has processor counting))
+  pub going : option_map going_read kept.going ≡ (spans_after asked processor counting).going
+  -- in order of time
+  pub forgotten : List Span
+  pub spans : reverse (spans_after asked processor counting).ended ≡ forgotten ++ map span_read kept.spans.items
+  pub earlier : All (λ span. span.to ≤ boundary) forgotten
+
+-- where it is asked for
+abbrev pub AreOthersOf : Asked → List Said → ℕ → OthersKept → Type 0
+AreOthersOf asked counting boundary kept = elim asked.others [ None ↦ Unit {0} | Some processor ↦ AreOthers asked counting boundary processor kept ]
+
 pub record IsCounted (asked : Asked) (counting : List Said) (counted : Counted) : Type 0 where
   pub times : IsPast asked.start counting counted.past
   pub as_many : vec_len counted.tasks ≡ length asked.tasks
   pub tasks : (number : ℕ) (default : Followed) → number < length asked.tasks →
       IsFollowed asked counting counted.boundary number (slice_index_or counted.tasks.items number default)
+  pub others : AreOthersOf asked counting counted.boundary counted.others
   -- told in parts they aren't counted
   pub touched : asked.in_parts ≡ false → counted.touched ≡ touched asked counting
   pub few : counted.touched ≤ MAX_TOUCHES
@@ -104,7 +120,8 @@ told_to_forget pass = pass.counted.boundary
 
 -- # How much waits
 
--- At most so many jobs and stretches wait. Beyond 64 bits neither is counted.
+-- At most so many jobs, stretches and spans wait. Beyond 64 bits none is counted.
 pub record IsEnough (asked : Asked) (past : List Said) (boundary : ℕ) (amount : Amount) : Type 0 where
   pub jobs : capped (length (waiting_from asked past boundary)) ≤ amount.jobs
   pub stretches : capped (stretches_of (waiting_from asked past boundary)) ≤ amount.stretches
+  pub others : capped (length (others_from asked past boundary)) ≤ amount.others

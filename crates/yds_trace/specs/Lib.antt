@@ -1,6 +1,7 @@
 pub mod Asked
 pub mod Past
 pub mod Jobs
+pub mod Others
 pub mod Late
 pub mod WrittenTime
 pub mod Document

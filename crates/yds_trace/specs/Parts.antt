@@ -12,19 +12,16 @@ use Rattle.yds_trace.specs.declared.fault.Cause.{Cause}
 use Rattle.yds_trace.specs.declared.fault.Cause.TheVariants as causes
 use Rattle.yds_trace.specs.declared.job.End.{End}
 use Rattle.yds_trace.specs.declared.job.End.TheVariants as ends
-use Rattle.yds_trace.specs.declared.limits.TheConstants.{LOOK_EVERY, PART_JOBS, PART_STRETCHES, WAITING_JOBS, WAITING_STRETCHES}
+use Rattle.yds_trace.specs.declared.limits.TheConstants.{LOOK_EVERY, PART_JOBS, PART_STRETCHES, PART_OTHERS, WAITING_JOBS, WAITING_STRETCHES, WAITING_OTHERS}
 use Rattle.yds_trace.specs.Asked.{Asked, task_at, task_of, on}
 use Rattle.yds_trace.specs.Past.{last_time, lost_since, is_loss, whole_since, has_switched, up_to}
 use Rattle.yds_trace.specs.Jobs.{Job, known_after}
 use Rattle.yds_trace.specs.Late.{last_asked}
-use Rattle.yds_trace.specs.Document.{Judged, all_judged, stands}
+use Rattle.yds_trace.specs.Document.{Judged, all_judged, has_run_on, stands}
 use Rattle.yds_trace.specs.Faults.{has_wake_up}
+use Rattle.yds_trace.specs.Others.{Span, others_from}
 
 -- # Which jobs a document has
-
--- The job has run on this processor.
-abbrev pub has_run_on : ℕ → Job → Bool
-has_run_on processor job = list_any (λ stretch. stretch.processor == processor) job.stretches
 
 -- Where each processor has documents of its own, they have the jobs that ran on it, and those of processor 0 also the jobs that ran on none.
 abbrev pub belongs : Asked → Judged → Bool
@@ -83,9 +80,13 @@ is_done_by asked past time judged = is_settled asked past judged && (not (stands
 abbrev pub is_written : Judged → Bool
 is_written judged = stands judged || is_some judged.late
 
+-- the job is to be written here
+abbrev pub is_own : Asked → Judged → Bool
+is_own asked judged = belongs asked judged && is_written judged
+
 -- Its window, if it is written here, is over by this time.
 abbrev pub is_closed_by : Asked → ℕ → Judged → Bool
-is_closed_by asked time judged = not (belongs asked judged && is_written judged) || nat_le judged.due time
+is_closed_by asked time judged = not (is_own asked judged) || nat_le judged.due time
 
 -- the test holds for each of these jobs that begins before this time
 abbrev pub each_before : (Judged → Bool) → ℕ → List Judged → Bool
@@ -99,9 +100,14 @@ has_job asked time jobs = list_any (λ judged. begins_before time judged && (ask
 abbrev pub is_quiet : Asked → List Said → List Judged → ℕ → Bool
 is_quiet asked past waiting time = has_job asked time waiting && each_before (is_done_by asked past time) time waiting
 
+-- Of the jobs that are to be written here, one begins before this time, or there is none.
+abbrev pub has_own_job : Asked → ℕ → List Judged → Bool
+has_own_job asked time waiting = list_any (λ judged. begins_before time judged && is_own asked judged) waiting || not (list_any (is_own asked) waiting)
+
 -- and no window is open
 abbrev pub is_closed : Asked → List Said → List Judged → ℕ → Bool
-is_closed asked past waiting time = is_quiet asked past waiting time && each_before (is_closed_by asked time) time waiting
+is_closed asked past waiting time =
+    is_quiet asked past waiting time && has_own_job asked time waiting && each_before (is_closed_by asked time) time waiting
 
 -- the last of these times for which the test holds
 abbrev pub last_where : (ℕ → Bool) → List ℕ → Option ℕ
@@ -118,13 +124,15 @@ place_among asked past waiting =
 abbrev pub stretches_of : List Judged → ℕ
 stretches_of jobs = sum_by (λ judged. length judged.job.stretches) jobs
 
--- so many jobs or stretches that a part is to be written
-abbrev pub is_much : List Judged → Bool
-is_much waiting = nat_lt PART_JOBS (length waiting) || nat_lt PART_STRETCHES (stretches_of waiting)
+-- so many jobs, stretches or spans of other threads that a part is to be written
+abbrev pub is_much : List Judged → List Span → Bool
+is_much waiting others =
+    nat_lt PART_JOBS (length waiting) || nat_lt PART_STRETCHES (stretches_of waiting) || nat_lt PART_OTHERS (length others)
 
 -- more than may wait
-abbrev pub is_too_much : List Judged → Bool
-is_too_much waiting = nat_lt WAITING_JOBS (length waiting) || nat_lt WAITING_STRETCHES (stretches_of waiting)
+abbrev pub is_too_much : List Judged → List Span → Bool
+is_too_much waiting others =
+    nat_lt WAITING_JOBS (length waiting) || nat_lt WAITING_STRETCHES (stretches_of waiting) || nat_lt WAITING_OTHERS (length others)
 
 -- Behind each line of this number it is looked whether a part is to be written.
 abbrev pub is_due : List Said → Bool
@@ -157,7 +165,8 @@ part_until asked past cut until = of_part asked until (waiting asked past cut)
 -- where the part ends that is written behind these lines, if one is
 abbrev pub place_of : Asked → List Said → Cut → Option ℕ
 place_of asked past cut =
-    if is_due past && may_write asked past && is_much (waiting asked past cut) then place_among asked past (waiting asked past cut) else None
+    if is_due past && may_write asked past && is_much (waiting asked past cut) (others_from asked past cut.boundary)
+    then place_among asked past (waiting asked past cut) else None
 
 abbrev pub greatest_due : ℕ → List Judged → ℕ
 greatest_due due [] = due

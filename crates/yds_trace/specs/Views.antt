@@ -6,8 +6,13 @@ use Rattle.yds_trace.specs.declared.asked.Task.{Task as TaskKept}
 use Rattle.yds_trace.specs.declared.asked.Asked.{Asked as AskedKept}
 use Rattle.yds_trace.specs.declared.job.Job.{Job as JobKept}
 use Rattle.yds_trace.specs.declared.known.Known.{Known as KnownKept}
+use Rattle.yds_trace.specs.declared.others.Another.{Another as AnotherKept}
+use Rattle.yds_trace.specs.declared.others.Going.{Going as GoingKept}
+use Rattle.yds_trace.specs.declared.others.Span.{Span as SpanKept}
+use Rattle.yds_kernel.specs.Event.{Thread}
 use Rattle.yds_trace.specs.Asked.{Which, Named, Numbered, Task, Asked}
 use Rattle.yds_trace.specs.Jobs.{Job, Known}
+use Rattle.yds_trace.specs.Others.{Span, Going}
 
 abbrev pub job_read : JobKept → Job
 job_read job = record {
@@ -17,6 +22,7 @@ job_read job = record {
   stretches = reverse job.stretches.items;
   wake_ups = job.wake_ups;
   switch_missing = job.switch_missing;
+  shared = job.shared;
 }
 
 abbrev pub jobs_listed : List JobKept → List Job
@@ -47,4 +53,17 @@ asked_read asked = record {
   cut_losses = asked.cut_losses;
   in_parts = asked.in_parts;
   everywhere = asked.everywhere;
+  moved_parts = asked.moved_parts;
+  others = asked.others;
 }
+
+-- # Who was in the way
+
+abbrev pub span_read : SpanKept → Span
+span_read span = record { name = span.name.items; pid = span.pid; from = span.from; to = span.to }
+
+abbrev pub another_read : AnotherKept → Thread
+another_read thread = record { name = thread.name.items; pid = thread.pid }
+
+abbrev pub going_read : GoingKept → Going
+going_read going = record { name = going.thread.name.items; pid = going.thread.pid; since = going.since }

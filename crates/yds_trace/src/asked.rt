@@ -47,4 +47,8 @@ pub struct Asked {
     pub in_parts: bool,
     /// Whether each processor has documents of its own, and not just `processor`.
     pub everywhere: bool,
+    /// Whether of a job that ran on several processors the documents of each have what it ran there.
+    pub moved_parts: bool,
+    /// Of this processor it is told who else had it while a job waited.
+    pub others: Option<u64>,
 }

@@ -35,6 +35,8 @@ pub(crate) struct Counted {
     pub touched: u64,
     /// A job that begins before this time may be forgotten.
     pub boundary: u64,
+    /// Who was in the way on the processor of which that is told.
+    pub others: Others,
 }
 
 impl Counted {

@@ -23,7 +23,10 @@ pub struct Ended {
     pub asked: Asked,
     /// The jobs of each task in the order of the tasks, each task's in order of their begins. What still has its processor
     /// at the end of what is asked for has had it until then.
+    /// Of a job that moved, where that is asked for, what it ran on the processor that is asked for.
     pub jobs: Vec<Vec<Job>>,
+    /// Who else had a processor while a job waited, in order of time, where that is asked for.
+    pub others: Vec<Span>,
     /// The time of the trace's first line with a stamp, in nanoseconds; 0 where there is none.
     pub first: u64,
     /// The time of its last line with a stamp, in nanoseconds; 0 where there is none.

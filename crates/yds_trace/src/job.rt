@@ -120,6 +120,8 @@ pub struct Job {
     pub wake_ups: u64,
     /// A switch of its thread is missing, so not all that it ran is known.
     pub switch_missing: bool,
+    /// It ran on several processors, and these are its stretches on one of them.
+    pub shared: bool,
 }
 
 impl Job {
@@ -134,6 +136,7 @@ impl Job {
             stretches: Vec::new(alloc),
             wake_ups: 0,
             switch_missing: false,
+            shared: false,
         }
     }
 
@@ -186,6 +189,7 @@ impl Job {
             stretches,
             wake_ups: self.wake_ups,
             switch_missing: self.switch_missing,
+            shared: self.shared,
         })
     }
 }

@@ -19,6 +19,7 @@ mod kept;
 mod known;
 mod limits;
 mod lines;
+mod others;
 mod pass;
 mod past;
 mod places;
@@ -35,9 +36,10 @@ pub use job::{End, Job, Leaving, Standing, Stretch, Turn};
 pub use kept::Kept;
 pub use known::Known;
 pub use limits::{
-    LOOK_EVERY, MAX_DEADLINE, MAX_PROCESSOR, MAX_TIME, MAX_TOUCHES, PART_JOBS, PART_STRETCHES,
-    WAITING_JOBS, WAITING_STRETCHES,
+    LOOK_EVERY, MAX_DEADLINE, MAX_OTHER_NAME, MAX_PROCESSOR, MAX_TIME, MAX_TOUCHES, PART_JOBS,
+    PART_OTHERS, PART_STRETCHES, WAITING_JOBS, WAITING_OTHERS, WAITING_STRETCHES,
 };
+pub use others::Span;
 pub use pass::Pass;
 pub use reason::Reason;
 pub use refused::Refused;

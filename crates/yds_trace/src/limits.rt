@@ -21,8 +21,17 @@ pub const PART_JOBS: u64 = 2_000;
 /// Where more stretches than these wait, a part is written.
 pub const PART_STRETCHES: u64 = 25_000;
 
+/// Where more spans of other threads than these wait, a part is written.
+pub const PART_OTHERS: u64 = 12_500;
+
 /// More jobs than these may not wait: a document has no more.
 pub const WAITING_JOBS: u64 = 4_000;
 
 /// More stretches than these may not wait.
 pub const WAITING_STRETCHES: u64 = 50_000;
+
+/// More spans of other threads than these may not wait.
+pub const WAITING_OTHERS: u64 = 25_000;
+
+/// So many bytes of the name of another thread are kept.
+pub const MAX_OTHER_NAME: usize = 64;

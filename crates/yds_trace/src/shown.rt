@@ -31,6 +31,8 @@ pub struct ShownTask {
 #[derive(Debug, Drop)]
 pub struct Shown {
     pub tasks: Vec<ShownTask>,
+    /// Who else had a processor while a job waited, in order of time, where that is asked for. The first may be forgotten.
+    pub others: Vec<Span>,
     /// The time of the trace's first line with a stamp, in nanoseconds; 0 where there is none.
     pub first: u64,
     /// The time of its last line with a stamp, in nanoseconds; 0 where there is none.

@@ -9,6 +9,7 @@ use Rattle.yds_trace.specs.declared.cut.Cut.{Cut}
 use Rattle.yds_trace.specs.Faults.{first_fault}
 use Rattle.yds_trace.specs.WrittenTime.{Units}
 use Rattle.yds_trace.specs.Document.{Judged, all_judged}
+use Rattle.yds_trace.specs.Others.{Span}
 use Rattle.yds_trace_laws.specs.InUnits.{NoneBefore}
 use Rattle.yds_trace_document.specs.Settled.{Settled, settled_of, judged_by_task}
 use Rattle.yds_trace_document.specs.Part.{settled_in, part_of, part_limit_fault}
@@ -24,17 +25,18 @@ pub record AreLabelled (tasks : List Task) : Type 0 where
   pub different : AllPairs (λ task other. task.label ≢ other.label) tasks
 
 -- what is settled of the jobs that pass a test, in units of their own
-abbrev pub settled_where : Asked → List Said → Units → (Judged → Bool) → Settled
-settled_where asked past units test =
-    settled_in units (map (filter test) (judged_by_task asked past 0 asked.tasks)) (filter test (all_judged asked past))
+abbrev pub settled_where : Asked → List Said → Units → (Judged → Bool) → List Span → Settled
+settled_where asked past units test others =
+    settled_in units (map (filter test) (judged_by_task asked past 0 asked.tasks)) (filter test (all_judged asked past)) others
 
 -- The text of some of a trace's jobs is read again as their document, where that passes no limit, and none of them that stands as it is begins
 -- before time 0.
 abbrev pub SomeAreReadAgain : Type 0
-SomeAreReadAgain = (asked : Asked) (strict : Bool) (past : List Said) (units : Units) (test : Judged → Bool) →
+SomeAreReadAgain = (asked : Asked) (strict : Bool) (past : List Said) (units : Units) (test : Judged → Bool) (others : List Span) →
     IsAsked asked → AreLabelled asked.tasks → units.time ≡ asked.unit → NoneBefore units (filter test (all_judged asked past)) →
-    limit_fault strict (settled_where asked past units test) ≡ None → length (settled_text asked (settled_where asked past units test)) ≤ MAX_INPUT →
-    IsReadAs (settled_where asked past units test).document (settled_text asked (settled_where asked past units test))
+    limit_fault strict (settled_where asked past units test others) ≡ None →
+    length (settled_text asked (settled_where asked past units test others)) ≤ MAX_INPUT →
+    IsReadAs (settled_where asked past units test others).document (settled_text asked (settled_where asked past units test others))
 
 -- The text of a trace's document that passes no limit is read again.
 abbrev pub ReadAgain : Type 0

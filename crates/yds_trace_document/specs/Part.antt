@@ -1,5 +1,5 @@
 -- What is settled of the jobs of a part: as that of a document, with times of its own.
-use Rattle.std.specs.Prelude.{ℕ, ◌+◌, ◌-◌, ◌*◌, ◌/◌, List, [], ◌∷◌, map, filter, length, Bool, ◌==◌, ◌&&◌, ◌||◌, nat_lt, if◌then◌else◌, Option, None, unwrap_or}
+use Rattle.std.specs.Prelude.{ℕ, ◌+◌, ◌-◌, ◌*◌, ◌/◌, List, [], ◌∷◌, map, filter, length, max, Bool, ◌==◌, ◌&&◌, ◌||◌, nat_lt, if◌then◌else◌, Option, None, unwrap_or}
 use Rattle.std.specs.List.{filter_map}
 use Rattle.yds_kernel.specs.Event.{Said}
 use Rattle.yds_trace.specs.Asked.{Task, Asked}
@@ -7,6 +7,7 @@ use Rattle.yds_trace.specs.Past.{first_time}
 use Rattle.yds_trace.specs.WrittenTime.{Units}
 use Rattle.yds_trace.specs.Document.{Judged, judged_of, written_of, all_runs}
 use Rattle.yds_trace.specs.declared.cut.Cut.{Cut}
+use Rattle.yds_trace.specs.Others.{Span, spans_within, others_from}
 use Rattle.yds_trace.specs.Parts.{begins_from, of_part, part_until}
 use Rattle.yds_trace_document.specs.declared.fault.DocumentFault.{DocumentFault}
 use Rattle.yds_trace_document.specs.Settled.{Settled}
@@ -44,9 +45,14 @@ waiting_by_task asked past cut number (task ∷ tasks) =
 abbrev pub part_by_task : Asked → List Said → Cut → Option ℕ → List (List Judged)
 part_by_task asked past cut until = map (of_part asked until) (waiting_by_task asked past cut 0 asked.tasks)
 
+-- Who else had the processor while a job waited, between the part's time 0, but not before the parts in front of it, and its end.
+abbrev pub others_until : Asked → List Said → Cut → Option ℕ → List Span
+others_until asked past cut until =
+    spans_within (max cut.boundary (part_units asked past (part_until asked past cut until)).zero) until (others_from asked past cut.boundary)
+
 -- these jobs in these units
-abbrev pub settled_in : Units → List (List Judged) → List Judged → Settled
-settled_in units by_task part = record {
+abbrev pub settled_in : Units → List (List Judged) → List Judged → List Span → Settled
+settled_in units by_task part others = record {
   units = units;
   by_task = by_task;
   judged = part;
@@ -54,13 +60,14 @@ settled_in units by_task part = record {
     jobs = filter_map (written_of units) part;
     runs = all_runs (filter_map (written_of units) part);
   };
+  others = others;
 }
 
 -- what is settled of the part that ends at this time, or of the last one
 abbrev pub part_of : Asked → List Said → Cut → Option ℕ → Settled
 part_of asked past cut until =
     settled_in (part_units asked past (part_until asked past cut until)) (part_by_task asked past cut until)
-    (part_until asked past cut until)
+    (part_until asked past cut until) (others_until asked past cut until)
 
 -- # Limits
 

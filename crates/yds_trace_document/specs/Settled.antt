@@ -1,10 +1,11 @@
 -- What a trace makes of the jobs that are asked for: each job judged, and the document of those that are written.
-use Rattle.std.specs.Prelude.{ℕ, ◌+◌, List, [], ◌∷◌, map}
+use Rattle.std.specs.Prelude.{ℕ, ◌+◌, List, [], ◌∷◌, map, None}
 use Rattle.yds_kernel.specs.Event.{Said}
 use Rattle.yds_kernel.specs.Parts.{capped}
 use Rattle.yds_trace.specs.Asked.{Task, Asked}
+use Rattle.yds_trace.specs.Others.{Span, spans_within, others_of}
 use Rattle.yds_trace.specs.WrittenTime.{Units}
-use Rattle.yds_trace.specs.Document.{Judged, judged_of, all_judged, units_of, Written, Document, document_of}
+use Rattle.yds_trace.specs.Document.{Judged, judged_of, all_judged, time_zero, units_of, Written, Document, document_of}
 
 -- the judged jobs of each of these tasks, from this number on
 abbrev pub judged_by_task : Asked → List Said → ℕ → List Task → List (List Judged)
@@ -18,6 +19,8 @@ pub record Settled : Type 0 where
   -- of all tasks, in order of begin
   pub judged : List Judged
   pub document : Document
+  -- who else had the processor while a job waited, from time 0 on
+  pub others : List Span
 
 abbrev pub settled_of : Asked → List Said → Settled
 settled_of asked past = record {
@@ -25,6 +28,7 @@ settled_of asked past = record {
   by_task = judged_by_task asked past 0 asked.tasks;
   judged = all_judged asked past;
   document = document_of asked past;
+  others = spans_within (time_zero asked past) None (others_of asked past);
 }
 
 -- A work beyond 64 bits is kept as the greatest one of 64 bits, which the limits refuse.

@@ -3,10 +3,12 @@ use Rattle.std.specs.Prelude.{ℕ, List, map, reverse, Vec, Option, option_map}
 use Rattle.std.specs.declared.alloc.Global.{Global}
 use Rattle.yds_trace.specs.WrittenTime.{Units, Run}
 use Rattle.yds_trace.specs.Views.{job_read}
-use Rattle.yds_trace.specs.Document.{named, Judged, Written, Placed}
+use Rattle.yds_trace.specs.Others.{Span}
+use Rattle.yds_trace.specs.Document.{named, name_in_parts, Judged, Written, Placed}
 use Rattle.yds_trace_document.specs.declared.units.Units.{Units as UnitsKept}
 use Rattle.yds_trace_document.specs.declared.run.Run.{Run as RunKept}
 use Rattle.yds_trace_document.specs.declared.name.Name.{Name as NameKept}
+use Rattle.yds_trace_document.specs.declared.other.Other.{Other as OtherKept}
 use Rattle.yds_trace_document.specs.declared.judged.Judged.{Judged as JudgedKept}
 use Rattle.yds_trace_document.specs.declared.judge.Within.{Within as WithinKept}
 use Rattle.yds_trace_document.specs.Kept.{Within}
@@ -28,13 +30,18 @@ runs_read runs = map run_read runs
 abbrev pub runs_listed : List RunKept → List Run
 runs_listed runs = reverse (map run_read runs)
 
+-- the job's own name, and the one by which it is written
+abbrev pub base_name : NameKept → List ℕ
+base_name name = named name.label.now name.before name.number
+
 abbrev pub name_read : NameKept → List ℕ
-name_read name = named name.label.now name.before name.number
+name_read name = name_in_parts (base_name name) name.part
 
 abbrev pub judged_read : JudgedKept → Judged
 judged_read judged = record {
   task = judged.task;
-  name = name_read judged.name;
+  name = base_name judged.name;
+  part = judged.name.part;
   job = job_read judged.job.now;
   due = judged.due;
   late = judged.late;
@@ -74,10 +81,14 @@ placed_read placed = record { job = placed.job; run = run_read placed.run }
 abbrev pub placed_list : List PlacedKept → List Placed
 placed_list placed = map placed_read placed
 
+abbrev pub other_read : OtherKept → Span
+other_read other = record { name = other.name.now; pid = other.pid; from = other.from; to = other.to }
+
 abbrev pub settled_read : SettledKept → Settled
 settled_read settled = record {
   units = units_read settled.units;
   by_task = judged_lists settled.by_task.items;
   judged = judged_list settled.judged.items;
   document = record { jobs = written_list settled.jobs.items; runs = placed_list settled.runs.items };
+  others = map other_read settled.others.items;
 }

@@ -18,6 +18,8 @@ pub struct Name<'a> {
     pub before: bool,
     /// Its place among the task's jobs, counted from 0.
     pub number: u64,
+    /// Of a job that moved, where each processor has what it ran there: this processor.
+    pub part: Option<u64>,
 }
 
 impl Name<'_> {

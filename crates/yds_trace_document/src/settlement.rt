@@ -32,6 +32,8 @@ pub struct Settled<'a> {
     pub jobs: Vec<Written<'a>>,
     /// The runs of these, in order of time; those of one time in order of jobs.
     pub runs: Vec<Placed>,
+    /// Who else had the processor while a job waited, from time 0 on, in order of time.
+    pub others: Vec<Other<'a>>,
 }
 
 /// What is settled of the jobs at a trace's end. The only error is want of memory.

@@ -76,6 +76,16 @@ pub fn jobs_are_the_same()
     ensures { JobsAreTheSame }
 {}
 
+/// Of a job that moved, each processor has what it ran there, where that is asked for.
+pub fn shares_are_the_whole()
+    ensures { SharesAreTheWhole }
+{}
+
+/// Where that is asked for, no job is left out for having moved that ran on the processor.
+pub fn none_has_moved()
+    ensures { NoneHasMoved }
+{}
+
 /// Each stretch of a job is on a processor of which a line tells.
 pub fn each_ran_where_told()
     ensures { EachRanWhereTold }

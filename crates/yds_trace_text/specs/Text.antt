@@ -11,8 +11,9 @@ use Rattle.yds_trace.specs.declared.reason.Reason.TheVariants as reasons
 use Rattle.yds_trace.specs.Asked.{Task, Asked}
 use Rattle.yds_trace.specs.Jobs.{Job}
 use Rattle.yds_trace.specs.Late.{is_open}
+use Rattle.yds_trace.specs.Others.{Span}
 use Rattle.yds_trace.specs.WrittenTime.{Units, Run, written_time, is_short, runs_end}
-use Rattle.yds_trace.specs.Document.{Judged, stands, Written, Placed, in_order, written_end, written_runs, is_left_out}
+use Rattle.yds_trace.specs.Document.{Judged, stands, Written, Placed, in_order, written_end, written_name, written_runs, is_left_out}
 use Rattle.yds_trace_document.specs.Settled.{Settled, settled_of}
 
 -- # Numbers
@@ -116,7 +117,7 @@ how_late job = if is_open job.end then codes "not ended " else (if job.begin_kno
 
 abbrev pub without_runs_comment : Units → Judged → ℕ → List ℕ
 without_runs_comment units judged late =
-    comment (codes "late, without its runs: " ∷ judged.name ∷ codes " (" ∷ reason_text judged.reason ∷ codes "), " ∷ how_late judged.job
+    comment (codes "late, without its runs: " ∷ written_name judged ∷ codes " (" ∷ reason_text judged.reason ∷ codes "), " ∷ how_late judged.job
     ∷ behind_deadline late ∷ window_text units judged ∷ [])
 
 -- Of a late job that stands as it is: whether its work or its runs show it. One that ended in its deadline's unit of time is written in time.
@@ -128,7 +129,7 @@ late_kind units judged =
     else codes "late: "))
 
 abbrev pub standing_comment : Units → Judged → ℕ → List ℕ
-standing_comment units judged late = comment (late_kind units judged ∷ judged.name ∷ codes ", " ∷ behind_deadline late ∷ [])
+standing_comment units judged late = comment (late_kind units judged ∷ written_name judged ∷ codes ", " ∷ behind_deadline late ∷ [])
 
 -- just one for each late job
 abbrev pub late_comment : Units → Judged → List ℕ
@@ -157,7 +158,7 @@ abbrev pub begins_comment : Units → Judged → List ℕ
 begins_comment units judged = elim (first_begin (reverse judged.job.stretches)) [
   | None ↦ []
   | Some begin ↦ if begin_later (written_time units begin) (written_runs units judged.job)
-      then end_comment (codes "begins: ") judged.name (written_time units begin) else []
+      then end_comment (codes "begins: ") (written_name judged) (written_time units begin) else []
 ]
 
 -- the runs end before this, or there is none
@@ -175,7 +176,7 @@ abbrev pub ends_comment : Units → Judged → List ℕ
 ends_comment units judged =
     if not (is_open judged.job.end) && not (end_is_told units judged)
     && end_earlier (written_end units judged.job.end) (written_runs units judged.job)
-    then end_comment (codes "ends: ") judged.name (written_end units judged.job.end) else []
+    then end_comment (codes "ends: ") (written_name judged) (written_end units judged.job.end) else []
 
 -- of a job that stands as it is
 abbrev pub shown_comments : Units → Judged → List ℕ
@@ -207,11 +208,11 @@ is_left_out_for reason judged = is_left_out judged && is_for reason judged.reaso
 
 abbrev pub first_name : List Judged → List ℕ
 first_name [] = []
-first_name (judged ∷ more) = judged.name
+first_name (judged ∷ more) = written_name judged
 
 abbrev pub last_name : List Judged → List ℕ
 last_name [] = []
-last_name (judged ∷ []) = judged.name
+last_name (judged ∷ []) = written_name judged
 last_name (judged ∷ next ∷ more) = last_name (next ∷ more)
 
 -- the jobs of one task that are left out for one reason: how many, and the names of the first and the last
@@ -299,7 +300,7 @@ wake_ups_of judged = if stands judged then judged.job.wake_ups else 0
 abbrev pub most_woken : List Judged → ℕ → List ℕ → ℕ × List ℕ
 most_woken [] most name = (most, name)
 most_woken (judged ∷ more) most name =
-    if nat_lt most (wake_ups_of judged) then most_woken more (wake_ups_of judged) judged.name else most_woken more most name
+    if nat_lt most (wake_ups_of judged) then most_woken more (wake_ups_of judged) (written_name judged) else most_woken more most name
 
 abbrev pub woken_comment : ℕ → ℕ × List ℕ → List ℕ
 woken_comment all most =
@@ -358,6 +359,20 @@ task_unit_comments (task, judged) = unit_comments task judged
 abbrev pub all_unit_comments : List Task → List (List Judged) → List ℕ
 all_unit_comments tasks by_task = flat_map task_unit_comments (zip tasks by_task)
 
+-- # Who else had the processor
+
+-- A name may have any bytes; what would move a terminal's cursor isn't written.
+abbrev pub shown_byte : ℕ → ℕ
+shown_byte byte = if nat_lt byte 32 || (byte == 127) then 63 else byte
+
+-- a span within one unit of time isn't told
+abbrev pub other_comment : Units → Span → List ℕ
+other_comment units span =
+    if nat_lt (written_time units span.from) (written_time units span.to)
+    then comment (codes "other " ∷ map shown_byte span.name ∷ codes "-" ∷ decimal span.pid ∷ codes " " ∷ decimal (written_time units span.from)
+    ∷ codes " " ∷ decimal (written_time units span.to) ∷ [])
+    else []
+
 -- # The last line
 
 abbrev pub is_without_runs : Judged → Bool
@@ -395,6 +410,7 @@ comments_text tasks settled =
     ++ short_comment (short_stretches settled.units settled.judged)
     ++ wake_up_comment settled.judged
     ++ all_unit_comments tasks settled.by_task
+    ++ flat_map (other_comment settled.units) settled.others
     ++ last_line settled
 
 abbrev pub settled_text : Asked → Settled → List ℕ

@@ -11,7 +11,7 @@ use Rattle.yds_trace.specs.Parts.{belongs, processors_of}
 use Rattle.yds_trace_laws.specs.AsSlots.{jobs_read, slots_read}
 use Rattle.yds_trace_laws.specs.InUnits.{document_in, AreOf}
 use Rattle.yds_trace_laws.specs.Faithful.{AreFaithful}
-use Rattle.yds_trace_laws.specs.Processors.{without_reason}
+use Rattle.yds_trace_laws.specs.Processors.{whole_job}
 use Rattle.yds_trace_document.specs.Part.{part_limit_fault}
 use Rattle.yds_trace_text.specs.Text.{late_comment}
 use Rattle.yds_trace_again.specs.Again.{IsReadAs}
@@ -47,7 +47,7 @@ pub record IsNamedSomewhere (asked : Asked) (past : List Said) (one : Judged) : 
   pub is_there : Contains (processors_of asked past) processor
   -- as it is judged on that processor
   pub there : Judged
-  pub same_job : without_reason there ≡ without_reason one
+  pub same_job : whole_job there ≡ whole_job one
   pub named : IsNamedIn (parts_of (on processor asked) past) there
 
 abbrev pub IsToldLateSomewhere : Asked → List Said → Judged → Type 0
