@@ -10,6 +10,7 @@ use crate::ended::close;
 use crate::followed::Followed;
 use crate::job::Job;
 use crate::jobs::{copied, last_begin};
+use crate::others::Span;
 use crate::past::Past;
 use std::alloc::Global;
 use yds_model::Memory;

@@ -72,6 +72,8 @@ fn asked(alloc: Global) -> Result<Asked, AllocError> {
         cut_losses: false,
         in_parts: false,
         everywhere: false,
+        moved_parts: false,
+        others: None,
     })
 }
 
@@ -261,6 +263,7 @@ fn what_is_written_is_forgotten(rt: HostRuntime) -> Result<(), Fail> {
     let all = Kept {
         jobs: 3,
         stretches: 3,
+        others: 0,
     };
     assert_eq!(rt; pass.kept(), all);
     let whole = pass.shown(alloc)?;
@@ -275,6 +278,7 @@ fn what_is_written_is_forgotten(rt: HostRuntime) -> Result<(), Fail> {
     let one = Kept {
         jobs: 1,
         stretches: 1,
+        others: 0,
     };
     assert_eq!(rt; pass.kept(), one);
     let rest = pass.shown(alloc)?;
