@@ -14,3 +14,4 @@ pub mod Enough
 pub mod Written
 pub mod OnProcessor
 pub mod Later
+pub mod Spans
