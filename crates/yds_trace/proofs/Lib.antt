@@ -7,6 +7,7 @@ pub mod Behind
 pub mod Counting
 pub mod Ending
 pub mod Showing
+pub mod Shares
 pub mod Forgetting
 pub mod Copying
 pub mod Enough

@@ -14,9 +14,9 @@ use Rattle.yds_trace.specs.declared.step.Place.TheVariants as places
 use Rattle.yds_trace.specs.declared.step.Step.{Step}
 use Rattle.yds_trace.specs.declared.step.Step.TheVariants as steps
 use Rattle.yds_trace.specs.declared.step.Whose.{Whose}
-use Rattle.yds_trace.specs.Asked.{no_task}
+use Rattle.yds_trace.specs.Asked.{Asked, no_task}
 use Rattle.yds_trace.specs.Jobs.{unknown, loses, stands_on}
-use Rattle.yds_trace.specs.Document.{began_before}
+use Rattle.yds_trace.specs.Document.{share_of, began_before}
 use Rattle.yds_trace.specs.Others.{Span, Spans, is_waiting, ended_at}
 use Rattle.yds_trace.specs.Parts.{last_begin}
 use Rattle.yds_trace.specs.Passing.{closed_at}
@@ -87,6 +87,13 @@ pub record Shows (until : ℕ) (start : Option ℕ) (counting : List Said) (foll
   pub forgotten : shown.forgotten ≡ followed.forgotten
   pub before : shown.before ≡ first_before followed
   pub last : shown.last_begin ≡ last_begin (jobs_listed followed.known.jobs.items)
+
+-- The same task, with its jobs as the documents of the processor that is asked for have them.
+pub record Shares (asked : Asked) (was now : ShownTask) : Type 0 where
+  pub jobs : map job_read now.jobs.items ≡ map (share_of asked) (map job_read was.jobs.items)
+  pub forgotten : now.forgotten ≡ was.forgotten
+  pub before : now.before ≡ was.before
+  pub last : now.last_begin ≡ was.last_begin
 
 -- # How much is kept
 

@@ -24,6 +24,7 @@ use crate::followed::{count_all_stretches, count_jobs, forget_each};
 use crate::kept::Kept;
 use crate::lines::Lines;
 use crate::refused::Refused;
+use crate::share::share_all;
 use crate::shown::{Shown, show_each};
 use std::alloc::Global;
 use yds_kernel::{Event, Said, Since};
@@ -88,7 +89,8 @@ impl Pass {
             others,
         } = counted;
         let until = last_asked(asked.to, lines.past.last);
-        let jobs = close_each(alloc, tasks, &past, until)?;
+        let mut jobs = close_each(alloc, tasks, &past, until)?;
+        share_all(&asked, &mut jobs);
         let others = end_others(alloc, asked.others, others, until)?;
         Ok(Ended {
             asked,
