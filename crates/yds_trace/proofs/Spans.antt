@@ -108,6 +108,22 @@ others_lost asked counting other since boundary processor time was now is time_i
     ∙ ap (behind_spans (reverse is.forgotten)) (none_by time (spans_kept was).ended (spans_kept was).going ∙ sym spans))
     is.earlier
 
+-- # Where it is asked for
+
+abbrev of_wanted : Asked → List Said → ℕ → OthersKept → Option ℕ → Type 0
+of_wanted asked counting boundary kept others = elim others as (λ _. Type 0) [ None ↦ Unit {0} | Some processor ↦ AreOthers asked counting boundary processor kept ]
+
+pub unwanted : (asked : Asked) (counting : List Said) (boundary : ℕ) (kept : OthersKept) → asked.others ≡ None → AreOthersOf asked counting boundary kept
+unwanted asked counting boundary kept none = subst (of_wanted asked counting boundary kept) (sym none) tt
+
+pub wanted_are : (asked : Asked) (counting : List Said) (boundary processor : ℕ) (kept : OthersKept) → asked.others ≡ Some processor →
+    AreOthersOf asked counting boundary kept → AreOthers asked counting boundary processor kept
+wanted_are asked counting boundary processor kept some are = subst (of_wanted asked counting boundary kept) some are
+
+pub are_wanted : (asked : Asked) (counting : List Said) (boundary processor : ℕ) (kept : OthersKept) → asked.others ≡ Some processor →
+    AreOthers asked counting boundary processor kept → AreOthersOf asked counting boundary kept
+are_wanted asked counting boundary processor kept some are = subst (of_wanted asked counting boundary kept) (sym some) are
+
 -- # The first ones are forgotten
 
 pub others_forget : (asked : Asked) (counting : List Said) (before boundary processor count : ℕ) (was now : OthersKept) →
@@ -145,7 +161,7 @@ closed_spans asked counting boundary processor until kept is =
     ∙ ap (λ (first : List Span). first ++ reverse (ended_at until (spans_kept kept))) (reverse-reverse is.forgotten)
 
 shown_of : (asked : Asked) (past : List Said) (behind boundary until : ℕ) (kept : OthersKept) (others : Option ℕ) → behind ≤ boundary → until ≡ last_asked asked past →
-    (elim others as (λ _. Type 0) [ None ↦ Unit {0} | Some processor ↦ AreOthers asked (up_to asked.to past) behind processor kept ]) →
+    of_wanted asked (up_to asked.to past) behind kept others →
     filter (goes_behind boundary) (spans_at others until kept)
     ≡ filter (goes_behind boundary) (elim others as (λ _. List Span) [ None ↦ [] | Some processor ↦ spans_on asked past processor ])
 shown_of asked past behind boundary until kept None within until_is is = refl
@@ -246,7 +262,7 @@ none_forgotten (span ∷ forgotten) rest ended same later early =
     absurd (omega (arith, first, none))
 
 ended_of : (asked : Asked) (past : List Said) (boundary until : ℕ) (kept : OthersKept) (others : Option ℕ) → boundary ≤ 0 → until ≡ last_asked asked past →
-    (elim others as (λ _. Type 0) [ None ↦ Unit {0} | Some processor ↦ AreOthers asked (up_to asked.to past) boundary processor kept ]) →
+    of_wanted asked (up_to asked.to past) boundary kept others →
     spans_at others until kept ≡ (elim others as (λ _. List Span) [ None ↦ [] | Some processor ↦ spans_on asked past processor ])
 ended_of asked past boundary until kept None none until_is is = refl
 ended_of asked past boundary until kept (Some processor) none until_is is =
