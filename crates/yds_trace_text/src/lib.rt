@@ -14,6 +14,7 @@ mod late;
 mod laws;
 mod left_out;
 mod numbers;
+mod others;
 mod part;
 mod rows;
 mod short;
