@@ -1,5 +1,5 @@
 //! Who else had the processor while a job waited.
-ghost use Rattle.std.specs.Prelude.{◌≡◌, IfOk, map, filter, option_map};
+ghost use Rattle.std.specs.Prelude.{◌≡◌, ◌++◌, IfOk, OnOk, map, filter, option_map, option_to_list};
 ghost use Rattle.yds_trace.specs.Others as spec;
 ghost use Rattle.yds_trace.specs.Views.{span_read};
 ghost use Rattle.yds_trace_document.specs.Views.{other_read};
@@ -80,9 +80,17 @@ pub(crate) fn all_within<'a>(
 {
     let mut some = Vec::new(alloc);
     for other in others {
-        if let Some(other) = one_within(from, until, other) {
-            some.push(other)?;
-        }
+        put(one_within(from, until, other), &mut some)?;
     }
     Ok(some)
+}
+
+/// Puts it behind the others, if there is one.
+fn put<'a>(other: Option<Other<'a>>, others: &mut Vec<Other<'a>>) -> Result<(), Memory>
+    ensures { OnOk result (others.new.items ≡ others.old.items ++ option_to_list other.entry) }
+{
+    if let Some(other) = other {
+        others.push(other)?;
+    }
+    Ok(())
 }
