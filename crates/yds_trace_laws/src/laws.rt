@@ -1,5 +1,5 @@
 ghost use Rattle.yds_trace_laws.specs.Laws.{BeginsAreInTime, DocumentsAreFaithful, EndsAreKept, FeasibleMeansInTime, FrontsAreInfeasible, LatenessIsKept, NoneBeginsBefore, OrderIsKept, RunsHaveOwnUnits, SomeAreFaithful, SomeAreInTime, TasksHaveOwnTime, UnitsAreOwn, WorkNeedsASlot};
-ghost use Rattle.yds_trace_laws.specs.Processors.{EachJobBelongs, EachRanWhereTold, JobsAreTheSame, UnseenAreTheSame};
+ghost use Rattle.yds_trace_laws.specs.Processors.{EachJobBelongs, EachRanWhereTold, JobsAreTheSame, NoneHasMoved, SharesAreTheWhole, UnseenAreTheSame};
 
 /// A written time keeps order.
 pub fn order_is_kept()
@@ -71,7 +71,8 @@ pub fn runs_have_own_units()
     ensures { RunsHaveOwnUnits }
 {}
 
-/// The same jobs are judged on each processor, and the same is said of them but for why one isn't written as it stands.
+/// The same jobs are judged on each processor, and the same is said of them but for why one isn't written as it stands, and for
+/// what a job that moved ran there, where each processor has that.
 pub fn jobs_are_the_same()
     ensures { JobsAreTheSame }
 {}
