@@ -1,6 +1,6 @@
 -- Of a trace's jobs only the reasons and the shares of what moved depend on the processor that is asked for. Each job belongs to a processor, and none to one of which no line
 -- tells.
-use Rattle.yds_model.proofs.Common.{◌≡◌, ◌≢◌, ◌∙◌, get_or, All-contains_itself, ℕ, zero, suc, ◌+◌, ◌<◌, ◌≤◌, ◌==◌, ◌&&◌, ◌||◌, max, List, [], ◌∷◌, ◌++◌, map, filter, length, Bool, true, false, not, nat_le, cond, if◌then◌else◌, Option, Some, None, is_none, refl, sym, ap, ap₂, subst, arith, inl, inr, cases_lt, eq-eqb, ne_eqb, fun_ext, map-append, All-from_recursion, Contains-append_left, Contains-push}
+use Rattle.yds_model.proofs.Common.{◌≡◌, ◌≢◌, ◌∙◌, get_or, All, All-contains_itself, ℕ, zero, suc, ◌+◌, ◌<◌, ◌≤◌, ◌==◌, ◌&&◌, ◌||◌, max, List, [], ◌∷◌, ◌++◌, map, filter, length, Bool, true, false, not, nat_le, cond, if◌then◌else◌, Option, Some, None, is_none, refl, sym, ap, ap₂, subst, arith, inl, inr, cases_lt, eq-eqb, ne_eqb, fun_ext, map-append, All-from_recursion, Contains-append_left, Contains-push}
 use Rattle.std.specs.List.{AllByRecursion, Contains, list_any, enumerate_from}
 use Rattle.yds_kernel.specs.Parts.{or_else, capped}
 use Rattle.yds_kernel.specs.Event.{Said}
@@ -14,12 +14,14 @@ use Rattle.yds_trace.specs.Late.{last_asked, due, is_open, lateness}
 use Rattle.yds_trace.specs.Document.{Judged, is_lost, is_elsewhere, has_run_on, is_of_unknown_speed, reaches_to, is_shared_by, share_on, share_of, named, began_before, jobs_of, judged, judged_of, judged_from, put_in, in_order, all_judged, stands}
 use Rattle.yds_trace.specs.Parts.{belongs, begin_of, begins_from, begins_before, waiting_from, ended_by, is_written, is_own, has_own_job, is_closed_by, each_before, has_job, is_quiet, is_closed, last_where, place_among, is_much, is_due, may_write, waiting, is_before_end, part_until, place_of, with_part, cut_at, cut_after, next_processor, processor_count, first_numbers, processors_of}
 use Rattle.yds_trace.specs.Others.{Span, others_from}
+use Rattle.yds_trace.proofs.Shares.{jobs_alone, share_stranger, share_begin, share_end}
 use Rattle.yds_trace.proofs.OnProcessor.{jobs_of_on, is_settled_on, may_write_on, others_from_on}
-use Rattle.yds_trace_laws.specs.Processors.{without_reason, whole_job, AreTheSame, JobsAreTheSame, HasItsShare, SharesAreTheWhole, NoneHasMoved, BelongsTo, EachJobBelongs, IsIdle, UnseenAreTheSame}
+use Rattle.yds_trace_laws.specs.Processors.{without_reason, whole_job, AreTheSame, JobsAreTheSame, HasItsShare, SharesAreTheWhole, OnlyItsOwn, NoneHasMoved, BelongsTo, EachJobBelongs, IsIdle, UnseenAreTheSame}
 use Rattle.yds_trace_laws.proofs.Ordered.{filter-all, append-all, in_order-all}
 use Rattle.yds_trace_laws.proofs.Runs.{all_weaker}
-use Rattle.yds_trace_laws.proofs.Shares.{share_if, share_kept, shares_whole, share_elsewhere, jobs_unshared, in_shares, share_has, none_elsewhere}
+use Rattle.yds_trace_laws.proofs.Shares.{share_if, jobs_unshared, in_shares, share_has, none_elsewhere}
 use Rattle.yds_trace_laws.proofs.Sharing.{Ran}
+use Rattle.yds_trace_laws.proofs.Units.{there}
 use Rattle.yds_trace_laws.proofs.Told.{IsUnder, TellUnder, RanUnder, jobs_under, all_under, tell_under}
 
 -- # The jobs of a task
@@ -122,10 +124,10 @@ jobs_are_the_same asked past processor = record {
       let jobs : List Job = jobs_of asked past number in
       ap (map without_reason) (judged_there asked processor past number)
       ∙ ap (λ (shares : List Job). map without_reason (map (judged (on processor asked) past number (began_before jobs)) (enumerate_from 0 shares)))
-      (shares_whole (on processor asked) jobs whole)
+      (jobs_alone (on processor asked) jobs whole)
       ∙ unparted_same asked processor past number (began_before jobs) 0 jobs (jobs_unshared asked past number)
       ∙ ap (λ (shares : List Job). map without_reason (map (judged asked past number (began_before jobs)) (enumerate_from 0 shares)))
-      (sym (shares_whole asked jobs whole)));
+      (sym (jobs_alone asked jobs whole)));
 }
 
 -- # What a job that moved ran
@@ -136,8 +138,8 @@ its_share asked past number job stretch known ran = record {
   share = share_of (on stretch.processor asked) job;
   is_there = subst (λ (jobs : List Job). Contains (map (share_of (on stretch.processor asked)) jobs) (share_of (on stretch.processor asked) job))
       (sym (jobs_of_on asked stretch.processor past number)) (in_shares asked stretch.processor past number job known);
-  begins = share_kept (λ (share : Job). share.begin ≡ job.begin) (λ processor share is. is) (on stretch.processor asked) job refl;
-  ends = share_kept (λ (share : Job). share.end ≡ job.end) (λ processor share is. is) (on stretch.processor asked) job refl;
+  begins = share_begin (on stretch.processor asked) job;
+  ends = share_end (on stretch.processor asked) job;
   has = share_has asked job stretch ran;
 }
 
@@ -188,33 +190,47 @@ not_moved asked past number before numbered part =
     (either_not (not numbered.1.begin_known) _ _ (λ is. cc)
     (either_not (list_any is_of_unknown_speed numbered.1.stretches) _ _ (λ is. cc) (λ is. cc))))))
 
--- it ran where the document is, and isn't left out for having run elsewhere
-abbrev StaysIn : Asked → Judged → Type 0
-StaysIn asked one = has_run_on asked.processor one.job ≡ true → IsNotMoved one.reason
+-- If it ran where the document is, it ran nowhere else, and isn't left out for that.
+record StaysIn (asked : Asked) (one : Judged) : Type 0 where
+  own : All (λ stretch. stretch.processor ≡ asked.processor) one.job.stretches
+  not_moved : IsNotMoved one.reason
 
-share_stays : (asked : Asked) (past : List Said) (number : ℕ) (before : Bool) (k : ℕ) (job : Job) → asked.moved_parts ≡ true →
-    StaysIn asked (judged asked past number before (k, share_of asked job))
-share_stays asked past number before k job parts ran =
-    subst (λ (moved : Bool). IsNotMoved (judged_if asked past number before (k, share_of asked job) None moved).reason) (sym (none_elsewhere asked job parts ran))
-    (not_moved asked past number before (k, share_of asked job) None)
+abbrev WhereRan : Asked → Judged → Type 0
+WhereRan asked one = has_run_on asked.processor one.job ≡ true → StaysIn asked one
+
+share_stays_in : (asked : Asked) (past : List Said) (number : ℕ) (before : Bool) (k : ℕ) (job : Job) → asked.moved_parts ≡ true →
+    WhereRan asked (judged asked past number before (k, share_of asked job))
+share_stays_in asked past number before k job parts ran =
+    let none : list_any (is_elsewhere asked.processor) (share_of asked job).stretches ≡ false = none_elsewhere asked job parts ran in
+    record {
+      own = All-from_recursion (λ stretch. stretch.processor ≡ asked.processor) (share_of asked job).stretches (there asked.processor (share_of asked job).stretches none);
+      not_moved = subst (λ (moved : Bool). IsNotMoved (judged_if asked past number before (k, share_of asked job) None moved).reason) (sym none)
+          (not_moved asked past number before (k, share_of asked job) None);
+    }
 
 shares_stay : (asked : Asked) (past : List Said) (number : ℕ) (before : Bool) (start : ℕ) (jobs : List Job) → asked.moved_parts ≡ true →
-    AllByRecursion (StaysIn asked) (map (judged asked past number before) (enumerate_from start (map (share_of asked) jobs)))
+    AllByRecursion (WhereRan asked) (map (judged asked past number before) (enumerate_from start (map (share_of asked) jobs)))
 shares_stay asked past number before start [] parts = tt
 shares_stay asked past number before start (job ∷ jobs) parts =
-    (share_stays asked past number before start job parts, shares_stay asked past number before (start + 1) jobs parts)
+    (share_stays_in asked past number before start job parts, shares_stay asked past number before (start + 1) jobs parts)
 
-tasks_stay : (asked : Asked) (past : List Said) (number : ℕ) (tasks : List Task) → asked.moved_parts ≡ true → AllByRecursion (StaysIn asked) (judged_from asked past number tasks)
+tasks_stay : (asked : Asked) (past : List Said) (number : ℕ) (tasks : List Task) → asked.moved_parts ≡ true → AllByRecursion (WhereRan asked) (judged_from asked past number tasks)
 tasks_stay asked past number [] parts = tt
 tasks_stay asked past number (task ∷ tasks) parts =
-    append-all (StaysIn asked) (judged_of asked past number) (judged_from asked past (number + 1) tasks)
+    append-all (WhereRan asked) (judged_of asked past number) (judged_from asked past (number + 1) tasks)
     (shares_stay asked past number (began_before (jobs_of asked past number)) 0 (jobs_of asked past number) parts) (tasks_stay asked past (number + 1) tasks parts)
 
--- the law
+all_stay : (asked : Asked) (past : List Said) → asked.moved_parts ≡ true → All (WhereRan asked) (all_judged asked past)
+all_stay asked past parts =
+    All-from_recursion (WhereRan asked) (all_judged asked past)
+    (in_order-all (WhereRan asked) begin_of (judged_from asked past 0 asked.tasks) (tasks_stay asked past 0 asked.tasks parts))
+
+-- the laws
 pub none_has_moved : NoneHasMoved
-none_has_moved asked past parts =
-    All-from_recursion (StaysIn asked) (all_judged asked past)
-    (in_order-all (StaysIn asked) begin_of (judged_from asked past 0 asked.tasks) (tasks_stay asked past 0 asked.tasks parts))
+none_has_moved asked past parts k d within ran = (all_stay asked past parts k d within ran).not_moved
+
+pub only_its_own : OnlyItsOwn
+only_its_own asked past parts k d within ran = (all_stay asked past parts k d within ran).own
 
 -- # Each job belongs to a processor
 
@@ -307,7 +323,7 @@ judged_never : (bound : ℕ) (asked : Asked) (processor : ℕ) (past : List Said
     judged (on processor asked) past number before (k, share_of (on processor asked) job)
     ≡ judged_if asked past number before (k, job) None (list_any (is_elsewhere processor) job.stretches)
 judged_never bound asked processor past number before k job beyond ran unshared =
-    ap (λ (share : Job). judged (on processor asked) past number before (k, share)) (share_elsewhere (on processor asked) job (never_ran bound processor job.stretches beyond ran))
+    ap (λ (share : Job). judged (on processor asked) past number before (k, share)) (share_stranger (on processor asked) job (never_ran bound processor job.stretches beyond ran))
     ∙ ap (λ (part : Option ℕ). judged_if asked past number before (k, job) part (list_any (is_elsewhere processor) job.stretches)) (no_part processor job unshared)
 
 numbered_unseen : (bound : ℕ) (asked : Asked) (processor other : ℕ) (past : List Said) (number : ℕ) (before : Bool) (start : ℕ) (jobs : List Job) → bound ≤ processor → bound ≤ other →

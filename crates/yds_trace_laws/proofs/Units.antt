@@ -125,7 +125,7 @@ all_are asked past =
     All-from_recursion (IsOne asked past) (all_judged asked past)
     (in_order-all (IsOne asked past) (λ one. one.job.begin) (judged_from asked past 0 asked.tasks) (tasks_are asked past 0 asked.tasks (omega arith)))
 
-there : (processor : ℕ) (stretches : List Stretch) → list_any (is_elsewhere processor) stretches ≡ false → AllByRecursion (λ s. s.processor ≡ processor) stretches
+pub there : (processor : ℕ) (stretches : List Stretch) → list_any (is_elsewhere processor) stretches ≡ false → AllByRecursion (λ s. s.processor ≡ processor) stretches
 there processor [] none = tt
 there processor (stretch ∷ stretches) none =
     let parts = or_parts (is_elsewhere processor stretch) (list_any (is_elsewhere processor) stretches) none in

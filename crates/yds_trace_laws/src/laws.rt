@@ -1,5 +1,5 @@
 ghost use Rattle.yds_trace_laws.specs.Laws.{BeginsAreInTime, DocumentsAreFaithful, EndsAreKept, FeasibleMeansInTime, FrontsAreInfeasible, LatenessIsKept, NoneBeginsBefore, OrderIsKept, RunsHaveOwnUnits, SomeAreFaithful, SomeAreInTime, TasksHaveOwnTime, UnitsAreOwn, WorkNeedsASlot};
-ghost use Rattle.yds_trace_laws.specs.Processors.{EachJobBelongs, EachRanWhereTold, JobsAreTheSame, NoneHasMoved, SharesAreTheWhole, UnseenAreTheSame};
+ghost use Rattle.yds_trace_laws.specs.Processors.{EachJobBelongs, EachRanWhereTold, JobsAreTheSame, NoneHasMoved, OnlyItsOwn, SharesAreTheWhole, UnseenAreTheSame};
 
 /// A written time keeps order.
 pub fn order_is_kept()
@@ -80,6 +80,11 @@ pub fn jobs_are_the_same()
 /// Of a job that moved, each processor has what it ran there, where that is asked for.
 pub fn shares_are_the_whole()
     ensures { SharesAreTheWhole }
+{}
+
+/// Where that is asked for, a job that ran on the processor has there no stretch of another one.
+pub fn only_its_own()
+    ensures { OnlyItsOwn }
 {}
 
 /// Where that is asked for, no job is left out for having moved that ran on the processor.
