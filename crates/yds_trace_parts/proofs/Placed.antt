@@ -279,7 +279,7 @@ closed_with : (front : Front) (time : ℕ) (places : Places) →
     (with_place front time places).closed ≡ (if is_quiet_at time front && (front.own && nat_le front.due time) then Some time else places.closed)
 closed_with front time places = closed_if (is_quiet_at time front) (front.own && nat_le front.due time) time places
 
-chosen : (b : Bool) (time : ℕ) (other : Option ℕ) → b ≡ true → (if b then Some time else other) ≡ Some time
+pub chosen : (b : Bool) (time : ℕ) (other : Option ℕ) → b ≡ true → (if b then Some time else other) ≡ Some time
 chosen true time other held = refl
 chosen false time other held = absurd (false≢true held)
 

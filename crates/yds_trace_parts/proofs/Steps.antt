@@ -1,5 +1,5 @@
 -- A line more: what is told behind it, and where the last part ends.
-use Rattle.yds_model.proofs.Common.{◌≡◌, ℕ, ◌<◌, ◌≤◌, ◌%◌, ◌==◌, List, [], ◌∷◌, ◌++◌, length, map, filter, cond, Bool, true, false, ◌&&◌, not, Option, Some, None, refl, ap, subst, ◌∙◌, arith, leb-true, mod-eq_of_lt, ne_eqb, eqb-true, false≢true, append-nil, ap₂, ◌||◌, list_any, if◌then◌else◌}
+use Rattle.yds_model.proofs.Common.{◌≡◌, ℕ, ◌<◌, ◌≤◌, ◌⊎◌, inl, inr, ◌%◌, ◌==◌, List, [], ◌∷◌, ◌++◌, length, map, filter, cond, Bool, true, false, ◌&&◌, not, Option, Some, None, refl, ap, subst, ◌∙◌, arith, leb-true, mod-eq_of_lt, ne_eqb, eqb-true, false≢true, append-nil, ap₂, ◌||◌, list_any, if◌then◌else◌}
 use Rattle.yds_kernel.specs.Event.{Said}
 use Rattle.yds_kernel.specs.Parts.{or_else}
 use Rattle.yds_trace.specs.declared.cut.Cut.{Cut}
@@ -11,6 +11,7 @@ use Rattle.yds_trace.specs.Parts.{has_run_on, belongs, begin_of, begins_from, be
 use Rattle.yds_trace_text.specs.PartText.{part_text}
 use Rattle.yds_trace_parts.specs.Told.{Halt, Told, no_piece, both, piece_unless, piece_with, piece_at, pieces, with_piece, line_halt, part_halt, told_with, told_next, told_after}
 use Rattle.yds_trace_parts.specs.Telling.{text_alone}
+use Rattle.yds_trace_parts.proofs.Placed.{chosen}
 
 -- # What is told behind a line
 
@@ -58,18 +59,21 @@ not_due past some few =
     let same : length past % LOOK_EVERY ≡ length past = mod-eq_of_lt few in
     ap (λ (n : ℕ). n == 0) same ∙ ne_eqb (length past) 0 (λ (none : length past ≡ 0). omega (arith, none, some))
 
-none_due : (b : Bool) (time : Option ℕ) → b ≡ false → (may much : Bool) → (if b && may && much then time else None) ≡ None
-none_due true time is may much = cc
-none_due false time is may much = refl
+-- it isn't looked for a place, or little waits
+pub none_if : (due may much : Bool) (place : Option ℕ) → (due ≡ false) ⊎ (much ≡ false) → (if due && may && much then place else None) ≡ None
+none_if due may much place (inl is) = ap (λ (b : Bool). if b && may && much then place else None) is
+none_if true true much place (inr is) = ap (λ (b : Bool). if b then place else None) is
+none_if true false much place (inr is) = refl
+none_if false may much place (inr is) = refl
 
 -- behind them it isn't looked for a place
 pub few_lines : (asked : Asked) (past : List Said) → length past < LOOK_EVERY → cut_after asked past ≡ no_cut
 few_lines asked [] few = refl
 few_lines asked (said ∷ past) few =
     same_cut asked past said
-    (none_due (is_due (said ∷ past)) (place_among asked (said ∷ past) (waiting asked (said ∷ past) (cut_after asked past)))
-    (not_due (said ∷ past) (omega arith) few) (may_write asked (said ∷ past))
-    (is_much (waiting asked (said ∷ past) (cut_after asked past)) (others_from asked (said ∷ past) (cut_after asked past).boundary)))
+    (none_if (is_due (said ∷ past)) (may_write asked (said ∷ past))
+    (is_much (waiting asked (said ∷ past) (cut_after asked past)) (others_from asked (said ∷ past) (cut_after asked past).boundary))
+    (place_among asked (said ∷ past) (waiting asked (said ∷ past) (cut_after asked past))) (inl (not_due (said ∷ past) (omega arith) few)))
     ∙ few_lines asked past (omega (arith, few))
 
 -- # A part ends behind those before it
@@ -128,8 +132,7 @@ there_second (Some time) other there = (time, refl)
 there_second None other there = there
 
 there_if : (b : Bool) (time : ℕ) → b ≡ true → IsThere (if b then Some time else None)
-there_if true time is = (time, refl)
-there_if false time is = absurd (false≢true is)
+there_if b time is = (time, chosen b time None is)
 
 last_there : (test : ℕ → Bool) (times : List ℕ) (time : ℕ) → test time ≡ true → list_any (λ other. other == time) times ≡ true → IsThere (last_where test times)
 last_there test [] time held any = absurd (false≢true any)

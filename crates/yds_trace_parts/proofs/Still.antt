@@ -13,16 +13,10 @@ use Rattle.yds_trace.specs.Parts.{waiting, stretches_of, is_much, is_too_much, i
 use Rattle.yds_trace_parts.specs.declared.processors.Processor.{Processor}
 use Rattle.yds_trace_parts.specs.Told.{Halt, Told, AtLine, no_piece, both, piece_at, piece_of, no_place as no_place_halt, open_longest, waiting_halt, pieces}
 use Rattle.yds_trace_parts.specs.Telling.{cut_on, told_on, IsUnseen, NoneEndsBefore, IsStill}
-use Rattle.yds_trace_parts.proofs.Steps.{same_cut}
+use Rattle.yds_trace_parts.proofs.Steps.{none_if, same_cut}
 use Rattle.yds_trace_parts.proofs.Unseen.{more_processors}
 
 -- # Nothing is written
-
-none_if : (due may much : Bool) (place : Option ℕ) → (due ≡ false) ⊎ (much ≡ false) → (if due && may && much then place else None) ≡ None
-none_if due may much place (inl is) = ap (λ (b : Bool). if b && may && much then place else None) is
-none_if true true much place (inr is) = ap (λ (b : Bool). if b then place else None) is
-none_if true false much place (inr is) = refl
-none_if false may much place (inr is) = refl
 
 less_much : (jobs stretches others : ℕ) → (nat_lt PART_JOBS jobs || nat_lt PART_STRETCHES stretches || nat_lt PART_OTHERS others) ≡ false →
     (nat_lt WAITING_JOBS jobs || nat_lt WAITING_STRETCHES stretches || nat_lt WAITING_OTHERS others) ≡ false
