@@ -17,7 +17,7 @@ use Rattle.yds_trace_document.specs.declared.fault.DocumentFault.{DocumentFault}
 use Rattle.yds_trace_document.specs.Part.{part_of, part_limit_fault}
 use Rattle.yds_trace_text.specs.PartText.{part_text}
 use Rattle.yds_trace_reading.specs.LineFault.{past_of}
-use Rattle.yds_trace_parts.specs.Told.{Halt, OfText, at_line, line_halt, next_number, whose, of_document, of_text, part_halt, both, piece_unless, part_piece, piece_with, piece_at, piece_of, pieces, told_with, told_next, told_after, last_pieces, no_job_halt, last_piece, end_halt, told_last, told_at_end, told_of}
+use Rattle.yds_trace_parts.specs.Told.{Halt, OfText, at_line, line_halt, next_number, part_processor, of_document, of_text, part_halt, both, piece_unless, part_piece, piece_with, piece_at, piece_of, pieces, told_with, told_next, told_after, last_pieces, no_job_halt, last_piece, end_halt, told_last, told_at_end, told_of}
 use Rattle.yds_trace_whole.specs.Parts.{Part, made, made_with, made_at, made_behind, written_behind, last_made, written_parts, KeepsAllParts}
 
 -- # No fault
@@ -72,9 +72,9 @@ both_put asked strict one more text None later None first second goes_on = joine
 may_stand : (asked : Asked) (strict : Bool) (past : List Said) (cut : Cut) (until : Option ℕ) → part_halt asked strict past cut until ≡ None
     → MayStand asked strict (made asked past cut until)
 may_stand asked strict past cut until none =
-    let parts = or_none (of_document (whose asked) (next_number cut) (part_limit_fault asked strict cut (part_of asked past cut until))) (of_text (whose asked) (next_number cut) (part_text asked past cut until)) none in (
-      no_limit (whose asked) (next_number cut) (part_limit_fault asked strict cut (part_of asked past cut until)) parts.0,
-      not_long (whose asked) (next_number cut) (part_text asked past cut until) parts.1,
+    let parts = or_none (of_document (part_processor asked) (next_number cut) (part_limit_fault asked strict cut (part_of asked past cut until))) (of_text (part_processor asked) (next_number cut) (part_text asked past cut until)) none in (
+      no_limit (part_processor asked) (next_number cut) (part_limit_fault asked strict cut (part_of asked past cut until)) parts.0,
+      not_long (part_processor asked) (next_number cut) (part_text asked past cut until) parts.1,
     )
 
 one_put : (asked : Asked) (strict : Bool) (past : List Said) (cut : Cut) (until : Option ℕ) → (part_piece asked strict past cut until).halt ≡ None

@@ -233,7 +233,11 @@ fn tell_halt<K: Sink>(halt: &Halt, sink: &mut K) -> Status
         Halt::Endless => deliver(TOO_LONG, Status::Refused, sink),
         Halt::InForm { number, fault } => refuse(&form_line(*number, *fault), sink),
         Halt::AtLine { number, cause } => refuse(&cause_line(*number, *cause), sink),
-        Halt::Limit { processor, part, fault } => refuse(&part_line(*processor, *part, *fault), sink),
+        Halt::Limit {
+            processor,
+            part,
+            fault,
+        } => refuse(&part_line(*processor, *part, *fault), sink),
         Halt::TooLong { processor, part } => refuse(&long_part_line(*processor, *part), sink),
         Halt::NoPlace { name, begin, late } => refuse(&place_line(name, *begin, *late), sink),
     }

@@ -187,6 +187,8 @@ fn a_part_stands_before_a_failed_read(rt: HostRuntime) -> Result<(), Fail> {
     let (ended, written) = told(&rt, line, trace, 2_760)?;
     assert_eq!(rt; ended, Status::ReadFault);
     assert!(rt; written.starts_with(b"# part 1: jobs 1 to 2046, from "));
-    assert!(rt; written.ends_with(b"\n# the input couldn't be read to its end; give it anew\nfailed\n"));
+    assert!(rt;
+        written.ends_with(b"\n# the input couldn't be read to its end; give it anew\nfailed\n")
+    );
     Ok(())
 }

@@ -97,7 +97,12 @@ fn asked_by<'a>(alloc: Global, given: &[Setting<'a>]) -> Result<Asked, NoRequest
     check_order(from, to)?;
     let begin_at_run = only(b"--begin", b"run", Reason::Begin, value(given, b"--begin"))?;
     let cut_losses = only(b"--lost", b"cut", Reason::Lost, value(given, b"--lost"))?;
-    let moved_parts = only(b"--moved", b"parts", Reason::Moved, value(given, b"--moved"))?;
+    let moved_parts = only(
+        b"--moved",
+        b"parts",
+        Reason::Moved,
+        value(given, b"--moved"),
+    )?;
     let others = others(processor, value(given, b"--others"))?;
     let everywhere = processor.is_none();
     let in_parts = everywhere || value(given, b"--parts").is_some();
@@ -170,10 +175,7 @@ fn processor<'a>(value: Option<&[u8]>) -> Result<Option<u64>, WordFault<'a>>
 }
 
 /// The processor of which it is told who else had it, if that is asked for.
-fn others<'a>(
-    processor: Option<u64>,
-    value: Option<&[u8]>,
-) -> Result<Option<u64>, WordFault<'a>>
+fn others<'a>(processor: Option<u64>, value: Option<&[u8]>) -> Result<Option<u64>, WordFault<'a>>
     ensures { Takes (λ others. others) result (spec.others_asked processor (option_map (λ value. value.now) value.entry)) }
 {
     let Some(text) = value else {
