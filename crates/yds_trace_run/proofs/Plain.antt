@@ -1,5 +1,5 @@
 -- What is known at a trace's end is what a document's call needs.
-use Rattle.yds_model.proofs.Common.{◌≡◌, ℕ, suc, ◌+◌, ◌≤◌, List, [], ◌∷◌, length, map, get_or, All, All-cons, All-nil, All-map, Bool, true, false, ◌&&◌, if◌then◌else◌, Option, Some, None, refl, sym, ap, subst, ◌∙◌, length-map}
+use Rattle.yds_model.proofs.Common.{◌≡◌, ℕ, suc, ◌+◌, ◌≤◌, List, [], ◌∷◌, length, map, All, All-cons, All-nil, Option, Some, None, refl, sym, ap, subst, ◌∙◌, length-map}
 use Rattle.std.specs.Prelude.{IfSome, Vec}
 use Rattle.std.specs.declared.alloc.Global.{Global}
 use Rattle.yds_kernel.specs.Event.{Said}
@@ -8,13 +8,14 @@ use Rattle.yds_trace.specs.declared.job.Job.{Job as JobKept}
 use Rattle.yds_trace.specs.declared.ended.Ended.{Ended}
 use Rattle.yds_trace.specs.Asked.{Task, Asked}
 use Rattle.yds_trace.specs.Jobs.{Job}
-use Rattle.yds_trace.specs.Document.{jobs_of, is_shared_by, share_on, share_of, shares_of}
+use Rattle.yds_trace.specs.Document.{shares_of}
 use Rattle.yds_trace.specs.Ended.{jobs_from, in_order_of_begin}
 use Rattle.yds_trace.specs.Faults.{first_fault}
 use Rattle.yds_trace.specs.Views.{task_read, job_read, asked_read}
 use Rattle.yds_trace_laws.specs.Laws.{IsReached}
 use Rattle.yds_trace_laws.proofs.Begins.{begins_in_time}
 use Rattle.yds_trace_laws.proofs.Ordered.{All-map_back}
+use Rattle.yds_trace_laws.proofs.Shares.{shares_kept}
 use Rattle.yds_trace_document.specs.Kept.{IsPlain, HaveBegins}
 use Rattle.yds_trace_words.specs.Request.{IsFit}
 use Rattle.yds_trace_reading.specs.Reading.{IsEndOfSome}
@@ -24,19 +25,10 @@ reached : (to : Option ℕ) → IfSome to (λ time. time ≤ MAX_TIME) → IsRea
 reached None is = tt
 reached (Some time) is = is
 
--- What a job ran on one processor begins when the job does.
-share_begins : (asked : Asked) (job : Job) → (share_of asked job).begin ≡ job.begin
-share_begins asked job = by (asked.moved_parts && is_shared_by asked.processor job)
-  where
-    by : (b : Bool) → (if b then share_on asked.processor job else job).begin ≡ job.begin
-    by true = refl
-    by false = refl
-
 shares_in_time : (asked : Asked) (past : List Said) (number : ℕ) → IsReached asked.to → first_fault asked past ≡ None
     → All (λ (job : Job). job.begin ≤ MAX_TIME) (shares_of asked past number)
 shares_in_time asked past number to sound =
-    All-map (λ (job : Job). job.begin ≤ MAX_TIME) (share_of asked) (jobs_of asked past number)
-    (λ i d within. subst (λ (begin : ℕ). begin ≤ MAX_TIME) (sym (share_begins asked (get_or (jobs_of asked past number) i d))) (begins_in_time asked past number to sound i d within))
+    shares_kept (λ (job : Job). job.begin ≤ MAX_TIME) (λ processor job begins. begins) asked past number (begins_in_time asked past number to sound)
 
 lists_in_time : (asked : Asked) (past : List Said) (number : ℕ) (tasks : List Task) → IsReached asked.to → first_fault asked past ≡ None
     → All (λ (jobs : List Job). All (λ (job : Job). job.begin ≤ MAX_TIME) jobs) (jobs_from asked past number tasks)

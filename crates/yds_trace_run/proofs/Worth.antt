@@ -30,7 +30,7 @@ use Rattle.yds_trace_reading.specs.LineFault.{past_of}
 use Rattle.yds_trace_words.specs.Request.{ReadTrace, IsFit}
 use Rattle.yds_trace_run.specs.Answer.{AreParts, IsTold}
 use Rattle.yds_trace_run.specs.Endings.{IsText, Outcome, Writes}
-use Rattle.yds_trace_laws.proofs.Processors.{jobs_are_the_same, each_job_belongs, shares_are_the_whole, none_has_moved}
+use Rattle.yds_trace_laws.proofs.Processors.{jobs_are_the_same, each_job_belongs, shares_are_the_whole, only_its_own, none_has_moved}
 use Rattle.yds_trace_whole.specs.Parts.{written_parts}
 use Rattle.yds_trace_whole.proofs.Worth.{parts_are_faithful}
 use Rattle.yds_trace_whole.proofs.Parting.{parts_are_the_whole}
@@ -174,6 +174,7 @@ faithful asked strict input old new flushed ended fit done writes =
 shared : (asked : Asked) (past : List Said) → AreSharedIfAsked asked past
 shared asked past moved = record {
   shares = λ number. shares_are_the_whole asked past number;
+  only_own = λ processor. only_its_own (on processor asked) past moved;
   none_moved = λ processor. none_has_moved (on processor asked) past moved;
 }
 

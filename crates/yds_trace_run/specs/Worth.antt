@@ -33,9 +33,15 @@ NothingLate asked past text =
 abbrev pub HasNotMoved : ℕ → Judged → Type 0
 HasNotMoved processor judged = has_run_on processor judged.job ≡ true → judged.reason ≢ Some reasons.Moved
 
--- Each stretch of a task's job is in the job as the documents of its processor have it, and no processor leaves out a job for having moved.
+-- It has nothing that it ran elsewhere, where it ran on this processor.
+abbrev pub HasOnlyItsOwn : ℕ → Judged → Type 0
+HasOnlyItsOwn processor judged = has_run_on processor judged.job ≡ true → All (λ stretch. stretch.processor ≡ processor) judged.job.stretches
+
+-- Each stretch of a task's job is in the job as the documents of its processor have it, and in those of no other where it ran on that too.
+-- And no processor leaves out a job for having moved that ran on it.
 pub record AreSharedOut (asked : Asked) (past : List Said) : Type 0 where
   pub shares : (number : ℕ) → All (λ job. All (HasItsShare asked past number job) job.stretches) (jobs_of asked past number)
+  pub only_own : (processor : ℕ) → All (HasOnlyItsOwn processor) (all_judged (on processor asked) past)
   pub none_moved : (processor : ℕ) → All (HasNotMoved processor) (all_judged (on processor asked) past)
 
 -- That is so where it is asked for.
