@@ -17,7 +17,7 @@ sys.path.insert(0, str(ROOT / "robustness"))
 import parted  # noqa: E402
 from second import asked_by  # noqa: E402
 
-SMALL = parted.Limits(8, 1, 100, 3, 100)
+SMALL = parted.Limits(8, 1, 100, 2, 3, 100, 6)
 """Less is looked at than the program does, so that a case can be read."""
 PIDS = {"swapper": 0, "a": 10, "b": 11, "c": 12}
 UNITS = "# time unit 10 us, speed unit 10000 kHz, work unit 100 cycles"
