@@ -18,6 +18,7 @@ use crate::find::Found;
 use crate::followed::{Followed, follow, lose_each, runs_on, take_each};
 use crate::limits::MAX_TOUCHES;
 use crate::lines::{Lines, is_within_to};
+use crate::others::Others;
 use crate::past::Past;
 use crate::refused::Refused;
 use crate::step::{Step, Whose};

@@ -1,15 +1,19 @@
 //! What is known of the tasks behind some lines, of the jobs that aren't forgotten.
-ghost use Rattle.std.specs.Prelude.{◌≡◌, ℕ, ◌<◌, List, Option, length, slice_index_or, vec_len, IfOk};
+ghost use Rattle.std.specs.Prelude.{◌≡◌, ℕ, ◌<◌, List, Option, length, slice_index_or, vec_len, unwrap_or, IfOk};
 ghost use Rattle.yds_kernel.specs.Event.{Said};
 ghost use Rattle.yds_trace.specs.declared.followed.Followed.{Followed};
 ghost use Rattle.yds_trace.specs.declared.shown.ShownTask.{ShownTask};
 ghost use Rattle.yds_trace.specs.Following.{Shows};
 ghost use Rattle.yds_trace.specs.Kept.{IsPast};
+ghost use Rattle.yds_trace.specs.Shown.{IsShown, IsShared};
+ghost use Rattle.yds_trace.specs.Views.{asked_read};
 
+use crate::asked::Asked;
 use crate::ended::close;
 use crate::followed::Followed;
 use crate::job::Job;
 use crate::jobs::{copied, last_begin};
+use crate::others::Span;
 use crate::past::Past;
 use std::alloc::Global;
 use yds_model::Memory;
@@ -37,6 +41,16 @@ pub struct Shown {
     pub first: u64,
     /// The time of its last line with a stamp, in nanoseconds; 0 where there is none.
     pub last: u64,
+}
+
+impl Shown {
+    /// The same with each job as the documents of the processor that is asked for have it, where that may not be all that it ran.
+    pub fn shared(&self, alloc: Global, asked: &Asked) -> Result<Option<Shown>, Memory>
+        ensures { (past : List Said) (boundary : ℕ) → IsShown (asked_read asked.now) past boundary self.now
+            → IfOk result (λ own. IsShared (asked_read asked.now) past boundary (unwrap_or own self.now)) }
+    {
+        unreachable!()
+    }
 }
 
 /// What is known of a task: what still has its processor has had it until this time.
