@@ -335,9 +335,7 @@ def usual(it: Drawing, short: float = 0.3) -> None:
 
 def starving(it: Drawing) -> None:
     """A thread is woken and gets no processor any more. Others may move, and have shares."""
-    if it.draw.random() < 0.7:
-        it.processors, it.home, it.sleepy = it.draw.choice([2, 3]), {}, 0.25
-        it.options["--moved"] = "parts"
+    it.sleepy = 0.25 if roam(it, 0.7) else it.sleepy
     it.run()
     it.starving = it.draw.choice(it.listed)
     it.state[it.starving] = "ready"
@@ -358,13 +356,31 @@ def moving(it: Drawing) -> None:
 
 
 def sharing(it: Drawing) -> None:
-    """Threads move among processors, and a job has a share on each."""
+    """Threads move among processors, and a job has a share on each. Some have one deadline within most jobs' times."""
     it.processors, it.home, it.sleepy = it.draw.choice([2, 3]), {}, 0.25
-    usual(it, it.draw.choice([0.0, 0.8]))
+    usual(it, 0.0)
+    is_short = it.draw.random() < 0.9
     for wish in it.wishes:
-        wish.deadline *= it.draw.choice([1, 10])
+        own = [end - begin for name, begin, end in it.spans if name == wish.name]
+        if own and is_short:
+            wish.deadline = max(UNIT, it.draw.choice(own) * it.draw.choice([4, 7, 9]) // 10)
+        elif not is_short:
+            wish.deadline *= 10
+    if is_short:
+        it.options.pop("--begin", None)
     it.unbound()
-    it.options["--moved"] = "parts"
+    if it.draw.random() < 0.9:
+        it.options["--moved"] = "parts"
+
+
+def roam(it: Drawing, chance: float) -> bool:
+    """With this chance threads move among processors, and half the time a job has a share on each."""
+    moves = it.draw.random() < chance
+    if moves:
+        it.processors, it.home = it.draw.choice([2, 3]), {}
+        if it.draw.random() < 0.6:
+            it.options["--moved"] = "parts"
+    return moves
 
 
 def shove(it: Drawing) -> None:
@@ -440,10 +456,8 @@ def ended_early(it: Drawing) -> None:
 
 def wrong_units(it: Drawing) -> None:
     """Deadlines and distances are in another unit. Threads move among processors, and may have shares."""
-    it.processors, it.home = it.draw.choice([2, 3]), {}
+    roam(it, 1.0)
     usual(it, 0.1)
-    if it.draw.random() < 0.5:
-        it.options["--moved"] = "parts"
     for wish in it.wishes:
         wish.deadline = it.draw.choice([UNIT, 2 * UNIT, 10_000 * MILLISECOND, 90_000 * MILLISECOND])
         wish.apart = it.draw.choice([0, 1, 700, 9_000, 30_000 * MILLISECOND])
@@ -452,6 +466,7 @@ def wrong_units(it: Drawing) -> None:
 def small(it: Drawing) -> None:
     """Stretches are within one unit of time, or nearly."""
     it.steps = [0, 300, 700, 3_000, 9_000, 12_000, 40_000, 900_000, 4_000_000]
+    roam(it, 0.5)
     usual(it, 0.5)
     for wish in it.wishes:
         if it.draw.random() < 0.5:
@@ -497,7 +512,8 @@ def open_at_the_end(it: Drawing) -> None:
 
 
 def often_woken(it: Drawing) -> None:
-    """Wake-ups within a job, and ones that go on with it."""
+    """Wake-ups within a job, and ones that go on with it. Threads may move among processors, and have shares."""
+    roam(it, 0.7)
     it.run(30)
     for _ in range(3):
         name = it.draw.choice(it.listed)
@@ -508,7 +524,7 @@ def often_woken(it: Drawing) -> None:
             it.switch(it.home.get(name, 0))
             it.time += it.draw.choice([0, 1, 40_000])
             it.switch(it.home.get(name, 0))
-    it.ask(0.2)
+    it.ask(it.draw.choice([0.1, 0.1, 0.8]))
     for wish in it.wishes:
         wish.apart = it.draw.choice([MILLISECOND, 5 * MILLISECOND, 40 * MILLISECOND])
         if it.draw.random() < 0.7:
@@ -524,7 +540,8 @@ def exact_apart(it: Drawing, wish: Wish) -> int:
 
 
 def at_run(it: Drawing) -> None:
-    """Jobs begin at their first run."""
+    """Jobs begin at their first run. Threads may move among processors, and have shares."""
+    it.sleepy = 0.3 if roam(it, 0.8) else it.sleepy
     usual(it, 0.4)
     it.options["--begin"] = "run"
     if it.draw.random() < 0.5:
@@ -754,7 +771,7 @@ SHOWN: List[Callable[[Drawing], None]] = [
     fronted, cut_line, no_speed, great_processor, torn, great_time, cut_off, backwards, ended_early, torn_open,
     wrong_units, unknown_state, small, two_threads, edges, two_tasks, open_at_the_end, no_trace, often_woken, unseen,
     at_run, unwoken, cut_off, torn_end, missing, long_times, torn, much_work, ended_early, coarse_speed,
-    no_job, strictly, torn, strictly, edges, sharing, no_speed, open_at_the_end,
+    no_job, sharing, torn, strictly, edges, sharing, no_speed, open_at_the_end,
 ]
 
 

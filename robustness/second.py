@@ -1051,6 +1051,8 @@ class Document:
             return f"# not ended: {one.called}, {by}"
         if self.ended(one) <= self.units(one.due):
             return f"# late by less than a unit of time: {one.called}, {by}"
+        if self.shown_end(one) <= self.units(one.due) and one.part is not None:
+            return f"# late on another processor: {one.called}, {by}"
         if self.shown_end(one) <= self.units(one.due):
             return f"# late in a run within one tick: {one.called}, {by}"
         return f"# late: {one.called}, {by}"

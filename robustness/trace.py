@@ -71,7 +71,7 @@ WANTED = [
     "lines end by CR LF", "no line feed at the end", "a marker that looks like a switch", "a wake-up of a new thread", "a wait for a disk", "a thread ends",
     "a share of a job that moves, in time", "a share of a job that moves, late", "a share whose runs don't show that it is late",
     "a name with a byte that isn't shown", "a name that is cut short", "another thread within one unit of time", "another thread at time 0",
-    "comment late", "comment late, without its runs", "comment late in a run", "comment late by less", "comment not ended", "comment begins", "comment ends",
+    "comment late", "comment late, without its runs", "comment late in a run", "comment late by less", "comment late on another processor", "comment not ended", "comment begins", "comment ends",
     "comment left out", "comment stretch", "comment wake", "comment the deadline of", "comment APART of", "comment part", "comment other",
 ]
 LEAST, OF = 200, 10_000
@@ -145,7 +145,7 @@ def in_job(one: Judged, unit: int) -> Iterator[str]:
 
 def in_text(text: str) -> Iterator[str]:
     """Which comments a document has."""
-    kinds = "part|other|late, without its runs|late by less|late in a run|late|not ended|begins|ends|left out|[0-9]+ stretch|[0-9]+ wake|the deadline of|APART of"
+    kinds = "part|other|late, without its runs|late on another processor|late by less|late in a run|late|not ended|begins|ends|left out|[0-9]+ stretch|[0-9]+ wake|the deadline of|APART of"
     for mark in re.finditer(f"^# ({kinds})", text, re.M):
         yield "comment " + re.sub("[0-9]+ ", "", mark[1])
 
