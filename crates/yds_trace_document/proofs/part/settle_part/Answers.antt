@@ -1,10 +1,10 @@
-use Rattle.yds_model.proofs.Common.{◌≡◌, ◌∙◌, ◌+◌, ◌*◌, ℕ, List, map, max, ap, ap₂, sym, unwrap_or}
+use Rattle.yds_model.proofs.Common.{◌≡◌, ◌∙◌, ◌+◌, ◌*◌, ℕ, List, map, max, ap, ap₂, unwrap_or}
 use Rattle.std.specs.Prelude.{Vec}
 use Rattle.std.specs.declared.alloc.Global.{Global}
 use Rattle.yds_trace.specs.Asked.{Asked}
 use Rattle.yds_trace.specs.Views.{asked_read}
 use Rattle.yds_trace.specs.Document.{in_order}
-use Rattle.yds_trace.specs.Others.{Span, spans_within}
+use Rattle.yds_trace.specs.Others.{spans_within}
 use Rattle.yds_trace.specs.Parts.{part_until}
 use Rattle.yds_trace_document.specs.Kept.{begin_of, together, capped_in}
 use Rattle.yds_trace_document.specs.Part.{shift_from, shifted, part_by_task, others_until}
