@@ -10,20 +10,6 @@ map_reverse {A} {B} f (x ∷ xs) =
     ∙ ap (λ (rest : List B). rest ++ f x ∷ []) (map_reverse f xs)
     ∙ sym (reverse-append (f x ∷ []) (map f xs))
 
-or_comm : (b c : Bool) → (b || (c || false)) ≡ (c || b)
-or_comm true true = refl
-or_comm true false = refl
-or_comm false true = refl
-or_comm false false = refl
-
-pub list_any_reverse : {A : Type 0} (p : A → Bool) (xs : List A) → list_any p (reverse xs) ≡ list_any p xs
-list_any_reverse p [] = refl
-list_any_reverse p (x ∷ xs) =
-    ap (list_any p) (reverse-append (x ∷ []) xs)
-    ∙ list_any-append p (reverse xs) (x ∷ [])
-    ∙ ap (λ (b : Bool). b || (p x || false)) (list_any_reverse p xs)
-    ∙ or_comm (list_any p xs) (p x)
-
 pub list_any_map : {A B : Type 0} (p : B → Bool) (f : A → B) (xs : List A) → list_any p (map f xs) ≡ list_any (λ x. p (f x)) xs
 list_any_map p f [] = refl
 list_any_map p f (x ∷ xs) = ap (λ (b : Bool). p (f x) || b) (list_any_map p f xs)
