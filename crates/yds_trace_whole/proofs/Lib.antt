@@ -8,6 +8,7 @@ pub mod Later
 pub mod Ranked
 pub mod Together
 pub mod Worth
+pub mod Shared
 pub mod Everywhere
 pub mod Several
 mod Traces
