@@ -7,6 +7,7 @@ pub mod Parting
 pub mod Later
 pub mod Ranked
 pub mod Together
+pub mod Spans
 pub mod Worth
 pub mod Shared
 pub mod Everywhere
@@ -14,4 +15,5 @@ pub mod Several
 mod Traces
 mod Examples
 mod LateExamples
+mod SpanExamples
 mod ProcessorExamples
