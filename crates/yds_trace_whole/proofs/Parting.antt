@@ -18,10 +18,11 @@ use Rattle.yds_trace.specs.Parts.{belongs, begin_of, begins_from, begins_before,
 use Rattle.yds_trace_document.proofs.Sorting.{FromLow, Rises, rises_in_order}
 use Rattle.yds_trace_laws.proofs.Ordered.{append-all, append-all_left, append-all_right, in_order-all, in_order-all_back}
 use Rattle.yds_trace_laws.proofs.Runs.{all_weaker, reverse-all, reverse-all_back}
+use Rattle.yds_trace_laws.proofs.Shares.{share_kept}
 use Rattle.yds_trace_laws.proofs.Sharing.{GoesOn, lines_go_on}
 use Rattle.yds_trace_whole.specs.Parts.{Part, made, made_with, made_at, parts_behind, judged_in_parts, KeepsParts}
 use Rattle.yds_trace_whole.specs.Laws.{PartsAreTheWhole}
-use Rattle.yds_trace_whole.proofs.Told.{told, Each, share_by}
+use Rattle.yds_trace_whole.proofs.Told.{told, Each}
 use Rattle.yds_trace_whole.proofs.Going.{IsSound, IsSoundEnd, AreSound, IsDone, IsOff, IsLeft, StandsBy, Keeps}
 use Rattle.yds_trace_whole.proofs.Lines.{beyond, until_most}
 use Rattle.yds_trace_whole.proofs.Holding.{IsFirmEnd, IsFirm, ripe_from, counted, Holds, now_is, now_goes_on, goes_behind, line_keeps, line_holds}
@@ -232,7 +233,7 @@ all_begun asked past cut holds =
     (from_all asked past P 0 asked.tasks (λ number within.
     let known : Known = counted asked past number in
     numbered_all asked past P number (began_before (jobs_of asked past number)) Q (λ place job is. is) 0 (shares_of asked past number)
-    (shares_all Q asked (λ job is. share_by Q asked job is is) (jobs_of asked past number)
+    (shares_all Q asked (share_kept Q (λ processor job is. is) asked) (jobs_of asked past number)
     (reverse-all Q (closed asked past known)
     (closed_all asked past Q (λ job stretch is. is) known
     (all_weaker (IsSound (last_asked asked past)) Q (λ job is. is.0) known.jobs (holds number (omega (arith, within))).keeps.sound))))))
@@ -341,7 +342,7 @@ jobs_settled asked past cut time number quiet within =
     let P : Judged → Type 0 = SettledJudged asked past cut.boundary time in
     all_closed asked past Q (λ job stretch is. is) (counted asked past number)
     (reverse-all_back Q (closed asked past (counted asked past number))
-    (all_shares Q asked (λ job. share_by (λ (j : Job). Q j → Q job) asked job (λ is. is) (λ is. is)) (jobs_of asked past number)
+    (all_shares Q asked (λ job. share_kept (λ (j : Job). Q j → Q job) (λ processor j back. back) asked job (λ is. is)) (jobs_of asked past number)
     (all_numbered asked past P number (began_before (jobs_of asked past number)) Q (λ place job is. is) 0 (shares_of asked past number)
     (all_from_tasks asked past P 0 asked.tasks (in_order-all_back P begin_of (judged_from asked past 0 asked.tasks) (judged_settled asked past cut time quiet))
     number (omega arith) (omega (arith, within))))))

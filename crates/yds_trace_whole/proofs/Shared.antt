@@ -5,12 +5,13 @@ use Rattle.yds_kernel.specs.Event.{Said}
 use Rattle.yds_trace.specs.declared.job.Stretch.{Stretch}
 use Rattle.yds_trace.specs.Asked.{Task, Asked, on}
 use Rattle.yds_trace.specs.Jobs.{Job}
-use Rattle.yds_trace.specs.Document.{has_run_on, share_on, share_of, began_before, jobs_of, Judged, judged, judged_of, judged_from, put_in, in_order, all_judged}
+use Rattle.yds_trace.specs.Document.{has_run_on, share_of, began_before, jobs_of, Judged, judged, judged_of, judged_from, put_in, in_order, all_judged}
 use Rattle.yds_trace.specs.Parts.{belongs, begin_of}
 use Rattle.yds_trace.proofs.OnProcessor.{jobs_of_on}
 use Rattle.yds_trace.proofs.Shares.{share_has_run_on, share_is_empty}
 use Rattle.yds_trace_laws.specs.Processors.{whole_job}
-use Rattle.yds_trace_whole.proofs.Told.{with_number, share_by}
+use Rattle.yds_trace_laws.proofs.Shares.{share_kept}
+use Rattle.yds_trace_whole.proofs.Told.{with_number}
 
 -- what `there` is to `one`, which is judged on another processor
 pub record IsOneJob (asked : Asked) (processor : ℕ) (one there : Judged) : Type 0 where
@@ -91,8 +92,8 @@ any_of_some p q (stretch ∷ stretches) any = by (q stretch) any (any_of_some p 
 ran_there : (asked : Asked) (processor : ℕ) (job : Job) → has_run_on processor (share_of asked job) ≡ true → has_run_on processor (share_of (on processor asked) job) ≡ true
 ran_there asked processor job ran =
     share_has_run_on (on processor asked) job
-    ∙ share_by (λ (j : Job). has_run_on processor j ≡ true → has_run_on processor job ≡ true) asked job
-    (any_of_some (λ stretch. stretch.processor == processor) (λ stretch. stretch.processor == asked.processor) job.stretches) (λ is. is) ran
+    ∙ share_kept (λ (j : Job). has_run_on processor j ≡ true → has_run_on processor job ≡ true)
+    (λ there j back is. back (any_of_some (λ stretch. stretch.processor == processor) (λ stretch. stretch.processor == there) j.stretches is)) asked job (λ is. is) ran
 
 belongs_still : (alone ran now none still : Bool) → (ran ≡ true → now ≡ true) → still ≡ none → (alone || ran || none) ≡ true → (alone || now || still) ≡ true
 belongs_still true ran now none still goes same has = refl
@@ -107,8 +108,8 @@ module _ (asked : Asked) (processor : ℕ) (past : List Said) (number : ℕ) (be
       ≡ whole_job (judged asked past number before (with_number place (share_of asked job)))
   whole_same place job =
       let whole : Judged = whole_job (judged asked past number before (with_number place job)) in
-      share_by (λ (j : Job). whole_job (judged (on processor asked) past number before (with_number place j)) ≡ whole) (on processor asked) job refl refl
-      ∙ sym (share_by (λ (j : Job). whole_job (judged asked past number before (with_number place j)) ≡ whole) asked job refl refl)
+      share_kept (λ (j : Job). whole_job (judged (on processor asked) past number before (with_number place j)) ≡ whole) (λ there j is. is) (on processor asked) job refl
+      ∙ sym (share_kept (λ (j : Job). whole_job (judged asked past number before (with_number place j)) ≡ whole) (λ there j is. is) asked job refl)
 
   one_job : (place : ℕ) (job : Job) → IsOneJob asked processor (judged asked past number before (with_number place (share_of asked job)))
       (judged (on processor asked) past number before (with_number place (share_of (on processor asked) job)))

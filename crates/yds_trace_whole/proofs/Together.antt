@@ -19,13 +19,13 @@ use Rattle.yds_trace_document.proofs.Sorting.{FromLow, Rises}
 use Rattle.yds_trace_laws.specs.InUnits.{document_in}
 use Rattle.yds_trace_laws.proofs.Ordered.{either_all, append-all, in_order-all, filter-all, filter_map-all}
 use Rattle.yds_trace_laws.proofs.Runs.{all_weaker, reverse-all, IsForward, runs_forward}
+use Rattle.yds_trace_laws.proofs.Shares.{share_kept}
 use Rattle.yds_trace_laws.proofs.Sharing.{GoesOn, lines_go_on}
 use Rattle.yds_trace_laws.proofs.Times.{order_is_kept, ends_are_kept}
 use Rattle.yds_trace_again.proofs.Parts.{part_rises}
 use Rattle.yds_trace_whole.specs.Parts.{Part, made, made_with, made_at, parts_behind, parts_of, KeepsParts}
 use Rattle.yds_trace_whole.specs.Whole.{whole_units, job_later, jobs_of_part, placed_later, runs_of_parts}
 use Rattle.yds_trace_whole.specs.Laws.{PartsMakeTheDocument, WholeIsTheDocument}
-use Rattle.yds_trace_whole.proofs.Told.{share_by}
 use Rattle.yds_trace_whole.proofs.Going.{latest, IsSpan, IsSound, AreSound, StandsBy}
 use Rattle.yds_trace_whole.proofs.Lines.{until, until_most, or_this, first_stamp, first_is, no_stamp}
 use Rattle.yds_trace_whole.proofs.Holding.{counted, Holds, now_is, goes_behind}
@@ -66,12 +66,8 @@ closed_sound asked past known sound stands = by known.on stands
 -- what a sound job ran on the processor
 share_sound : (asked : Asked) (now : ℕ) (job : Job) → IsSound now job → IsSound now (share_of asked job)
 share_sound asked now job sound =
-    share_by (IsSound now) asked job (
-      sound.0,
-      sound.1,
-      sound.2,
-      filter-all (IsSpan job.begin (latest now job.end)) (λ stretch. stretch.processor == asked.processor) job.stretches sound.3,
-    ) sound
+    share_kept (IsSound now)
+    (λ processor job is. (is.0, is.1, is.2, filter-all (IsSpan job.begin (latest now job.end)) (λ stretch. stretch.processor == processor) job.stretches is.3)) asked job sound
 
 all_clocked : (asked : Asked) (past : List Said) (cut : Cut) → IsAsked asked → ((number : ℕ) → number < length asked.tasks → Holds asked past cut number) →
     AllByRecursion (IsClocked asked (last_asked asked past)) (all_judged asked past)

@@ -1,11 +1,11 @@
 -- The jobs of a task that begin before a boundary, as they are told: each with its number, and with whether the task's first job began before the trace.
 -- They are told whole; judged is what the processor's documents have of them.
-use Rattle.yds_model.proofs.Common.{◌≡◌, ◌∙◌, ℕ, ◌+◌, ◌<◌, ◌≤◌, List, [], ◌∷◌, ◌++◌, map, length, reverse, filter, Bool, true, false, not, cond, ◌&&◌, nat_lt, if◌then◌else◌, refl, sym, ap, ap₂, subst, arith, lt-ltb, le-ltb, ltb-true, append-nil, map-append, filter-append, reverse-append, length-reverse, length-map, map-map}
+use Rattle.yds_model.proofs.Common.{◌≡◌, ◌∙◌, ℕ, ◌+◌, ◌<◌, ◌≤◌, List, [], ◌∷◌, ◌++◌, map, length, reverse, filter, Bool, true, false, not, cond, nat_lt, if◌then◌else◌, refl, sym, ap, ap₂, subst, arith, lt-ltb, le-ltb, ltb-true, append-nil, map-append, filter-append, reverse-append, length-reverse, length-map, map-map}
 use Rattle.std.specs.List.{enumerate_from, AllByRecursion}
 use Rattle.yds_kernel.specs.Event.{Said}
 use Rattle.yds_trace.specs.Asked.{Asked}
 use Rattle.yds_trace.specs.Jobs.{Job}
-use Rattle.yds_trace.specs.Document.{is_shared_by, share_on, share_of, Judged, judged, began_before}
+use Rattle.yds_trace.specs.Document.{share_of, Judged, judged, began_before}
 use Rattle.yds_trace.specs.Parts.{begins_before}
 use Rattle.yds_trace.proofs.Shares.{share_begin}
 use Rattle.yds_trace_document.proofs.Lists.{enumerate_push}
@@ -159,14 +159,6 @@ pub told_each : (P : Job → Type 0) (boundary : ℕ) (jobs : List Job) → AllB
 told_each P boundary jobs all = early_each P boundary jobs (all_told P (first_before jobs) (early boundary jobs) all)
 
 -- # What is told is judged
-
--- What holds of a job, and of its share, holds of what the processor's documents have of it.
-pub share_by : (P : Job → Type 0) (asked : Asked) (job : Job) → P (share_on asked.processor job) → P job → P (share_of asked job)
-share_by P asked job first second = by (asked.moved_parts && is_shared_by asked.processor job)
-  where
-    by : (b : Bool) → P (if b then share_on asked.processor job else job)
-    by true = first
-    by false = second
 
 -- as the processor's documents have it
 abbrev pub shared : Asked → ℕ × Job → ℕ × Job
