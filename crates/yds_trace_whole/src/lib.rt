@@ -11,7 +11,7 @@ mod worth_laws;
 
 pub use laws::{
     all_parts_are_kept, parts_are_of_processors, parts_are_the_whole, parts_make_the_document,
-    whole_is_the_document,
+    spans_are_the_whole, whole_is_the_document,
 };
 pub use worth_laws::{
     each_part_is_read, nothing_is_late_anywhere, nothing_is_late_in_parts, parts_are_faithful,
