@@ -14,10 +14,14 @@ LEFT_OUT = "left out"
 WITHOUT_RUNS = "late, without its runs"
 NOT_ENDED = "not ended"
 WITHIN_TICK = "late in a run within one tick"
+ELSEWHERE = "late on another processor"
+HIDDEN = (WITHIN_TICK, ELSEWHERE)
+"""The job ended late, and its runs here don't show it: they give all its work but for one unit."""
 LESS_THAN_UNIT = "late by less than a unit of time"
 
 _NOTE = re.compile(
-    r"# (left out|late, without its runs|not ended|late in a run within one tick|late by less than a unit of time): (.+)"
+    r"# (left out|late, without its runs|not ended|late in a run within one tick|late on another processor|"
+    r"late by less than a unit of time): (.+)"
 ).match
 _END = re.compile(
     r"(?:, (at least |not ended )?([0-9.]+) ms after its deadline)?(?:; window (-?[0-9]+) (-?[0-9]+))?"

@@ -30,6 +30,7 @@ BEFORE = "before from"
 MOVED = "ran on another processor"
 """The reason of a job that began at or after that time: yds_trace tells it only where none before it holds."""
 _NUMBERED = re.compile(r"(.+)\.(-1|before|[0-9]{1,18})").fullmatch
+_SHARE = re.compile(r".+\.(?:before|[0-9]+)@[0-9]+").fullmatch
 _PART = re.compile(r"# part [0-9]+:").match
 _OF_JOBS = re.compile(r"# (?:[0-9]+ jobs? written, |the deadline of |APART of |late: )").match
 _OF_UNITS = re.compile(r"# .*(?:time 0 is [0-9]|time unit [0-9])").match
@@ -122,6 +123,10 @@ def read_trace(source: Iterable[Line]) -> Trace:
     return reading.finish(rows.units.value("speed"))
 
 
+def _of_share(name: str) -> str:
+    return f"{name} is what a job ran on one of its processors; leave --moved out where the document is made"
+
+
 def _not_of_trace(row: Row) -> Fault:
     return row.line.fault("this is no line of a trace's document; give what yds_trace writes", 0)
 
@@ -152,6 +157,8 @@ class _Reading:
         if self._ends.take(row.text) or _OF_JOBS(row.text) or _OF_UNITS(row.text):
             return
         note, group = note_of(row.text), left_out_jobs(row.text)
+        if note is not None and _SHARE(note.job):
+            raise row.line.fault(_of_share(note.job))
         if group is not None and _NUMBERED(group.first) and _NUMBERED(group.last):
             self._groups.append(group)
         elif note is not None and (note.job in self._jobs or _NUMBERED(note.job)):
@@ -163,6 +170,8 @@ class _Reading:
         """Reads a job."""
         if row.name in self._jobs:
             raise row.line.fault(f"a second job is named {row.name}", 1)
+        if _SHARE(row.name):
+            raise row.line.fault(_of_share(row.name), 1)
         if _NUMBERED(row.name) is None:
             raise row.line.fault(f"the job {row.name} has no number, as decode.0; give what yds_trace writes", 1)
         self._jobs[row.name] = row
