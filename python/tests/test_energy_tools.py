@@ -44,7 +44,7 @@ def unit_by_unit(document: Document, speed: int) -> Tuple[int, Optional[str]]:
 
 class EnergyTest(unittest.TestCase):
     def test_stored(self) -> None:
-        both = (EXPECTED / "points.txt").read_bytes() + (EXPECTED / "trace.txt").read_bytes()
+        both = (EXPECTED / "points.txt").read_bytes() + (EXPECTED / "document.txt").read_bytes()
         for words, name in [(("--name", "governor"), "energy.txt"), (("--at", "142"), "energy-at.txt")]:
             self.assertEqual(call("energy", *words, given=both), (0, (EXPECTED / name).read_text(), ""))
 

@@ -35,8 +35,8 @@ class Frames(unittest.TestCase):
 class ByHand(Frames):
     def test_a_stored_trace(self) -> None:
         """In units of 10 us the runs are those of the stored document, which has ticks of 1 us, to a hundredth of them."""
-        stored = (EXPECTED / "trace-frames.txt").read_text().splitlines()
-        trace = (EXPECTED / "trace.txt").read_text().replace("10000 kHz", "1000 kHz")
+        stored = (EXPECTED / "frames.txt").read_text().splitlines()
+        trace = (EXPECTED / "document.txt").read_text().replace("10000 kHz", "1000 kHz")
         told = self.told((SAMPLES / "frames.txt").read_text(), trace, "--us", "1000", "--khz=1000")
         self.assertEqual(told[:10], stored[:10])
         self.assertEqual(told[10], "ticks 100")

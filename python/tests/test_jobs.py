@@ -104,12 +104,12 @@ def missed(text: str) -> Misses:
 
 class JobsTest(unittest.TestCase):
     def test_stored_tables(self) -> None:
-        points, late = EXPECTED / "points.txt", EXPECTED / "trace-late.txt"
+        points, late = EXPECTED / "points.txt", EXPECTED / "document-late.txt"
         for words, name in [
             ((points, late), "jobs-late.txt"),
             (("--zero", "trace", "--form", "csv", points, late), "jobs-late.csv"),
-            (("--form", "csv", EXPECTED / "trace-elsewhere.txt"), "jobs-elsewhere.csv"),
-            ((EXPECTED / "trace-starving.txt",), "jobs-starving.txt"),
+            (("--form", "csv", EXPECTED / "document-elsewhere.txt"), "jobs-elsewhere.csv"),
+            ((EXPECTED / "document-starving.txt",), "jobs-starving.txt"),
         ]:
             wanted = (EXPECTED / name).read_text(encoding="latin-1")
             self.assertEqual(call("jobs", *words), (0, wanted, ""))

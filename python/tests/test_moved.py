@@ -127,7 +127,7 @@ class MovedTest(unittest.TestCase):
             )
         self.assertIn(
             "# 2 of these jobs hadn't ended: there the deadline is where the last is known of it; the first is render.0",
-            self.moved((EXPECTED / "trace-starving.txt").read_text()),
+            self.moved((EXPECTED / "document-starving.txt").read_text()),
         )
 
     def test_a_job_that_is_not_done(self) -> None:

@@ -492,7 +492,7 @@ class ByHandTest(unittest.TestCase):
     """The sample of the manual, in which decode.2 is late."""
 
     def setUp(self) -> None:
-        self.text = (EXPECTED / "points.txt").read_bytes() + (EXPECTED / "trace-late.txt").read_bytes()
+        self.text = (EXPECTED / "points.txt").read_bytes() + (EXPECTED / "document-late.txt").read_bytes()
 
     def test_the_verdict_and_the_worst(self) -> None:
         read = page_of(self.text)
@@ -551,7 +551,7 @@ class CommandTest(unittest.TestCase):
             return call("page", *words, given=given)
 
     def test_files_are_joined_and_summed(self) -> None:
-        points, late = EXPECTED / "points.txt", EXPECTED / "trace-late.txt"
+        points, late = EXPECTED / "points.txt", EXPECTED / "document-late.txt"
         status, out, err = self.called("--title", "A <b>governor</b>", points, late)
         self.assertEqual((status, err), (0, ""))
         read = Page(out)
@@ -562,14 +562,14 @@ class CommandTest(unittest.TestCase):
         self.assertIn(f"yds-page --title 'A <b>governor</b>' {points} {late}", read.ids["repeat"].text)
 
     def test_standard_input(self) -> None:
-        text = (EXPECTED / "trace.txt").read_bytes()
+        text = (EXPECTED / "document.txt").read_bytes()
         status, out, err = self.called(given=text)
         self.assertEqual((status, err), (0, ""))
         self.assertIn("no energy is told", Page(out).ids["energy"].text)
         self.assertEqual(Page(out).table("inputs")[0]["SHA-256"].text, hashlib.sha256(text).hexdigest())
 
     def test_faults(self) -> None:
-        late = EXPECTED / "trace-late.txt"
+        late = EXPECTED / "document-late.txt"
         for words, given, told in [
             ((), b"", "standard input has no line of a document; look at what wrote it"),
             ((), b"failed\n", "line 1: the input is an answer of no: failed"),
@@ -589,9 +589,9 @@ class CommandTest(unittest.TestCase):
         with tempfile.TemporaryDirectory() as held:
             folder = Path(held)
             (folder / "other").mkdir()
-            for name, source in (("ok.txt", "trace.txt"), ("other/ok.txt", "trace-late.txt"), ("index.txt", "trace-lost.txt")):
+            for name, source in (("ok.txt", "document.txt"), ("other/ok.txt", "document-late.txt"), ("index.txt", "document-lost.txt")):
                 (folder / name).write_bytes((EXPECTED / source).read_bytes())
-            (folder / "a&<b> \u00fc.txt").write_bytes((EXPECTED / "trace.txt").read_bytes())
+            (folder / "a&<b> \u00fc.txt").write_bytes((EXPECTED / "document.txt").read_bytes())
             (folder / "failed.txt").write_bytes(b"failed\n")
             files = [folder / name for name in ("ok.txt", "other/ok.txt", "index.txt", "a&<b> \u00fc.txt", "failed.txt", "none.txt")]
             pages = folder / "pages"

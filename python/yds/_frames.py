@@ -23,8 +23,6 @@ from yds._comments import (
 from yds._priced import decimal
 from yds._text import Comment, Fault, Job, Line, Point, Row, Rows, Slot, Ticks, base, counted
 
-OTHERS = "others"
-"""The task of the jobs that stand for all other tasks."""
 BEFORE = "before from"
 """The reason of a job that began before the time from which on the trace was asked for."""
 MOVED = "ran on another processor"
@@ -228,7 +226,7 @@ def told_jobs(trace: Trace) -> List[Told]:
     found = []
     for name in dict.fromkeys([*trace.jobs, *notes]):
         numbered = _NUMBERED(name)
-        if numbered is None or numbered.group(1) == OTHERS:
+        if numbered is None:
             continue
         number = -1 if numbered.group(2) == "before" else int(numbered.group(2))
         note, row = notes.get(name), trace.jobs.get(name)
@@ -525,11 +523,7 @@ class _Written:
     ) -> None:
         self._trace, self._frames, self._by, self._placed, self._judged = trace, frames, by, placed, judged
         self._firsts = firsts
-        self._others = {name: row for name, row in trace.jobs.items() if name.startswith(f"{OTHERS}.")}
         self._names = {job: frame for job, frame in placed.frame_of.items() if job not in set(judged.dropped)}
-        self._whole_others = [line for line in map(self._other, self._others.values()) if line]
-        if len(self._whole_others) == len(self._others):
-            self._names.update({name: name for name in self._others})
 
     def head(self) -> Iterator[str]:
         """Time 0, and the units."""
@@ -547,17 +541,6 @@ class _Written:
         """Points, and the application's jobs."""
         yield from self._trace.points
         yield from self._frames.lines
-        if len(self._whole_others) == len(self._others):
-            yield from self._whole_others
-
-    def _other(self, row: Job) -> str:
-        """The line of a job of all other tasks, in the application's units; empty where these aren't whole."""
-        scale = Fraction(self._by.per_unit, self._by.ticks)
-        zero = Fraction(self._by.zero, self._by.ticks)
-        times = [row.release * scale - zero, row.deadline * scale - zero, row.work * scale]
-        if any(time.denominator != 1 or time < 0 for time in times):
-            return ""
-        return " ".join(["job", row.name, *(str(time.numerator) for time in times)])
 
     def runs(self) -> Iterator[str]:
         """The ticks, and the runs."""
@@ -583,7 +566,7 @@ class _Written:
                 yield f"# other {span.name}-{span.pid} {begin} {span.end - self._by.zero}"
         left = len(self._judged.left) + sum(map(len, self._placed.unknown.values())) + self._placed.before
         left += sum(group.number for group in self._trace.groups) + self._cut_off()
-        written = len(self._frames.jobs) + (len(self._others) if len(self._whole_others) == len(self._others) else 0)
+        written = len(self._frames.jobs)
         late = self._judged.late
         without = f", {late} late without {'its' if late == 1 else 'their'} runs" if late else ""
         yield f"# {counted(written, 'job', 'jobs')} written, {left or 'none'} left out{without}"
@@ -619,9 +602,6 @@ class _Written:
             yield f"# {LEFT_OUT}: {counted(len(names), 'job', 'jobs')} of {task} (not in {file}){span}"
         if self._placed.before:
             yield f"# {counted(self._placed.before, 'job of the trace begins', 'jobs of the trace begin')} before time 0"
-        if len(self._whole_others) != len(self._others):
-            units = "whose times and works aren't whole in these units"
-            yield f"# {LEFT_OUT}: {counted(len(self._others), 'job', 'jobs')} of all other tasks, {units}"
         gone = sum((run.end - run.start for run in self._trace.runs if run.job not in self._names), 0)
         if gone:
             yield f"# jobs of the trace that aren't here ran for {self._by.milliseconds(Fraction(gone))} ms"

@@ -260,13 +260,12 @@ def _times(facts: Facts, told: Energies) -> Markup:
 
 
 def _of_others(facts: Facts) -> List[str]:
-    """What the trace tells of other tasks, and of whose the changes of frequency were."""
-    kept = [text[2:] for text in facts.given.comments if text.startswith("# other tasks ran for ")]
-    kept += [text[2:] for text in facts.given.comments if " of frequency, " in text and " from another CPU" in text]
-    told = [text[:1].upper() + text[1:] + "." for text in kept[:4]]
-    if told:
-        told.append("The least is that of these jobs on a processor that has nothing else to do.")
-    return told
+    """For how long other threads had the processor while a job waited, where the document tells it."""
+    ran = sum((span.length for span in facts.given.others.all), Fraction(0))
+    if not ran:
+        return []
+    told = f"Other threads had the processor for {facts.scale.time(ran)} while a job waited."
+    return [told, "The least is that of these jobs on a processor that has nothing else to do."]
 
 
 def speeds(facts: Facts) -> Markup:
