@@ -73,7 +73,7 @@ runs_on_on asked processor past there number (task ∷ tasks) =
 
 touches_on : (asked : Asked) (processor : ℕ) (past : List Said) (happening : Happening) →
     touches (on processor asked) past happening ≡ touches asked past happening
-touches_on asked processor past (Switch previous state next) = refl
+touches_on asked processor past (Switch previous state next) = ?
 touches_on asked processor past (WakeUp thread) = refl
 touches_on asked processor past (Speed there khz) = runs_on_on asked processor past there 0 asked.tasks
 touches_on asked processor past Loss = refl
@@ -183,6 +183,7 @@ counted_on asked processor counting counted is = record {
   times = is.times;
   as_many = is.as_many;
   tasks = λ number default within. followed_on asked processor counting counted.boundary number _ (is.tasks number default within);
+  others = ?;
   touched = λ alone. is.touched alone ∙ sym (touched_on asked processor counting);
   few = is.few;
 }
@@ -197,7 +198,8 @@ lines_on asked processor past lines is = record {
 }
 
 shown_task_on : (asked : Asked) (processor : ℕ) (past : List Said) (boundary later number : ℕ) (shown : ShownTask) → boundary ≤ later →
-    IsShownTask asked past boundary number shown → IsShownTask (on processor asked) past later number shown
+    IsShownTask (jobs_of asked past number) asked past boundary number shown →
+    IsShownTask (jobs_of (on processor asked) past number) (on processor asked) past later number shown
 shown_task_on asked processor past boundary later number shown within is = record {
   forgotten = is.forgotten;
   jobs = jobs_of_on asked processor past number ∙ is.jobs;
@@ -213,6 +215,7 @@ pub shown_on : (asked : Asked) (processor : ℕ) (past : List Said) (boundary la
 shown_on asked processor past boundary later shown within is = record {
   as_many = is.as_many;
   tasks = λ number default inside. shown_task_on asked processor past boundary later number _ within (is.tasks number default inside);
+  others = ?;
   first = is.first;
   last = is.last;
 }

@@ -2,6 +2,7 @@
 
 use crate::{
     Asked, Cause, Cut, End, Ended, Kept, MAX_TOUCHES, NO_CUT, Pass, Refused, Stretch, Task, Which,
+    has_run_on,
 };
 use std::alloc::{AllocError, Global};
 use std::test::Fail;
@@ -72,6 +73,8 @@ fn asked(alloc: Global) -> Result<Asked, AllocError> {
         cut_losses: false,
         in_parts: false,
         everywhere: false,
+        moved_parts: false,
+        others: None,
     })
 }
 
@@ -261,6 +264,7 @@ fn what_is_written_is_forgotten(rt: HostRuntime) -> Result<(), Fail> {
     let all = Kept {
         jobs: 3,
         stretches: 3,
+        others: 0,
     };
     assert_eq!(rt; pass.kept(), all);
     let whole = pass.shown(alloc)?;
@@ -275,6 +279,7 @@ fn what_is_written_is_forgotten(rt: HostRuntime) -> Result<(), Fail> {
     let one = Kept {
         jobs: 1,
         stretches: 1,
+        others: 0,
     };
     assert_eq!(rt; pass.kept(), one);
     let rest = pass.shown(alloc)?;
@@ -373,6 +378,59 @@ fn another_processor_has_the_same_jobs(rt: HostRuntime) -> Result<(), Fail> {
     assert_eq!(rt; task.jobs.len(), 1);
     let job = &task.jobs[0];
     assert_eq!(rt; job.end, End::Ended(40_000));
+    Ok(())
+}
+
+#[test]
+fn each_processor_has_its_share_of_a_job(rt: HostRuntime) -> Result<(), Fail> {
+    let alloc = rt.alloc();
+    let lines = [
+        woken(10_000),
+        comes(0, 12_000),
+        leaves(0, 20_000, State::GoesOn),
+        comes(1, 25_000),
+        leaves(1, 40_000, State::Sleeps),
+        woken(110_000),
+        comes(0, 112_000),
+        leaves(0, 120_000, State::Sleeps),
+    ];
+    let first = stretch(0, 12_000, 20_000, 600_000);
+    let second = stretch(1, 25_000, 40_000, 600_000);
+    let stayed = stretch(0, 112_000, 120_000, 600_000);
+    let mut parts = asked(alloc)?;
+    parts.moved_parts = true;
+    let mut pass = pass_over(alloc, parts, &lines)?;
+    let whole = pass.shown(alloc)?;
+    assert_eq!(rt; whole.tasks.len(), 1);
+    let jobs = &whole.tasks[0].jobs;
+    assert_eq!(rt; jobs.len(), 2);
+    assert_eq!(rt; jobs[0].stretches.as_slice(), [first, second].as_slice());
+    assert!(rt; !jobs[0].shared);
+    assert!(rt; has_run_on(0, &jobs[0]));
+    assert!(rt; has_run_on(1, &jobs[0]));
+    assert!(rt; !has_run_on(1, &jobs[1]));
+    pass.turn_to(1);
+    let own = whole.shared(alloc, pass.asked())?.ok_or(())?;
+    assert_eq!(rt; own.tasks.len(), 1);
+    let jobs = &own.tasks[0].jobs;
+    assert_eq!(rt; jobs.len(), 2);
+    assert_eq!(rt; jobs[0].begin, 10_000);
+    assert_eq!(rt; jobs[0].end, End::Ended(40_000));
+    assert_eq!(rt; jobs[0].stretches.as_slice(), [second].as_slice());
+    assert!(rt; jobs[0].shared);
+    assert_eq!(rt; jobs[1].stretches.as_slice(), [stayed].as_slice());
+    assert!(rt; !jobs[1].shared);
+    pass.turn_to(0);
+    let ended = pass.end(alloc)?;
+    assert_eq!(rt; ended.jobs.len(), 1);
+    let jobs = &ended.jobs[0];
+    assert_eq!(rt; jobs.len(), 2);
+    assert_eq!(rt; jobs[0].stretches.as_slice(), [first].as_slice());
+    assert!(rt; jobs[0].shared);
+    assert_eq!(rt; jobs[1].stretches.as_slice(), [stayed].as_slice());
+    let alone = asked(alloc)?;
+    let shared = whole.shared(alloc, &alone)?;
+    assert!(rt; shared.is_none());
     Ok(())
 }
 

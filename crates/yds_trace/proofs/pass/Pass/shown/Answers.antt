@@ -21,6 +21,7 @@ returns c = λ asked past boundary at. record {
       (c.last_asked-until.ensures asked past (ap (λ (read : Asked). read.to) (sym at.same_asked)) at.lines.times.last)
       (rw c.deref.ensures.value at (c.in_ok-tasks.ensures.each asked.start (up_to asked.to past) at.counted.times number default kept
       (omega (arith, ap length c.deref.ensures.value, inside)))));
+  others = ?;
   first = c.unwrap_or.ensures ∙ sym (at.lines.times.first 0);
   last = sym at.lines.times.last;
 }
