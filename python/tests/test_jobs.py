@@ -259,9 +259,9 @@ class MissesTest(unittest.TestCase):
 
     def test_stored_samples(self) -> None:
         for sample, name in [
-            ("trace-elsewhere", "misses-elsewhere"),
-            ("trace-short-late", "misses-short-late"),
-            ("trace-starving", "misses-starving"),
+            ("document-elsewhere", "misses-elsewhere"),
+            ("document-short-late", "misses-short-late"),
+            ("document-starving", "misses-starving"),
         ]:
             text = (EXPECTED / f"{sample}.txt").read_text()
             wanted = (EXPECTED / f"{name}.txt").read_text().splitlines()

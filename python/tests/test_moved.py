@@ -112,7 +112,7 @@ class MovedTest(unittest.TestCase):
             ("tick", ["job render.1 1000 3800 95000", "# deadline moved: render.1 by 1900"]),
             ("elsewhere", []),
         ]:
-            text = (EXPECTED / f"trace-{name}.txt").read_text()
+            text = (EXPECTED / f"document-{name}.txt").read_text()
             told = self.moved(text)
             for line in wanted:
                 self.assertIn(line, told)

@@ -365,6 +365,9 @@ class VerdictTest(unittest.TestCase):
             (jobs + "ticks 1\nrun a.0 0 4 1\nrun a.1 9 18 1\n", "no"),
             (HEAD + jobs + runs + "# the deadline of a is 9000 ms, and its jobs begin 9 ms apart; deadlines are in milliseconds, "
              "and this looks like microseconds\n" + closing, "open"),
+            (HEAD + jobs + runs + "# the deadline of a, 9000.000000 ms, is more than 100 times the mean distance of its jobs' begins, "
+             "9.000000 ms: is it in another unit?\n" + closing, "open"),
+            (HEAD + jobs + runs + "# 2 stretches within one unit of time, 0.016000 ms together, are in no run\n" + closing, "yes"),
         ]:  # fmt: skip
             with self.subTest(text):
                 self.assertEqual(self.colour(text), wanted)
@@ -515,8 +518,11 @@ class ByHandTest(unittest.TestCase):
         self.assertIn("with 1 deadline moved to its job's end", read_energy)
         self.assertIn("It spends 5.4 % more than the least", text)
         self.assertIn("as it ran: 4.574 mJ", text)
-        self.assertIn("Other tasks ran for 0.422 ms of 53.697 ms.", text)
-        self.assertIn("6 changes of frequency, 6 of them from another CPU.", text)
+        self.assertNotIn("Other threads had the processor", text)
+        spans = b"# other kworker/0:1-57 270 290\n# other kworker/0:1-57 2360 2376\n"
+        others = page_of(self.text + spans).ids["energy"].text
+        self.assertIn("Other threads had the processor for 0.36 ms while a job waited.", others)
+        self.assertIn("on a processor that has nothing else to do.", others)
 
     def test_a_document_with_moved_deadlines(self) -> None:
         """What yds-jobs --late-moved writes has the same misses, and energies that say so."""
