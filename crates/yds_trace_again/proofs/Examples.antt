@@ -43,6 +43,8 @@ asked = record {
   cut_losses = false;
   in_parts = false;
   everywhere = false;
+  moved_parts = false;
+  others = None;
 }
 
 abbrev just_this : Document
@@ -80,7 +82,7 @@ empty_part_is_read = refl
 abbrev late_units : Units
 late_units = record { zero = 2000; time = 10; speed = 1 }
 
-begun_before : reading (settled_text asked (settled_where asked lines late_units (λ one. true))) ≡ Err (record { line = 3; column = 11; reason = reasons.EmptyWindow })
+begun_before : reading (settled_text asked (settled_where asked lines late_units (λ one. true) [])) ≡ Err (record { line = 3; column = 11; reason = reasons.EmptyWindow })
 unfolding digits comment unit_comment
 begun_before = refl
 

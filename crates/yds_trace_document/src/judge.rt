@@ -199,6 +199,7 @@ fn judge<'a>(
             label: task.label.as_slice(),
             before,
             number: place,
+            part: job.shared.then_some(within.processor),
         },
         job,
         due,

@@ -91,10 +91,10 @@ line_halts asked strict bytes past said telling (kept.InForm number fault) old n
     told_by asked strict bytes past said (kept.InForm number fault) _ old now behind refl is appended
 line_halts asked strict bytes past said telling (kept.AtLine number cause) old now behind front stands is appended =
     told_by asked strict bytes past said (kept.AtLine number cause) _ old now behind refl is appended
-line_halts asked strict bytes past said telling (kept.Limit part fault) old now behind front stands is appended =
-    told_by asked strict bytes past said (kept.Limit part fault) _ old now behind refl is appended
-line_halts asked strict bytes past said telling (kept.TooLong part) old now behind front stands is appended =
-    told_by asked strict bytes past said (kept.TooLong part) _ old now behind refl is appended
+line_halts asked strict bytes past said telling (kept.Limit processor part fault) old now behind front stands is appended =
+    told_by asked strict bytes past said (kept.Limit processor part fault) _ old now behind refl is appended
+line_halts asked strict bytes past said telling (kept.TooLong processor part) old now behind front stands is appended =
+    told_by asked strict bytes past said (kept.TooLong processor part) _ old now behind refl is appended
 line_halts asked strict bytes past said telling (kept.NoPlace name begin late) old now behind front stands is appended =
     told_by asked strict bytes past said (kept.NoPlace name begin late) _ old now behind refl is appended
 
@@ -167,10 +167,10 @@ end_halts asked strict bytes past telling (kept.InForm number fault) old now who
     end_by asked strict bytes past (kept.InForm number fault) _ old now whole stands.goes_on refl is appended
 end_halts asked strict bytes past telling (kept.AtLine number cause) old now whole front stands is appended =
     end_by asked strict bytes past (kept.AtLine number cause) _ old now whole stands.goes_on refl is appended
-end_halts asked strict bytes past telling (kept.Limit part fault) old now whole front stands is appended =
-    end_by asked strict bytes past (kept.Limit part fault) _ old now whole stands.goes_on refl is appended
-end_halts asked strict bytes past telling (kept.TooLong part) old now whole front stands is appended =
-    end_by asked strict bytes past (kept.TooLong part) _ old now whole stands.goes_on refl is appended
+end_halts asked strict bytes past telling (kept.Limit processor part fault) old now whole front stands is appended =
+    end_by asked strict bytes past (kept.Limit processor part fault) _ old now whole stands.goes_on refl is appended
+end_halts asked strict bytes past telling (kept.TooLong processor part) old now whole front stands is appended =
+    end_by asked strict bytes past (kept.TooLong processor part) _ old now whole stands.goes_on refl is appended
 end_halts asked strict bytes past telling (kept.NoPlace name begin late) old now whole front stands is appended =
     end_by asked strict bytes past (kept.NoPlace name begin late) _ old now whole stands.goes_on refl is appended
 

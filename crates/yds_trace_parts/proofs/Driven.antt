@@ -120,8 +120,8 @@ formed_by asked strict bytes past count spot (Some rest) (Some more) (kept.InFor
     (agrees ∙ ap (ahead past) (gives ∙ ap (λ (one : Spot Reason). then_says (count + 1) (Err one) (trace_from (count + 1 + 1) more)) (sym why.1)))
     goes appended
 formed_by asked strict bytes past count spot (Some rest) (Some more) (kept.AtLine at cause) old new goes agrees gives why appended = absurd why
-formed_by asked strict bytes past count spot (Some rest) (Some more) (kept.Limit part fault) old new goes agrees gives why appended = absurd why
-formed_by asked strict bytes past count spot (Some rest) (Some more) (kept.TooLong part) old new goes agrees gives why appended = absurd why
+formed_by asked strict bytes past count spot (Some rest) (Some more) (kept.Limit processor part fault) old new goes agrees gives why appended = absurd why
+formed_by asked strict bytes past count spot (Some rest) (Some more) (kept.TooLong processor part) old new goes agrees gives why appended = absurd why
 formed_by asked strict bytes past count spot (Some rest) (Some more) (kept.NoPlace name begin late) old new goes agrees gives why appended = absurd why
 formed_by asked strict bytes past count spot (Some rest) (Some more) kept.Endless old new goes agrees gives why appended = absurd why
 formed_by asked strict bytes past count spot (Some rest) (Some more) kept.ReadFault old new goes agrees gives why appended = absurd why

@@ -28,8 +28,8 @@ own_halt found kept.ReadFault is = is
 own_halt found kept.WriteFault is = is
 own_halt found (kept.InForm number fault) is = tt
 own_halt found (kept.AtLine number cause) is = tt
-own_halt found (kept.Limit part fault) is = tt
-own_halt found (kept.TooLong part) is = tt
+own_halt found (kept.Limit processor part fault) is = tt
+own_halt found (kept.TooLong processor part) is = tt
 own_halt found (kept.NoPlace name begin late) is = tt
 
 own_form : (number : ℕ) (spot : Spot Reason) (halt : HaltKept) → IsInForm number spot halt → IsOwn halt
@@ -39,8 +39,8 @@ own_form number spot kept.ReadFault is = is
 own_form number spot kept.WriteFault is = is
 own_form number spot (kept.InForm at fault) is = tt
 own_form number spot (kept.AtLine at cause) is = tt
-own_form number spot (kept.Limit part fault) is = tt
-own_form number spot (kept.TooLong part) is = tt
+own_form number spot (kept.Limit processor part fault) is = tt
+own_form number spot (kept.TooLong processor part) is = tt
 own_form number spot (kept.NoPlace name begin late) is = tt
 
 pub own_line : (asked : Asked) (strict : Bool) (past : List Said) (number : ℕ) (said : Result Said (Spot Reason)) (halt : HaltKept) →

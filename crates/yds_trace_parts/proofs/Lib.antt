@@ -13,3 +13,4 @@ pub mod Driven
 pub mod Plain
 pub mod Ending
 pub mod Loops
+pub mod SomeExamples

@@ -10,7 +10,7 @@ use Rattle.yds_trace.specs.Asked.{Asked}
 use Rattle.yds_trace_document.specs.declared.fault.DocumentFault.{DocumentFault}
 use Rattle.yds_trace_text.specs.PartText.{part_text}
 use Rattle.yds_trace_text.specs.Writing.{WritesPart}
-use Rattle.yds_trace_parts.specs.Told.{Halt, OfText, next_number, of_document, of_text, piece_unless, part_piece}
+use Rattle.yds_trace_parts.specs.Told.{Halt, OfText, next_number, part_processor, of_document, of_text, piece_unless, part_piece}
 use Rattle.yds_trace_parts.specs.declared.halt.Halt.{Halt as HaltKept}
 use Rattle.yds_trace_parts.specs.declared.halt.Halt.TheVariants as kept
 use Rattle.yds_trace_parts.specs.Telling.{IsHaltFor, IsText, text_alone}
@@ -29,8 +29,9 @@ short_test a b short = grind (arith, nat_tests)
 pub text_is : (asked : Asked) (strict : Bool) (past : List Said) (cut : Cut) (until : Option ℕ) (text : Vec ℕ Global) → WritesPart strict asked past cut until (Ok text) →
     IsText asked strict past cut until text.items
 text_is asked strict past cut until text is = record {
-  fits = ap (λ (fault : Option DocumentFault). or_else (of_document (next_number cut) fault) (of_text (next_number cut) (part_text asked past cut until))) is.without_fault
-      ∙ ap (λ (long : Bool). if long then Some (OfText (next_number cut)) else None)
+  fits = ap (λ (fault : Option DocumentFault). or_else (of_document (part_processor asked) (next_number cut) fault)
+      (of_text (part_processor asked) (next_number cut) (part_text asked past cut until))) is.without_fault
+      ∙ ap (λ (long : Bool). if long then Some (OfText (part_processor asked) (next_number cut)) else None)
       (short_test MAX_INPUT (length (part_text asked past cut until)) (subst (λ (one : List ℕ). length one ≤ MAX_INPUT) is.exact is.short));
   says = is.exact;
 }

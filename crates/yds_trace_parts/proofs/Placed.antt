@@ -11,8 +11,8 @@ use Rattle.yds_trace.specs.Asked.{Asked, task_at}
 use Rattle.yds_trace.specs.Past.{last_time}
 use Rattle.yds_trace.specs.Document.{Judged, stands}
 use Rattle.yds_trace.specs.Parts as parts
-use Rattle.yds_trace.specs.Parts.{begin_of, begins_from, begins_before, is_over, is_done_by, is_closed_by, is_written, belongs, ended_by, each_before, has_job, is_quiet, is_closed, last_where}
-use Rattle.yds_trace.specs.Shown.{IsShown}
+use Rattle.yds_trace.specs.Parts.{begin_of, begins_from, begins_before, is_over, is_done_by, is_closed_by, is_written, is_own, ended_by, each_before, has_job, has_own_job, is_quiet, is_closed, last_where}
+use Rattle.yds_trace.specs.Shown.{IsShared}
 use Rattle.yds_trace_document.specs.Kept.{last_of}
 use Rattle.yds_trace_document.proofs.Same.{last_same}
 use Rattle.yds_trace_document.proofs.Waits.{OfTasks}
@@ -20,7 +20,7 @@ use Rattle.yds_trace_document.proofs.Sorting.{FromLow, Rises, lower}
 use Rattle.std.specs.List.{find}
 use Rattle.std.specs.Option.{option_or}
 use Rattle.yds_trace_parts.specs.Told.{first_of, open_longest}
-use Rattle.yds_trace_parts.specs.Place.{open_shown, last_begin_shown, last_begin_of, is_settled, Front, end_of, done_from, both, with_job, has_come, is_quiet_at, Places, with_place, Walk, start, stepped, walk}
+use Rattle.yds_trace_parts.specs.Place.{places_shown, open_shown, last_begin_shown, last_begin_of, is_settled, Front, end_of, done_from, both, with_job, has_come, is_quiet_at, Places, with_place, Walk, start, stepped, walk}
 
 -- # Settled jobs
 
@@ -34,7 +34,7 @@ abbrev settled_by : Asked → Judged → ℕ → ℕ → ℕ → Bool
 settled_by asked judged until begin last =
     is_over until (nat_lt judged.job.begin begin) judged.job.end && nat_le (judged.job.begin + (task_at asked judged.task).apart) last
 
-pub settled_same : (asked : Asked) (past : List Said) (boundary : ℕ) (shown : Shown) (judged : Judged) → IsShown asked past boundary shown →
+pub settled_same : (asked : Asked) (past : List Said) (boundary : ℕ) (shown : Shown) (judged : Judged) → IsShared asked past boundary shown →
     judged.task < length asked.tasks → is_settled asked shown judged ≡ parts.is_settled asked past judged
 settled_same asked past boundary shown judged is within =
     ap (λ (last : ℕ). settled_by asked judged (last_of asked.to last) (last_begin_of shown judged.task) last) is.last
@@ -137,22 +137,26 @@ each_split test most time front rest less all later =
 abbrev is_before_place : Asked → Judged → Bool
 is_before_place asked judged = asked.everywhere || is_written judged
 
-any_earlier : (asked : Asked) (most time : ℕ) (jobs : List Judged) → most < time → UpTo most jobs → has_job asked time jobs ≡ list_any (is_before_place asked) jobs
-any_earlier asked most time [] less all = refl
-any_earlier asked most time (judged ∷ jobs) less all =
-    ap₂ (λ (b c : Bool). (b && is_before_place asked judged) || c) (lt-ltb judged.job.begin time (omega (arith, all.0))) (any_earlier asked most time jobs less all.1)
+-- the test holds for one that begins before this time
+abbrev any_before : (Judged → Bool) → ℕ → List Judged → Bool
+any_before test time jobs = list_any (λ judged. begins_before time judged && test judged) jobs
 
-any_later : (asked : Asked) (time : ℕ) (jobs : List Judged) → FromLow begin_of time jobs → has_job asked time jobs ≡ false
-any_later asked time [] all = refl
-any_later asked time (judged ∷ jobs) all =
-    ap₂ (λ (b c : Bool). (b && is_before_place asked judged) || c) (le-ltb judged.job.begin time all.0) (any_later asked time jobs all.1)
+any_earlier : (test : Judged → Bool) (most time : ℕ) (jobs : List Judged) → most < time → UpTo most jobs → any_before test time jobs ≡ list_any test jobs
+any_earlier test most time [] less all = refl
+any_earlier test most time (judged ∷ jobs) less all =
+    ap₂ (λ (b c : Bool). (b && test judged) || c) (lt-ltb judged.job.begin time (omega (arith, all.0))) (any_earlier test most time jobs less all.1)
 
-any_split : (asked : Asked) (most time : ℕ) (front rest : List Judged) → most < time → UpTo most front → FromLow begin_of time rest →
-    has_job asked time (front ++ rest) ≡ list_any (is_before_place asked) front
-any_split asked most time front rest less all later =
-    list_any-append (λ judged. begins_before time judged && is_before_place asked judged) front rest
-    ∙ ap₂ (λ (b c : Bool). b || c) (any_earlier asked most time front less all) (any_later asked time rest later)
-    ∙ or_false (list_any (is_before_place asked) front)
+any_later : (test : Judged → Bool) (time : ℕ) (jobs : List Judged) → FromLow begin_of time jobs → any_before test time jobs ≡ false
+any_later test time [] all = refl
+any_later test time (judged ∷ jobs) all =
+    ap₂ (λ (b c : Bool). (b && test judged) || c) (le-ltb judged.job.begin time all.0) (any_later test time jobs all.1)
+
+any_split : (test : Judged → Bool) (most time : ℕ) (front rest : List Judged) → most < time → UpTo most front → FromLow begin_of time rest →
+    any_before test time (front ++ rest) ≡ list_any test front
+any_split test most time front rest less all later =
+    list_any-append (λ judged. begins_before time judged && test judged) front rest
+    ∙ ap₂ (λ (b c : Bool). b || c) (any_earlier test most time front less all) (any_later test time rest later)
+    ∙ or_false (list_any test front)
 
 from_zero : (jobs : List Judged) → FromLow begin_of 0 jobs
 from_zero [] = tt
@@ -163,6 +167,7 @@ from_zero (judged ∷ jobs) = (omega arith, from_zero jobs)
 -- what the walk knows behind these jobs
 record Holds (asked : Asked) (past : List Said) (all front : List Judged) (at : Walk) : Type 0 where
   some : at.front.some ≡ list_any (is_before_place asked) front
+  own : at.front.own ≡ (list_any (is_own asked) front || not (list_any (is_own asked) all))
   done : (time : ℕ) → has_come time at.front.done ≡ list_all (is_done_by asked past time) front
   due : (time : ℕ) → nat_le at.front.due time ≡ list_all (is_closed_by asked time) front
   quiet : at.places.quiet ≡ last_where (is_quiet asked past all) (map begin_of front)
@@ -172,17 +177,18 @@ record Holds (asked : Asked) (past : List Said) (all front : List Judged) (at : 
   earlier : UpTo at.before front
 
 never : (asked : Asked) (past : List Said) (all : List Judged) → is_quiet asked past all 0 ≡ false
-never asked past all = ap (λ (b : Bool). b && each_before (is_done_by asked past 0) 0 all) (any_later asked 0 all (from_zero all))
+never asked past all = ap (λ (b : Bool). b && each_before (is_done_by asked past 0) 0 all) (any_later (is_before_place asked) 0 all (from_zero all))
 
-begun : (asked : Asked) (past : List Said) (all : List Judged) → Holds asked past all [] start
+begun : (asked : Asked) (past : List Said) (all : List Judged) → Holds asked past all [] (start asked all)
 begun asked past all = record {
   some = refl;
+  own = refl;
   done = λ time. le-leb 0 time (omega arith);
   due = λ time. le-leb 0 time (omega arith);
   quiet = refl;
   closed = refl;
   tied_quiet = λ held. absurd (false≢true (sym (never asked past all) ∙ held));
-  tied_closed = λ held. absurd (false≢true (sym (ap (λ (b : Bool). b && each_before (is_closed_by asked 0) 0 all) (never asked past all)) ∙ held));
+  tied_closed = λ held. absurd (false≢true (sym (ap (λ (b : Bool). b && has_own_job asked 0 all && each_before (is_closed_by asked 0) 0 all) (never asked past all)) ∙ held));
   earlier = tt;
 }
 
@@ -198,6 +204,20 @@ some_more : (asked : Asked) (past : List Said) (all front : List Judged) (at : W
 some_more asked past all front at judged holds =
     ap (λ (b : Bool). b || is_before_place asked judged) holds.some ∙ sym (any_push (is_before_place asked) front judged)
 
+swap_last : (a b c : Bool) → ((a || b) || c) ≡ ((a || c) || b)
+swap_last true b c = refl
+swap_last false true true = refl
+swap_last false true false = refl
+swap_last false false true = refl
+swap_last false false false = refl
+
+own_more : (asked : Asked) (past : List Said) (all front : List Judged) (at : Walk) (judged : Judged) → Holds asked past all front at →
+    (at.front.own || is_own asked judged) ≡ (list_any (is_own asked) (front ++ judged ∷ []) || not (list_any (is_own asked) all))
+own_more asked past all front at judged holds =
+    ap (λ (b : Bool). b || is_own asked judged) holds.own
+    ∙ swap_last (list_any (is_own asked) front) (not (list_any (is_own asked) all)) (is_own asked judged)
+    ∙ ap (λ (b : Bool). b || not (list_any (is_own asked) all)) (sym (any_push (is_own asked) front judged))
+
 done_more : (asked : Asked) (past : List Said) (all front : List Judged) (at : Walk) (judged : Judged) → Holds asked past all front at → (time : ℕ) →
     has_come time (both at.front.done (done_from (parts.is_settled asked past judged) judged)) ≡ list_all (is_done_by asked past time) (front ++ judged ∷ [])
 done_more asked past all front at judged holds time =
@@ -206,9 +226,9 @@ done_more asked past all front at judged holds time =
     ∙ sym (all_push (is_done_by asked past time) front judged)
 
 due_more : (asked : Asked) (past : List Said) (all front : List Judged) (at : Walk) (judged : Judged) → Holds asked past all front at → (time : ℕ) →
-    nat_le (if belongs asked judged && is_written judged then max at.front.due judged.due else at.front.due) time ≡ list_all (is_closed_by asked time) (front ++ judged ∷ [])
+    nat_le (if is_own asked judged then max at.front.due judged.due else at.front.due) time ≡ list_all (is_closed_by asked time) (front ++ judged ∷ [])
 due_more asked past all front at judged holds time =
-    due_by (belongs asked judged && is_written judged) at.front.due judged.due time
+    due_by (is_own asked judged) at.front.due judged.due time
     ∙ ap (λ (b : Bool). b && is_closed_by asked time judged) (holds.due time)
     ∙ sym (all_push (is_closed_by asked time) front judged)
 
@@ -217,15 +237,28 @@ quiet_here : (asked : Asked) (past : List Said) (all front rest : List Judged) (
     at.before < time → FromLow begin_of time rest → is_quiet asked past all time ≡ is_quiet_at time at.front
 quiet_here asked past all front rest at time is holds less later =
     ap (λ (jobs : List Judged). has_job asked time jobs && each_before (is_done_by asked past time) time jobs) is
-    ∙ ap₂ (λ (b c : Bool). b && c) (any_split asked at.before time front rest less holds.earlier later ∙ sym holds.some)
+    ∙ ap₂ (λ (b c : Bool). b && c) (any_split (is_before_place asked) at.before time front rest less holds.earlier later ∙ sym holds.some)
     (each_split (is_done_by asked past time) at.before time front rest less holds.earlier later ∙ sym (holds.done time))
 
+own_here : (asked : Asked) (past : List Said) (all front rest : List Judged) (at : Walk) (time : ℕ) → all ≡ front ++ rest → Holds asked past all front at →
+    at.before < time → FromLow begin_of time rest → has_own_job asked time all ≡ at.front.own
+own_here asked past all front rest at time is holds less later =
+    ap (λ (jobs : List Judged). any_before (is_own asked) time jobs || not (list_any (is_own asked) all)) is
+    ∙ ap (λ (b : Bool). b || not (list_any (is_own asked) all)) (any_split (is_own asked) at.before time front rest less holds.earlier later)
+    ∙ sym holds.own
+
+and_three : (a b c : Bool) → (a && b && c) ≡ (a && (b && c))
+and_three true b c = refl
+and_three false b c = refl
+
 closed_here : (asked : Asked) (past : List Said) (all front rest : List Judged) (at : Walk) (time : ℕ) → all ≡ front ++ rest → Holds asked past all front at →
-    at.before < time → FromLow begin_of time rest → is_closed asked past all time ≡ (is_quiet_at time at.front && nat_le at.front.due time)
+    at.before < time → FromLow begin_of time rest → is_closed asked past all time ≡ (is_quiet_at time at.front && (at.front.own && nat_le at.front.due time))
 closed_here asked past all front rest at time is holds less later =
-    ap₂ (λ (b c : Bool). b && c) (quiet_here asked past all front rest at time is holds less later)
+    and_three (is_quiet asked past all time) (has_own_job asked time all) (each_before (is_closed_by asked time) time all)
+    ∙ ap₂ (λ (b c : Bool). b && c) (quiet_here asked past all front rest at time is holds less later)
+    (ap₂ (λ (b c : Bool). b && c) (own_here asked past all front rest at time is holds less later)
     (ap (each_before (is_closed_by asked time) time) is
-    ∙ each_split (is_closed_by asked time) at.before time front rest less holds.earlier later ∙ sym (holds.due time))
+    ∙ each_split (is_closed_by asked time) at.before time front rest less holds.earlier later ∙ sym (holds.due time)))
 
 quiet_if : (quiet closed : Bool) (time : ℕ) (places : Places) →
     (let made : Places = if quiet then record { quiet = Some time; closed = if closed then Some time else places.closed } else places in made.quiet)
@@ -240,13 +273,13 @@ closed_if true closed time places = refl
 closed_if false closed time places = refl
 
 quiet_with : (front : Front) (time : ℕ) (places : Places) → (with_place front time places).quiet ≡ (if is_quiet_at time front then Some time else places.quiet)
-quiet_with front time places = quiet_if (is_quiet_at time front) (nat_le front.due time) time places
+quiet_with front time places = quiet_if (is_quiet_at time front) (front.own && nat_le front.due time) time places
 
 closed_with : (front : Front) (time : ℕ) (places : Places) →
-    (with_place front time places).closed ≡ (if is_quiet_at time front && nat_le front.due time then Some time else places.closed)
-closed_with front time places = closed_if (is_quiet_at time front) (nat_le front.due time) time places
+    (with_place front time places).closed ≡ (if is_quiet_at time front && (front.own && nat_le front.due time) then Some time else places.closed)
+closed_with front time places = closed_if (is_quiet_at time front) (front.own && nat_le front.due time) time places
 
-chosen : (b : Bool) (time : ℕ) (other : Option ℕ) → b ≡ true → (if b then Some time else other) ≡ Some time
+pub chosen : (b : Bool) (time : ℕ) (other : Option ℕ) → b ≡ true → (if b then Some time else other) ≡ Some time
 chosen true time other held = refl
 chosen false time other held = absurd (false≢true held)
 
@@ -260,10 +293,11 @@ step : (asked : Asked) (past : List Said) (all front rest : List Judged) (at : W
 step asked past all front rest at judged true is holds above low less =
     let here : is_quiet asked past all judged.job.begin ≡ is_quiet_at judged.job.begin at.front =
     quiet_here asked past all front (judged ∷ rest) at judged.job.begin is holds (ltb-true at.before judged.job.begin less) (le_refl judged.job.begin, low) in
-    let also : is_closed asked past all judged.job.begin ≡ (is_quiet_at judged.job.begin at.front && nat_le at.front.due judged.job.begin) =
+    let also : is_closed asked past all judged.job.begin ≡ (is_quiet_at judged.job.begin at.front && (at.front.own && nat_le at.front.due judged.job.begin)) =
     closed_here asked past all front (judged ∷ rest) at judged.job.begin is holds (ltb-true at.before judged.job.begin less) (le_refl judged.job.begin, low) in
     record {
       some = some_more asked past all front at judged holds;
+      own = own_more asked past all front at judged holds;
       done = done_more asked past all front at judged holds;
       due = due_more asked past all front at judged holds;
       quiet =
@@ -278,13 +312,14 @@ step asked past all front rest at judged true is holds above low less =
           quiet_with at.front judged.job.begin at.places ∙ chosen (is_quiet_at judged.job.begin at.front) judged.job.begin at.places.quiet (sym here ∙ held);
       tied_closed = λ held.
           closed_with at.front judged.job.begin at.places
-          ∙ chosen (is_quiet_at judged.job.begin at.front && nat_le at.front.due judged.job.begin) judged.job.begin at.places.closed (sym also ∙ held);
+          ∙ chosen (is_quiet_at judged.job.begin at.front && (at.front.own && nat_le at.front.due judged.job.begin)) judged.job.begin at.places.closed (sym also ∙ held);
       earlier = up_to_more at.before judged.job.begin front judged above (le_refl judged.job.begin) holds.earlier;
     }
 step asked past all front rest at judged false is holds above low less =
     let here : at.before ≡ judged.job.begin = omega (arith, ltb-false at.before judged.job.begin less, above) in
     record {
       some = some_more asked past all front at judged holds;
+      own = own_more asked past all front at judged holds;
       done = done_more asked past all front at judged holds;
       due = due_more asked past all front at judged holds;
       quiet =
@@ -331,17 +366,17 @@ walked asked shown past all front (judged ∷ rest) at is holds low rising same 
     (step asked past all front rest at judged (nat_lt at.before judged.job.begin) is holds low.0 rising.0 refl)
     (low_next (nat_lt at.before judged.job.begin) at.before judged.job.begin rest low.0 rising.0) rising.1 same.1)
 
-same_tests : (asked : Asked) (shown : Shown) (past : List Said) (boundary : ℕ) (jobs : List Judged) → IsShown asked past boundary shown →
+same_tests : (asked : Asked) (shown : Shown) (past : List Said) (boundary : ℕ) (jobs : List Judged) → IsShared asked past boundary shown →
     OfTasks (length asked.tasks) jobs → SameTests asked shown past jobs
 same_tests asked shown past boundary [] is of = tt
 same_tests asked shown past boundary (judged ∷ jobs) is of =
     (settled_same asked past boundary shown judged is of.0, same_tests asked shown past boundary jobs is of.1)
 
-pub place_found : (asked : Asked) (shown : Shown) (past : List Said) (boundary : ℕ) (jobs : List Judged) → IsShown asked past boundary shown →
+pub place_found : (asked : Asked) (shown : Shown) (past : List Said) (boundary : ℕ) (jobs : List Judged) → IsShared asked past boundary shown →
     OfTasks (length asked.tasks) jobs → Rises begin_of jobs →
-    or_else (walk asked shown jobs start).places.closed (walk asked shown jobs start).places.quiet ≡ parts.place_among asked past jobs
+    or_else (places_shown asked shown jobs).closed (places_shown asked shown jobs).quiet ≡ parts.place_among asked past jobs
 place_found asked shown past boundary jobs is of rising =
-    let ended = walked asked shown past jobs [] jobs start refl (begun asked past jobs) (from_zero jobs) rising (same_tests asked shown past boundary jobs is of) in
+    let ended = walked asked shown past jobs [] jobs (start asked jobs) refl (begun asked past jobs) (from_zero jobs) rising (same_tests asked shown past boundary jobs is of) in
     ap₂ (λ (closed quiet : Option ℕ). or_else closed quiet) ended.closed ended.quiet
 
 pub or_same : {A : Type 0} (first second : Option A) → option_or first second ≡ or_else first second
@@ -356,7 +391,7 @@ find_same asked shown past [] same = refl
 find_same asked shown past (judged ∷ jobs) same =
     ap₂ (λ (settled : Bool) (later : Option Judged). cond (not settled) (Some judged) later) same.0 (find_same asked shown past jobs same.1)
 
-pub open_found : (asked : Asked) (shown : Shown) (past : List Said) (boundary : ℕ) (jobs : List Judged) → IsShown asked past boundary shown →
+pub open_found : (asked : Asked) (shown : Shown) (past : List Said) (boundary : ℕ) (jobs : List Judged) → IsShared asked past boundary shown →
     OfTasks (length asked.tasks) jobs → open_shown asked shown jobs ≡ open_longest asked past jobs
 open_found asked shown past boundary jobs is of =
     ap (λ (found : Option Judged). or_else found (first_of jobs)) (find_same asked shown past jobs (same_tests asked shown past boundary jobs is of))

@@ -1,5 +1,5 @@
 -- What is shown of a pass is what a part's calls need, and what holds of it when a line more is taken.
-use Rattle.yds_model.proofs.Common.{◌≡◌, ℕ, ◌+◌, ◌*◌, ◌≤◌, List, ◌∷◌, ◌++◌, length, map, All, All-back, Option, None, sym, ap, subst, ◌∙◌, arith, le_refl, length-append, length-map, slice_index_or}
+use Rattle.yds_model.proofs.Common.{Bor, ◌≡◌, ℕ, ◌+◌, ◌*◌, ◌≤◌, List, ◌∷◌, ◌++◌, length, map, All, All-back, Option, None, Some, unwrap_or, option_copied, sym, ap, subst, ◌∙◌, arith, le_refl, length-append, length-map, slice_index_or}
 use Rattle.yds_kernel.specs.declared.limits.TheConstants.{MAX_U64}
 use Rattle.yds_kernel.specs.Event.{Said}
 use Rattle.yds_kernel.specs.Parts.{or_else}
@@ -10,17 +10,18 @@ use Rattle.yds_trace.specs.declared.pass.Pass.{Pass}
 use Rattle.yds_trace.specs.declared.shown.Shown.{Shown}
 use Rattle.yds_trace.specs.declared.shown.ShownTask.{ShownTask}
 use Rattle.yds_trace.specs.Asked.{Task, Asked, on}
-use Rattle.yds_trace.specs.Document.{jobs_of}
+use Rattle.yds_trace.specs.Document.{jobs_of, share_of, shares_of}
 use Rattle.yds_trace.specs.Faults.{first_fault, numbered, said_fault}
 use Rattle.yds_trace.specs.Jobs.{Job}
 use Rattle.yds_trace.specs.Kept.{IsAtBehind}
-use Rattle.yds_trace.specs.Shown.{IsShown, IsShownTask}
+use Rattle.yds_trace.specs.Shown.{IsShown, IsShared, IsShownTask}
 use Rattle.yds_trace.specs.Views.{task_read, job_read, asked_read}
 use Rattle.yds_trace.proofs.OnProcessor.{first_fault_on, shown_on}
 use Rattle.yds_trace_laws.specs.Laws.{IsReached}
 use Rattle.yds_trace_laws.proofs.Begins.{begins_in_time}
 use Rattle.yds_trace_laws.proofs.Few.{jobs_few}
 use Rattle.yds_trace_laws.proofs.Ordered.{All-map_back}
+use Rattle.yds_trace_laws.proofs.Shares.{shares_kept}
 use Rattle.yds_trace_document.specs.Kept.{IsPlainTask, IsPlainShown}
 use Rattle.yds_trace_parts.specs.Telling.{IsTurned}
 use Rattle.yds_trace_parts.specs.Plain.{IsGranted, IsOfSome, IsPlainPass, HasRoom, IsPlainLook}
@@ -31,12 +32,13 @@ numbers_fit : (kept shown all lines limit : ℕ) → all ≡ kept + shown → al
 numbers_fit kept shown all lines limit is few within = omega (arith, is, few, within)
 
 task_plain : (asked : Asked) (past : List Said) (boundary number : ℕ) (shown : ShownTask) → IsReached asked.to → first_fault asked past ≡ None →
-    2 * length past ≤ MAX_U64 → IsShownTask asked past boundary number shown → IsPlainTask shown
+    2 * length past ≤ MAX_U64 → IsShownTask (shares_of asked past number) asked past boundary number shown → IsPlainTask shown
 task_plain asked past boundary number shown to sound few is =
     let all : All (λ (job : Job). job.begin ≤ MAX_TIME) (is.forgotten ++ map job_read shown.jobs.items) =
-    subst (λ (jobs : List Job). All (λ (job : Job). job.begin ≤ MAX_TIME) jobs) is.jobs (begins_in_time asked past number to sound) in
+    subst (λ (jobs : List Job). All (λ (job : Job). job.begin ≤ MAX_TIME) jobs) is.jobs
+    (shares_kept (λ (job : Job). job.begin ≤ MAX_TIME) (λ processor job early. early) asked past number (begins_in_time asked past number to sound)) in
     let many : length (jobs_of asked past number) ≡ shown.forgotten + length shown.jobs.items =
-    ap length is.jobs ∙ length-append is.forgotten (map job_read shown.jobs.items)
+    sym (length-map (jobs_of asked past number) (share_of asked)) ∙ ap length is.jobs ∙ length-append is.forgotten (map job_read shown.jobs.items)
     ∙ ap (λ (n : ℕ). length is.forgotten + n) (length-map shown.jobs.items job_read) ∙ ap (λ (n : ℕ). n + length shown.jobs.items) (sym is.as_many) in
     record {
       begins = All-map_back (λ (job : Job). job.begin ≤ MAX_TIME) job_read shown.jobs.items
@@ -103,21 +105,49 @@ look_moved old new shown look turns =
       shows = shown_on some.asked turned.processor some.past look.boundary look.boundary shown (le_refl look.boundary) look.shows;
     }
 
-pub look_plain : (asked : AskedKept) (pass : Pass) (shown : Shown) → IsPlainLook pass shown →
-    ((words : Asked) (past : List Said) (boundary : ℕ) → IsAtBehind words past boundary pass → asked_read asked ≡ words) → IsPlainShown asked shown
-look_plain asked pass shown look told =
+-- Where the jobs are shown as they are, these show them as the processor's documents have them.
+abbrev pub Shares : AskedKept → Shown → Shown → Type 0
+Shares asked shown shared = (past : List Said) (boundary : ℕ) → IsShown (asked_read asked) past boundary shown → IsShared (asked_read asked) past boundary shared
+
+-- and they are what a part's calls need
+pub look_plain : (asked : AskedKept) (pass : Pass) (shown shared : Shown) → IsPlainLook pass shown →
+    ((words : Asked) (past : List Said) (boundary : ℕ) → IsAtBehind words past boundary pass → asked_read asked ≡ words) →
+    Shares asked shown shared → IsPlainShown asked shared
+look_plain asked pass shown shared look told shares =
     let some = look.of_some in
     let same : asked_read asked ≡ some.asked = told some.asked some.past look.boundary some.stands in
+    let is : IsShared some.asked some.past look.boundary shared =
+    subst (λ (words : Asked). IsShared words some.past look.boundary shared) same
+    (shares some.past look.boundary (subst (λ (words : Asked). IsShown words some.past look.boundary shown) (sym same) look.shows)) in
     let few : 2 * length some.past ≤ MAX_U64 = omega (arith, some.as_many, look.few) in
     record {
       has_unit = subst (λ (a : Asked). 1 ≤ a.unit) (sym same) some.granted.plain.has_unit;
       has_speed_unit = subst (λ (a : Asked). 1 ≤ a.khz) (sym same) some.granted.plain.has_speed_unit;
       deadlines = All-map_back (λ (task : Task). task.deadline ≤ MAX_DEADLINE) task_read asked.tasks.items
           (subst (λ (a : Asked). All (λ (task : Task). task.deadline ≤ MAX_DEADLINE) a.tasks) (sym same) some.granted.within.deadlines);
-      tasks = λ i d within. task_plain some.asked some.past look.boundary i (slice_index_or shown.tasks.items i d) some.granted.reached some.sound few
-          (look.shows.tasks i d (omega (arith, look.shows.as_many, within)));
-      of_each_task = look.shows.as_many ∙ ap (λ (a : Asked). length a.tasks) (sym same) ∙ length-map asked.tasks.items task_read;
+      tasks = λ i d within. task_plain some.asked some.past look.boundary i (slice_index_or shared.tasks.items i d) some.granted.reached some.sound few
+          (is.tasks i d (omega (arith, is.as_many, within)));
+      of_each_task = is.as_many ∙ ap (λ (a : Asked). length a.tasks) (sym same) ∙ length-map asked.tasks.items task_read;
     }
+
+-- # Shares
+
+these_or : (own : Option (Bor Shown)) (shared : Option Shown) (shown : Bor Shown) → option_copied own ≡ shared → unwrap_or shared shown.now ≡ (unwrap_or own shown).now
+these_or None shared shown is = ap (λ (one : Option Shown). unwrap_or one shown.now) (sym is)
+these_or (Some own) shared shown is = ap (λ (one : Option Shown). unwrap_or one shown.now) (sym is)
+
+-- these where there are any, or else the jobs
+pub shares_or : (asked : AskedKept) (own : Option (Bor Shown)) (shared : Option Shown) (shown shares : Bor Shown) → option_copied own ≡ shared → shares ≡ unwrap_or own shown →
+    Shares asked shown.now (unwrap_or shared shown.now) → Shares asked shown.now shares.now
+shares_or asked own shared shown shares is chosen all = λ past boundary shows.
+    subst (λ (one : Bor Shown). IsShared (asked_read asked) past boundary one.now) (sym chosen)
+    (subst (λ (one : Shown). IsShared (asked_read asked) past boundary one) (these_or own shared shown is) (all past boundary shows))
+
+-- of another processor, behind a later part
+pub shared_on : (asked : Asked) (words : AskedKept) (processor : ℕ) (past : List Said) (boundary later : ℕ) (shown shared : Shown) → Shares words shown shared →
+    asked_read words ≡ on processor asked → boundary ≤ later → IsShown asked past boundary shown → IsShared (asked_read words) past later shared
+shared_on asked words processor past boundary later shown shared shares same behind shows =
+    shares past later (subst (λ (one : Asked). IsShown one past later shown) (sym same) (shown_on asked processor past boundary later shown behind shows))
 
 -- # Lines
 

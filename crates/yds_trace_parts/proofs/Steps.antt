@@ -1,15 +1,17 @@
 -- A line more: what is told behind it, and where the last part ends.
-use Rattle.yds_model.proofs.Common.{◌≡◌, ℕ, ◌<◌, ◌≤◌, ◌%◌, ◌==◌, List, [], ◌∷◌, ◌++◌, length, map, filter, cond, Bool, true, false, ◌&&◌, not, Option, Some, None, refl, ap, subst, ◌∙◌, arith, leb-true, mod-eq_of_lt, ne_eqb, eqb-true, false≢true, append-nil, ap₂, ◌||◌, list_any, if◌then◌else◌}
+use Rattle.yds_model.proofs.Common.{◌≡◌, ℕ, ◌<◌, ◌≤◌, ◌⊎◌, inl, inr, ◌%◌, ◌==◌, List, [], ◌∷◌, ◌++◌, length, map, filter, cond, Bool, true, false, ◌&&◌, not, Option, Some, None, refl, ap, subst, ◌∙◌, arith, leb-true, mod-eq_of_lt, ne_eqb, eqb-true, false≢true, append-nil, ap₂, ◌||◌, list_any, if◌then◌else◌}
 use Rattle.yds_kernel.specs.Event.{Said}
 use Rattle.yds_kernel.specs.Parts.{or_else}
 use Rattle.yds_trace.specs.declared.cut.Cut.{Cut}
 use Rattle.yds_trace.specs.declared.limits.TheConstants.{LOOK_EVERY}
 use Rattle.yds_trace.specs.Asked.{Asked}
+use Rattle.yds_trace.specs.Others.{others_from}
 use Rattle.yds_trace.specs.Document.{Judged}
-use Rattle.yds_trace.specs.Parts.{has_run_on, belongs, begin_of, begins_from, begins_before, is_written, waiting, of_part, part_until, is_before_end, is_much, is_due, has_job, is_done_by, is_closed_by, each_before, is_quiet, is_closed, may_write, last_where, place_among, place_of, processor_count, first_numbers, processors_of, cut_at, cut_after, no_cut}
+use Rattle.yds_trace.specs.Parts.{has_run_on, belongs, begin_of, begins_from, begins_before, is_written, waiting, of_part, part_until, is_before_end, is_much, is_due, has_job, is_done_by, is_closed_by, has_own_job, each_before, is_quiet, is_closed, may_write, last_where, place_among, place_of, processor_count, first_numbers, processors_of, cut_at, cut_after, no_cut}
 use Rattle.yds_trace_text.specs.PartText.{part_text}
 use Rattle.yds_trace_parts.specs.Told.{Halt, Told, no_piece, both, piece_unless, piece_with, piece_at, pieces, with_piece, line_halt, part_halt, told_with, told_next, told_after}
 use Rattle.yds_trace_parts.specs.Telling.{text_alone}
+use Rattle.yds_trace_parts.proofs.Placed.{chosen}
 
 -- # What is told behind a line
 
@@ -57,17 +59,21 @@ not_due past some few =
     let same : length past % LOOK_EVERY ≡ length past = mod-eq_of_lt few in
     ap (λ (n : ℕ). n == 0) same ∙ ne_eqb (length past) 0 (λ (none : length past ≡ 0). omega (arith, none, some))
 
-none_due : (b : Bool) (time : Option ℕ) → b ≡ false → (may much : Bool) → (if b && may && much then time else None) ≡ None
-none_due true time is may much = cc
-none_due false time is may much = refl
+-- it isn't looked for a place, or little waits
+pub none_if : (due may much : Bool) (place : Option ℕ) → (due ≡ false) ⊎ (much ≡ false) → (if due && may && much then place else None) ≡ None
+none_if due may much place (inl is) = ap (λ (b : Bool). if b && may && much then place else None) is
+none_if true true much place (inr is) = ap (λ (b : Bool). if b then place else None) is
+none_if true false much place (inr is) = refl
+none_if false may much place (inr is) = refl
 
 -- behind them it isn't looked for a place
 pub few_lines : (asked : Asked) (past : List Said) → length past < LOOK_EVERY → cut_after asked past ≡ no_cut
 few_lines asked [] few = refl
 few_lines asked (said ∷ past) few =
     same_cut asked past said
-    (none_due (is_due (said ∷ past)) (place_among asked (said ∷ past) (waiting asked (said ∷ past) (cut_after asked past)))
-    (not_due (said ∷ past) (omega arith) few) (may_write asked (said ∷ past)) (is_much (waiting asked (said ∷ past) (cut_after asked past))))
+    (none_if (is_due (said ∷ past)) (may_write asked (said ∷ past))
+    (is_much (waiting asked (said ∷ past) (cut_after asked past)) (others_from asked (said ∷ past) (cut_after asked past).boundary))
+    (place_among asked (said ∷ past) (waiting asked (said ∷ past) (cut_after asked past))) (inl (not_due (said ∷ past) (omega arith) few)))
     ∙ few_lines asked past (omega (arith, few))
 
 -- # A part ends behind those before it
@@ -102,7 +108,8 @@ chosen_from low false place from = tt
 
 place_from : (asked : Asked) (past : List Said) (cut : Cut) → IsFrom cut.boundary (place_of asked past cut)
 place_from asked past cut =
-    chosen_from cut.boundary (is_due past && may_write asked past && is_much (waiting asked past cut)) (place_among asked past (waiting asked past cut))
+    chosen_from cut.boundary (is_due past && may_write asked past && is_much (waiting asked past cut) (others_from asked past cut.boundary))
+    (place_among asked past (waiting asked past cut))
     (either_from cut.boundary (last_where (is_closed asked past (waiting asked past cut)) (map begin_of (waiting asked past cut)))
     (last_where (is_quiet asked past (waiting asked past cut)) (map begin_of (waiting asked past cut)))
     (last_from cut.boundary (is_closed asked past (waiting asked past cut)) _) (last_from cut.boundary (is_quiet asked past (waiting asked past cut)) _))
@@ -125,8 +132,7 @@ there_second (Some time) other there = (time, refl)
 there_second None other there = there
 
 there_if : (b : Bool) (time : ℕ) → b ≡ true → IsThere (if b then Some time else None)
-there_if true time is = (time, refl)
-there_if false time is = absurd (false≢true is)
+there_if b time is = (time, chosen b time None is)
 
 last_there : (test : ℕ → Bool) (times : List ℕ) (time : ℕ) → test time ≡ true → list_any (λ other. other == time) times ≡ true → IsThere (last_where test times)
 last_there test [] time held any = absurd (false≢true any)
@@ -139,7 +145,8 @@ last_there test (other ∷ times) time held any = by (other == time) refl any (l
     by false is one rest = there_first (last_where test times) (if test other then Some other else None) (rest one)
 
 -- where it is looked for one and much waits, a quiet begin is enough
-pub place_there : (asked : Asked) (past : List Said) (cut : Cut) (time : ℕ) → is_due past ≡ true → may_write asked past ≡ true → is_much (waiting asked past cut) ≡ true →
+pub place_there : (asked : Asked) (past : List Said) (cut : Cut) (time : ℕ) → is_due past ≡ true → may_write asked past ≡ true →
+    is_much (waiting asked past cut) (others_from asked past cut.boundary) ≡ true →
     list_any (λ begin. begin == time) (map begin_of (waiting asked past cut)) ≡ true → is_quiet asked past (waiting asked past cut) time ≡ true →
     (place : ℕ) × (place_of asked past cut ≡ Some place)
 place_there asked past cut time due may much any quiet =
@@ -148,7 +155,8 @@ place_there asked past cut time due may much any quiet =
     (last_where (is_quiet asked past (waiting asked past cut)) (map begin_of (waiting asked past cut)))
     (last_there (is_quiet asked past (waiting asked past cut)) (map begin_of (waiting asked past cut)) time quiet any) in (
       there.0,
-      ap₂ (λ (one other : Bool). if one && other && is_much (waiting asked past cut) then place_among asked past (waiting asked past cut) else None) due may
+      ap₂ (λ (one other : Bool).
+          if one && other && is_much (waiting asked past cut) (others_from asked past cut.boundary) then place_among asked past (waiting asked past cut) else None) due may
           ∙ ap (λ (one : Bool). if one then place_among asked past (waiting asked past cut) else None) much ∙ there.1,
     )
 
@@ -176,6 +184,10 @@ first_true : (b c : Bool) → (b && c) ≡ true → b ≡ true
 first_true true c is = refl
 first_true false c is = is
 
+first_of_three : (a b c : Bool) → (a && b && c) ≡ true → a ≡ true
+first_of_three true b c is = refl
+first_of_three false b c is = is
+
 weaker_held : (test other : ℕ → Bool) (place : Option ℕ) → ((time : ℕ) → test time ≡ true → other time ≡ true) → IsHeld test place → IsHeld other place
 weaker_held test other None weaker held = tt
 weaker_held test other (Some time) weaker held = weaker time held
@@ -187,12 +199,14 @@ held_chosen test false place held = tt
 -- at a place the processor is quiet
 place_quiet : (asked : Asked) (past : List Said) (cut : Cut) → IsHeld (is_quiet asked past (waiting asked past cut)) (place_of asked past cut)
 place_quiet asked past cut =
-    held_chosen (is_quiet asked past (waiting asked past cut)) (is_due past && may_write asked past && is_much (waiting asked past cut)) (place_among asked past (waiting asked past cut))
+    held_chosen (is_quiet asked past (waiting asked past cut))
+    (is_due past && may_write asked past && is_much (waiting asked past cut) (others_from asked past cut.boundary)) (place_among asked past (waiting asked past cut))
     (held_either (is_quiet asked past (waiting asked past cut)) (last_where (is_closed asked past (waiting asked past cut)) (map begin_of (waiting asked past cut)))
     (last_where (is_quiet asked past (waiting asked past cut)) (map begin_of (waiting asked past cut)))
     (weaker_held (is_closed asked past (waiting asked past cut)) (is_quiet asked past (waiting asked past cut))
     (last_where (is_closed asked past (waiting asked past cut)) (map begin_of (waiting asked past cut)))
-    (λ time held. first_true (is_quiet asked past (waiting asked past cut) time) (each_before (is_closed_by asked time) time (waiting asked past cut)) held)
+    (λ time held. first_of_three (is_quiet asked past (waiting asked past cut) time) (has_own_job asked time (waiting asked past cut))
+    (each_before (is_closed_by asked time) time (waiting asked past cut)) held)
     (last_held (is_closed asked past (waiting asked past cut)) (map begin_of (waiting asked past cut))))
     (last_held (is_quiet asked past (waiting asked past cut)) (map begin_of (waiting asked past cut))))
 

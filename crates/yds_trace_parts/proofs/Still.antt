@@ -1,88 +1,55 @@
 -- A line behind which it isn't looked for parts, or behind which little waits, leaves what was written as it is.
-use Rattle.yds_model.proofs.Common.{◌≡◌, ℕ, ◌+◌, ◌≤◌, ◌⊎◌, inl, inr, ◌&&◌, ◌||◌, Bool, true, false, not, nat_lt, nat_tests, List, [], ◌∷◌, map, filter, cond, length, Option, Some, None, refl, sym, ap, ap₂, subst, ◌∙◌, arith, length-map, if◌then◌else◌}
-use Rattle.std.proofs.lemmas.List.Sums.{sum_by-cons}
+use Rattle.yds_model.proofs.Common.{◌≡◌, ℕ, ◌+◌, ◌≤◌, ◌⊎◌, inl, inr, ◌&&◌, ◌||◌, Bool, true, false, not, nat_lt, nat_tests, List, [], ◌∷◌, map, length, Option, Some, None, refl, sym, ap, ap₂, subst, ◌∙◌, arith, if◌then◌else◌}
 use Rattle.yds_kernel.specs.Event.{Said}
 use Rattle.yds_trace.specs.declared.cut.Cut.{Cut}
 use Rattle.yds_trace.specs.declared.fault.Cause.TheVariants as causes
-use Rattle.yds_trace.specs.declared.limits.TheConstants.{PART_JOBS, PART_STRETCHES, WAITING_JOBS, WAITING_STRETCHES}
+use Rattle.yds_trace.specs.declared.limits.TheConstants.{PART_JOBS, PART_STRETCHES, PART_OTHERS, WAITING_JOBS, WAITING_STRETCHES, WAITING_OTHERS}
 use Rattle.yds_trace.specs.declared.pass.Pass.{Pass}
 use Rattle.yds_trace.specs.Asked.{Asked, on}
 use Rattle.yds_trace.specs.Kept.{IsAtBehind}
-use Rattle.yds_trace.specs.Document.{Judged, all_judged}
-use Rattle.yds_trace.specs.Parts.{begins_from, waiting_from, waiting, stretches_of, is_much, is_too_much, is_due, may_write, place_among, place_of, processor_count}
-use Rattle.yds_trace_laws.specs.Processors.{without_reason}
-use Rattle.yds_trace_laws.proofs.Processors.{jobs_are_the_same}
+use Rattle.yds_trace.specs.Document.{Judged}
+use Rattle.yds_trace.specs.Others.{Span, others_from}
+use Rattle.yds_trace.specs.Parts.{waiting, stretches_of, is_much, is_too_much, is_due, may_write, place_among, place_of, processor_count}
 use Rattle.yds_trace_parts.specs.declared.processors.Processor.{Processor}
 use Rattle.yds_trace_parts.specs.Told.{Halt, Told, AtLine, no_piece, both, piece_at, piece_of, no_place as no_place_halt, open_longest, waiting_halt, pieces}
 use Rattle.yds_trace_parts.specs.Telling.{cut_on, told_on, IsUnseen, NoneEndsBefore, IsStill}
-use Rattle.yds_trace_parts.proofs.Steps.{same_cut}
+use Rattle.yds_trace_parts.proofs.Steps.{none_if, same_cut}
 use Rattle.yds_trace_parts.proofs.Unseen.{more_processors}
-
--- # As much waits, whatever processor is asked for
-
-kept_by : (b : Bool) (judged : Judged) (jobs : List Judged) → map without_reason (cond b (judged ∷ jobs) jobs) ≡ cond b (without_reason judged ∷ map without_reason jobs) (map without_reason jobs)
-kept_by true judged jobs = refl
-kept_by false judged jobs = refl
-
-kept_from : (boundary : ℕ) (jobs : List Judged) → map without_reason (filter (begins_from boundary) jobs) ≡ filter (begins_from boundary) (map without_reason jobs)
-kept_from boundary [] = refl
-kept_from boundary (judged ∷ jobs) =
-    kept_by (begins_from boundary judged) judged (filter (begins_from boundary) jobs)
-    ∙ ap (λ (more : List Judged). cond (begins_from boundary judged) (without_reason judged ∷ more) more) (kept_from boundary jobs)
-
-same_stretches : (jobs : List Judged) → stretches_of (map without_reason jobs) ≡ stretches_of jobs
-same_stretches [] = refl
-same_stretches (judged ∷ jobs) =
-    sum_by-cons (λ (one : Judged). length one.job.stretches) (without_reason judged) (map without_reason jobs)
-    ∙ ap (λ (n : ℕ). length judged.job.stretches + n) (same_stretches jobs)
-    ∙ sym (sum_by-cons (λ (one : Judged). length one.job.stretches) judged jobs)
-
-much_without : (jobs : List Judged) → is_much (map without_reason jobs) ≡ is_much jobs
-much_without jobs =
-    ap₂ (λ (count stretches : ℕ). nat_lt PART_JOBS count || nat_lt PART_STRETCHES stretches) (length-map jobs without_reason) (same_stretches jobs)
-
-much_on : (asked : Asked) (past : List Said) (processor boundary : ℕ) → is_much (waiting_from (on processor asked) past boundary) ≡ is_much (waiting_from asked past boundary)
-much_on asked past processor boundary =
-    sym (much_without (waiting_from (on processor asked) past boundary))
-    ∙ ap is_much (kept_from boundary (all_judged (on processor asked) past) ∙ ap (filter (begins_from boundary)) (jobs_are_the_same asked past processor)
-    ∙ sym (kept_from boundary (all_judged asked past)))
-    ∙ much_without (waiting_from asked past boundary)
 
 -- # Nothing is written
 
-none_if : (due may much : Bool) (place : Option ℕ) → (due ≡ false) ⊎ (much ≡ false) → (if due && may && much then place else None) ≡ None
-none_if due may much place (inl is) = ap (λ (b : Bool). if b && may && much then place else None) is
-none_if true true much place (inr is) = ap (λ (b : Bool). if b then place else None) is
-none_if true false much place (inr is) = refl
-none_if false may much place (inr is) = refl
-
-less_much : (jobs stretches : ℕ) → (nat_lt PART_JOBS jobs || nat_lt PART_STRETCHES stretches) ≡ false → (nat_lt WAITING_JOBS jobs || nat_lt WAITING_STRETCHES stretches) ≡ false
-less_much jobs stretches is = grind (arith, nat_tests)
+less_much : (jobs stretches others : ℕ) → (nat_lt PART_JOBS jobs || nat_lt PART_STRETCHES stretches || nat_lt PART_OTHERS others) ≡ false →
+    (nat_lt WAITING_JOBS jobs || nat_lt WAITING_STRETCHES stretches || nat_lt WAITING_OTHERS others) ≡ false
+less_much jobs stretches others is = grind (arith, nat_tests)
 
 no_halt : (due much : Bool) (halt : Option Halt) → (due ≡ false) ⊎ (much ≡ false) → (if not (due && much) then None else halt) ≡ None
 no_halt due much halt (inl is) = ap (λ (b : Bool). if not (b && much) then None else halt) is
 no_halt true much halt (inr is) = ap (λ (b : Bool). if not b then None else halt) is
 no_halt false much halt (inr is) = refl
 
-still_here : (asked : Asked) (past : List Said) (processor time : ℕ) (cut : Cut) → IsStill asked past time → time ≤ cut.boundary →
-    (is_due past ≡ false) ⊎ (is_much (waiting (on processor asked) past cut) ≡ false)
-still_here asked past processor time cut (inl is) later = inl is
-still_here asked past processor time cut (inr is) later = inr (much_on asked past processor cut.boundary ∙ is cut.boundary later)
-
-too_much_here : (jobs : List Judged) (due : Bool) → (due ≡ false) ⊎ (is_much jobs ≡ false) → (due ≡ false) ⊎ (is_too_much jobs ≡ false)
-too_much_here jobs due (inl is) = inl is
-too_much_here jobs due (inr is) = inr (less_much (length jobs) (stretches_of jobs) is)
-
 -- it isn't looked for a place, or little waits
-pub little_place : (asked : Asked) (past : List Said) (cut : Cut) → (is_due past ≡ false) ⊎ (is_much (waiting asked past cut) ≡ false) → place_of asked past cut ≡ None
-little_place asked past cut still =
-    none_if (is_due past) (may_write asked past) (is_much (waiting asked past cut)) (place_among asked past (waiting asked past cut)) still
+abbrev IsIdle : Asked → List Said → Cut → Type 0
+IsIdle asked past cut = (is_due past ≡ false) ⊎ (is_much (waiting asked past cut) (others_from asked past cut.boundary) ≡ false)
 
-pub little_halt : (asked : Asked) (past : List Said) (cut : Cut) → (is_due past ≡ false) ⊎ (is_much (waiting asked past cut) ≡ false) → waiting_halt asked past cut ≡ None
+still_here : (asked : Asked) (past : List Said) (processor time : ℕ) (cut : Cut) → IsStill asked past time → time ≤ cut.boundary →
+    IsIdle (on processor asked) past cut
+still_here asked past processor time cut (inl is) later = inl is
+still_here asked past processor time cut (inr is) later = inr (is cut.boundary later processor)
+
+too_much_here : (jobs : List Judged) (others : List Span) (due : Bool) → (due ≡ false) ⊎ (is_much jobs others ≡ false) → (due ≡ false) ⊎ (is_too_much jobs others ≡ false)
+too_much_here jobs others due (inl is) = inl is
+too_much_here jobs others due (inr is) = inr (less_much (length jobs) (stretches_of jobs) (length others) is)
+
+little_place : (asked : Asked) (past : List Said) (cut : Cut) → IsIdle asked past cut → place_of asked past cut ≡ None
+little_place asked past cut still =
+    none_if (is_due past) (may_write asked past) (is_much (waiting asked past cut) (others_from asked past cut.boundary))
+    (place_among asked past (waiting asked past cut)) still
+
+little_halt : (asked : Asked) (past : List Said) (cut : Cut) → IsIdle asked past cut → waiting_halt asked past cut ≡ None
 little_halt asked past cut still =
-    no_halt (is_due past) (is_too_much (waiting asked past cut))
+    no_halt (is_due past) (is_too_much (waiting asked past cut) (others_from asked past cut.boundary))
     (if may_write asked past then no_place_halt (open_longest asked past (waiting asked past cut)) else Some (AtLine (length past) causes.NoWakeUp))
-    (too_much_here (waiting asked past cut) (is_due past) still)
+    (too_much_here (waiting asked past cut) (others_from asked past cut.boundary) (is_due past) still)
 
 still_place : (asked : Asked) (past : List Said) (processor time : ℕ) (cut : Cut) → IsStill asked past time → time ≤ cut.boundary → place_of (on processor asked) past cut ≡ None
 still_place asked past processor time cut still later = little_place (on processor asked) past cut (still_here asked past processor time cut still later)

@@ -1,6 +1,6 @@
 -- Where a part may end, by what is shown: one walk over the waiting jobs in order of begin.
 use Rattle.std.specs.Prelude.{ℕ, ◌+◌, List, [], ◌∷◌, map, max, Bool, false, not, ◌&&◌, ◌||◌, nat_lt, nat_le, if◌then◌else◌, Option, Some, None, option_map}
-use Rattle.std.specs.List.{slice_index_or, find}
+use Rattle.std.specs.List.{slice_index_or, find, list_any}
 use Rattle.yds_kernel.specs.Parts.{or_else}
 use Rattle.yds_trace.specs.declared.job.End.{End}
 use Rattle.yds_trace.specs.declared.job.End.TheVariants as ends
@@ -8,7 +8,7 @@ use Rattle.yds_trace.specs.declared.shown.ShownTask.{ShownTask}
 use Rattle.yds_trace.specs.declared.shown.Shown.{Shown}
 use Rattle.yds_trace.specs.Asked.{Asked, task_at}
 use Rattle.yds_trace.specs.Document.{Judged, stands}
-use Rattle.yds_trace.specs.Parts.{belongs, is_over, is_written}
+use Rattle.yds_trace.specs.Parts.{is_over, is_written, is_own}
 use Rattle.yds_trace_document.specs.declared.judged.Judged.{Judged as JudgedKept}
 use Rattle.yds_trace_document.specs.Kept.{last_of}
 use Rattle.yds_trace_document.specs.Views.{judged_read}
@@ -34,11 +34,13 @@ is_settled asked shown judged =
 
 pub record Front : Type 0 where
   pub some : Bool
+  -- one of them is to be written here, or none of all that wait is
+  pub own : Bool
   pub done : Option ℕ
   pub due : ℕ
 
 abbrev pub front_read : FrontKept → Front
-front_read front = record { some = front.some; done = front.done; due = front.due }
+front_read front = record { some = front.some; own = front.own; done = front.done; due = front.due }
 
 abbrev pub end_of : End → Option ℕ
 end_of (ends.Ended end) = Some end
@@ -55,8 +57,9 @@ both (Some first) (Some second) = Some (max first second)
 abbrev pub with_job : Asked → Bool → Judged → Front → Front
 with_job asked settled judged front = record {
   some = front.some || (asked.everywhere || is_written judged);
+  own = front.own || is_own asked judged;
   done = both front.done (done_from settled judged);
-  due = if belongs asked judged && is_written judged then max front.due judged.due else front.due;
+  due = if is_own asked judged then max front.due judged.due else front.due;
 }
 
 -- that time has come
@@ -78,7 +81,8 @@ places_read places = record { quiet = places.quiet; closed = places.closed }
 
 abbrev pub with_place : Front → ℕ → Places → Places
 with_place front time places =
-    if is_quiet_at time front then record { quiet = Some time; closed = if nat_le front.due time then Some time else places.closed } else places
+    if is_quiet_at time front
+    then record { quiet = Some time; closed = if front.own && nat_le front.due time then Some time else places.closed } else places
 
 -- # The walk
 
@@ -88,8 +92,13 @@ pub record Walk : Type 0 where
   -- the last begin, or 0
   pub before : ℕ
 
-abbrev pub start : Walk
-start = record { front = record { some = false; done = Some 0; due = 0 }; places = record { quiet = None; closed = None }; before = 0 }
+-- before these jobs
+abbrev pub start : Asked → List Judged → Walk
+start asked jobs = record {
+  front = record { some = false; own = not (list_any (is_own asked) jobs); done = Some 0; due = 0 };
+  places = record { quiet = None; closed = None };
+  before = 0;
+}
 
 -- Jobs that begin together are before none of each other.
 abbrev pub stepped : Asked → Bool → Judged → Walk → Walk
@@ -102,6 +111,9 @@ stepped asked settled judged at = record {
 abbrev pub walk : Asked → Shown → List Judged → Walk → Walk
 walk asked shown [] at = at
 walk asked shown (judged ∷ jobs) at = walk asked shown jobs (stepped asked (is_settled asked shown judged) judged at)
+
+abbrev pub places_shown : Asked → Shown → List Judged → Places
+places_shown asked shown jobs = (walk asked shown jobs (start asked jobs)).places
 
 -- # The job that has been open longest
 

@@ -4,6 +4,7 @@ use Rattle.std.specs.List.{list_any}
 use Rattle.yds_kernel.specs.Event.{Said}
 use Rattle.yds_trace.specs.declared.cut.Cut.{Cut}
 use Rattle.yds_trace.specs.Asked.{Asked, on}
+use Rattle.yds_trace.specs.Others.{others_from}
 use Rattle.yds_trace.specs.Kept.{IsAtBehind, told_to_forget}
 use Rattle.yds_trace.specs.Parts.{cut_at, cut_after, place_of, waiting, waiting_from, with_part, is_due, is_much, may_write, changes_parts, processor_count, processors_of, first_numbers}
 use Rattle.yds_trace.specs.declared.pass.Pass.{Pass}
@@ -21,17 +22,17 @@ use Rattle.yds_trace_parts.specs.Told.{Halt, InForm, AtLine, OfDocument, OfText,
 
 -- # Reasons
 
-abbrev pub halt_of_text : ℕ → NoText → HaltKept
-halt_of_text part (texts.Limit fault) = kept.Limit part fault
-halt_of_text part texts.TooLong = kept.TooLong part
-halt_of_text part texts.Memory = kept.Memory
+abbrev pub halt_of_text : Option ℕ → ℕ → NoText → HaltKept
+halt_of_text processor part (texts.Limit fault) = kept.Limit processor part fault
+halt_of_text processor part texts.TooLong = kept.TooLong processor part
+halt_of_text processor part texts.Memory = kept.Memory
 
 -- the reason as the definition has it; it has none for what isn't of the trace
 abbrev pub halt_read : HaltKept → Option Halt
 halt_read (kept.InForm number fault) = Some (InForm (record { line = number; column = fault.column; reason = fault.reason }))
 halt_read (kept.AtLine number cause) = Some (AtLine number cause)
-halt_read (kept.Limit part fault) = Some (OfDocument part fault)
-halt_read (kept.TooLong part) = Some (OfText part)
+halt_read (kept.Limit processor part fault) = Some (OfDocument processor part fault)
+halt_read (kept.TooLong processor part) = Some (OfText processor part)
 halt_read (kept.NoPlace name begin late) = Some (NoPlace name.items begin late)
 halt_read kept.Endless = None
 halt_read kept.ReadFault = None
@@ -52,7 +53,7 @@ IsHaltFor found halt = found ≡ halt_read halt
 pub record Looks (asked : Asked) (past : List Said) (cut : Cut) : Type 0 where
   pub due : is_due past ≡ true
   pub may : may_write asked past ≡ true
-  pub much : is_much (waiting asked past cut) ≡ true
+  pub much : is_much (waiting asked past cut) (others_from asked past cut.boundary) ≡ true
 
 -- the text of the part that ends at this time, or of the last one
 pub record IsText (asked : Asked) (strict : Bool) (past : List Said) (cut : Cut) (until : Option ℕ) (text : List ℕ) : Type 0 where
@@ -194,9 +195,14 @@ pub record IsTaken (asked : Asked) (strict : Bool) (past : List Said) (said : Sa
   pub goes_on : (told_after asked strict past).halt ≡ None
   pub sound : line_halt asked past said ≡ None
 
--- It isn't looked for parts behind these lines; or of all jobs that begin at this time or later, so few wait that none is to be written.
+-- Behind parts that end at this time so little waits, whatever processor is asked for, that none is to be written.
+abbrev pub IsLittle : Asked → List Said → ℕ → Type 0
+IsLittle asked past boundary =
+    (processor : ℕ) → is_much (waiting_from (on processor asked) past boundary) (others_from (on processor asked) past boundary) ≡ false
+
+-- It isn't looked for parts behind these lines; or so little waits behind each part that ends at this time or later.
 abbrev pub IsStill : Asked → List Said → ℕ → Type 0
-IsStill asked past time = (is_due past ≡ false) ⊎ ((boundary : ℕ) → time ≤ boundary → is_much (waiting_from asked past boundary) ≡ false)
+IsStill asked past time = (is_due past ≡ false) ⊎ ((boundary : ℕ) → time ≤ boundary → IsLittle asked past boundary)
 
 -- With a line more the text has this piece more.
 abbrev pub Adds : Asked → Bool → List Said → List Said → List ℕ → Type 0

@@ -10,6 +10,7 @@ use Rattle.yds_kernel.specs.Text.{Trace}
 use Rattle.yds_trace.specs.declared.fault.Cause.{Cause}
 use Rattle.yds_trace.specs.declared.fault.Cause.TheVariants as causes
 use Rattle.yds_trace.specs.Asked.{Asked, on}
+use Rattle.yds_trace.specs.Others.{others_from}
 use Rattle.yds_trace.specs.Document.{Judged}
 use Rattle.yds_trace.specs.Faults.{said_fault, whole_fault}
 use Rattle.yds_trace.specs.declared.cut.Cut.{Cut}
@@ -26,10 +27,10 @@ pub data Halt : Type 0 where
   InForm : (fault : Fault Reason) → Halt
   -- the line of this number can't stand behind those before it
   AtLine : (number : ℕ) (cause : Cause) → Halt
-  -- the part of this number passes a limit of documents
-  OfDocument : (part : ℕ) (fault : DocumentFault) → Halt
+  -- The part of this number passes a limit of documents; it is one of this processor, where each has documents of its own.
+  OfDocument : (processor : Option ℕ) (part : ℕ) (fault : DocumentFault) → Halt
   -- its text is longer than a document may be
-  OfText : (part : ℕ) → Halt
+  OfText : (processor : Option ℕ) (part : ℕ) → Halt
   -- More wait than may, and there is no place to cut. This job has been open longest, or is the first that waits: its name, its begin, and by
   -- how much it is known to be late.
   NoPlace : (name : List ℕ) (begin : ℕ) (late : Option ℕ) → Halt
@@ -56,18 +57,22 @@ line_halt asked past said =
 abbrev pub next_number : Cut → ℕ
 next_number cut = capped (cut.parts + 1)
 
-abbrev pub of_document : ℕ → Option DocumentFault → Option Halt
-of_document part None = None
-of_document part (Some fault) = Some (OfDocument part fault)
+-- the processor whose part it is, where each has documents of its own
+abbrev pub part_processor : Asked → Option ℕ
+part_processor asked = if asked.everywhere then Some asked.processor else None
 
-abbrev pub of_text : ℕ → List ℕ → Option Halt
-of_text part text = if nat_lt MAX_INPUT (length text) then Some (OfText part) else None
+abbrev pub of_document : Option ℕ → ℕ → Option DocumentFault → Option Halt
+of_document processor part None = None
+of_document processor part (Some fault) = Some (OfDocument processor part fault)
+
+abbrev pub of_text : Option ℕ → ℕ → List ℕ → Option Halt
+of_text processor part text = if nat_lt MAX_INPUT (length text) then Some (OfText processor part) else None
 
 -- why the part that ends at this time, or the last one, isn't written
 abbrev pub part_halt : Asked → Bool → List Said → Cut → Option ℕ → Option Halt
 part_halt asked strict past cut until =
-    or_else (of_document (next_number cut) (part_limit_fault asked strict cut (part_of asked past cut until)))
-    (of_text (next_number cut) (part_text asked past cut until))
+    or_else (of_document (part_processor asked) (next_number cut) (part_limit_fault asked strict cut (part_of asked past cut until)))
+    (of_text (part_processor asked) (next_number cut) (part_text asked past cut until))
 
 -- # Pieces of the text
 
@@ -111,7 +116,7 @@ open_longest asked past waiting = or_else (find (λ judged. not (is_settled aske
 -- Without a wake-up of a task nothing is written, and that is said then.
 abbrev pub waiting_halt : Asked → List Said → Cut → Option Halt
 waiting_halt asked past cut =
-    if not (is_due past && is_too_much (waiting asked past cut)) then None
+    if not (is_due past && is_too_much (waiting asked past cut) (others_from asked past cut.boundary)) then None
     else (if may_write asked past then no_place (open_longest asked past (waiting asked past cut)) else Some (AtLine (length past) causes.NoWakeUp))
 
 -- # Behind a line
@@ -173,7 +178,7 @@ has_written asked past cut = nat_lt 0 cut.jobs || nat_lt 0 (length (part_of aske
 abbrev pub no_job_halt : Asked → List Said → List ℕ → Option Halt
 no_job_halt asked past processors =
     if asked.everywhere && not (list_any (λ processor. has_written (on processor asked) past (cut_after (on processor asked) past)) processors)
-    then Some (OfDocument 1 faults.NoJob) else None
+    then Some (OfDocument None 1 faults.NoJob) else None
 
 abbrev pub in_form : Option (Fault Reason) → Option Halt
 in_form None = None

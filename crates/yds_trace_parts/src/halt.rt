@@ -23,17 +23,21 @@ pub enum Halt {
         number: u64,
         cause: Cause,
     },
-    /// The part of this number passes a limit of documents.
+    /// The part of this number passes a limit of documents. It is one of this processor, where each has documents of its own.
     Limit {
+        processor: Option<u64>,
         part: u64,
         fault: DocumentFault,
     },
-    /// The text of the part of this number is longer than a document may be.
+    /// The text of the part of this number is longer than a document may be. It is one of this processor, where each has
+    /// documents of its own.
     TooLong {
+        processor: Option<u64>,
         part: u64,
     },
-    /// More jobs or stretches wait than may, and there is no place to cut. This job has been open longest, or is the first that
-    /// waits: its begin on the trace's clock, and by how much it is known to be late, in nanoseconds.
+    /// More jobs, stretches or spans of other threads wait than may, and there is no place to cut. This job has been open
+    /// longest, or is the first that waits: its begin on the trace's clock, and by how much it is known to be late, in
+    /// nanoseconds.
     NoPlace {
         name: Vec<u8>,
         begin: u64,
@@ -84,12 +88,16 @@ impl From<WriteFault> for Halt {
 
 impl Halt {
     /// Why the text of the part of this number isn't written.
-    pub(crate) fn of_text(part: u64, fault: NoText) -> Halt
-        ensures { result ≡ halt_of_text part fault }
+    pub(crate) fn of_text(processor: Option<u64>, part: u64, fault: NoText) -> Halt
+        ensures { result ≡ halt_of_text processor part fault }
     {
         match fault {
-            NoText::Limit(fault) => Halt::Limit { part, fault },
-            NoText::TooLong => Halt::TooLong { part },
+            NoText::Limit(fault) => Halt::Limit {
+                processor,
+                part,
+                fault,
+            },
+            NoText::TooLong => Halt::TooLong { processor, part },
             NoText::Memory => Halt::Memory,
         }
     }

@@ -5,16 +5,16 @@ ghost use Rattle.yds_kernel.specs.Parts.{capped};
 ghost use Rattle.yds_trace.specs.Asked as asking;
 ghost use Rattle.yds_trace.specs.Past.{last_time};
 ghost use Rattle.yds_trace.specs.Parts as parts;
-ghost use Rattle.yds_trace.specs.Shown.{IsShown};
+ghost use Rattle.yds_trace.specs.Shown.{IsShared};
 ghost use Rattle.yds_trace.specs.Views.{asked_read};
 ghost use Rattle.yds_trace_document.specs.Kept as kept;
 ghost use Rattle.yds_trace_document.specs.PartKept.{IsWaiting, IsPart};
-ghost use Rattle.yds_trace_document.specs.Views.{judged_read, judged_list};
-ghost use Rattle.yds_trace_parts.specs.Told.{part_halt, piece_at, has_written, next_number};
+ghost use Rattle.yds_trace_document.specs.Views.{judged_list};
+ghost use Rattle.yds_trace_parts.specs.Told.{part_halt, piece_at, has_written, next_number, part_processor};
 ghost use Rattle.yds_trace_parts.specs.Telling.{IsHaltFor, IsText, text_alone, IsPieceAt, IsPiece, IsLast, Looks, HaltsBehind, without_job_at};
 
 use crate::halt::Halt;
-use crate::place::{is_much, is_too_much, open_longest, place_among};
+use crate::place::{is_much, is_too_much, is_written, open_longest, place_among};
 use std::alloc::Global;
 use yds_trace::{Asked, Cause, Cut, Shown};
 use yds_trace_document::{Judged, Part, Waiting, judge_waiting, settle_part};
@@ -47,17 +47,17 @@ pub(crate) fn next_piece(
     number: u64,
 ) -> Result<Piece, Halt>
     requires { kept.IsPlainShown asked.now shown.now }
-    ensures made { (past : List trace.Said) → IsShown (asked_read asked.now) past cut.boundary shown.now → number ≡ length past
+    ensures made { (past : List trace.Said) → IsShared (asked_read asked.now) past cut.boundary shown.now → number ≡ length past
         → parts.is_due past ≡ true → may_write ≡ parts.may_write (asked_read asked.now) past → IfOk result (IsPiece (asked_read asked.now) strict past cut) }
-    ensures halts { (past : List trace.Said) → IsShown (asked_read asked.now) past cut.boundary shown.now → number ≡ length past
+    ensures halts { (past : List trace.Said) → IsShared (asked_read asked.now) past cut.boundary shown.now → number ≡ length past
         → parts.is_due past ≡ true → may_write ≡ parts.may_write (asked_read asked.now) past → IfErr result (HaltsBehind (asked_read asked.now) strict past cut) }
 {
     let waiting = judge_waiting(alloc, asked, shown, cut.boundary)?;
-    if !is_much(&waiting.judged) {
+    if !is_much(&waiting) {
         return Ok(no_piece(alloc, cut));
     }
     if !may_write {
-        return without_wake_up(alloc, number, &waiting.judged, cut);
+        return without_wake_up(alloc, number, &waiting, cut);
     }
     place_piece(alloc, asked, shown, waiting, cut, strict)
 }
@@ -77,12 +77,12 @@ fn no_piece(alloc: Global, cut: Cut) -> Piece
 fn without_wake_up(
     alloc: Global,
     number: u64,
-    waiting: &[Judged<'_>],
+    waiting: &Waiting<'_>,
     cut: Cut,
 ) -> Result<Piece, Halt>
-    ensures made { (asked : asking.Asked) (strict : Bool) (past : List trace.Said) → judged_list waiting.now ≡ parts.waiting asked past cut
+    ensures made { (asked : asking.Asked) (strict : Bool) (past : List trace.Said) → IsWaiting asked past cut waiting.now
         → parts.may_write asked past ≡ false → IfOk result (IsPiece asked strict past cut) }
-    ensures halts { (asked : asking.Asked) (strict : Bool) (past : List trace.Said) → judged_list waiting.now ≡ parts.waiting asked past cut
+    ensures halts { (asked : asking.Asked) (strict : Bool) (past : List trace.Said) → IsWaiting asked past cut waiting.now
         → parts.may_write asked past ≡ false → parts.is_due past ≡ true → number ≡ length past → IfErr result (HaltsBehind asked strict past cut) }
 {
     if is_too_much(waiting) {
@@ -106,14 +106,14 @@ fn place_piece(
 ) -> Result<Piece, Halt>
     requires has_unit { 1 ≤ asked.now.unit }
     requires has_speed_unit { 1 ≤ asked.now.khz }
-    ensures made { (past : List trace.Said) → IsShown (asked_read asked.now) past cut.boundary shown.now → IsWaiting (asked_read asked.now) past cut waiting.entry
+    ensures made { (past : List trace.Said) → IsShared (asked_read asked.now) past cut.boundary shown.now → IsWaiting (asked_read asked.now) past cut waiting.entry
         → Looks (asked_read asked.now) past cut → IfOk result (IsPiece (asked_read asked.now) strict past cut) }
-    ensures halts { (past : List trace.Said) → IsShown (asked_read asked.now) past cut.boundary shown.now → IsWaiting (asked_read asked.now) past cut waiting.entry
+    ensures halts { (past : List trace.Said) → IsShared (asked_read asked.now) past cut.boundary shown.now → IsWaiting (asked_read asked.now) past cut waiting.entry
         → Looks (asked_read asked.now) past cut → IfErr result (HaltsBehind (asked_read asked.now) strict past cut) }
 {
     match place_among(asked, shown, &waiting.judged) {
         Some(time) => whole_piece(alloc, asked, shown, waiting, cut, strict, time),
-        None => no_place(alloc, asked, shown, &waiting.judged, cut),
+        None => no_place(alloc, asked, shown, &waiting, cut),
     }
 }
 
@@ -122,24 +122,24 @@ fn no_place(
     alloc: Global,
     asked: &Asked,
     shown: &Shown,
-    waiting: &[Judged<'_>],
+    waiting: &Waiting<'_>,
     cut: Cut,
 ) -> Result<Piece, Halt>
-    ensures made { (strict : Bool) (past : List trace.Said) → IsShown (asked_read asked.now) past cut.boundary shown.now
-        → judged_list waiting.now ≡ parts.waiting (asked_read asked.now) past cut → Looks (asked_read asked.now) past cut
+    ensures made { (strict : Bool) (past : List trace.Said) → IsShared (asked_read asked.now) past cut.boundary shown.now
+        → IsWaiting (asked_read asked.now) past cut waiting.now → Looks (asked_read asked.now) past cut
         → parts.place_among (asked_read asked.now) past (parts.waiting (asked_read asked.now) past cut) ≡ None
         → IfOk result (IsPiece (asked_read asked.now) strict past cut) }
-    ensures halts { (strict : Bool) (past : List trace.Said) → IsShown (asked_read asked.now) past cut.boundary shown.now
-        → judged_list waiting.now ≡ parts.waiting (asked_read asked.now) past cut → Looks (asked_read asked.now) past cut
+    ensures halts { (strict : Bool) (past : List trace.Said) → IsShared (asked_read asked.now) past cut.boundary shown.now
+        → IsWaiting (asked_read asked.now) past cut waiting.now → Looks (asked_read asked.now) past cut
         → parts.place_among (asked_read asked.now) past (parts.waiting (asked_read asked.now) past cut) ≡ None
         → IfErr result (HaltsBehind (asked_read asked.now) strict past cut) }
 {
     if !is_too_much(waiting) {
         return Ok(no_piece(alloc, cut));
     }
-    match open_longest(asked, shown, waiting) {
+    match open_longest(asked, shown, &waiting.judged) {
         Some(judged) => Err(Halt::NoPlace {
-            name: judged.name.text(alloc)?,
+            name: judged.name.job_text(alloc)?,
             begin: judged.job.begin,
             late: judged.late,
         }),
@@ -159,9 +159,9 @@ fn whole_piece(
 ) -> Result<Piece, Halt>
     requires has_unit { 1 ≤ asked.now.unit }
     requires has_speed_unit { 1 ≤ asked.now.khz }
-    ensures made { (past : List trace.Said) → IsShown (asked_read asked.now) past cut.boundary shown.now → IsWaiting (asked_read asked.now) past cut waiting.entry
+    ensures made { (past : List trace.Said) → IsShared (asked_read asked.now) past cut.boundary shown.now → IsWaiting (asked_read asked.now) past cut waiting.entry
         → IfOk result (IsPieceAt (asked_read asked.now) strict past cut (Some time)) }
-    ensures halts { (past : List trace.Said) → IsShown (asked_read asked.now) past cut.boundary shown.now → IsWaiting (asked_read asked.now) past cut waiting.entry
+    ensures halts { (past : List trace.Said) → IsShared (asked_read asked.now) past cut.boundary shown.now → IsWaiting (asked_read asked.now) past cut waiting.entry
         → IfErr result (IsHaltFor (piece_at (asked_read asked.now) strict past cut (Some time)).halt) }
 {
     let part = settle_part(alloc, asked, shown.first, waiting, Some(time))?;
@@ -199,13 +199,13 @@ pub(crate) fn without_job(
     cut: Cut,
 ) -> Result<Cut, Halt>
     requires { kept.IsPlainShown asked.now shown.now }
-    ensures made { (past : List trace.Said) → IsShown (asked_read asked.now) past cut.boundary shown.now → parts.is_due past ≡ true
+    ensures made { (past : List trace.Said) → IsShared (asked_read asked.now) past cut.boundary shown.now → parts.is_due past ≡ true
         → may_write ≡ parts.may_write (asked_read asked.now) past
         → IfOk result (λ next. next ≡ without_job_at past cut (parts.place_of (asked_read asked.now) past cut)) }
     ensures halts { IfErr result (IsHaltFor None) }
 {
     let waiting = judge_waiting(alloc, asked, shown, cut.boundary)?;
-    if !may_write || !is_much(&waiting.judged) {
+    if !may_write || !is_much(&waiting) {
         return Ok(cut);
     }
     match place_among(asked, shown, &waiting.judged) {
@@ -223,9 +223,9 @@ pub(crate) fn last_part(
     strict: bool,
 ) -> Result<Last, Halt>
     requires { kept.IsPlainShown asked.now shown.now }
-    ensures made { (past : List trace.Said) → IsShown (asked_read asked.now) past cut.boundary shown.now
+    ensures made { (past : List trace.Said) → IsShared (asked_read asked.now) past cut.boundary shown.now
         → IfOk result (IsLast (asked_read asked.now) strict past cut) }
-    ensures halts { (past : List trace.Said) → IsShown (asked_read asked.now) past cut.boundary shown.now
+    ensures halts { (past : List trace.Said) → IsShared (asked_read asked.now) past cut.boundary shown.now
         → IfErr result (IsHaltFor (part_halt (asked_read asked.now) strict past cut None)) }
 {
     let waiting = judge_waiting(alloc, asked, shown, cut.boundary)?;
@@ -258,7 +258,22 @@ fn text_of(
 {
     match part_text(alloc, asked, strict, cut, until, part) {
         Ok(text) => Ok(text),
-        Err(fault) => Err(Halt::of_text(next_number(cut), fault)),
+        Err(fault) => Err(Halt::of_text(
+            part_processor(asked),
+            next_number(cut),
+            fault,
+        )),
+    }
+}
+
+/// The processor whose part it is, where each has documents of its own.
+fn part_processor(asked: &Asked) -> Option<u64>
+    ensures { result ≡ part_processor (asked_read asked.now) }
+{
+    if asked.everywhere {
+        Some(asked.processor)
+    } else {
+        None
     }
 }
 
@@ -291,13 +306,6 @@ fn parts_with(cut: Cut, part: &[Judged<'_>]) -> u64
         Some(_) => next_number(cut),
         None => cut.parts,
     }
-}
-
-/// Whether a job is written.
-fn is_written(judged: &Judged<'_>) -> bool
-    ensures { result ≡ parts.is_written (judged_read judged.now) }
-{
-    judged.reason.is_none() || judged.late.is_some()
 }
 
 /// How many of these jobs are written; beyond 64 bits they aren't counted.

@@ -1,20 +1,23 @@
 //! How much waits, and where a part of it may end.
-ghost use Rattle.std.specs.Prelude.{◌≡◌, List, not};
-ghost use Rattle.std.specs.List.{find};
+ghost use Rattle.std.specs.Prelude.{◌≡◌, List, map, not};
+ghost use Rattle.std.specs.List.{find, list_any};
 ghost use Rattle.yds_kernel.specs.Event.{Said};
 ghost use Rattle.yds_kernel.specs.Parts.{capped};
 ghost use Rattle.yds_trace.specs.declared.cut.Cut.{Cut};
 ghost use Rattle.yds_trace.specs.Asked.{task_at};
 ghost use Rattle.yds_trace.specs.Parts as parts;
-ghost use Rattle.yds_trace.specs.Shown.{IsShown};
+ghost use Rattle.yds_trace.specs.Shown.{IsShared};
 ghost use Rattle.yds_trace.specs.Views.{asked_read};
 ghost use Rattle.yds_trace_document.specs.Kept as kept;
-ghost use Rattle.yds_trace_document.specs.Views.{judged_read, judged_list};
+ghost use Rattle.yds_trace_document.specs.Views.{judged_read, judged_list, other_read};
 ghost use Rattle.yds_trace_parts.specs.Place as spec;
 ghost use Rattle.yds_trace_parts.specs.Told as told;
 
-use yds_trace::{Asked, End, PART_JOBS, PART_STRETCHES, Shown, WAITING_JOBS, WAITING_STRETCHES};
-use yds_trace_document::{Judged, belongs};
+use yds_trace::{
+    Asked, End, PART_JOBS, PART_OTHERS, PART_STRETCHES, Shown, WAITING_JOBS, WAITING_OTHERS,
+    WAITING_STRETCHES,
+};
+use yds_trace_document::{Judged, Waiting, belongs};
 
 /// How many stretches these jobs have, at most the greatest number of 64 bits.
 fn stretches_of(waiting: &[Judged<'_>]) -> u64
@@ -28,17 +31,21 @@ fn stretches_of(waiting: &[Judged<'_>]) -> u64
 }
 
 /// Whether so much waits that a part is to be written.
-pub fn is_much(waiting: &[Judged<'_>]) -> bool
-    ensures { result ≡ parts.is_much (judged_list waiting.now) }
+pub fn is_much(waiting: &Waiting<'_>) -> bool
+    ensures { result ≡ parts.is_much (judged_list waiting.now.judged.items) (map other_read waiting.now.others.items) }
 {
-    waiting.len() as u64 > PART_JOBS || stretches_of(waiting) > PART_STRETCHES
+    waiting.judged.len() as u64 > PART_JOBS
+        || stretches_of(&waiting.judged) > PART_STRETCHES
+        || waiting.others.len() as u64 > PART_OTHERS
 }
 
 /// Whether more waits than may.
-pub fn is_too_much(waiting: &[Judged<'_>]) -> bool
-    ensures { result ≡ parts.is_too_much (judged_list waiting.now) }
+pub fn is_too_much(waiting: &Waiting<'_>) -> bool
+    ensures { result ≡ parts.is_too_much (judged_list waiting.now.judged.items) (map other_read waiting.now.others.items) }
 {
-    waiting.len() as u64 > WAITING_JOBS || stretches_of(waiting) > WAITING_STRETCHES
+    waiting.judged.len() as u64 > WAITING_JOBS
+        || stretches_of(&waiting.judged) > WAITING_STRETCHES
+        || waiting.others.len() as u64 > WAITING_OTHERS
 }
 
 /// The end of what is asked for and shown.
@@ -94,11 +101,39 @@ fn is_settled(asked: &Asked, shown: &Shown, judged: &Judged<'_>) -> bool
         && apart_of(asked, judged.task) <= shown.last - begin
 }
 
+/// Whether a job is written.
+pub fn is_written(judged: &Judged<'_>) -> bool
+    ensures { result ≡ parts.is_written (judged_read judged.now) }
+{
+    judged.reason.is_none() || judged.late.is_some()
+}
+
+/// Whether a job is to be written here.
+fn is_own(asked: &Asked, judged: &Judged<'_>) -> bool
+    ensures { result ≡ parts.is_own (asked_read asked.now) (judged_read judged.now) }
+{
+    is_written(judged) && belongs(asked, judged)
+}
+
+/// Whether one of these jobs is to be written here.
+fn has_own(asked: &Asked, waiting: &[Judged<'_>]) -> bool
+    ensures { result ≡ list_any (parts.is_own (asked_read asked.now)) (judged_list waiting.now) }
+{
+    for judged in waiting {
+        if is_own(asked, judged) {
+            return true;
+        }
+    }
+    false
+}
+
 /// What is known of the jobs that begin before a time.
 #[derive(Clone, Copy, Debug)]
 struct Front {
     /// Whether there is one; with one processor, one that is written.
     some: bool,
+    /// Whether one of them is to be written here, or none of all that wait is.
+    own: bool,
     /// From when on each of them is done, if each will be.
     done: Option<u64>,
     /// From when on no window of those that are written here is open.
@@ -136,11 +171,12 @@ impl Front {
     fn with(self, asked: &Asked, settled: bool, judged: &Judged<'_>) -> Front
         ensures { spec.front_read result ≡ spec.with_job (asked_read asked.now) settled (judged_read judged.now) (spec.front_read self) }
     {
-        let written = judged.reason.is_none() || judged.late.is_some();
+        let own = is_own(asked, judged);
         Front {
-            some: self.some || asked.everywhere || written,
+            some: self.some || asked.everywhere || is_written(judged),
+            own: self.own || own,
             done: both(self.done, done_from(settled, judged)),
-            due: if written && belongs(asked, judged) {
+            due: if own {
                 self.due.max(judged.due)
             } else {
                 self.due
@@ -164,7 +200,7 @@ impl Front {
 struct Places {
     /// The last quiet begin.
     quiet: Option<u64>,
-    /// The last one at which no window is open.
+    /// The last one behind a job that is to be written here, if one is, at which no window is open.
     closed: Option<u64>,
 }
 
@@ -178,7 +214,7 @@ impl Places {
         }
         Places {
             quiet: Some(time),
-            closed: if front.due <= time {
+            closed: if front.own && front.due <= time {
                 Some(time)
             } else {
                 self.closed
@@ -189,10 +225,11 @@ impl Places {
 
 /// The places of a part's end among the begins of these jobs, which stand in order of begin.
 fn places_among(asked: &Asked, shown: &Shown, waiting: &[Judged<'_>]) -> Places
-    ensures { spec.places_read result ≡ (spec.walk (asked_read asked.now) shown.now (judged_list waiting.now) spec.start).places }
+    ensures { spec.places_read result ≡ spec.places_shown (asked_read asked.now) shown.now (judged_list waiting.now) }
 {
     let mut front = Front {
         some: false,
+        own: !has_own(asked, waiting),
         done: Some(0),
         due: 0,
     };
@@ -212,10 +249,10 @@ fn places_among(asked: &Asked, shown: &Shown, waiting: &[Judged<'_>]) -> Places
     places
 }
 
-/// Where the next part may end: at the last quiet begin of a waiting job at which no window is open, or else at the last quiet
-/// one. The jobs stand in order of begin.
+/// Where the next part may end: at the last quiet begin of a waiting job at which no window is open, behind a job that is to be
+/// written here, if one is; or else at the last quiet one. The jobs stand in order of begin.
 pub fn place_among(asked: &Asked, shown: &Shown, waiting: &[Judged<'_>]) -> Option<u64>
-    ensures { (past : List Said) (cut : Cut) → IsShown (asked_read asked.now) past cut.boundary shown.now
+    ensures { (past : List Said) (cut : Cut) → IsShared (asked_read asked.now) past cut.boundary shown.now
         → judged_list waiting.now ≡ parts.waiting (asked_read asked.now) past cut
         → result ≡ parts.place_among (asked_read asked.now) past (parts.waiting (asked_read asked.now) past cut) }
 {
@@ -225,7 +262,7 @@ pub fn place_among(asked: &Asked, shown: &Shown, waiting: &[Judged<'_>]) -> Opti
 
 /// The first job that isn't settled, or else the first that waits.
 pub fn open_longest<'a>(asked: &Asked, shown: &Shown, waiting: &[Judged<'a>]) -> Option<Judged<'a>>
-    ensures { (past : List Said) (cut : Cut) → IsShown (asked_read asked.now) past cut.boundary shown.now
+    ensures { (past : List Said) (cut : Cut) → IsShared (asked_read asked.now) past cut.boundary shown.now
         → judged_list waiting.now ≡ parts.waiting (asked_read asked.now) past cut
         → spec.judged_option result ≡ told.open_longest (asked_read asked.now) past (parts.waiting (asked_read asked.now) past cut) }
 {

@@ -145,15 +145,10 @@ fn piece_on(
 {
     pass.turn_to(one.number);
     let may_write = pass.may_write();
-    next_piece(
-        alloc,
-        pass.asked(),
-        shown,
-        may_write,
-        one.cut,
-        strict,
-        number,
-    )
+    let asked = pass.asked();
+    let own = shown.shared(alloc, asked)?;
+    let shares = own.as_ref().unwrap_or(shown);
+    next_piece(alloc, asked, shares, may_write, one.cut, strict, number)
 }
 
 /// What was written of each processor of which no line tells, behind a line where it is looked for parts: none of them has
@@ -199,7 +194,10 @@ fn unseen_on(
 {
     pass.turn_to(processor);
     let may_write = pass.may_write();
-    without_job(alloc, pass.asked(), shown, may_write, cut)
+    let asked = pass.asked();
+    let own = shown.shared(alloc, asked)?;
+    let shares = own.as_ref().unwrap_or(shown);
+    without_job(alloc, asked, shares, may_write, cut)
 }
 
 /// The last parts of these processors.
@@ -243,7 +241,10 @@ fn last_on(
         → boundary ≤ one.cut.boundary → IfErr result (spec.IsHaltFor (part_halt (asking.on one.number asked) strict past one.cut None)) }
 {
     pass.turn_to(one.number);
-    last_part(alloc, pass.asked(), shown, one.cut, strict)
+    let asked = pass.asked();
+    let own = shown.shared(alloc, asked)?;
+    let shares = own.as_ref().unwrap_or(shown);
+    last_part(alloc, asked, shares, one.cut, strict)
 }
 
 /// What changes a part of one of these changes one of this.

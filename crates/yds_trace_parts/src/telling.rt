@@ -6,6 +6,7 @@ ghost use Rattle.yds_kernel.specs.Views.{said_read};
 ghost use Rattle.yds_trace.specs.Asked as asking;
 ghost use Rattle.yds_trace.specs.Faults.{said_fault, whole_fault};
 ghost use Rattle.yds_trace.specs.Kept.{IsAtBehind, IsEnough, told_to_forget};
+ghost use Rattle.yds_trace.specs.Others.{others_from};
 ghost use Rattle.yds_trace.specs.Parts as parts;
 ghost use Rattle.yds_trace.specs.Views.{asked_read};
 ghost use Rattle.yds_trace_parts.specs.Plain.{HasRoom, IsPlainPass};
@@ -20,7 +21,9 @@ use crate::processors::{
 use std::alloc::Global;
 use yds_kernel::Said;
 use yds_model::Memory;
-use yds_trace::{Asked, Cut, Kept, LOOK_EVERY, NO_CUT, PART_JOBS, PART_STRETCHES, Pass, Refused};
+use yds_trace::{
+    Asked, Cut, Kept, LOOK_EVERY, NO_CUT, PART_JOBS, PART_OTHERS, PART_STRETCHES, Pass, Refused,
+};
 use yds_trace_document::DocumentFault;
 
 /// What is known of the tasks behind some lines, and what was written of them.
@@ -154,6 +157,7 @@ impl Telling {
         let last = last_pieces(alloc, &mut self.pass, &self.processors, &shown, self.strict)?;
         if lacks_job(self.unseen, last.has_job) {
             return Err(Halt::Limit {
+                processor: None,
                 part: 1,
                 fault: DocumentFault::NoJob,
             });
@@ -181,9 +185,11 @@ fn looks(pass: &Pass, number: u64) -> bool
 /// Whether so little is kept that no part is to be written.
 fn is_little(amount: Kept) -> bool
     ensures { (asked : asking.Asked) (past : List trace.Said) (boundary : ℕ) → IsEnough asked past boundary amount → result ≡ true
-        → parts.is_much (parts.waiting_from asked past boundary) ≡ false }
+        → parts.is_much (parts.waiting_from asked past boundary) (others_from asked past boundary) ≡ false }
 {
-    amount.jobs <= PART_JOBS && amount.stretches <= PART_STRETCHES
+    amount.jobs <= PART_JOBS
+        && amount.stretches <= PART_STRETCHES
+        && amount.others <= PART_OTHERS
 }
 
 /// Takes what the line of this number says, behind the parts that were written.

@@ -49,6 +49,8 @@ fn asked(alloc: Global, everywhere: bool) -> Result<Asked, AllocError>
         cut_losses: false,
         in_parts: true,
         everywhere,
+        moved_parts: false,
+        others: None,
     })
 }
 

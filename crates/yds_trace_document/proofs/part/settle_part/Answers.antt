@@ -1,16 +1,18 @@
-use Rattle.yds_model.proofs.Common.{◌≡◌, ◌∙◌, ℕ, List, ap, ap₂, unwrap_or}
+use Rattle.yds_model.proofs.Common.{◌≡◌, ◌∙◌, ◌+◌, ◌*◌, ℕ, List, map, max, ap, ap₂, sym, unwrap_or}
 use Rattle.std.specs.Prelude.{Vec}
 use Rattle.std.specs.declared.alloc.Global.{Global}
 use Rattle.yds_trace.specs.Asked.{Asked}
 use Rattle.yds_trace.specs.Views.{asked_read}
 use Rattle.yds_trace.specs.Document.{in_order}
+use Rattle.yds_trace.specs.Others.{Span, spans_within}
 use Rattle.yds_trace.specs.Parts.{part_until}
 use Rattle.yds_trace_document.specs.Kept.{begin_of, together, capped_in}
-use Rattle.yds_trace_document.specs.Part.{shift_from, shifted, part_by_task}
+use Rattle.yds_trace_document.specs.Part.{shift_from, shifted, part_by_task, others_until}
 use Rattle.yds_trace_document.specs.declared.judged.Judged.{Judged as JudgedKept}
-use Rattle.yds_trace_document.specs.Views.{judged_list, judged_lists}
+use Rattle.yds_trace_document.specs.declared.other.Other.{Other as OtherKept}
+use Rattle.yds_trace_document.specs.Views.{judged_list, judged_lists, other_read}
 use Rattle.yds_trace_document.proofs.Waits.{all_of_part}
-use Rattle.yds_trace_document.proofs.Parted.{in_line, part_same, shift_same}
+use Rattle.yds_trace_document.proofs.Parted.{in_line, others_same, part_same, shift_same}
 use Rattle.yds_trace_document.proofs.part.settle_part.Goals as goal
 
 pub returns : goal.returns

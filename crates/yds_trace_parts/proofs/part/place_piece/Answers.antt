@@ -4,5 +4,5 @@ use Rattle.yds_trace_parts.proofs.part.place_piece.Goals as goal
 
 pub returns-in-None-clause-halts : goal.returns-in-None-clause-halts
 returns-in-None-clause-halts c past shown waits looks =
-    c.no_place.ensures.halts c.args.strict past shown (ap judged_list c.deref-in-None.ensures.value ∙ waits.judged) looks
+    c.no_place.ensures.halts c.args.strict past shown waits looks
     (sym (c.in-None.ensures past c.args.cut shown (ap judged_list c.deref.ensures.value ∙ waits.judged)))

@@ -4,7 +4,7 @@ use Rattle.yds_trace.specs.Document.{Judged}
 use Rattle.yds_trace.specs.Parts.{waiting}
 use Rattle.yds_trace.specs.Views.{asked_read}
 use Rattle.yds_trace_document.proofs.Waits.{waiting_of_tasks, waiting_rises}
-use Rattle.yds_trace_parts.specs.Place.{Places, start, walk}
+use Rattle.yds_trace_parts.specs.Place.{Places, places_shown}
 use Rattle.yds_trace_parts.proofs.Placed.{or_same, place_found}
 use Rattle.yds_trace_parts.proofs.place.place_among.Goals as goal
 
@@ -13,7 +13,7 @@ returns c past cut is are =
     c.or.ensures
     ∙ or_same c.places_among-places.result.closed c.places_among-places.result.quiet
     ∙ ap (λ (places : Places). or_else places.closed places.quiet) c.places_among-places.ensures
-    ∙ ap (λ (jobs : List Judged). or_else (walk (asked_read c.args.asked.now) c.args.shown.now jobs start).places.closed
-    (walk (asked_read c.args.asked.now) c.args.shown.now jobs start).places.quiet) are
+    ∙ ap (λ (jobs : List Judged). or_else (places_shown (asked_read c.args.asked.now) c.args.shown.now jobs).closed
+    (places_shown (asked_read c.args.asked.now) c.args.shown.now jobs).quiet) are
     ∙ place_found (asked_read c.args.asked.now) c.args.shown.now past cut.boundary (waiting (asked_read c.args.asked.now) past cut) is
     (waiting_of_tasks (asked_read c.args.asked.now) past cut) (waiting_rises (asked_read c.args.asked.now) past cut)

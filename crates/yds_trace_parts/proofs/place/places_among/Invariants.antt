@@ -8,4 +8,4 @@ abbrev pub invariant-loop-judged : goal.invariant-loop-judged
 invariant-loop-judged l =
     walk (asked_read l.asked) l.shown (judged_list (drop l.judged-index l.waiting))
     (record { front = front_read l.front; places = places_read l.places; before = l.before })
-    ≡ walk (asked_read l.asked) l.shown (judged_list l.waiting) start
+    ≡ walk (asked_read l.asked) l.shown (judged_list l.waiting) (start (asked_read l.asked) (judged_list l.waiting))
