@@ -1,16 +1,15 @@
 -- Who was in the way: the spans that are kept, and those that are forgotten before them.
-use Rattle.yds_model.proofs.Common.{◌≡◌, ◌∙◌, ℕ, suc, ◌+◌, ◌<◌, ◌≤◌, List, [], ◌∷◌, ◌++◌, map, reverse, length, take, drop, filter, get_or, min, Bool, true, false, ◌||◌, ◌&&◌, if◌then◌else◌, nat_lt, Option, Some, None, option_map, is_some, is_none, list_any, All, All-head, All-tail, All-cons, All-nil, All-append, All-weaker, All-map, refl, sym, ap, ap₂, subst, arith, cond, append-nil, append_assoc, map-append, reverse-append, filter-append, length-map, length-reverse, length-filter, count_by-le-length, All-permutation, ltb-true, le-ltb, take-take, filter_agree}
+use Rattle.yds_model.proofs.Common.{◌≡◌, ◌∙◌, ℕ, ◌+◌, ◌<◌, ◌≤◌, List, [], ◌∷◌, ◌++◌, map, reverse, length, take, drop, filter, min, Bool, true, false, if◌then◌else◌, nat_lt, Option, Some, None, option_map, is_some, All, All-head, All-tail, All-cons, All-nil, All-append, All-weaker, All-map, refl, sym, ap, ap₂, subst, arith, append_assoc, map-append, reverse-append, filter-append, length-map, length-reverse, length-filter, count_by-le-length, All-permutation, ltb-true, le-ltb}
 use Rattle.std.proofs.lemmas.List.{reverse-reverse, take-append-drop, take_min}
 use Rattle.std.proofs.lemmas.List.Sorted.{IsPermutation-reverse}
 use Rattle.yds_kernel.specs.declared.loss.Since.{Since}
 use Rattle.yds_kernel.specs.Event.{Thread, Event, Said, Stamped, Lost, Nothing}
-use Rattle.yds_trace.specs.declared.followed.Followed.{Followed}
 use Rattle.yds_trace.specs.declared.others.Others.{Others as OthersKept}
 use Rattle.yds_trace.specs.declared.others.Span.{Span as SpanKept}
-use Rattle.yds_trace.specs.Asked.{Task, Asked}
+use Rattle.yds_trace.specs.Asked.{Asked}
 use Rattle.yds_trace.specs.Past.{last_time, up_to}
 use Rattle.yds_trace.specs.Late.{last_asked}
-use Rattle.yds_trace.specs.Others.{Span, Spans, Going, who_has, is_waiting, one_waits, any_waits, other_of, in_the_way, shortened, is_same, span_until, ended_at, going_from, spans_by, spans_after, spans_on, others_of, goes_behind, others_from}
+use Rattle.yds_trace.specs.Others.{Span, Spans, Going, who_has, any_waits, other_of, in_the_way, shortened, is_same, span_until, ended_at, going_from, spans_by, spans_after, spans_on, others_of, goes_behind, others_from}
 use Rattle.yds_trace.specs.Following.{spans_kept, spans_at}
 use Rattle.yds_trace.specs.Kept.{AreOthers, AreOthersOf}
 use Rattle.yds_trace.specs.Views.{another_read, going_read, span_read}
