@@ -1,5 +1,5 @@
 -- The parts of all processors: those of one are what it has by itself, and so is what is known of them.
-use Rattle.yds_model.proofs.Common.{◌≡◌, ◌≢◌, ◌∙◌, ℕ, zero, suc, ◌+◌, ◌<◌, ◌≤◌, ◌⊎◌, inl, inr, ◌==◌, ◌||◌, List, [], ◌∷◌, ◌++◌, map, filter, flat_map, length, get_or, Bool, true, false, if◌then◌else◌, Option, Some, None, refl, sym, ap, ap₂, subst, arith, cases_lt, eq-eqb, ne_eqb, or_parts, append-nil, filter-append, flat_map-append, get_or-map, length-map, list_any, filter_all, filter_none, contains_filter, All, All-nil, All-cons, All-push, All-from_recursion, AllByRecursion, Contains, Contains-get_or}
+use Rattle.yds_model.proofs.Common.{◌≡◌, ◌≢◌, ◌∙◌, ℕ, zero, suc, ◌+◌, ◌<◌, ◌≤◌, ◌⊎◌, inl, inr, ◌==◌, ◌||◌, List, [], ◌∷◌, ◌++◌, map, filter, flat_map, get_or, Bool, true, false, if◌then◌else◌, Option, Some, None, refl, sym, ap, ap₂, subst, arith, cases_lt, eq-eqb, ne_eqb, or_parts, append-nil, filter-append, flat_map-append, list_any, filter_all, filter_none, contains_filter, All, All-nil, All-cons, All-push, All-from_recursion, AllByRecursion, Contains-get_or}
 use Rattle.std.proofs.lemmas.List.Folds.{list_any-append}
 use Rattle.yds_kernel.specs.Event.{Said}
 use Rattle.yds_trace.specs.declared.cut.Cut.{Cut}

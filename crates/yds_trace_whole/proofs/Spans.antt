@@ -1,17 +1,14 @@
 -- Who else had the processor: what a part tells of it stays so behind all further lines.
-use Rattle.yds_model.proofs.Common.{◌≡◌, ◌∙◌, ℕ, ◌+◌, ◌<◌, ◌≤◌, ◌⊎◌, inl, inr, List, [], ◌∷◌, ◌++◌, map, filter, filter_map, reverse, max, min, cond, Bool, true, false, nat_lt, nat_le, if◌then◌else◌, Option, Some, None, refl, sym, ap, ap₂, subst, arith, le-ltb, lt-ltb, le-leb, ltb-true, ltb-false, leb-false, append-nil, reverse-append, filter_map-append, All, All-from_recursion, AllByRecursion, cases_lt, cond_both}
+use Rattle.yds_model.proofs.Common.{◌≡◌, ◌∙◌, ℕ, ◌+◌, ◌<◌, ◌≤◌, ◌⊎◌, inl, inr, List, [], ◌∷◌, ◌++◌, filter, filter_map, reverse, max, min, cond, Bool, true, false, nat_lt, nat_le, if◌then◌else◌, Option, Some, None, refl, sym, ap, subst, arith, le-ltb, lt-ltb, le-leb, ltb-true, ltb-false, leb-false, append-nil, reverse-append, filter_map-append, All-from_recursion, AllByRecursion, cases_lt, cond_both}
 use Rattle.std.specs.List.{cons_option}
-use Rattle.yds_kernel.specs.declared.loss.Since.{Since}
 use Rattle.yds_kernel.specs.declared.loss.Since.TheVariants as since
-use Rattle.yds_kernel.specs.declared.state.State.{State}
-use Rattle.yds_kernel.specs.Event.{Thread, Happening, Switch, Event, Said, Stamped, Lost, Nothing}
+use Rattle.yds_kernel.specs.Event.{Thread, Event, Said, Stamped, Lost, Nothing}
 use Rattle.yds_trace.specs.declared.cut.Cut.{Cut}
-use Rattle.yds_trace.specs.Asked.{Asked, is_before_to, is_within_to}
-use Rattle.yds_trace.specs.Past.{last_time, lost_since, is_loss, counts, is_first_switch, stayed, up_to_time, up_to}
-use Rattle.yds_trace.specs.Faults.{first_fault}
+use Rattle.yds_trace.specs.Asked.{Asked, is_within_to}
+use Rattle.yds_trace.specs.Past.{last_time, lost_since, is_loss, is_first_switch, stayed, up_to_time, up_to}
 use Rattle.yds_trace.specs.Late.{last_asked}
 use Rattle.yds_trace.specs.Document.{Judged}
-use Rattle.yds_trace.specs.Others.{Span, Going, Spans, shortened, spans_on, in_the_way, is_same, span_until, ended_at, going_from, spans_by, spans_after, others_of, goes_behind, others_from, earlier_of, span_within, spans_within}
+use Rattle.yds_trace.specs.Others.{Span, Going, Spans, shortened, spans_on, in_the_way, is_same, span_until, ended_at, going_from, spans_by, spans_after, others_of, goes_behind, earlier_of, span_within, spans_within}
 use Rattle.yds_trace.specs.Parts.{part_until, place_of, with_part, cut_at, cut_after, no_cut, part_fault}
 use Rattle.yds_trace.proofs.UpTo.{up_to_lost}
 use Rattle.yds_trace_laws.proofs.Ordered.{append-all}
