@@ -1,13 +1,13 @@
 """built.py: holds what `rt ci` has proved and built here, and the commands around it, against what is stored.
 
-    python3 checks/built.py [--library] [FOLDER]
+    python3 checks/built.py [FOLDER]
 
 `rt ci` leaves each program in the folder out of its crate, so nothing is proved a second time. The programs answer each
 stored row and trace, byte for byte (examples/check.sh, examples/check-traces.sh). Then the commands of README.md are
-typed with them, as a reader types them (packaging/typed.py). With --library, over what `rt ci` has proved,
-packaging/over.py makes the C library too, which answers the rows and the examples (library/test/test.sh) and the calls
-of the Python package (tools.py). That takes gcc and some minutes more. FOLDER is another folder that has yds_cli,
-yds_trace, libyds.a and libyds.so. The last line is 'N passed, M failed'; the status is 1 where M isn't 0.
+typed with them, as a reader types them (packaging/typed.py). Over what `rt ci` has proved, packaging/over.py makes the
+C library, with gcc, which answers the rows and the examples (library/test/test.sh) and the calls of the Python package
+(tools.py). FOLDER is another folder that has yds_cli, yds_trace, libyds.a and libyds.so. The last line is 'N passed, M
+failed'; the status is 1 where M isn't 0.
 """
 
 import os
@@ -69,8 +69,6 @@ def of_library(folder: Path, is_there: bool) -> List[Command]:
 
 def main(words: List[str]) -> int:
     """Runs the checks, and tells the sums. Gives the status."""
-    with_library = "--library" in words
-    words = [word for word in words if word != "--library"]
     found = files(words)
     absent = [place for place in found.values() if not os.path.isfile(place)]
     for place in absent:
@@ -84,7 +82,7 @@ def main(words: List[str]) -> int:
         folder = Path(name)
         lay_out(folder, found)
         os.environ.update(PATH=f"{folder / 'bin'}:{os.environ['PATH']}", PYTHONDONTWRITEBYTECODE="1")
-        return run_all([*of_programs(folder), *(of_library(folder, bool(words)) if with_library or words else [])])
+        return run_all([*of_programs(folder), *of_library(folder, bool(words))])
 
 
 if __name__ == "__main__":

@@ -2,8 +2,8 @@
 
     python3 checks/test_everywhere.py
 
-It is that of `yds_trace --cpu all` in robustness/second.py and parted.py. In the cases of cuts, a part is looked for behind
-each 8th line, and two jobs are much. The last line is 'N passed, M failed'.
+It is that of `yds_trace --cpu all`, `--moved parts` and `--others spans` in robustness/second.py and parted.py. In the cases
+of cuts, a part is looked for behind each 8th line, and two jobs or three spans are much. The last line is 'N passed, M failed'.
 """
 
 import sys
@@ -15,11 +15,12 @@ ROOT = Path(__file__).resolve().parent.parent
 sys.path.insert(0, str(ROOT / "robustness"))
 
 import parted  # noqa: E402
+import trace as whole  # noqa: E402
 from second import asked_by  # noqa: E402
 
-SMALL = parted.Limits(8, 1, 100, 3, 100)
+SMALL = parted.Limits(8, 1, 100, 2, 3, 100, 6)
 """Less is looked at than the program does, so that a case can be read."""
-PIDS = {"swapper": 0, "a": 10, "b": 11, "c": 12}
+PIDS = {"swapper": 0, "a": 10, "b": 11, "c": 12, "d": 13}
 UNITS = "# time unit 10 us, speed unit 10000 kHz, work unit 100 cycles"
 WORDS = ["--tasks", "a:1.5,b:1.5", "--start", "1000000", "--lost", "cut"]
 
@@ -58,6 +59,11 @@ def told(lines: Sequence[str], *more: str, limits: parted.Limits = parted.FULL) 
 def cut_small(lines: Sequence[str], *more: str) -> List[str]:
     """The same, where a part is looked for behind each 8th line."""
     return told(lines, *more, limits=SMALL)
+
+
+def alone(lines: Sequence[str], *more: str) -> List[str]:
+    """The lines that are written of one processor, as one document."""
+    return whole.told([*WORDS, *more], ("\n".join(lines) + "\n").encode()).text.splitlines()
 
 
 class Belonging(unittest.TestCase):
@@ -214,13 +220,22 @@ class Cuts(unittest.TestCase):
         ])
 
     def test_a_window_of_another_processor_is_not_open(self) -> None:
-        """b.0 is due at 3.5 ms. Where a begins then at 3.3 ms, b's window is open for processor 1, and not for 0."""
+        """b.0 is due at 3.5 ms. Where a begins then at 3.3 ms, b's window is open for processor 1, and not for 0. No window is open where b.0
+        begins, but processor 1 has no job before it: so it is cut at 3.3 ms, too."""
         lines = [*job(0, 0, "a"), *job(1, 2000, "b"), *job(0, 3300, "a"), other(0, 4500), *job(1, 5000, "b")]
         self.assertEqual(self.heads(lines), [
             "# part 1: jobs 1 to 1, from 0 to 150, shift 0, cpu 0",
+            "# part 1: jobs 1 to 1, from 200 to 350, shift 200, cpu 1",
             "# part 2: jobs 2 to 2, from 330 to 480, shift 330, cpu 0, the last",
-            "# part 1: jobs 1 to 2, from 200 to 650, shift 200, cpu 1, the last",
+            "# part 2: jobs 2 to 2, from 500 to 650, shift 500, cpu 1, windows open, the last",
         ])
+
+    def test_a_processor_without_a_job_of_its_own_is_cut_where_no_window_is_open(self) -> None:
+        """None of all jobs that wait is processor 1's. At the last begin, no window of its own is open: it is cut there, and not a line is written."""
+        _, parts = parted.told_in_parts(("\n".join([other(1, 0), *job(0, 0, "a"), *job(0, 2000, "b"), other(0, 3200)]) + "\n").encode(),
+                                        asked_by([*WORDS, "--cpu", "all"]), SMALL)
+        self.assertEqual(parts.moved, {8: {0, parted.IDLE}})
+        self.assertEqual([parts.cut_of(processor).boundary for processor in (0, 1)], [5_002_000_000] * 2)
 
     def test_an_open_window_of_its_own_is_told_behind_the_processor(self) -> None:
         lines = [*job(1, 0, "a"), *job(1, 1200, "b"), other(0, 3200), other(0, 3200), *job(1, 4000, "b")]
@@ -307,7 +322,7 @@ class Faults(unittest.TestCase):
         then = [switch(1, 300, "b", "R", "swapper"), switch(2, 400, "swapper", "R", "b"), switch(2, 500, "b", "S", "swapper"), switch(0, 600, "a", "S", "swapper")]
         lines = [*first, *then, *job(0, 2000, "a"), *[other(0, 8000)] * 5]
         strict = "it doesn't stand as it is, and --strict is given; leave that out, or choose --from and --to around the job"
-        self.assertEqual(cut_small(lines, "--strict"), [f"# part 1: found job 1: {strict}", "failed"])
+        self.assertEqual(cut_small(lines, "--strict"), [f"# part 1 of processor 1: found job 1: {strict}", "failed"])
         self.assertEqual(cut_small(lines)[0], "# part 1: jobs 1 to 1, from 0 to 150, shift 0, cpu 0")
 
     def test_no_processor_has_a_job(self) -> None:
@@ -326,6 +341,205 @@ class Faults(unittest.TestCase):
             f"# part 1: {why}",
         ])
         self.assertEqual(found[-1], "failed")
+
+
+class Shares(unittest.TestCase):
+    """What the documents have of a job that ran on several processors, with `--moved parts`."""
+
+    maxDiff = None
+
+    def moved(self, until: int) -> List[str]:
+        """a is woken at 0, runs for a millisecond on processor 1, and goes on to 0 until then."""
+        return [
+            wake(0, 0, "a"), switch(1, 100, "swapper", "R", "a"), switch(1, 1100, "a", "R", "swapper"),
+            switch(0, 1100, "swapper", "R", "a"), switch(0, until, "a", "S", "swapper"),
+        ]
+
+    def test_each_has_what_it_ran_there_in_the_window_of_the_whole(self) -> None:
+        self.assertEqual(told([*self.moved(1400), *job(2, 2000, "b")], "--moved", "parts"), [
+            "# part 1: jobs 1 to 1, from 0 to 150, shift 0, cpu 0, the last",
+            "# CPU 0 of a kernel trace; time 0 is 5.000000000 s",
+            UNITS,
+            "job a.0@0 0 150 3000",
+            "ticks 1",
+            "run a.0@0 110 140 100",
+            "# 1 job written, none left out",
+            "# part 1: jobs 1 to 1, from 0 to 150, shift 0, cpu 1, the last",
+            "# CPU 1 of a kernel trace; time 0 is 5.000000000 s",
+            UNITS,
+            "job a.0@1 0 150 10000",
+            "ticks 1",
+            "run a.0@1 10 110 100",
+            "# ends: a.0@1 140",
+            "# 1 job written, none left out",
+            "# part 1: jobs 1 to 1, from 200 to 350, shift 200, cpu 2, the last",
+            "# CPU 2 of a kernel trace; time 0 is 5.002000000 s",
+            UNITS,
+            "job b.0 0 150 10000",
+            "ticks 1",
+            "run b.0 10 110 100",
+            "# 1 job written, none left out",
+        ])
+
+    def test_a_late_job_is_late_in_each(self) -> None:
+        """Its end shows it on processor 0. On 1 its work is a unit above what it ran there."""
+        found = told([*self.moved(2000), *job(2, 2000, "b")], "--moved", "parts")
+        self.assertEqual(found[3:7], [
+            "job a.0@0 0 150 9000", "ticks 1", "run a.0@0 110 200 100", "# late: a.0@0, 0.500000 ms after its deadline",
+        ])
+        self.assertEqual(found[11:15], [
+            "job a.0@1 0 150 10001", "ticks 1", "run a.0@1 10 110 100", "# late on another processor: a.0@1, 0.500000 ms after its deadline",
+        ])
+
+    def test_one_processor_has_its_share_alone(self) -> None:
+        lines = [*self.moved(1400), *job(2, 2000, "b")]
+        self.assertEqual(alone(lines, "--cpu", "1", "--moved", "parts")[2:], [
+            "job a.0@1 0 150 10000", "ticks 1", "run a.0@1 10 110 100", "# ends: a.0@1 140",
+            "# left out: b.0 (ran on another processor)", "# 1 job written, 1 left out",
+        ])
+
+    def test_a_job_that_ran_elsewhere_alone_has_none(self) -> None:
+        found = alone([*self.moved(2000), *job(2, 2000, "b")], "--cpu", "2", "--moved", "parts")
+        self.assertEqual(found[2:6], ["job a.0 0 1 1", "job b.0 0 150 10000", "ticks 1", "run b.0 10 110 100"])
+
+    def test_a_speed_that_is_not_known_leaves_out_the_share_there_alone(self) -> None:
+        """Behind a loss no speed is known, until a line tells it."""
+        lines = [
+            "CPU:0 [LOST 3 EVENTS]", f"{stamp(0, 0)}cpu_frequency: state=1000000 cpu_id=0", wake(0, 0, "a"), switch(0, 0, "b", "S", "swapper"),
+            switch(1, 0, "swapper", "R", "swapper"), *self.moved(1400)[1:],
+        ]
+        found = told(lines, "--moved", "parts")
+        self.assertIn("job a.0@0 0 150 3000", found)
+        self.assertIn("# left out: a.0@1 (frequency not known)", found)
+
+    def test_a_share_counts_its_own_stretches(self) -> None:
+        """Of five stretches of a.0 processor 0 has four, and 1 has one."""
+        there = [line for time in range(1400, 1800, 100) for line in (switch(0, time, "swapper", "R", "a"), switch(0, time + 50, "a", "R", "swapper"))]
+        lines = [*self.moved(1400)[:3], *there[:-1], switch(0, 1750, "a", "S", "swapper"), wake(0, 3000, "b")]
+        _, parts = parted.told_in_parts(("\n".join(lines) + "\n").encode(), asked_by([*WORDS, "--cpu", "all", "--moved", "parts"]))
+        self.assertEqual([parts.how_much(processor, parts.idle) for processor in (0, 1, 2)], [(2, 4, 0), (2, 1, 0), (2, 5, 0)])
+
+    def test_a_name_that_is_too_long(self) -> None:
+        """A name has 64 bytes at most, and that of a share has the processor behind it."""
+        task = "a" * 53
+        lines = [switch(1000, 0, "a", "R", "swapper"), switch(0, 100, "swapper", "R", "a"), switch(0, 900, "a", "S", "swapper"), wake(0, 1000, "a")]
+        words = ["--tasks", f"10={task}:0.5", "--start", "1000000", "--moved", "parts", "--cpu"]
+        texts = {cpu: whole.told([*words, cpu], ("\n".join(lines) + "\n").encode()).text.splitlines() for cpu in ("0", "1000")}
+        self.assertIn(f"job {task}.before@0 0 50 1", texts["0"])
+        self.assertEqual(texts["1000"], ["# written job 1: its name is longer than 64 bytes; choose a shorter time by --from and --to", "failed"])
+
+
+class Others(unittest.TestCase):
+    """Who else had the processor while a job waited, with `--others spans`."""
+
+    maxDiff = None
+
+    FIRST = [switch(0, 0, "swapper", "R", "c"), wake(0, 100, "a"), switch(0, 600, "c", "S", "a"), switch(0, 900, "a", "S", "swapper")]
+    """c has the processor from 0 to 0.6 ms, and a waits from 0.1 ms on."""
+    LAST = job(1, 2000, "b")
+
+    def spans(self, lines: Sequence[str], *more: str) -> List[str]:
+        """The comments of other threads."""
+        return [line for line in alone(lines, "--others", "spans", *more) if line.startswith("# other ")]
+
+    def test_it_is_told_before_the_last_line(self) -> None:
+        self.assertEqual(alone([*self.FIRST, *self.LAST], "--others", "spans")[2:], [
+            "job a.0 0 150 3000", "ticks 1", "run a.0 50 80 100", "# left out: b.0 (ran on another processor)", "# other c-12 0 50",
+            "# 1 job written, 1 left out",
+        ])
+        self.assertNotIn("other", " ".join(alone([*self.FIRST, *self.LAST])[2:]).replace("another", ""))
+
+    def test_one_that_is_preempted_waits(self) -> None:
+        lines = [*job(0, 0, "a")[:2], switch(0, 500, "a", "R", "c"), switch(0, 800, "c", "S", "d"), switch(0, 900, "d", "R", "a"), job(0, 0, "a")[2]]
+        self.assertEqual(self.spans([*lines, *self.LAST]), ["# other c-12 50 80", "# other d-13 80 90"])
+
+    def test_one_that_sleeps_does_not_wait(self) -> None:
+        self.assertEqual(self.spans([*job(0, 0, "a"), switch(0, 1200, "swapper", "R", "c"), switch(0, 1900, "c", "R", "swapper"), *self.LAST]), [])
+
+    def test_nor_does_one_that_runs_on_another_processor(self) -> None:
+        """a waits until it gets processor 1, and again where it leaves that awake."""
+        lines = [
+            switch(0, 0, "swapper", "R", "c"), wake(0, 100, "a"), switch(1, 400, "swapper", "R", "a"), switch(1, 700, "a", "R", "swapper"),
+            switch(1, 900, "swapper", "R", "a"), switch(1, 1000, "a", "S", "swapper"), switch(0, 1100, "c", "S", "swapper"),
+        ]
+        self.assertEqual(self.spans([*lines, *job(0, 2000, "b")], "--from", "5.00005"), ["# other c-12 5 35", "# other c-12 65 85"])
+
+    def test_the_idle_thread_and_listed_ones_are_not_in_the_way(self) -> None:
+        lines = [wake(0, 0, "a"), *job(0, 0, "b"), switch(0, 1200, "swapper", "R", "a"), switch(0, 1300, "a", "S", "swapper")]
+        self.assertEqual(self.spans(lines), [])
+
+    def test_of_two_jobs_one_that_waits_is_enough(self) -> None:
+        lines = [wake(0, 0, "a"), wake(0, 0, "b"), switch(1, 100, "swapper", "R", "b"), switch(0, 200, "swapper", "R", "c"),
+                 switch(0, 900, "c", "S", "a"), switch(0, 950, "a", "S", "swapper"), switch(1, 1000, "b", "S", "swapper")]
+        self.assertEqual(self.spans(lines), ["# other c-12 20 90"])
+
+    def test_another_processor_is_not_told_of(self) -> None:
+        self.assertEqual(self.spans([*self.FIRST, *self.LAST], "--cpu", "1"), [])
+
+    def test_what_lies_before_time_0_is_cut_off(self) -> None:
+        self.assertEqual(self.spans([*self.FIRST, *job(0, 2000, "b")], "--from", "5.0003"), ["# other c-12 0 30"])
+
+    def test_it_goes_on_at_the_end_of_what_is_asked_for(self) -> None:
+        """Up to the trace's last line, or up to `to`."""
+        lines = [*job(0, 0, "b"), switch(0, 1200, "swapper", "R", "c"), wake(0, 1300, "a"), other(1, 1900), other(1, 2500)]
+        self.assertEqual(self.spans(lines), ["# other c-12 130 250"])
+        self.assertEqual(self.spans(lines, "--to", "5.002"), ["# other c-12 130 200"])
+
+    def test_a_loss_ends_it(self) -> None:
+        """One without a stamp ends it at the line before, and one with a stamp at its own. Then nobody is known to have the processor."""
+        lines = [*job(0, 0, "b"), switch(0, 1200, "swapper", "R", "c"), wake(0, 1300, "a"), other(1, 1900)]
+        behind = [other(1, 2500), wake(0, 2600, "a"), other(1, 2700), switch(0, 2800, "d", "S", "c"), switch(0, 2900, "c", "S", "a")]
+        torn = f" who     5 [000] {5}.002200: PERF_RECORD_LOST lost 7"
+        self.assertEqual(self.spans([*lines, "CPU:1 [LOST 3 EVENTS]", *behind]), ["# other c-12 130 190", "# other c-12 280 290"])
+        self.assertEqual(self.spans([*lines, torn, *behind]), ["# other c-12 130 220", "# other c-12 280 290"])
+
+    def test_what_is_within_a_unit_of_time_is_not_told(self) -> None:
+        """From 0.101 to 0.109 ms, and from 0.109 to 0.111 ms."""
+        for begin, end, found in ((101, 109, []), (109, 111, ["# other c-12 10 11"])):
+            with self.subTest(begin=begin):
+                lines = [*job(0, 0, "b")[:1], switch(0, 50, "swapper", "R", "b"), switch(0, begin, "b", "R", "c"), switch(0, end, "c", "R", "b"),
+                         switch(0, 900, "b", "S", "swapper"), *job(0, 1000, "a")]
+                self.assertEqual(self.spans(lines), found)
+
+    def test_one_number_goes_on_under_its_first_name(self) -> None:
+        again = switch(0, 400, "c", "R", "c").replace("next_comm=c", "next_comm=renamed")
+        self.assertEqual(self.spans([*self.FIRST[:2], again, *self.FIRST[2:], *self.LAST]), ["# other c-12 0 50"])
+
+    def test_a_name_of_any_bytes_and_of_any_length(self) -> None:
+        """64 bytes are kept, and what moves a terminal's cursor is shown as a question mark."""
+        for name, shown in (("x\x1b[2J\x7f y", "x?[2J? y"), ("n" * 70, "n" * 64), ("Ünï", "Ünï")):
+            with self.subTest(name=name):
+                first = [line.replace("_comm=c ", f"_comm={name} ") for line in self.FIRST]
+                self.assertEqual(self.spans([*first, *self.LAST]), [f"# other {shown}-12 0 50"])
+
+    def test_jobs_that_begin_at_their_first_run_wait_where_they_are_preempted(self) -> None:
+        lines = [*self.FIRST, *job(0, 1000, "a")[:2], switch(0, 1500, "a", "R", "c"), switch(0, 1700, "c", "S", "a"), job(0, 1000, "a")[2], *job(1, 3000, "b")]
+        self.assertEqual(self.spans(lines, "--begin", "run"), ["# other c-12 40 60"])
+
+    def test_each_part_tells_its_own(self) -> None:
+        """a.0, which is left out, moved, and still waits at 2 ms, where b.0 begins and the part ends. c has the processor then."""
+        lines = [
+            *job(0, 0, "b"), *[other(1, 1100)] * 5, wake(0, 1200, "a"), switch(1, 1300, "swapper", "R", "a"), switch(1, 1400, "a", "R", "swapper"),
+            switch(0, 1500, "swapper", "R", "c"), wake(0, 2000, "b"), switch(0, 2100, "c", "S", "a"), switch(0, 2200, "a", "S", "b"),
+            switch(0, 2300, "b", "S", "swapper"),
+        ]
+        text = parted.told_in_parts(("\n".join(lines) + "\n").encode(), asked_by([*WORDS, "--cpu", "0", "--parts", "--others", "spans"]), SMALL)[0].text
+        self.assertEqual([line for line in text.splitlines() if line.startswith(("# other ", "# part "))], [
+            "# part 1: jobs 1 to 1, from 0 to 150, shift 0", "# other c-12 150 200",
+            "# part 2: jobs 2 to 2, from 200 to 350, shift 200, the last", "# other c-12 0 10",
+        ])
+
+    def test_many_spans_are_a_part_and_too_many_have_no_place(self) -> None:
+        """Three wait at the eighth line, where a.0 is the only job and there is no place; and eight at the sixteenth."""
+        turns = [switch(0, 100 * number + 500, "cd"[number % 2], "R", "dc"[number % 2]) for number in range(14)]
+        lines = [wake(0, 0, "b"), switch(0, 10, "swapper", "R", "b"), switch(0, 20, "b", "S", "swapper"), wake(0, 100, "a"), switch(0, 400, "swapper", "R", "c")]
+        for many, halted in ((10, False), (14, True)):
+            asked = asked_by([*WORDS, "--cpu", "0", "--parts", "--others", "spans"])
+            limits = SMALL._replace(jobs=9, most_jobs=9)
+            text, parts = parted.told_in_parts(("\n".join([*lines, *turns[:many]]) + "\n").encode(), asked, limits)
+            with self.subTest(many=many):
+                self.assertEqual(len(parts.written) > 1, not halted)
+                self.assertEqual(text.text.endswith("failed\n"), halted)
 
 
 def main() -> int:

@@ -146,12 +146,12 @@ test_trace() {
 		trace -v tasks=decode:0.5 -v us=1000 trace-report.txt
 	same "trace: only what is within" 0 trace-within.txt trace -v $t -v from=5123.410 -v to=5123.430 trace-report.txt
 	same "trace: named by its thread" 0 trace-thread.txt trace -v tasks=1202=sound:10 trace-report.txt
-	answers "trace: feasible" 0 feasible from "$expected/trace.txt" "$YDS" audit
-	cat "$expected/points.txt" "$expected/trace.txt" >"$work/both"
+	answers "trace: feasible" 0 feasible from "$expected/document.txt" "$YDS" audit
+	cat "$expected/points.txt" "$expected/document.txt" >"$work/both"
 	answers "trace: feasible on the points" 0 feasible from "$work/both" "$YDS" audit --points
-	answers "trace: late" 1 "late slot 19 decode.2 5319 deadline 5150" from "$expected/trace-late.txt" "$YDS" audit
+	answers "trace: late" 1 "late slot 19 decode.2 5319 deadline 5150" from "$expected/document-late.txt" "$YDS" audit
 	same "misses: both of two" 1 misses.txt from /dev/null tool misses late-twice.txt
-	answers "misses: none" 0 feasible tool misses "$expected/trace.txt"
+	answers "misses: none" 0 feasible tool misses "$expected/document.txt"
 	answers "misses: another fault" 1 "backward slot 1 a 3 3" tool misses bad/flat.txt
 	refuses "misses: no job" 1 "" "yds-misses: /dev/null has no job, so no deadline was met; look at what wrote it" tool misses /dev/null
 	refuses "misses: no document" 1 "" "yds-misses: nothing.txt can't be read: No such file or directory" tool misses nothing.txt
@@ -243,15 +243,15 @@ test_comma() {
 
 energy() { tool energy "$@"; }
 test_energy() {
-	cat "$expected/points.txt" "$expected/trace.txt" >"$work/both"
+	cat "$expected/points.txt" "$expected/document.txt" >"$work/both"
 	same "energy: of a trace" 0 energy.txt energy --name governor "$work/both"
 	same "energy: flat out" 0 energy-at.txt energy --at 142 "$work/both"
-	refuses "energy: no points" 1 "" "yds-energy: no point line; put the points before the document, as yds-join points.txt trace.txt" energy "$expected/trace.txt"
+	refuses "energy: no points" 1 "" "yds-energy: no point line; put the points before the document, as yds-join points.txt trace.txt" energy "$expected/document.txt"
 	refuses "energy: above the top" 1 "" "yds-energy: bad/slow.txt, line 15, column 19: the speed 60 from 0 to 200 is above the top point 41" energy bad/slow.txt
 	refuses "energy: a name of two words" 2 "" "yds-energy: --name my policy isn't one word; see yds-energy --help" energy --name "my policy" "$work/both"
 	refuses "energy: no such point" 1 "" "yds-energy: no point has the speed 50" energy --at 50 "$work/both"
 	refuses "energy: too much work for a point" 1 "" "yds-energy: the work of all jobs is more than the point 41 does in the whole time" energy --at 41 "$work/both"
-	sed 's/speed unit 10000 kHz/speed unit 1000 kHz/' "$expected/points.txt" | cat - "$expected/trace.txt" >"$work/units"
+	sed 's/speed unit 10000 kHz/speed unit 1000 kHz/' "$expected/points.txt" | cat - "$expected/document.txt" >"$work/units"
 	refuses "energy: two units of speed" 1 "" \
 		"yds-energy: $work/units, line 20, column 20: a unit of speed of 10000 kHz here and 1000 kHz before; give points and trace the same --khz" energy "$work/units"
 	refuses "energy: a refusal" 1 "" "yds-energy: $expected/compare-refused.txt, line 1: the input is an answer of no: refused 1 9 EmptyWindow" energy "$expected/compare-refused.txt"

@@ -27,7 +27,7 @@ from typing import List, Tuple
 
 import long
 from drawn import plain
-from second import Told
+from second import Told, as_bytes
 from trace import told
 
 GARBAGE = b"\x00\x01\x07\x1b\x7f\x80\xff~^"
@@ -86,7 +86,7 @@ class Programs:
 def fault_of(programs: Programs, words: List[str], trace: bytes, said: Told, was_yes: bool) -> str:
     """What isn't as it should be with the answer to a broken trace, of which the second reading says this; nothing where all is."""
     written, status = programs.read(words, trace)
-    if (written, status) != (said.text.encode(), said.status):
+    if (written, status) != (as_bytes(said.text), said.status):
         return "the second reading differs"
     if status and not written.endswith(b"\nfailed\n"):
         return "a status without the line 'failed'"

@@ -10,7 +10,7 @@ import re
 from typing import Callable, Dict, List, NamedTuple, Optional, Tuple
 
 NAMES = [b"decode", b"audio", b"Web Content", b"a [001] 5.1: print:", b"x ==> y", b"kworker/0:1", b"k=v,w", b"n:12 [9]", b"back\\slash"]
-OTHERS = [b"other", b"<...>", b"x next_pid=7 next_prio=1"]
+OTHERS = [b"other", b"<...>", b"x next_pid=7 next_prio=1", b"esc\x1b[2J", b"long " * 14]
 FORMATS = ("kernel", "short", "raw", "perf", "perfetto")
 MARKER = b"note [000] d..2. 100.002: sched_switch: prev_comm=decode prev_pid=10 prev_prio=1 prev_state=S ==> next_comm=x next_pid=9 next_prio=1"
 WAKE_UPS = [b"sched_waking:", b"sched_wakeup:", b"sched_wakeup_new:"]
@@ -334,7 +334,8 @@ def usual(it: Drawing, short: float = 0.3) -> None:
 
 
 def starving(it: Drawing) -> None:
-    """A thread is woken and gets no processor any more."""
+    """A thread is woken and gets no processor any more. Others may move, and have shares."""
+    it.sleepy = 0.25 if roam(it, 0.7) else it.sleepy
     it.run()
     it.starving = it.draw.choice(it.listed)
     it.state[it.starving] = "ready"
@@ -352,6 +353,41 @@ def moving(it: Drawing) -> None:
     for wish in it.wishes:
         wish.deadline *= it.draw.choice([1, 1, 10])
     it.unbound()
+
+
+def sharing(it: Drawing) -> None:
+    """Threads move among processors, and a job has a share on each. Some have one deadline within most jobs' times."""
+    it.processors, it.home, it.sleepy = it.draw.choice([2, 3]), {}, 0.25
+    usual(it, 0.0)
+    is_short = it.draw.random() < 0.9
+    for wish in it.wishes:
+        own = [end - begin for name, begin, end in it.spans if name == wish.name]
+        if own and is_short:
+            wish.deadline = max(UNIT, it.draw.choice(own) * it.draw.choice([4, 7, 9]) // 10)
+        elif not is_short:
+            wish.deadline *= 10
+    if is_short:
+        it.options.pop("--begin", None)
+    it.unbound()
+    if it.draw.random() < 0.9:
+        it.options["--moved"] = "parts"
+
+
+def roam(it: Drawing, chance: float) -> bool:
+    """With this chance threads move among processors, and half the time a job has a share on each."""
+    moves = it.draw.random() < chance
+    if moves:
+        it.processors, it.home = it.draw.choice([2, 3]), {}
+        if it.draw.random() < 0.6:
+            it.options["--moved"] = "parts"
+    return moves
+
+
+def shove(it: Drawing) -> None:
+    """Other threads are ready from the begin on, and perhaps have a processor when the first job begins."""
+    it.state.update({name: "ready" for name in OTHERS})
+    it.switch(0)
+    it.options["--others"] = "spans"
 
 
 def missing(it: Drawing) -> None:
@@ -419,7 +455,8 @@ def ended_early(it: Drawing) -> None:
 
 
 def wrong_units(it: Drawing) -> None:
-    """Deadlines and distances are in another unit."""
+    """Deadlines and distances are in another unit. Threads move among processors, and may have shares."""
+    roam(it, 1.0)
     usual(it, 0.1)
     for wish in it.wishes:
         wish.deadline = it.draw.choice([UNIT, 2 * UNIT, 10_000 * MILLISECOND, 90_000 * MILLISECOND])
@@ -429,6 +466,7 @@ def wrong_units(it: Drawing) -> None:
 def small(it: Drawing) -> None:
     """Stretches are within one unit of time, or nearly."""
     it.steps = [0, 300, 700, 3_000, 9_000, 12_000, 40_000, 900_000, 4_000_000]
+    roam(it, 0.5)
     usual(it, 0.5)
     for wish in it.wishes:
         if it.draw.random() < 0.5:
@@ -444,6 +482,8 @@ def small(it: Drawing) -> None:
 def edges(it: Drawing) -> None:
     """Deadlines that are missed or met by a nanosecond, or by less than a unit."""
     it.home = {name: 0 for name in it.threads}
+    if it.draw.random() < 0.6:
+        shove(it)
     usual(it, 0.0)
     for wish in it.wishes:
         own = [end - begin for name, begin, end in it.spans if name == wish.name and end - begin > 2 * UNIT]
@@ -472,7 +512,8 @@ def open_at_the_end(it: Drawing) -> None:
 
 
 def often_woken(it: Drawing) -> None:
-    """Wake-ups within a job, and ones that go on with it."""
+    """Wake-ups within a job, and ones that go on with it. Threads may move among processors, and have shares."""
+    roam(it, 0.7)
     it.run(30)
     for _ in range(3):
         name = it.draw.choice(it.listed)
@@ -483,7 +524,7 @@ def often_woken(it: Drawing) -> None:
             it.switch(it.home.get(name, 0))
             it.time += it.draw.choice([0, 1, 40_000])
             it.switch(it.home.get(name, 0))
-    it.ask(0.2)
+    it.ask(it.draw.choice([0.1, 0.1, 0.8]))
     for wish in it.wishes:
         wish.apart = it.draw.choice([MILLISECOND, 5 * MILLISECOND, 40 * MILLISECOND])
         if it.draw.random() < 0.7:
@@ -499,7 +540,8 @@ def exact_apart(it: Drawing, wish: Wish) -> int:
 
 
 def at_run(it: Drawing) -> None:
-    """Jobs begin at their first run."""
+    """Jobs begin at their first run. Threads may move among processors, and have shares."""
+    it.sleepy = 0.3 if roam(it, 0.8) else it.sleepy
     usual(it, 0.4)
     it.options["--begin"] = "run"
     if it.draw.random() < 0.5:
@@ -729,7 +771,7 @@ SHOWN: List[Callable[[Drawing], None]] = [
     fronted, cut_line, no_speed, great_processor, torn, great_time, cut_off, backwards, ended_early, torn_open,
     wrong_units, unknown_state, small, two_threads, edges, two_tasks, open_at_the_end, no_trace, often_woken, unseen,
     at_run, unwoken, cut_off, torn_end, missing, long_times, torn, much_work, ended_early, coarse_speed,
-    no_job, strictly, torn, strictly, edges, moving, no_speed, open_at_the_end,
+    no_job, sharing, torn, strictly, edges, sharing, no_speed, open_at_the_end,
 ]
 
 
@@ -740,7 +782,7 @@ def drawn(seed: int, number: int) -> Drawn:
     it = Drawing(draw, show is not anything)
     show(it)
     trace = it.ends.join(it.lines) + (it.last_end if it.lines else b"")
-    return Drawn(show.__name__, it.form, with_parts(seed, number, it.words()), trace)
+    return Drawn(show.__name__, it.form, with_more(seed, number, with_parts(seed, number, it.words())), trace)
 
 
 def with_parts(seed: int, number: int, words: List[str]) -> List[str]:
@@ -751,8 +793,25 @@ def with_parts(seed: int, number: int, words: List[str]) -> List[str]:
         return draw.choice([["--parts", *words], [*words, "--parts"]])
     if drawn_number < 0.25:
         every = draw.choice([["--cpu", "all"], ["--cpu=all"], ["--cpu", "all"], ["--cpu=all", "--parts"]])
-        return every + without(words, {"--cpu"})
+        return every + without(words, {"--cpu", "--others"})
     return words
+
+
+def with_more(seed: int, number: int, words: List[str]) -> List[str]:
+    """These words, of one trace in three with the word for shares of jobs that moved, and of one in three with that for other threads."""
+    draw = random.Random(f"more {seed} {number}")
+    more: List[List[str]] = []
+    given = {word.partition("=")[0] for word in words}
+    if draw.random() < 0.2 and "--moved" not in given:
+        more.append(draw.choice([["--moved", "parts"], ["--moved=parts"]]))
+    if draw.random() < 0.4 and "--others" not in given and not every_processor(words):
+        more.append(draw.choice([["--others", "spans"], ["--others=spans"]]))
+    return [word for added in more for word in added] + words
+
+
+def every_processor(words: List[str]) -> bool:
+    """Whether they ask for all processors."""
+    return "--cpu=all" in words or ("--cpu", "all") in zip(words, words[1:])
 
 
 def plain(seed: int, number: int) -> Drawn:
@@ -781,7 +840,7 @@ def mistaken(seed: int, number: int, words: List[str]) -> List[str]:
         return rest + ["--tasks", mistake if draw.random() < 0.3 else ",".join(parts)]
     added = list(draw.choice(mistake))
     if added == ["TWICE"]:
-        return words + draw.choice([["--lost=cut"] * 2, ["--strict"] * 2, ["--parts"] * 2, ["--tasks", "a:1"], ["--us", "10", "--us", "10"]])
+        return words + draw.choice([["--lost=cut"] * 2, ["--strict"] * 2, ["--parts"] * 2, ["--moved=parts"] * 2, ["--tasks", "a:1"], ["--us", "10", "--us", "10"]])
     if added == ["NONE"]:
         return rest
     names = {word.partition("=")[0] for word in added}
@@ -816,6 +875,9 @@ MISTAKES: List[object] = [
     [["--from=5", "--to=5"], ["--from", "2.000000001", "--to", "2"]],
     [["--begin=wake"], ["--begin", "Run"], ["--begin="]],
     [["--lost", "all"], ["--lost=cuts"]],
+    [["--moved", "part"], ["--moved=all"], ["--moved="]],
+    [["--others", "span"], ["--others=1"], ["--others="]],
+    [["--cpu=all", "--others=spans"], ["--others", "spans", "--cpu", "all"]],
     [["NONE"]],
     [["--tasks", ",".join(f"t{number}:9" for number in range(1_001))]],
     "decoder", "de coder:9", ":9", "x=y:9", "4294967296=y:9", "01=y:9", "y:", "y:9.1234567", "y:1,5", "y:0.000999", "y:0",

@@ -6,7 +6,7 @@
     python3 robustness/everywhere.py one SEED NUMBER [--short]     writes the trace of this number, and its words to standard error
 
 It draws TRACES traces (50) of some 9,000 to 30,000 lines: periodic threads at home on one to four processors, of which
-some move. Each trace shows one thing more, which goes round by its number (SHOWN): threads that starve or hang, a
+some move. Half of them ask for shares of jobs that moved. Each trace shows one thing more, which goes round by its number (SHOWN): threads that starve or hang, a
 processor that comes late or has no listed thread, losses and threads that reach back behind a part of another
 processor, faults of lines and documents in a later part, `--from` and `--to`. What is held of each:
 
@@ -28,6 +28,7 @@ import re
 import sys
 import tempfile
 from collections import Counter
+from dataclasses import replace
 from pathlib import Path
 from typing import Callable, Dict, Iterator, List, Set, Tuple
 
@@ -61,6 +62,7 @@ class Drawing(long.Drawing):
         self.it.noisy = list(range(self.processors))
         self.set_apart(base)
         self.options.pop("--parts")
+        self.options.pop("--others", None)
         self.options["--cpu"] = "all"
         if draw.random() < 0.15:
             self.options["--parts"] = None
@@ -250,6 +252,7 @@ WANTED = [
     "line behind a part", "part document: work", "part document: no job", "part document: no job, behind a part", "part document: strict",
     "whole: unwoken", "line: unwoken", "whole: a task unseen", "a late job in a part", "a late job without its runs", "a job left out",
     "option --from", "option --to", "option --begin", "option --us", "option --parts", "option APART", "a whole trace in parts",
+    "option --moved", "a share, in time", "a share, late",
 ]
 LEAST, OF = 4, 400
 HEAD = re.compile(r"^# part (\d+): jobs (\d+) to (\d+), from \d+ to \d+, shift \d+, cpu (\d+)(, windows open)?(, the last)?$", re.M)
@@ -286,6 +289,8 @@ def in_jobs(said: Told) -> Iterator[str]:
         for one in document.judged:
             if len({ran.processor for ran in one.job.ran}) > 1:
                 yield "a job of two processors, in time" if one.late is None else "a job of two processors, late"
+            if one.part is not None:
+                yield "a share, in time" if one.late is None else "a share, late"
             if not one.job.ran:
                 yield "a job that has run nowhere"
 
@@ -321,7 +326,7 @@ def greatest_of(lines: List[bytes]) -> int:
 
 def asked_of(asked: Asked, processor: int) -> Asked:
     """What the words `--cpu N --parts` ask for, with all else as it is."""
-    return Asked(asked.tasks, processor, False, asked.unit, asked.khz, asked.start, asked.begin, asked.end, asked.at_run, asked.cut, asked.strict, True)
+    return replace(asked, processor=processor, everywhere=False, in_parts=True)
 
 
 def of_processor(text: str, processor: int) -> str:
@@ -331,13 +336,13 @@ def of_processor(text: str, processor: int) -> str:
 
 
 def belonging(parts: Parts, processor: int) -> Dict[str, bool]:
-    """The jobs of the whole trace that belong to a processor, and whether their begins are known. Each that has run there does, and those
-    that have run nowhere belong to processor 0."""
+    """The jobs of the whole trace that belong to a processor, as its documents call them, and whether their begins are known. Each that has
+    run there does, and those that have run nowhere belong to processor 0."""
     judged: List[Judged] = []
     for number, follower in enumerate(parts.followers):
-        judged += judge_jobs(number, parts.jobs(follower), parts.shown(), parts.asked)
-    places = {one.name: {ran.processor for ran in one.job.ran} or {0} for one in judged}
-    return {one.name: one.job.known for one in judged if processor in places[one.name]}
+        judged += judge_jobs(number, parts.jobs(follower), parts.shown(), parts.on(processor))
+    places = {one.called: {ran.processor for ran in one.job.ran} or {0} for one in judged}
+    return {one.called: one.job.known for one in judged if processor in places[one.called]}
 
 
 def rows_of(text: str, mine: Dict[str, bool]) -> Tuple[List[Row], List[Run], List[str]]:

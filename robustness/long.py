@@ -6,8 +6,9 @@
 It draws TRACES traces (50) of some 1,000 to 60,000 lines: periodic threads with deadlines that are shorter than their
 periods, equal or longer, jobs that are preempted, overrun, wait, sleep within a period or move. Each trace shows one
 thing more, which goes round by its number (SHOWN): a thread that hangs or starves, losses and threads that reach back
-behind a part that was written, faults of lines and of documents in a later part, thousands of stretches, `--from` and
-`--to`. What is held of each:
+behind a part that was written, faults of lines and of documents in a later part, thousands of stretches, thousands of
+spans of other threads, `--from` and `--to`. Half of them ask for shares of jobs that moved, and half for who else had the
+processor. What is held of each:
 
 - the text and the status of yds_trace are those of the second reading, byte for byte;
 - the jobs and runs of the parts, their shifts added, are those that the whole trace shows at its end;
@@ -18,6 +19,7 @@ Before the last line it tells how many traces had each thing. The status is 1 wh
 build/yds_cli).
 """
 
+import heapq
 import os
 import random
 import re
@@ -27,9 +29,9 @@ from collections import Counter
 from pathlib import Path
 from typing import Callable, Dict, Iterator, List, NamedTuple, Optional, Tuple
 
-from machine import KHZ, Machine, Task
+from machine import KHZ, Machine, STRANGERS, Task
 from parted import FULL, Parts, SMALL, told_in_parts
-from second import Document, Told, asked_by, in_order, judge_jobs
+from second import Document, Told, as_bytes, asked_by, judge_jobs
 
 class Drawing:
     """A machine with its words, and how long its trace is: `scale` times shorter than the program's limits need it."""
@@ -56,6 +58,12 @@ class Drawing:
             self.options["--khz"] = draw.choice(["20000", "100000"])
         if draw.random() < 0.3:
             self.options["--begin"] = "run"
+        if draw.random() < 0.5:
+            self.options["--moved"] = "parts"
+            self.it.odds["move"] = draw.choice([0.002, 0.02])
+        if draw.random() < 0.5:
+            self.options["--others"] = "spans"
+            self.it.odds["others"] = draw.choice([0.01, 0.1])
 
     def some(self, least: int, most: int) -> int:
         """So many lines, or so many that are `scale` times fewer."""
@@ -291,6 +299,18 @@ def stretched(it: Drawing) -> None:
     it.edits.append(edit)
 
 
+def shoved(it: Drawing) -> None:
+    """Thousands of other threads take the processor from few jobs, and each is told."""
+    it.options["--others"] = "spans"
+    it.it.odds.update(others=it.draw.choice([0.3, 0.6]), overrun=0.0, noise=0.0, missing=0.0, nap=0.0)
+    it.it.burst = it.draw.choice([300, 2_000, 9_000]) // it.scale
+    for task in it.tasks:
+        task.period, task.deadline, task.busy = 60 * task.period, 60 * task.deadline, 20 * task.busy
+    it.options["--us"] = it.draw.choice(["1", "10", "50"])
+    it.options["--khz"] = "100000"
+    it.size = it.draw.choice([40_000, 60_000]) // it.scale
+
+
 def ended_behind(it: Drawing) -> None:
     """The trace ends just behind a line where a part is written, or some lines later."""
 
@@ -306,6 +326,29 @@ def elsewhere(it: Drawing) -> None:
     """The jobs run on another processor than that which is asked for: they are left out, but for those that are late."""
     it.options["--cpu"] = "1"
     it.it.odds["overrun"] = it.draw.choice([0.0, 0.002, 0.02])
+
+
+def visited(it: Drawing) -> None:
+    """The jobs run on another processor than that which is asked for, and other threads come and go on it."""
+    elsewhere(it)
+    it.options["--others"] = "spans"
+    it.it.odds.update(others=0.05, missing=0.0, overrun=0.05)
+    for number in range(len(it.tasks), 4):
+        it.tasks.append(Task(number, it.tasks[0].period * it.draw.choice([1, 2, 3]), 0.1, 1.0))
+        heapq.heappush(it.it.events, (it.it.time + 10_000 * (number + 1), number, True))
+    for task in it.tasks:
+        task.busy, task.apart, task.deadline = 8 * task.period // (10 * len(it.tasks)), 0, int(task.period * it.draw.choice([0.3, 1.0]))
+
+    def edit(lines: List[bytes]) -> None:
+        before, at = ("swapper/1", 0), 1
+        while at < len(lines):
+            time, after = it.stamp(lines[at - 1]), it.draw.choice([*STRANGERS, ("swapper/1", 0)])
+            told = (f" w-5 [001] d..2. {time // 10**9}.{time % 10**9:09d}: sched_switch: prev_comm={before[0]} prev_pid={before[1]} prev_prio=120"
+                    f" prev_state=R ==> next_comm={after[0]} next_pid={after[1]} next_prio=120")
+            lines.insert(at, told.encode())
+            before, at = after, at + it.draw.choice([2, 2, 5, 20])
+
+    it.edits.append(edit)
 
 
 def unwoken(it: Drawing) -> None:
@@ -333,7 +376,8 @@ def unseen(it: Drawing) -> None:
 
 SHOWN: List[Callable[[Drawing], None]] = [
     plain, hangs, loses, windowed, calm, was_there, faulty, limited, starves, missing, at_run, ended_behind, stretched, opened, elsewhere, missing,
-    loses, windowed, unwoken, unseen, faulty, limited, loses, opened, hangs, missing, strict, ended_behind, unwoken, hangs, faulty, strict,
+    loses, windowed, unwoken, unseen, faulty, limited, loses, opened, hangs, missing, strict, ended_behind, unwoken, hangs, faulty, strict, shoved, shoved,
+    visited, visited,
 ]
 
 
@@ -361,6 +405,8 @@ WANTED = [
     "no place, known to be late", "line: part written", "form behind a part", "line behind a part", "part document: work", "part document: coarse speed",
     "part document: strict", "whole: unwoken", "line: unwoken", "whole: a task unseen", "a late job in a part", "a late job without its runs", "a job left out",
     "option --from", "option --to", "option --begin", "option --us", "option APART", "more than 25000 stretches", "a whole trace in parts",
+    "option --moved", "option --others", "a share, in time", "a share, late", "another thread in a part", "another thread up to the end of a part",
+    "more than 12500 spans",
 ]
 LEAST, OF = 4, 400
 
@@ -399,8 +445,21 @@ def in_documents(said: Told) -> Iterator[str]:
                 yield "a late job without its runs" if one.reason else "a late job in a part"
             elif one.reason:
                 yield "a job left out"
+            if one.part is not None:
+                yield "a share, in time" if one.late is None else "a share, late"
+        if document.others:
+            yield "another thread in a part"
+        if len(document.others) > 12_500:
+            yield "more than 12500 spans"
         if sum(len(one.job.ran) for one in document.judged) > 25_000:
             yield "more than 25000 stretches"
+
+
+def between_parts(said: Told) -> Iterator[str]:
+    """Whether a span of another thread goes on from a part into the next one."""
+    for one, other in zip(said.parts, said.parts[1:]):
+        if one.others and other.others and one.others[-1].end == other.others[0].begin and one.others[-1].pid == other.others[0].pid:
+            yield "another thread up to the end of a part"
 
 
 # # What is held
@@ -430,11 +489,9 @@ def of_the_whole(parts: Parts) -> Tuple[List[Row], List[Run]]:
     """The jobs and runs that the whole trace shows at its end. Where a begin isn't known, a release tells nothing."""
     asked, shown = parts.asked, parts.shown()
     by_task = [judge_jobs(number, parts.jobs(follower), shown, asked) for number, follower in enumerate(parts.followers)]
-    for one in in_order(by_task):
-        one.runs = []
     document = Document(by_task, asked.begin if asked.begin is not None else parts.lines.first or 0, asked)
-    jobs: List[Row] = [(one.name, release if one.job.known else None, due, work) for one, release, due, work in document.rows]
-    placed = [(one.name, *run) for one, _, _, _ in document.rows if not one.reason for run in one.runs]
+    jobs: List[Row] = [(one.called, release if one.job.known else None, due, work) for one, release, due, work in document.rows]
+    placed = [(one.called, *run) for one, _, _, _ in document.rows if not one.reason for run in one.runs]
     return jobs, [(name, begin, end, speed) for name, begin, end, speed in sorted(placed, key=lambda run: run[1])]
 
 
@@ -454,7 +511,7 @@ def documents(text: str) -> List[str]:
 
 def audit(program: str, document: str) -> bytes:
     """What `yds_cli audit` says of a document."""
-    return subprocess.run([program, "audit"], input=document.encode(), capture_output=True, check=False).stdout
+    return subprocess.run([program, "audit"], input=as_bytes(document), capture_output=True, check=False).stdout
 
 
 class Programs(NamedTuple):
@@ -474,7 +531,7 @@ def faults_of(programs: Programs, it: Drawn, said: Told, parts: Parts) -> Iterat
 def faults_of_text(programs: Programs, it: Drawn, said: Told) -> Iterator[str]:
     """What isn't as it should be of the text, and of each part as yds_cli reads it."""
     done = subprocess.run([programs.tracer, *it.words], input=it.trace, capture_output=True, check=False)
-    if (done.stdout, done.returncode) != (said.text.encode(), said.status):
+    if (done.stdout, done.returncode) != (as_bytes(said.text), said.status):
         yield f"the readings differ: status {done.returncode}, and {said.status}"
     found = documents(said.text)
     if said.status and (len(found) > len(said.parts) or not said.parts):
@@ -505,7 +562,7 @@ def main(words: List[str]) -> int:
         it = drawn(seed, number)
         counts[f"shows {it.shows}"] += 1
         said, parts = told_in_parts(it.trace, asked_by(it.words))
-        counts.update({f"status {said.status}", *in_parts(said, it.words), *in_fault(said), *in_documents(said)})
+        counts.update({f"status {said.status}", *in_parts(said, it.words), *in_fault(said), *in_documents(said), *between_parts(said)})
         faults = list(faults_of(programs, it, said, parts))
         passed, failed = passed + int(not faults), failed + int(bool(faults))
         for fault in faults:

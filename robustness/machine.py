@@ -6,6 +6,8 @@ from typing import Dict, List, Optional, Tuple
 
 NAMES = ["decode", "audio", "ui", "net", "log", "gpu"]
 KHZ = [600_000, 1_000_000, 2_000_000]
+STRANGERS = [("kworker/0:1", 900), ("rcu_preempt", 901), ("x y=z", 902), ("kworker/0:2", 900)]
+"""Threads that are no tasks. The last one is the first under another name."""
 
 
 class Task:
@@ -34,6 +36,7 @@ class Machine:
         self.noisy = [1, 2]
         self.lines: List[bytes] = []
         self.wakes = True
+        self.burst = 3
         self.odds: Dict[str, float] = {}
         self.events: List[Tuple[int, int, bool]] = [(self.time + 10_000 * (number + 1), number, True) for number in range(len(tasks))]
         heapq.heapify(self.events)
@@ -56,6 +59,10 @@ class Machine:
         one = (f"swapper/{processor}", 0) if before is None else (before.name, before.pid)
         two = (f"swapper/{processor}", 0) if after is None else (after.name, after.pid)
         self.on[processor] = after
+        self.tell(processor, one, state, two)
+
+    def tell(self, processor: int, one: Tuple[str, int], state: str, two: Tuple[str, int]) -> None:
+        """A line of a switch, if it isn't missing."""
         if not self.chance("missing"):
             self.write(processor, "sched_switch", f"prev_comm={one[0]} prev_pid={one[1]} prev_prio=120 prev_state={state} ==>"
                                                   f" next_comm={two[0]} next_pid={two[1]} next_prio=98")
@@ -139,7 +146,7 @@ class Machine:
         busy = [processor for processor, task in enumerate(self.on) if task is not None]
         if not busy or until - self.time <= 20_000:
             return False
-        ways = {"speed": self.change_speed, "sleep": self.sleep, "nap": self.nap, "move": self.move}
+        ways = {"speed": self.change_speed, "sleep": self.sleep, "nap": self.nap, "move": self.move, "others": self.intrude}
         way = next((way for what, way in ways.items() if self.chance(what)), None)
         if way is None:
             return False
@@ -161,6 +168,19 @@ class Machine:
         self.wake(task)
         self.pass_by(2_000)
         self.turn(processor, "R", task)
+
+    def intrude(self, processor: int, task: Task) -> None:
+        """Other threads take the processor for a while, one after another."""
+        before, state = (task.name, task.pid), "R"
+        self.on[processor] = None
+        for _ in range(self.draw.choice([1, 1, 2, self.burst])):
+            other = self.draw.choice(STRANGERS)
+            if other != before:
+                self.tell(processor, before, state, other)
+            self.pass_by(self.draw.choice([0, 500, 3_000, 12_000]))
+            before, state = other, self.draw.choice(["R", "S"])
+        self.tell(processor, before, state, (task.name, task.pid))
+        self.on[processor] = task
 
     def nap(self, processor: int, task: Task) -> None:
         """A thread sleeps in its job, and is woken before APART is over, or just behind."""

@@ -11,24 +11,35 @@ from typing import Dict, List, NamedTuple, Optional, Set, Tuple
 
 from lines import reading
 from second import (
-    Asked, CAUSES, Document, FORMS, Follower, Job, Judged, Line, MOST_PROCESSOR, MOST_TEXT, MOST_TIME, Shown, Stretch, Thread, Told, Wrong, in_order,
-    is_loss, is_stamped, judge_jobs, line_fault, line_of, milliseconds, shown_by,
+    Asked, Document, FORMS, Follower, Job, Judged, Line, MOST_PROCESSOR, MOST_TEXT, MOST_TIME, Shown, Span, Stretch, Thread, Told, Watch, Wrong, as_bytes,
+    in_order, is_loss, is_stamped, judge_jobs, line_fault, line_of, milliseconds, share_of, shown_by, within,
 )
 
 
 class Limits(NamedTuple):
-    """When a part is looked for: behind each line of a multiple of `look`, where more than so many jobs or stretches wait; and how many may wait at most."""
+    """When a part is looked for: behind each line of a multiple of `look`, where more than so many jobs, stretches or spans of other threads wait;
+    and how many may wait at most."""
 
     look: int
     jobs: int
     stretches: int
+    others: int
     most_jobs: int
     most_stretches: int
+    most_others: int
+
+    def is_much(self, waiting: Tuple[int, int, int]) -> bool:
+        """So many wait that a part is to be written."""
+        return waiting[0] > self.jobs or waiting[1] > self.stretches or waiting[2] > self.others
+
+    def is_too_much(self, waiting: Tuple[int, int, int]) -> bool:
+        """More wait than may."""
+        return waiting[0] > self.most_jobs or waiting[1] > self.most_stretches or waiting[2] > self.most_others
 
 
-FULL = Limits(1_024, 2_000, 25_000, 4_000, 50_000)
+FULL = Limits(1_024, 2_000, 25_000, 12_500, 4_000, 50_000, 25_000)
 """Those of the program."""
-SMALL = Limits(32, 24, 300, 64, 700)
+SMALL = Limits(32, 24, 300, 40, 64, 700, 120)
 """Others, by which a trace of 500 lines has several parts: planted.py and everywhere.py build a program that has these."""
 
 IDLE = MOST_PROCESSOR + 1
@@ -124,6 +135,7 @@ class Parts:
         self.threads: Dict[int, int] = {}
         self.seen: Set[int] = set()
         self.followers = [Follower(self.asked, number) for number in range(len(self.asked.tasks))]
+        self.watch = Watch(self.asked)
         self.idle = Cut()
         self.cuts = {self.asked.processor: self.idle}
         self.asked_on: Dict[int, Asked] = {}
@@ -243,6 +255,7 @@ class Parts:
         """The next line that counts."""
         for follower in self.followers:
             follower.take(line, self.counted)
+        self.watch.take(line, self.counted.last, self.followers)
         for thread in line.threads:
             task = self.asked.task_of(thread)
             if task is not None:
@@ -269,10 +282,15 @@ class Parts:
         shown, asked = self.shown(), self.on(processor)
         return [judge_jobs(number, self.jobs(follower), shown, asked, cut.boundary) for number, follower in enumerate(self.followers)]
 
-    def how_much(self, cut: Cut) -> Tuple[int, int]:
-        """How many jobs wait, and how many stretches they have."""
+    def others(self, cut: Cut) -> List[Span]:
+        """Who else had the processor, of which not all is in the parts before."""
+        return [span for span in self.watch.spans(self.shown().end) if span.end > cut.boundary]
+
+    def how_much(self, processor: int, cut: Cut) -> Tuple[int, int, int]:
+        """How many jobs wait, how many stretches they have in the documents of this processor, and how many spans of other threads wait."""
+        asked = self.on(processor)
         waiting = [job for follower in self.followers for job in self.jobs(follower) if job.begin >= cut.boundary]
-        return len(waiting), sum(len(job.ran) for job in waiting)
+        return len(waiting), sum(len((share_of(job, asked) or job).ran) for job in waiting), len(self.others(cut))
 
     def is_settled(self, one: Judged) -> bool:
         """No line that still comes can change what is said of it."""
@@ -283,10 +301,12 @@ class Parts:
 
     def place(self, waiting: List[Judged], processor: int) -> Optional[int]:
         """The last begin of a waiting job at which all that begin before are settled and have no run behind it, of which one is written, or,
-        of several processors, at which any begins before: and no window of the written ones is open, or else whatever windows are open."""
+        of several processors, at which any begins before: and no window of the written ones is open, or else whatever windows are open. Where
+        windows count, one that is written here begins before, unless none of all that wait is."""
+        has_own = any(self.is_own(one, processor) for one in waiting)
         quiet: Optional[int] = None
         closed: Optional[int] = None
-        ended, due, is_done, is_any = 0, 0, True, False
+        ended, due, is_done, is_any, is_some = 0, 0, True, False, not has_own
         at = 0
         for one in waiting:
             while waiting[at].job.begin < one.job.begin:
@@ -295,13 +315,18 @@ class Parts:
                 is_done = is_done and self.is_settled(before) and (bool(before.reason) or before.job.state == "ended")
                 if not before.reason:
                     ended = max(ended, before.job.at)
-                is_written = (not before.reason or before.late is not None) and self.belongs(before, processor)
-                is_any = is_any or is_written or self.asked.everywhere
-                due = max(due, before.due) if is_written else due
+                is_own = self.is_own(before, processor)
+                is_any = is_any or is_own or self.asked.everywhere
+                is_some = is_some or is_own
+                due = max(due, before.due) if is_own else due
             if is_any and is_done and ended <= one.job.begin:
                 quiet = one.job.begin
-                closed = quiet if due <= quiet else closed
+                closed = quiet if is_some and due <= quiet else closed
         return quiet if closed is None else closed
+
+    def is_own(self, one: Judged, processor: int) -> bool:
+        """A job is written in the documents of this processor."""
+        return (not one.reason or one.late is not None) and self.belongs(one, processor)
 
     # A part
 
@@ -333,9 +358,9 @@ class Parts:
 
     def piece(self, processor: int, cut: Cut, is_told: bool) -> Piece:
         """What is written of a processor behind this line. One of which no line has told is no fault."""
-        jobs, stretches = self.how_much(cut)
+        waiting = self.how_much(processor, cut)
         may_write = self.asked.at_run or self.is_woken
-        if may_write and (jobs > self.limits.jobs or stretches > self.limits.stretches):
+        if may_write and self.limits.is_much(waiting):
             by_task = self.waiting(processor, cut)
             place = self.place(in_order(by_task), processor)
             if place is not None:
@@ -343,7 +368,7 @@ class Parts:
                 if not any(mine):
                     return Piece(replace(cut, boundary=place, decided=self.lines.last))
                 return self.part(processor, cut, mine, place)
-        if is_told and (jobs > self.limits.most_jobs or stretches > self.limits.most_stretches):
+        if is_told and self.limits.is_too_much(waiting):
             if not may_write:
                 raise line_fault(self.number, "unwoken")
             raise self.no_place(in_order(self.waiting(processor, cut)))
@@ -363,11 +388,13 @@ class Parts:
         origin = asked.begin if asked.begin is not None else self.lines.first or 0
         begins = [one.job.begin for one in in_order(by_task)]
         shift = max(begins[0] - origin, 0) // asked.unit if begins else 0
-        document = Document(by_task, origin + shift * asked.unit, asked)
-        self.check(document, f"part {cut.parts + 1}", asked.everywhere or cut.parts > 0)
+        zero = origin + shift * asked.unit
+        document = Document(by_task, zero, asked, tuple(within(self.others(cut), max(cut.boundary, zero), until)))
+        name = f"part {cut.parts + 1} of processor {processor}" if asked.everywhere else f"part {cut.parts + 1}"
+        self.check(document, name, asked.everywhere or cut.parts > 0)
         text = self.head(document, processor, cut, shift, until is None) + document.text()
-        if len(text.encode()) > MOST_TEXT:
-            raise Wrong(f"part {cut.parts + 1}: the document is longer than 8388608 bytes; choose fewer tasks, or greater units by --us and --khz", 3, "part: text")
+        if len(as_bytes(text)) > MOST_TEXT:
+            raise Wrong(f"{name}: the document is longer than 8388608 bytes; choose fewer tasks, or greater units by --us and --khz", 3, "part: text")
         if until is None:
             return Piece(cut, document, text)
         due = max([cut.due, *(one.due for one, _, _, _ in document.rows)])

@@ -77,7 +77,7 @@ MISTAKES = [
     Mistake("runs_joined_at_two_speeds", "yds_trace_document/src/run.rt", (
         ("if run.to == next.from && run.speed == next.speed {", "if run.to == next.from {"),)),
     Mistake("numbers_behind_the_job_before", "yds_trace_document/src/name.rt", (
-        ("put_number(&mut text, self.number - 1)?;", "put_number(&mut text, self.number)?;"),)),
+        ('put_number(b".", self.number - 1, &mut text)?;', 'put_number(b".", self.number, &mut text)?;'),)),
     Mistake("jobs_in_order_of_deadlines", "yds_trace_document/src/settlement.rt", (
         ("all.sort_by_key(|judged| judged.job.begin)?;", "all.sort_by_key(|judged| judged.due)?;"),)),
     Mistake("the_least_frequent_reason_first", "yds_trace_text/src/left_out.rt", (
@@ -102,7 +102,7 @@ MISTAKES = [
     Mistake("windows_of_the_part_before_forgotten", "yds_trace_parts/src/part.rt", (
         ("        due: greatest_due(cut.due, part),\n", "        due: cut.due,\n"),), "parts"),
     Mistake("stretches_that_wait_not_counted", "yds_trace_parts/src/telling.rt", (
-        ("amount.jobs <= PART_JOBS && amount.stretches <= PART_STRETCHES", "amount.jobs <= PART_JOBS"),), "parts"),
+        (" && amount.stretches <= PART_STRETCHES", ""),), "parts"),
     Mistake("the_shift_not_told", "yds_trace_document/src/part.rt", (("    Ok(Part { settled, shift })\n", "    Ok(Part { settled, shift: 0 })\n"),), "parts"),
     Mistake("the_shift_not_taken_off", "yds_trace_document/src/part.rt", (
         ("        zero: zero + shift * asked.unit,\n", "        zero,\n"),), "parts"),
@@ -110,14 +110,14 @@ MISTAKES = [
         ("lines.past.lost_since(*processor, *since) < cut.decided", "lines.past.lost_since(*processor, *since) < cut.boundary"),), "parts"),
     Mistake("a_thread_that_was_there_passed_over", "yds_trace/src/past.rt", (
         ("self.whole_since.unwrap_or(time) < boundary", "time < boundary"),), "parts"),
-    Mistake("belongs_by_the_last_stretch", "yds_trace_document/src/membership.rt", (
+    Mistake("belongs_by_the_last_stretch", "yds_trace/src/share.rt", (
         ("    any_on(processor, &job.stretches)\n", "    any_on(processor, &job.stretches[job.stretches.len().saturating_sub(1)..])\n"),), "all"),
     Mistake("jobs_that_ran_nowhere_in_each_document", "yds_trace_document/src/membership.rt", (
         ("(asked.processor == 0 && has_run_nowhere(judged.job))", "has_run_nowhere(judged.job)"),), "all"),
     Mistake("windows_of_jobs_elsewhere_open", "yds_trace_parts/src/place.rt", (
-        ("due: if written && belongs(asked, judged) {", "due: if written && (written || belongs(asked, judged)) {"),), "all"),
+        ("            due: if own {\n", "            due: if own || is_written(judged) {\n"),), "all"),
     Mistake("no_place_behind_jobs_left_out", "yds_trace_parts/src/place.rt", (
-        ("self.some || asked.everywhere || written", "self.some || written"),), "all"),
+        ("self.some || asked.everywhere || is_written(judged)", "self.some || is_written(judged)"),), "all"),
     Mistake("the_cut_of_unseen_processors_not_moved", "yds_trace_parts/src/telling.rt", (
         ("        self.unseen = unseen;\n", "        let _ = unseen;\n"),), "all"),
     Mistake("new_processors_begin_uncut", "yds_trace_parts/src/processors.rt", (
@@ -126,6 +126,42 @@ MISTAKES = [
         ("        let latest = latest_of(&pieces.processors, unseen);\n", "        let latest = latest_of(&pieces.processors[..1], None);\n"),), "all"),
     Mistake("forgotten_up_to_the_greatest_boundary", "yds_trace_parts/src/telling.rt", (
         ("        self.pass.forget(least);\n", "        self.pass.forget(least.max(latest.boundary));\n"),), "all"),
+    Mistake("a_closed_place_before_any_job_of_its_own", "yds_trace_parts/src/place.rt", (
+        ("        own: !has_own(asked, waiting),\n", "        own: has_own(asked, waiting) || !has_own(asked, waiting),\n"),), "all"),
+    Mistake("a_closed_place_behind_jobs_of_others_alone", "yds_trace_parts/src/place.rt", (
+        ("            own: self.own || own,\n", "            own: self.own || is_written(judged),\n"),), "all"),
+    # Shares of jobs that moved.
+    Mistake("a_share_of_what_ran_elsewhere_alone", "yds_trace/src/share.rt", (
+        ("    has_run_on(processor, job) && any_elsewhere(processor, &job.stretches)\n", "    any_elsewhere(processor, &job.stretches)\n"),)),
+    Mistake("a_share_with_all_that_ran_on_greater_processors", "yds_trace/src/share.rt", (
+        ("    stretches.retain(|stretch| stretch.processor == processor);\n", "    stretches.retain(|stretch| stretch.processor >= processor);\n"),)),
+    Mistake("a_share_called_as_the_job", "yds_trace_document/src/judge.rt", (
+        ("            part: job.shared.then_some(within.processor),\n", "            part: None,\n"),)),
+    Mistake("a_late_share_in_a_run_within_one_tick", "yds_trace_text/src/late.rt", (("    if name.part.is_some() {\n", "    if name.part.is_none() {\n"),)),
+    Mistake("shares_without_the_word", "yds_trace/src/share.rt", (
+        ("    if asked.moved_parts && is_shared_by(", "    if is_shared_by("), ("    if !asked.moved_parts {\n        return;\n    }\n", ""))),
+    Mistake("no_shares_in_a_part", "yds_trace_parts/src/processors.rt", (
+        ("    next_piece(alloc, asked, shares, may_write", "    let _ = shares;\n    next_piece(alloc, asked, shown, may_write"),), "all"),
+    Mistake("no_shares_in_the_last_part", "yds_trace_parts/src/processors.rt", (
+        ("    last_part(alloc, asked, shares, one.cut", "    let _ = shares;\n    last_part(alloc, asked, shown, one.cut"),), "all"),
+    # Other threads.
+    Mistake("in_the_way_of_nobody", "yds_trace/src/others.rt", (
+        ("            Some(holder) if waits => Some(holder.since(alloc, time)?),\n            Some(_) | None => None,\n",
+         "            Some(holder) => Some(holder.since(alloc, time)?),\n            None => None,\n"),)),
+    Mistake("the_idle_thread_in_the_way", "yds_trace/src/others.rt", (("    if thread.pid == 0 || listed", "    if listed"),)),
+    Mistake("a_listed_thread_in_the_way", "yds_trace/src/others.rt", (
+        ("    if thread.pid == 0 || listed.number.is_some() {\n", "    let _ = listed;\n    if thread.pid == 0 {\n"),)),
+    Mistake("any_processor_that_switches", "yds_trace/src/others.rt", (
+        ("        Happening::Switch { next, .. } if event.processor == processor => {\n            *holder = other(alloc, next, second)?;\n        }\n",
+         "        Happening::Switch { next, .. } if processor <= event.processor => {\n            *holder = other(alloc, next, second)?;\n        }\n"),)),
+    Mistake("who_had_it_before_a_loss", "yds_trace/src/others.rt", (("        self.holder = None;\n        Ok(())\n", "        Ok(())\n"),)),
+    Mistake("a_span_within_a_unit_told", "yds_trace_text/src/others.rt", (("    if from >= to {\n", "    if from > to {\n"),)),
+    Mistake("a_name_that_moves_the_cursor", "yds_trace_text/src/others.rt", (("    if byte < b' ' || byte == 127 {\n", "    if byte == 127 {\n"),)),
+    Mistake("spans_that_go_on_behind_a_part_forgotten", "yds_trace/src/others.rt", (
+        ("        if span.to > boundary {\n", "        if span.from >= boundary {\n"),), "parts"),
+    Mistake("spans_told_whole_in_each_part", "yds_trace_document/src/other.rt", (
+        ("        Some(until) => until.min(other.to),\n", "        Some(until) => until.max(other.to),\n"),), "parts"),
+    Mistake("spans_that_wait_not_counted", "yds_trace_parts/src/telling.rt", ((" && amount.others <= PART_OTHERS", ""),), "parts"),
 ]
 
 

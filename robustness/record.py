@@ -27,6 +27,7 @@ from collections import Counter
 from pathlib import Path
 from typing import Dict, Iterator, List, Sequence
 
+from second import as_bytes
 from trace import told
 
 EVENTS = ("sched/sched_switch", "sched/sched_waking", "sched/sched_wakeup", "sched/sched_wakeup_new", "power/cpu_frequency")
@@ -111,6 +112,7 @@ def words_for(number: int, piece: bytes) -> List[str]:
     more: List[List[str]] = [
         [], ["--us", "1", "--khz", "100000"], ["--lost", "cut"], ["--begin", "run"], ["--from", f"{first + 0.05:.6f}", "--lost", "cut"],
         ["--to", f"{first + 0.15:.6f}"], ["--strict"], ["--parts", "--lost", "cut"],
+        ["--moved", "parts", "--lost", "cut"], ["--others", "spans", "--lost", "cut"], ["--parts", "--others", "spans", "--moved", "parts", "--lost", "cut"],
     ]
     chosen = more[number % len(more)]
     tasks = listed(piece, ":3" if number % 3 == 0 else "")
@@ -134,7 +136,7 @@ def compare(program: str, trace: bytes) -> bool:
         counts[f"status {said.status}" + (f", {said.kind}" if said.kind else "")] += 1
         counts["jobs written"] += len(said.document.rows) if said.document else 0
         counts["late jobs"] += sum(one.late is not None for one in said.document.judged) if said.document else 0
-        if (done.stdout, done.returncode) != (said.text.encode(), said.status):
+        if (done.stdout, done.returncode) != (as_bytes(said.text), said.status):
             same = False
             print(f"the readings of lines {at + 1} to {at + PIECE} differ, with the words {' '.join(words)}")
             print("-- the program", done.stdout.decode(errors="replace"), "-- the second reading", said.text, "--", sep="\n")
@@ -146,12 +148,12 @@ def compare_parts(program: str, trace: bytes) -> bool:
     """Whether the readings agree on the whole recording in parts, for each processor."""
     same = True
     for processor in range(os.cpu_count() or 1):
-        words = ["--tasks", listed(trace), "--cpu", str(processor), "--start", "1000000", "--lost", "cut", "--parts"]
+        words = ["--tasks", listed(trace), "--cpu", str(processor), "--start", "1000000", "--lost", "cut", "--parts", "--moved", "parts", "--others", "spans"]
         done, said = answer(program, words, trace), told(words, trace)
         jobs = sum(len(part.rows) for part in said.parts)
         late = sum(one.late is not None for part in said.parts for one in part.judged)
         print(f"processor {processor} in parts: status {said.status}, {len(said.parts)} parts, {jobs} jobs written, {late} late jobs")
-        if (done.stdout, done.returncode) != (said.text.encode(), said.status):
+        if (done.stdout, done.returncode) != (as_bytes(said.text), said.status):
             same = False
             print(f"the readings of processor {processor} in parts differ")
     return same

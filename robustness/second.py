@@ -6,7 +6,7 @@ crates; the texts of `--help` and `--version` alone it takes from their source.
 """
 
 import re
-from dataclasses import dataclass, field
+from dataclasses import dataclass, field, replace
 from pathlib import Path
 from typing import Dict, Iterator, List, NamedTuple, Optional, Tuple
 
@@ -17,6 +17,7 @@ MOST_PROCESSOR = 8191
 MOST_NUMBER = 4_294_967_295
 MOST_WORK, MOST_SPEED, MOST_UNITS = 1_000_000, 1_000_000, 1_000_000_000
 MOST_JOBS, MOST_RUNS, MOST_TEXT = 4_000, 100_000, 8_388_608
+MOST_NAME, MOST_OTHER_NAME = 64, 64
 
 # # What the words ask for
 
@@ -39,7 +40,11 @@ class Task(NamedTuple):
 
 @dataclass
 class Asked:
-    """What is asked for: of one processor, or of each one in documents of its own (`everywhere`). Times are nanoseconds."""
+    """What is asked for: of one processor, or of each one in documents of its own (`everywhere`). Times are nanoseconds.
+
+    With `moved` a job that ran on several processors has a share in the documents of each. With `others` it is told who else had that
+    processor while a job waited.
+    """
 
     tasks: List[Task] = field(default_factory=list)
     processor: int = 0
@@ -53,6 +58,8 @@ class Asked:
     cut: bool = False
     strict: bool = False
     in_parts: bool = False
+    moved: bool = False
+    others: Optional[int] = None
     asked_before: Dict[Thread, Optional[int]] = field(default_factory=dict)
 
     def task_of(self, thread: Thread) -> Optional[int]:
@@ -98,6 +105,9 @@ HELPS = {
     "order": "not before --to; give an earlier time, or a later one there",
     "--begin": "no way in which jobs begin; write run, or leave it out for jobs that begin at wake-ups",
     "--lost": "no way to go on behind lost events; write cut, or leave it out",
+    "--moved": "no way to tell of jobs that moved; write parts, or leave it out",
+    "--others": "nothing else is told of other threads; write spans, or leave it out",
+    "others of all": "it is told of one processor; give its number with --cpu",
     "none": "missing; write --tasks NAME:DEADLINE, with the deadline in milliseconds",
     "many": "more than 1000 tasks; ask for fewer at a time",
     "form": "no colon behind the name; write NAME:DEADLINE, with the deadline in milliseconds",
@@ -109,7 +119,7 @@ HELPS = {
     "same label": "another task has the same name; write PID=NAME:DEADLINE with another name",
     "same thread": "another task is the same thread; list it once",
 }
-VALUES = ("--cpu", "--tasks", "--us", "--khz", "--start", "--from", "--to", "--begin", "--lost")
+VALUES = ("--cpu", "--tasks", "--us", "--khz", "--start", "--from", "--to", "--begin", "--lost", "--moved", "--others")
 FLAGS = ("--parts", "--strict", "--help", "--version")
 
 
@@ -261,10 +271,13 @@ def asked_by(words: List[str]) -> Asked:
             asked.end = time
     if asked.begin is not None and asked.end is not None and asked.begin >= asked.end:
         raise word_fault("--from", "order")
-    for word, value in (("--begin", "run"), ("--lost", "cut")):
+    for word, value in (("--begin", "run"), ("--lost", "cut"), ("--moved", "parts"), ("--others", "spans")):
         if given.get(word, value) != value:
             raise word_fault(word, word)
-    asked.at_run, asked.cut = "--begin" in given, "--lost" in given
+    asked.at_run, asked.cut, asked.moved = "--begin" in given, "--lost" in given, "--moved" in given
+    if "--others" in given and asked.everywhere:
+        raise word_fault("--others", "others of all")
+    asked.others = asked.processor if "--others" in given else None
     if "--tasks" not in given:
         raise word_fault("--tasks", "none")
     asked.tasks = tasks_in(given["--tasks"], asked.unit)
@@ -697,12 +710,86 @@ def jobs_of(number: int, lines: List[Line], asked: Asked) -> List[Job]:
     return follower.jobs
 
 
+# # Who else had the processor
+
+
+class Span(NamedTuple):
+    """A thread that had the processor for a time, while a job waited."""
+
+    name: bytes
+    pid: int
+    begin: int
+    end: int
+
+
+class Watch:
+    """Who is in the way on the processor that `--others` asks for, along the lines that count.
+
+    That is who has it by its last switch since events were lost, where that is no listed task and not the idle thread, and a job waits: it
+    is open, and its thread has no processor. A span goes on while the same number is in the way.
+    """
+
+    def __init__(self, asked: Asked) -> None:
+        self.asked = asked
+        self.holder: Optional[Thread] = None
+        self.going: Optional[Span] = None
+        self.ended: List[Span] = []
+
+    def take(self, line: Line, last: int, followers: List[Follower]) -> None:
+        """The next line, behind one of this time. The threads of the tasks are known behind it."""
+        if self.asked.others is None or line.kind == "nothing":
+            return
+        if is_loss(line):
+            self.holder = None
+        elif line.kind == "switch" and line.processor == self.asked.others:
+            self.holder = line.threads[1]
+        waits = any(follower.on is None and follower.state() == "open" for follower in followers)
+        self.turn(line.time if is_stamped(line) else last, self.in_the_way() if waits else None)
+
+    def in_the_way(self) -> Optional[Thread]:
+        """Who has the processor, where that is no listed task and not the idle thread."""
+        holder = self.holder
+        return None if holder is None or holder.pid == 0 or self.asked.task_of(holder) is not None else holder
+
+    def turn(self, time: int, now: Optional[Thread]) -> None:
+        """From this time on this thread is in the way."""
+        if (None if now is None else now.pid) != (None if self.going is None else self.going.pid):
+            self.ended = self.spans(time)
+            self.going = None if now is None else Span(now.name[:MOST_OTHER_NAME], now.pid, time, time)
+
+    def spans(self, time: int) -> List[Span]:
+        """All up to this time, in order."""
+        goes_on = self.going is not None and self.going.begin < time
+        return self.ended + [self.going._replace(end=time)] if self.going is not None and goes_on else self.ended
+
+
+def spans_of(lines: List[Line], asked: Asked) -> List[Span]:
+    """Who else had the processor, by all lines of a trace."""
+    followers = [Follower(asked, number) for number in range(len(asked.tasks))]
+    watch = Watch(asked)
+    count = counting(lines, asked) if asked.others is not None else []
+    for at, line in enumerate(count):
+        for follower in followers:
+            follower.take(line, Past(count[:at], asked))
+        watch.take(line, last_time(count[:at]), followers)
+    return watch.spans(shown_by(last_time(lines), asked).end)
+
+
+def within(spans: List[Span], begin: int, end: Optional[int] = None) -> List[Span]:
+    """What of spans lies between two times, or behind the first."""
+    cut = [span._replace(begin=max(begin, span.begin), end=span.end if end is None else min(end, span.end)) for span in spans]
+    return [span for span in cut if span.begin < span.end]
+
+
 # # What becomes of the jobs
 
 
 @dataclass
 class Judged:
-    """A job, its task and name, when it is due, by how much it is late, and why it doesn't stand as it is."""
+    """A job, its task and name, when it is due, by how much it is late, and why it doesn't stand as it is.
+
+    Where it is a share of a job that moved, `part` is the processor. Then its stretches are those on it.
+    """
 
     task: int
     name: str
@@ -710,7 +797,13 @@ class Judged:
     due: int
     late: Optional[int]
     reason: str
+    part: Optional[int] = None
     runs: List[List[int]] = field(default_factory=list)
+
+    @property
+    def called(self) -> str:
+        """How a document calls it."""
+        return self.name if self.part is None else f"{self.name}@{self.part}"
 
 
 class Shown(NamedTuple):
@@ -751,17 +844,25 @@ def reason_of(job: Job, late: Optional[int], shown: Shown, asked: Asked) -> str:
     return next((reason for reason, holds in reasons if holds), "")
 
 
+def share_of(job: Job, asked: Asked) -> Optional[Job]:
+    """Of a job that ran on the processor and on another one, what it ran on the processor, where that is asked for."""
+    own = [ran for ran in job.ran if ran.processor == asked.processor]
+    return replace(job, ran=own) if asked.moved and own and len(own) < len(job.ran) else None
+
+
 def judge_jobs(number: int, jobs: List[Job], shown: Shown, asked: Asked, since: int = 0) -> List[Judged]:
     """What becomes of the jobs of a task, of those that begin at this time or after it."""
     task = asked.tasks[number]
     before = bool(jobs) and not jobs[0].known
     found: List[Judged] = []
-    for place, job in enumerate(jobs):
-        if job.begin >= since:
+    for place, whole_job in enumerate(jobs):
+        if whole_job.begin >= since:
+            share = share_of(whole_job, asked)
+            job, part = (whole_job, None) if share is None else (share, asked.processor)
             last = "before" if before and place == 0 else str(place - int(before))
             due = job.begin + task.deadline
             late = late_by(job, due, shown.end, asked)
-            found.append(Judged(number, f"{task.label.decode()}.{last}", job, due, late, reason_of(job, late, shown, asked)))
+            found.append(Judged(number, f"{task.label.decode()}.{last}", job, due, late, reason_of(job, late, shown, asked), part))
     return found
 
 
@@ -785,16 +886,26 @@ def zero_of(by_task: List[List[Judged]], lines: List[Line], asked: Asked) -> int
 # # The text
 
 
+def as_text(name: bytes) -> str:
+    """Bytes in a text. They need not be letters."""
+    return name.decode("utf-8", "surrogateescape")
+
+
+def as_bytes(text: str) -> bytes:
+    """The bytes of a text."""
+    return text.encode("utf-8", "surrogateescape")
+
+
 def milliseconds(time: int) -> str:
     """Nanoseconds in milliseconds, exactly."""
     return f"{time // 10**6}.{time % 10**6:06d}"
 
 
 class Document:
-    """A document of these jobs, each judged, with this time 0."""
+    """A document of these jobs, each judged, with this time 0, and who else had the processor."""
 
-    def __init__(self, by_task: List[List[Judged]], zero: int, asked: Asked) -> None:
-        self.asked, self.by_task, self.zero = asked, by_task, zero
+    def __init__(self, by_task: List[List[Judged]], zero: int, asked: Asked, others: Tuple[Span, ...] = ()) -> None:
+        self.asked, self.by_task, self.zero, self.others = asked, by_task, zero, others
         self.judged = in_order(by_task)
         self.rows: List[Tuple[Judged, int, int, int]] = []
         for one in self.judged:
@@ -830,8 +941,13 @@ class Document:
             self.rows.append((one, release, max(release + 1, due), 1))
         elif not one.reason:
             work = sum(speed * (end - begin) for begin, end, speed in one.runs)
-            hidden = one.job.state != "ended" or (self.ended(one) > due and self.shown_end(one) <= due)
-            self.rows.append((one, self.units(one.job.begin), due, work + int(one.late is not None and hidden)))
+            self.rows.append((one, self.units(one.job.begin), due, work + int(self.is_hidden(one))))
+
+    def is_hidden(self, one: Judged) -> bool:
+        """Whether a job is late, and its runs don't show it."""
+        due = self.units(one.due)
+        shown = one.job.state == "ended" and (self.ended(one) <= due or self.shown_end(one) > due)
+        return one.late is not None and not shown
 
     def shown_end(self, one: Judged) -> int:
         """The end of its last run."""
@@ -856,6 +972,9 @@ class Document:
     def check_rows(self) -> None:
         """The first job or run that passes a limit."""
         runs = {one.name: one.runs for one, _, _, _ in self.rows if not one.reason}
+        for place, (one, _, _, _) in enumerate(self.rows, 1):
+            if len(one.called) > MOST_NAME:
+                raise Wrong(f"written job {place}: its name is longer than 64 bytes; choose a shorter time by --from and --to", 3, "document: name")
         for place, (one, _, due, _) in enumerate(self.rows, 1):
             if due > MOST_UNITS or any(end > MOST_UNITS for _, end, _ in runs.get(one.name, [])):
                 raise Wrong(f"written job {place}: its times are above 1000000000 units; choose a greater unit by --us, or a later --from", 3, "document: times")
@@ -899,9 +1018,9 @@ class Document:
         cycles = f"{asked.unit // 1000 * asked.khz / 1000:.3f}".rstrip("0").rstrip(".")
         yield f"# time unit {asked.unit // 1000} us, speed unit {asked.khz} kHz, work unit {cycles} cycles"
         for one, release, due, work in self.rows:
-            yield f"job {one.name} {release} {due} {work}"
+            yield f"job {one.called} {release} {due} {work}"
         yield "ticks 1"
-        placed = [(run, one.name) for one, _, _, _ in self.rows if not one.reason for run in one.runs]
+        placed = [(run, one.called) for one, _, _, _ in self.rows if not one.reason for run in one.runs]
         for (begin, end, speed), name in sorted(placed, key=lambda it: it[0][0]):
             yield f"run {name} {begin} {end} {speed}"
         for one in self.judged:
@@ -914,6 +1033,7 @@ class Document:
         yield from self.unwritten()
         for task, mine in zip(asked.tasks, self.by_task):
             yield from self.wrong_units(task, mine)
+        yield from self.other_threads()
         out = sum(1 for one in self.judged if one.reason and one.late is None)
         bare = sum(1 for one in self.judged if one.reason and one.late is not None)
         late = f", {bare} late without {'its' if bare == 1 else 'their'} runs" if bare else ""
@@ -926,24 +1046,26 @@ class Document:
         if one.reason:
             how = "not ended " if one.job.state != "ended" else "" if one.job.known else "at least "
             window = f"; window {self.signed(one.job.begin)} {self.signed(one.due)}" if one.job.known else ""
-            return f"# late, without its runs: {one.name} ({one.reason}), {how}{by}{window}"
+            return f"# late, without its runs: {one.called} ({one.reason}), {how}{by}{window}"
         if one.job.state != "ended":
-            return f"# not ended: {one.name}, {by}"
+            return f"# not ended: {one.called}, {by}"
         if self.ended(one) <= self.units(one.due):
-            return f"# late by less than a unit of time: {one.name}, {by}"
+            return f"# late by less than a unit of time: {one.called}, {by}"
+        if self.shown_end(one) <= self.units(one.due) and one.part is not None:
+            return f"# late on another processor: {one.called}, {by}"
         if self.shown_end(one) <= self.units(one.due):
-            return f"# late in a run within one tick: {one.name}, {by}"
-        return f"# late: {one.name}, {by}"
+            return f"# late in a run within one tick: {one.called}, {by}"
+        return f"# late: {one.called}, {by}"
 
     def shown_lines(self, one: Judged) -> Iterator[str]:
         """The comments of a begin and an end that no run shows."""
         begins = [ran.begin for ran in one.job.ran if ran.begin < ran.end]
         if begins and (not one.runs or self.units(begins[0]) < one.runs[0][0]):
-            yield f"# begins: {one.name} {self.units(begins[0])}"
+            yield f"# begins: {one.called} {self.units(begins[0])}"
         due = self.units(one.due)
         told = one.late is not None and (self.ended(one) <= due or self.shown_end(one) <= due)
         if one.job.state == "ended" and not told and (not one.runs or self.shown_end(one) < self.ended(one)):
-            yield f"# ends: {one.name} {self.ended(one)}"
+            yield f"# ends: {one.called} {self.ended(one)}"
 
     def left_out(self) -> Iterator[str]:
         """The comments of the jobs that are left out: the most frequent reason first."""
@@ -952,7 +1074,7 @@ class Document:
         groups: List[Tuple[bytes, str, List[str]]] = []
         for task, mine in zip(self.asked.tasks, self.by_task):
             for reason in order:
-                names = [one.name for one in mine if one.reason == reason and one.late is None]
+                names = [one.called for one in mine if one.reason == reason and one.late is None]
                 if names:
                     groups.append((task.label, reason, names))
         for label, reason, names in sorted(groups, key=lambda group: -len(group[2])):
@@ -977,7 +1099,15 @@ class Document:
         if wakes:
             most = max(standing, key=lambda one: one.job.wakes)
             told = "1 wake-up came while its job was open" if wakes == 1 else f"{wakes} wake-ups came while their job was open"
-            yield f"# {told}, the most of {most.name}: {most.job.wakes}"
+            yield f"# {told}, the most of {most.called}: {most.job.wakes}"
+
+    def other_threads(self) -> Iterator[str]:
+        """The comments of who else had the processor. Of a name that moves a terminal's cursor, each such byte is a question mark."""
+        for span in self.others:
+            begin, end = self.units(span.begin), self.units(span.end)
+            if begin < end:
+                name = bytes(63 if byte < 32 or byte == 127 else byte for byte in span.name)
+                yield f"# other {as_text(name)}-{span.pid} {begin} {end}"
 
     def wrong_units(self, task: Task, mine: List[Judged]) -> Iterator[str]:
         """The comments of times that are likely in another unit."""
@@ -1006,4 +1136,5 @@ def whole_document(trace: bytes, asked: Asked) -> Document:
     """The document of a whole trace."""
     lines = read_lines(trace, asked)
     by_task = judge(lines, asked)
-    return Document(by_task, zero_of(by_task, lines, asked), asked)
+    zero = zero_of(by_task, lines, asked)
+    return Document(by_task, zero, asked, tuple(within(spans_of(lines, asked), zero)))

@@ -26,9 +26,11 @@ from collections import Counter
 from pathlib import Path
 from typing import Dict, Iterator, List, NamedTuple, Set, Tuple
 
-from drawn import drawn, mistaken
+from drawn import drawn, every_processor, mistaken
 from parted import SMALL, told_in_parts
-from second import Asks, CAUSES, FLAGS, FORMS, HELPS, Judged, MOST_TEXT, Told, VALUES, Wrong, asked_by, whole_document
+from second import (
+    Asks, CAUSES, Document, FLAGS, FORMS, HELPS, Judged, MOST_OTHER_NAME, MOST_TEXT, Told, VALUES, Wrong, as_bytes, asked_by, whole_document,
+)
 
 
 def told(words: List[str], trace: bytes) -> Told:
@@ -40,7 +42,7 @@ def told(words: List[str], trace: bytes) -> Told:
         document = whole_document(trace, asked)
         document.check()
         text = document.text()
-        if len(text.encode()) > MOST_TEXT:
+        if len(as_bytes(text)) > MOST_TEXT:
             raise Wrong("the document is longer than 8388608 bytes; choose a shorter time by --from and --to", 3, "document: text")
         return Told(text, 0, "", document)
     except Asks as asks:
@@ -67,8 +69,10 @@ WANTED = [
     "a job that goes on after a sleep", "a job with several wake-ups", "late by nothing", "late by 1 ns", "late by less than a unit",
     "ends at its deadline", "a change of speed in a job", "a change of speed at the stamp of a switch", "equal stamps", "a wake-up and a switch of one stamp",
     "lines end by CR LF", "no line feed at the end", "a marker that looks like a switch", "a wake-up of a new thread", "a wait for a disk", "a thread ends",
-    "comment late", "comment late, without its runs", "comment late in a run", "comment late by less", "comment not ended", "comment begins", "comment ends",
-    "comment left out", "comment stretch", "comment wake", "comment the deadline of", "comment APART of", "comment part",
+    "a share of a job that moves, in time", "a share of a job that moves, late", "a share whose runs don't show that it is late",
+    "a name with a byte that isn't shown", "a name that is cut short", "another thread within one unit of time", "another thread at time 0",
+    "comment late", "comment late, without its runs", "comment late in a run", "comment late by less", "comment late on another processor", "comment not ended", "comment begins", "comment ends",
+    "comment left out", "comment stretch", "comment wake", "comment the deadline of", "comment APART of", "comment part", "comment other",
 ]
 LEAST, OF = 200, 10_000
 
@@ -81,7 +85,7 @@ def in_words(words: List[str]) -> Iterator[str]:
             yield f"option {name}"
         if name in VALUES and "=" in word:
             yield "a value behind an equals sign"
-    if "--cpu=all" in words or ("--cpu", "all") in zip(words, words[1:]):
+    if every_processor(words):
         yield "option --cpu all"
     listed = next((word for word in words if re.search(r":[0-9.]+(,|$)", word)), "")
     if re.search(r":[0-9.]+:[0-9.]+(,|$)", listed):
@@ -120,6 +124,8 @@ def in_job(one: Judged, unit: int) -> Iterator[str]:
         yield "a job as it is"
     if len({stretch.processor for stretch in ran}) > 1:
         yield "a job that moves, in time" if late is None else "a job that moves, late"
+    if one.part is not None:
+        yield "a share of a job that moves, in time" if late is None else "a share of a job that moves, late"
     pairs = list(zip(ran, ran[1:]))
     signs = {
         "a job that starves": late is not None and not ran and one.job.known,
@@ -139,9 +145,24 @@ def in_job(one: Judged, unit: int) -> Iterator[str]:
 
 def in_text(text: str) -> Iterator[str]:
     """Which comments a document has."""
-    kinds = "part|late, without its runs|late by less|late in a run|late|not ended|begins|ends|left out|[0-9]+ stretch|[0-9]+ wake|the deadline of|APART of"
+    kinds = "part|other|late, without its runs|late on another processor|late by less|late in a run|late|not ended|begins|ends|left out|[0-9]+ stretch|[0-9]+ wake|the deadline of|APART of"
     for mark in re.finditer(f"^# ({kinds})", text, re.M):
         yield "comment " + re.sub("[0-9]+ ", "", mark[1])
+
+
+def in_others(document: Document) -> Iterator[str]:
+    """What the spans of other threads show, and shares."""
+    names = [span.name for span in document.others]
+    if any(byte < 32 for name in names for byte in name):
+        yield "a name with a byte that isn't shown"
+    if any(len(name) == MOST_OTHER_NAME for name in names):
+        yield "a name that is cut short"
+    if any(document.units(span.begin) == document.units(span.end) for span in document.others):
+        yield "another thread within one unit of time"
+    if document.others and document.others[0].begin == document.zero:
+        yield "another thread at time 0"
+    if any(one.part is not None and not one.reason and document.is_hidden(one) for one, _, _, _ in document.rows):
+        yield "a share whose runs don't show that it is late"
 
 
 def things(words: List[str], trace: bytes, said: Told) -> Set[str]:
@@ -153,6 +174,7 @@ def things(words: List[str], trace: bytes, said: Told) -> Set[str]:
     if documents:
         found.update(in_text(said.text))
     for document in documents:
+        found.update(in_others(document))
         for one in document.judged:
             found.update(in_job(one, document.asked.unit))
     return found
@@ -265,7 +287,7 @@ def shorten(top: Path) -> None:
     """Gives the crates that were laid out the smaller limits of parts."""
     file = top / "crates" / "yds_trace" / "src" / "limits.rt"
     text = file.read_text(encoding="utf-8")
-    names = ("LOOK_EVERY", "PART_JOBS", "PART_STRETCHES", "WAITING_JOBS", "WAITING_STRETCHES")
+    names = ("LOOK_EVERY", "PART_JOBS", "PART_STRETCHES", "PART_OTHERS", "WAITING_JOBS", "WAITING_STRETCHES", "WAITING_OTHERS")
     for name, value in zip(names, SMALL):
         text, count = re.subn(rf"(pub const {name}: u64 =) [0-9_]+;", rf"\g<1> {value};", text)
         assert count == 1
@@ -311,7 +333,8 @@ def try_laid_out(crate: Path, cases: List[Case]) -> "Tuple[List[int], str]":
             write_bundle(part, Path(folder) / f"{number:04d}")
         # The compiled program alone: the other way in which `rt` runs a program goes step by step, and takes seconds a case.
         words = ["rt", "try", "--steps", "1", "--seconds", "300", "--cases", folder]
-        done = subprocess.run(words, cwd=crate, check=False, stdout=subprocess.PIPE, stderr=subprocess.PIPE, text=True, errors="replace")
+        done = subprocess.run(words, cwd=crate, check=False, stdout=subprocess.PIPE, stderr=subprocess.PIPE, text=True, encoding="utf-8",
+                              errors="surrogateescape")
     told = re.split(r"^== ([0-9]{4})\n", done.stdout, flags=re.M)
     texts = {int(number): text for number, text in zip(told[1::2], told[2::2])}
     wrong: List[int] = []
@@ -338,7 +361,7 @@ def try_cases(cases: List[Case]) -> int:
 def run_case(program: str, case: Case) -> bool:
     """Whether the program says the same of a case."""
     done = subprocess.run([program, *case.words], input=case.trace, capture_output=True, check=False)
-    same = (done.stdout, done.returncode) == (case.text.encode(), case.status)
+    same = (done.stdout, done.returncode) == (as_bytes(case.text), case.status)
     if not same:
         show(case, done.stdout)
     return same
@@ -348,7 +371,7 @@ def show(case: Case, written: bytes) -> None:
     """Both texts of a case."""
     sys.stdout.flush()
     sys.stdout.buffer.write(b"\n".join([repr(case.words).encode(), case.trace, b"-- the program", written,
-                                        b"-- the second reading", case.text.encode(), b"--\n"]))
+                                        b"-- the second reading", as_bytes(case.text), b"--\n"]))
     sys.stdout.flush()
 
 

@@ -82,6 +82,14 @@ class AnswerTest(unittest.TestCase):
                 },
             ),
             (
+                "late on another processor: r.0@1, 1.001 ms after its deadline",
+                {
+                    "verdict": "late on another processor",
+                    "job": "r.0@1",
+                    "reason": "r.0@1, 1.001 ms after its deadline",
+                },
+            ),
+            (
                 "K1 overlap slot 2 a 3 previous 4",
                 {
                     "condition": "K1",

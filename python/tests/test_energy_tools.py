@@ -44,7 +44,7 @@ def unit_by_unit(document: Document, speed: int) -> Tuple[int, Optional[str]]:
 
 class EnergyTest(unittest.TestCase):
     def test_stored(self) -> None:
-        both = (EXPECTED / "points.txt").read_bytes() + (EXPECTED / "trace.txt").read_bytes()
+        both = (EXPECTED / "points.txt").read_bytes() + (EXPECTED / "document.txt").read_bytes()
         for words, name in [(("--name", "governor"), "energy.txt"), (("--at", "142"), "energy-at.txt")]:
             self.assertEqual(call("energy", *words, given=both), (0, (EXPECTED / name).read_text(), ""))
 
@@ -115,25 +115,6 @@ class EnergyTest(unittest.TestCase):
         wanted = "at-10 energy 100\nat-10 time 0 9\nat-10 time 1 0\nat-10 time 10 1\n# at-10 changes 2, wakes 1\n"
         self.assertEqual(call("energy", "--at", "10", given=text), (0, wanted, ""))
         self.assertEqual(call("energy", given=text).out.splitlines()[-1], "# trace misses 1 deadline, the first a")
-
-    def test_who_else_ran_and_whose_changes_they_were(self) -> None:
-        """Told where others ran, and changed the frequency; not of another speed, nor where others are jobs themselves."""
-        text = (
-            "point 0 0\npoint 1 1\njob a 0 9 4\n{}ticks 1\nrun a 0 4 1\n# other tasks ran for {} ms of 9.000 ms\n# {}\n"
-        )
-        changes = "2 changes of frequency, {} of them from another CPU"
-        others = (
-            "# other tasks ran for 0.500 ms of 9.000 ms: what they spent is in no line, and no plan makes room for them"
-        )
-        shared = "# 1 of 2 changes of frequency were made on another CPU: what runs there sets these speeds, too"
-        for told, words, wanted in [
-            (text.format("", "0.500", changes.format(1)), [], [others, shared]),
-            (text.format("", "0.000", changes.format(0)), [], []),
-            (text.format("", "0.500", changes.format(1)), ["--at", "1"], ["# at-1 changes 2, wakes 1"]),
-            (text.format("job others.0 0 9 0\n", "0.500", changes.format(1)), [], [shared]),
-        ]:
-            comments = [line for line in call("energy", *words, given=told.encode()).out.splitlines() if line[0] == "#"]
-            self.assertEqual([line for line in comments if "no work" not in line], wanted)
 
     def test_most_waste(self) -> None:
         text = b"point 0 0\npoint 10 20\npoint 20 60\njob a 0 10 100\nslot a 0 5 100\n"

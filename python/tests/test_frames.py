@@ -35,12 +35,12 @@ class Frames(unittest.TestCase):
 class ByHand(Frames):
     def test_a_stored_trace(self) -> None:
         """In units of 10 us the runs are those of the stored document, which has ticks of 1 us, to a hundredth of them."""
-        stored = (EXPECTED / "trace-frames.txt").read_text().splitlines()
-        trace = (EXPECTED / "trace.txt").read_text().replace("10000 kHz", "1000 kHz")
+        stored = (EXPECTED / "frames.txt").read_text().splitlines()
+        trace = (EXPECTED / "document.txt").read_text().replace("10000 kHz", "1000 kHz")
         told = self.told((SAMPLES / "frames.txt").read_text(), trace, "--us", "1000", "--khz=1000")
         self.assertEqual(told[:10], stored[:10])
         self.assertEqual(told[10], "ticks 100")
-        self.assertEqual([line for line in told if line[0] == "#"][2:], trace.splitlines()[-3:])
+        self.assertEqual([line for line in told if line[0] == "#"][2:], ["# 8 jobs written, none left out"])
         for line, wanted in zip(told[11:30], stored[11:30]):
             kind, name, start, end, _ = line.split()
             self.assertEqual(
@@ -54,7 +54,7 @@ class ByHand(Frames):
             "# late, without its runs: r.1 (ran on CPU 1), 25.000 ms after its deadline; window 5000 6600\n"
             "job r.2 10000 11600 900\njob r.3 20000 21600 101\nticks 1\nrun r.0 0 9 1\nrun r.2 10000 10900 1\nrun r.3 20000 20100 1\n"
             "# not ended: r.3, 4.000 ms after its deadline\n# left out: r.4 (not ended); window 22000 23600\n"
-            "# other tasks ran for 0.422 ms of 49.500 ms\n# 4 jobs written, 1 left out, 1 late without its runs\n"
+            "# a comment of another kind\n# 4 jobs written, 1 left out, 1 late without its runs\n"
         )
         lines = "job r.0 0 16 90\njob r.1 50 80 9\njob r.2 100 109 9000\njob r.3 200 216 9\njob r.4 220 240 8\n"
         told = self.told(MS + lines, trace)
@@ -67,7 +67,7 @@ class ByHand(Frames):
                 "# left out: r.4 (not ended); window 220 240",
                 "# 2 jobs of app.txt have no run here, the first r.1",
                 "# 1 job ends in the tick of its deadline, or within a unit of it: it may be late by less than that, the first r.2",
-                "# other tasks ran for 0.422 ms of 49.500 ms",
+                "# a comment of another kind",
                 "# 5 jobs written, 1 left out, 1 late without its runs",
             ],
         )
@@ -191,19 +191,6 @@ class ByHand(Frames):
         self.assertEqual([line for line in told if line.startswith("# other ")], ["# other c-8 0 100"])
         self.assertIn("# other a b-7 10 20", self.told(MS + "job r.0 20 29 50\n", trace))
 
-    def test_other_tasks(self) -> None:
-        trace = (
-            HEAD + UNITS + "job r.0 0 900 50\njob others.0 0 2000 100\nticks 1\nrun r.0 0 50 1\nrun others.0 50 150 1\n"
-        )
-        told = self.told(MS + "job r.0 0 9 50\n", trace)
-        self.assertIn("job others.0 0 20 1", told)
-        self.assertIn("run others.0 50 150 1", told)
-        self.assertEqual(told[-1], "# 2 jobs written, none left out")
-        told = self.told(MS + "job r.0 0 9 50\n", trace.replace("2000 100", "2000 101"))
-        self.assertIn("# left out: 1 job of all other tasks, whose times and works aren't whole in these units", told)
-        self.assertIn("# jobs of the trace that aren't here ran for 1.000 ms", told)
-        self.assertNotIn("others.0", "".join(told))
-
     def test_jobs_without_a_line(self) -> None:
         trace = (
             HEAD
@@ -258,6 +245,16 @@ class Refused(Frames):
         ]:
             called = self.called(frames + "job r.0 0 9 50\n", trace)
             self.assertEqual(called, (1, "failed\n", f"yds-frames: {told}\n".replace("FILE", str(self.file))))
+
+    def test_a_share_of_a_job_that_moved(self) -> None:
+        """Its runs here aren't all that the frame ran."""
+        told = "r.0@1 is what a job ran on one of its processors; leave --moved out where the document is made"
+        for trace, place in [
+            (TRACE.replace("r.0", "r.0@1"), "line 3, column 5"),
+            (TRACE + "# left out: r.0@1 (frequency not known)\n", "line 6"),
+        ]:
+            called = self.called(MS + "job r.0 0 9 50\n", trace)
+            self.assertEqual(called, (1, "failed\n", f"yds-frames: {place}: {told}\n"))
 
     def test_each_broken_field(self) -> None:
         """What is broken is refused, or a comment tells that the runs have no place."""

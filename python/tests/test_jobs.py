@@ -104,12 +104,12 @@ def missed(text: str) -> Misses:
 
 class JobsTest(unittest.TestCase):
     def test_stored_tables(self) -> None:
-        points, late = EXPECTED / "points.txt", EXPECTED / "trace-late.txt"
+        points, late = EXPECTED / "points.txt", EXPECTED / "document-late.txt"
         for words, name in [
             ((points, late), "jobs-late.txt"),
             (("--zero", "trace", "--form", "csv", points, late), "jobs-late.csv"),
-            (("--form", "csv", EXPECTED / "trace-elsewhere.txt"), "jobs-elsewhere.csv"),
-            ((EXPECTED / "trace-starving.txt",), "jobs-starving.txt"),
+            (("--form", "csv", EXPECTED / "document-elsewhere.txt"), "jobs-elsewhere.csv"),
+            ((EXPECTED / "document-starving.txt",), "jobs-starving.txt"),
         ]:
             wanted = (EXPECTED / name).read_text(encoding="latin-1")
             self.assertEqual(call("jobs", *words), (0, wanted, ""))
@@ -130,6 +130,18 @@ class JobsTest(unittest.TestCase):
         rows = call("jobs", "--form", "csv", given=head + told).out.splitlines()
         self.assertEqual(rows[1:], ["a,0,10,0,15,15,-5,5,", "b,-3,10,8,,,-20,20,"])
         self.assertIn("no comment tells the unit of time", call("jobs", given=(head + told).split(b"\n", 1)[1]).err)
+
+    def test_what_a_job_ran_on_one_of_its_processors(self) -> None:
+        """a.0 ran from 10 to 110 here, and ended elsewhere at 200, half a millisecond late."""
+        head = "# CPU 1 of a kernel trace; time 0 is 5.000000000 s\n# time unit 10 us, speed unit 10000 kHz, work unit 100 cycles\n"
+        text = head + "job a.0@1 0 150 10001\nticks 1\nrun a.0@1 10 110 100\n"
+        text += "# late on another processor: a.0@1, 0.500000 ms after its deadline\n# 1 job written, none left out\n"
+        rows = call("jobs", "--form", "csv", given=text.encode()).out.splitlines()
+        self.assertEqual(rows[1:], ["a.0@1,0,150,10,200,200,-50,50,"])
+        moved = call("jobs", "--late-moved", given=text.encode()).out.splitlines()
+        self.assertEqual(moved[2:4], ["job a.0@1 0 200 10000", "# deadline moved: a.0@1 by 50"])
+        told = "work a.0@1 given 10000 wanted 10001, 0.500000 ms after its deadline # due at 5.001500 s"
+        self.assertEqual([miss.text for miss in missed(text).missed], [told])
 
     def test_faults(self) -> None:
         cases = {
@@ -247,9 +259,9 @@ class MissesTest(unittest.TestCase):
 
     def test_stored_samples(self) -> None:
         for sample, name in [
-            ("trace-elsewhere", "misses-elsewhere"),
-            ("trace-short-late", "misses-short-late"),
-            ("trace-starving", "misses-starving"),
+            ("document-elsewhere", "misses-elsewhere"),
+            ("document-short-late", "misses-short-late"),
+            ("document-starving", "misses-starving"),
         ]:
             text = (EXPECTED / f"{sample}.txt").read_text()
             wanted = (EXPECTED / f"{name}.txt").read_text().splitlines()

@@ -27,7 +27,7 @@ class JoinTest(unittest.TestCase):
         return called.status, called.out, called.err.replace(f"{self.folder}/", "")
 
     def test_one_text_after_the_other(self) -> None:
-        points, trace = EXPECTED / "points.txt", EXPECTED / "trace.txt"
+        points, trace = EXPECTED / "points.txt", EXPECTED / "document.txt"
         self.assertEqual(call("join", points, trace), (0, points.read_text() + trace.read_text(), ""))
         self.assertEqual(
             self.join("# period 10\r\njob c 0 10 1", "# period 10\njob a 0 10 1 # \xb5\n")[1],

@@ -24,7 +24,7 @@ class WithoutProgramAndLibrary(unittest.TestCase):
         cls.folder = Path(tempfile.mkdtemp())
         cls.environment = {"PATH": str(cls.folder / "nowhere"), "YDS_LIBRARY": str(cls.folder / "libyds.so.1")}
         cls.environment["PYTHONDONTWRITEBYTECODE"] = "1"
-        both = (EXPECTED / "points.txt").read_bytes() + (EXPECTED / "trace.txt").read_bytes()
+        both = (EXPECTED / "points.txt").read_bytes() + (EXPECTED / "document.txt").read_bytes()
         (cls.folder / "governor.txt").write_bytes(both)
 
     @classmethod
@@ -45,7 +45,7 @@ class WithoutProgramAndLibrary(unittest.TestCase):
         cases: List[List[str]] = [
             ["yds-points", "--domain", "cpu0", f"{sample}/energy-model.txt"],
             ["yds-rtapp", "-m", "1416", "-c", "0", f"{sample}/workload.json"],
-            ["yds-join", str(EXPECTED / "points.txt"), str(EXPECTED / "trace.txt")],
+            ["yds-join", str(EXPECTED / "points.txt"), str(EXPECTED / "document.txt")],
             ["yds-jobs", "governor.txt"],
             ["yds-energy", "--name", "governor", "governor.txt"],
             ["yds-changes", "governor.txt"],

@@ -112,7 +112,7 @@ class MovedTest(unittest.TestCase):
             ("tick", ["job render.1 1000 3800 95000", "# deadline moved: render.1 by 1900"]),
             ("elsewhere", []),
         ]:
-            text = (EXPECTED / f"trace-{name}.txt").read_text()
+            text = (EXPECTED / f"document-{name}.txt").read_text()
             told = self.moved(text)
             for line in wanted:
                 self.assertIn(line, told)
@@ -127,7 +127,7 @@ class MovedTest(unittest.TestCase):
             )
         self.assertIn(
             "# 2 of these jobs hadn't ended: there the deadline is where the last is known of it; the first is render.0",
-            self.moved((EXPECTED / "trace-starving.txt").read_text()),
+            self.moved((EXPECTED / "document-starving.txt").read_text()),
         )
 
     def test_a_job_that_is_not_done(self) -> None:

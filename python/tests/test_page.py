@@ -365,6 +365,9 @@ class VerdictTest(unittest.TestCase):
             (jobs + "ticks 1\nrun a.0 0 4 1\nrun a.1 9 18 1\n", "no"),
             (HEAD + jobs + runs + "# the deadline of a is 9000 ms, and its jobs begin 9 ms apart; deadlines are in milliseconds, "
              "and this looks like microseconds\n" + closing, "open"),
+            (HEAD + jobs + runs + "# the deadline of a, 9000.000000 ms, is more than 100 times the mean distance of its jobs' begins, "
+             "9.000000 ms: is it in another unit?\n" + closing, "open"),
+            (HEAD + jobs + runs + "# 2 stretches within one unit of time, 0.016000 ms together, are in no run\n" + closing, "yes"),
         ]:  # fmt: skip
             with self.subTest(text):
                 self.assertEqual(self.colour(text), wanted)
@@ -492,7 +495,7 @@ class ByHandTest(unittest.TestCase):
     """The sample of the manual, in which decode.2 is late."""
 
     def setUp(self) -> None:
-        self.text = (EXPECTED / "points.txt").read_bytes() + (EXPECTED / "trace-late.txt").read_bytes()
+        self.text = (EXPECTED / "points.txt").read_bytes() + (EXPECTED / "document-late.txt").read_bytes()
 
     def test_the_verdict_and_the_worst(self) -> None:
         read = page_of(self.text)
@@ -515,8 +518,11 @@ class ByHandTest(unittest.TestCase):
         self.assertIn("with 1 deadline moved to its job's end", read_energy)
         self.assertIn("It spends 5.4 % more than the least", text)
         self.assertIn("as it ran: 4.574 mJ", text)
-        self.assertIn("Other tasks ran for 0.422 ms of 53.697 ms.", text)
-        self.assertIn("6 changes of frequency, 6 of them from another CPU.", text)
+        self.assertNotIn("Other threads had the processor", text)
+        spans = b"# other kworker/0:1-57 270 290\n# other kworker/0:1-57 2360 2376\n"
+        others = page_of(self.text + spans).ids["energy"].text
+        self.assertIn("Other threads had the processor for 0.36 ms while a job waited.", others)
+        self.assertIn("on a processor that has nothing else to do.", others)
 
     def test_a_document_with_moved_deadlines(self) -> None:
         """What yds-jobs --late-moved writes has the same misses, and energies that say so."""
@@ -551,7 +557,7 @@ class CommandTest(unittest.TestCase):
             return call("page", *words, given=given)
 
     def test_files_are_joined_and_summed(self) -> None:
-        points, late = EXPECTED / "points.txt", EXPECTED / "trace-late.txt"
+        points, late = EXPECTED / "points.txt", EXPECTED / "document-late.txt"
         status, out, err = self.called("--title", "A <b>governor</b>", points, late)
         self.assertEqual((status, err), (0, ""))
         read = Page(out)
@@ -562,14 +568,14 @@ class CommandTest(unittest.TestCase):
         self.assertIn(f"yds-page --title 'A <b>governor</b>' {points} {late}", read.ids["repeat"].text)
 
     def test_standard_input(self) -> None:
-        text = (EXPECTED / "trace.txt").read_bytes()
+        text = (EXPECTED / "document.txt").read_bytes()
         status, out, err = self.called(given=text)
         self.assertEqual((status, err), (0, ""))
         self.assertIn("no energy is told", Page(out).ids["energy"].text)
         self.assertEqual(Page(out).table("inputs")[0]["SHA-256"].text, hashlib.sha256(text).hexdigest())
 
     def test_faults(self) -> None:
-        late = EXPECTED / "trace-late.txt"
+        late = EXPECTED / "document-late.txt"
         for words, given, told in [
             ((), b"", "standard input has no line of a document; look at what wrote it"),
             ((), b"failed\n", "line 1: the input is an answer of no: failed"),
@@ -589,9 +595,9 @@ class CommandTest(unittest.TestCase):
         with tempfile.TemporaryDirectory() as held:
             folder = Path(held)
             (folder / "other").mkdir()
-            for name, source in (("ok.txt", "trace.txt"), ("other/ok.txt", "trace-late.txt"), ("index.txt", "trace-lost.txt")):
+            for name, source in (("ok.txt", "document.txt"), ("other/ok.txt", "document-late.txt"), ("index.txt", "document-lost.txt")):
                 (folder / name).write_bytes((EXPECTED / source).read_bytes())
-            (folder / "a&<b> \u00fc.txt").write_bytes((EXPECTED / "trace.txt").read_bytes())
+            (folder / "a&<b> \u00fc.txt").write_bytes((EXPECTED / "document.txt").read_bytes())
             (folder / "failed.txt").write_bytes(b"failed\n")
             files = [folder / name for name in ("ok.txt", "other/ok.txt", "index.txt", "a&<b> \u00fc.txt", "failed.txt", "none.txt")]
             pages = folder / "pages"

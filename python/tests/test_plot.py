@@ -465,8 +465,8 @@ decode.5 (left out: not ended),5000,6000,,,,,,
 class Samples(unittest.TestCase):
     """The samples of the manual, as they were drawn before."""
 
-    BOTH = POINTS + (EXPECTED / "trace.txt").read_text()
-    LATE = (EXPECTED / "trace-late.txt").read_text()
+    BOTH = POINTS + (EXPECTED / "document.txt").read_text()
+    LATE = (EXPECTED / "document-late.txt").read_text()
 
     def test_speed(self) -> None:
         picture = drawn_speed(self.BOTH, 9600)
@@ -607,7 +607,7 @@ class Words(unittest.TestCase):
             self.file("plan energy 3\nslower energy 1\n# slower misses 3 deadlines, x\n"),
         )
         self.assertIn("slower, misses 3 deadlines |", found.out)
-        found = call("plot", "gantt", "-t", "text", EXPECTED / "trace-late.txt")
+        found = call("plot", "gantt", "-t", "text", EXPECTED / "document-late.txt")
         self.assertRegex(found.out, r"decode\.2 .*!.* late")
         found = call("plot", "ratios", "-t", "text", EXPECTED / "folder.tsv")
         self.assertIn("* avr, o oa", found.out)

@@ -10,7 +10,8 @@ from yds._text import Line, Units, printable, spelled
 
 _DUE = re.compile(r" # due at ([0-9]+\.[0-9]+) s$").search
 _NOTED = re.compile(
-    r"(left out|late, without its runs|late by less than a unit of time|not ended|late in a run within one tick): "
+    r"(left out|late, without its runs|late by less than a unit of time|not ended|late in a run within one tick|"
+    r"late on another processor): "
     r"(.* ms after its deadline.*)"
 ).fullmatch
 _LATENESS = re.compile(r", (by |not ended |[0-9.]+ ms ).*$").search

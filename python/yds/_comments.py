@@ -14,10 +14,14 @@ LEFT_OUT = "left out"
 WITHOUT_RUNS = "late, without its runs"
 NOT_ENDED = "not ended"
 WITHIN_TICK = "late in a run within one tick"
+ELSEWHERE = "late on another processor"
+HIDDEN = (WITHIN_TICK, ELSEWHERE)
+"""The job ended late, and its runs here don't show it: they give all its work but for one unit."""
 LESS_THAN_UNIT = "late by less than a unit of time"
 
 _NOTE = re.compile(
-    r"# (left out|late, without its runs|not ended|late in a run within one tick|late by less than a unit of time): (.+)"
+    r"# (left out|late, without its runs|not ended|late in a run within one tick|late on another processor|"
+    r"late by less than a unit of time): (.+)"
 ).match
 _END = re.compile(
     r"(?:, (at least |not ended )?([0-9.]+) ms after its deadline)?(?:; window (-?[0-9]+) (-?[0-9]+))?"
@@ -200,14 +204,9 @@ def moved_by(job: str, units: int) -> str:
     return f"# deadline moved: {job} by {units}"
 
 
-_CHANGES = re.compile(r"# ([0-9]{1,18}) changes? of frequency, ([0-9]{1,18}) of them from another CPU").fullmatch
-_OTHERS = re.compile(r"# other tasks ran for ([0-9]{1,12}\.[0-9]{1,3}) ms of [0-9]{1,12}\.[0-9]{1,3} ms").fullmatch
 PARTIAL = r"not due by [0-9]+: |[0-9]+ jobs? (?:was|were) |the work of [0-9]+ jobs? isn't known, since "
 """How a text begins that says of energies that some is in no line, or that work isn't known."""
-BESIDE = (
-    PARTIAL + r"|with [0-9]+ deadlines? moved |[0-9]+ of [0-9]+ changes of frequency were "
-    r"|other tasks ran for [0-9.]+ ms of [0-9.]+ ms: "
-)
+BESIDE = PARTIAL + r"|with [0-9]+ deadlines? moved "
 """How one begins that is told beside energies, wherever they are shown."""
 
 _NOT_DUE = re.compile(r"# not due by [0-9]+: ").match
@@ -225,10 +224,6 @@ class Missing:
         self.unknown: List[str] = []
         self.moved: Set[str] = set()
         """The jobs whose deadlines were moved to their ends."""
-        self.shared = ""
-        """Whose changes of frequency they were, as a comment; empty where no other processor made any."""
-        self.others = ""
-        """For how long other tasks ran, as a comment; empty where none did."""
 
     def take(self, text: str) -> None:
         """Reads a comment."""
@@ -241,13 +236,8 @@ class Missing:
             self.without_runs += text.startswith(f"# {WITHOUT_RUNS}: ")
             self.unknown.append(text.split(": ", 1)[1].split(" ")[0].rstrip(","))
         else:
-            moved, changes, others = moved_of(text), _CHANGES(text), _OTHERS(text)
-            if others is not None and float(others.group(1)):
-                self.others = f"{text}: what they spent is in no line, and no plan makes room for them"
+            moved = moved_of(text)
             self.moved |= {moved[0]} if moved is not None else set()
-            if changes is not None and int(changes.group(2)):
-                made = "made on another CPU: what runs there sets these speeds, too"
-                self.shared = f"# {changes.group(2)} of {changes.group(1)} changes of frequency were {made}"
 
     def told(self) -> List[str]:
         """Comments that say it, of the whole document."""

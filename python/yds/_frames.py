@@ -23,13 +23,12 @@ from yds._comments import (
 from yds._priced import decimal
 from yds._text import Comment, Fault, Job, Line, Point, Row, Rows, Slot, Ticks, base, counted
 
-OTHERS = "others"
-"""The task of the jobs that stand for all other tasks."""
 BEFORE = "before from"
 """The reason of a job that began before the time from which on the trace was asked for."""
 MOVED = "ran on another processor"
 """The reason of a job that began at or after that time: yds_trace tells it only where none before it holds."""
 _NUMBERED = re.compile(r"(.+)\.(-1|before|[0-9]{1,18})").fullmatch
+_SHARE = re.compile(r".+\.(?:before|[0-9]+)@[0-9]+").fullmatch
 _PART = re.compile(r"# part [0-9]+:").match
 _OF_JOBS = re.compile(r"# (?:[0-9]+ jobs? written, |the deadline of |APART of |late: )").match
 _OF_UNITS = re.compile(r"# .*(?:time 0 is [0-9]|time unit [0-9])").match
@@ -122,6 +121,10 @@ def read_trace(source: Iterable[Line]) -> Trace:
     return reading.finish(rows.units.value("speed"))
 
 
+def _of_share(name: str) -> str:
+    return f"{name} is what a job ran on one of its processors; leave --moved out where the document is made"
+
+
 def _not_of_trace(row: Row) -> Fault:
     return row.line.fault("this is no line of a trace's document; give what yds_trace writes", 0)
 
@@ -152,6 +155,8 @@ class _Reading:
         if self._ends.take(row.text) or _OF_JOBS(row.text) or _OF_UNITS(row.text):
             return
         note, group = note_of(row.text), left_out_jobs(row.text)
+        if note is not None and _SHARE(note.job):
+            raise row.line.fault(_of_share(note.job))
         if group is not None and _NUMBERED(group.first) and _NUMBERED(group.last):
             self._groups.append(group)
         elif note is not None and (note.job in self._jobs or _NUMBERED(note.job)):
@@ -163,6 +168,8 @@ class _Reading:
         """Reads a job."""
         if row.name in self._jobs:
             raise row.line.fault(f"a second job is named {row.name}", 1)
+        if _SHARE(row.name):
+            raise row.line.fault(_of_share(row.name), 1)
         if _NUMBERED(row.name) is None:
             raise row.line.fault(f"the job {row.name} has no number, as decode.0; give what yds_trace writes", 1)
         self._jobs[row.name] = row
@@ -219,7 +226,7 @@ def told_jobs(trace: Trace) -> List[Told]:
     found = []
     for name in dict.fromkeys([*trace.jobs, *notes]):
         numbered = _NUMBERED(name)
-        if numbered is None or numbered.group(1) == OTHERS:
+        if numbered is None:
             continue
         number = -1 if numbered.group(2) == "before" else int(numbered.group(2))
         note, row = notes.get(name), trace.jobs.get(name)
@@ -516,11 +523,7 @@ class _Written:
     ) -> None:
         self._trace, self._frames, self._by, self._placed, self._judged = trace, frames, by, placed, judged
         self._firsts = firsts
-        self._others = {name: row for name, row in trace.jobs.items() if name.startswith(f"{OTHERS}.")}
         self._names = {job: frame for job, frame in placed.frame_of.items() if job not in set(judged.dropped)}
-        self._whole_others = [line for line in map(self._other, self._others.values()) if line]
-        if len(self._whole_others) == len(self._others):
-            self._names.update({name: name for name in self._others})
 
     def head(self) -> Iterator[str]:
         """Time 0, and the units."""
@@ -538,17 +541,6 @@ class _Written:
         """Points, and the application's jobs."""
         yield from self._trace.points
         yield from self._frames.lines
-        if len(self._whole_others) == len(self._others):
-            yield from self._whole_others
-
-    def _other(self, row: Job) -> str:
-        """The line of a job of all other tasks, in the application's units; empty where these aren't whole."""
-        scale = Fraction(self._by.per_unit, self._by.ticks)
-        zero = Fraction(self._by.zero, self._by.ticks)
-        times = [row.release * scale - zero, row.deadline * scale - zero, row.work * scale]
-        if any(time.denominator != 1 or time < 0 for time in times):
-            return ""
-        return " ".join(["job", row.name, *(str(time.numerator) for time in times)])
 
     def runs(self) -> Iterator[str]:
         """The ticks, and the runs."""
@@ -574,7 +566,7 @@ class _Written:
                 yield f"# other {span.name}-{span.pid} {begin} {span.end - self._by.zero}"
         left = len(self._judged.left) + sum(map(len, self._placed.unknown.values())) + self._placed.before
         left += sum(group.number for group in self._trace.groups) + self._cut_off()
-        written = len(self._frames.jobs) + (len(self._others) if len(self._whole_others) == len(self._others) else 0)
+        written = len(self._frames.jobs)
         late = self._judged.late
         without = f", {late} late without {'its' if late == 1 else 'their'} runs" if late else ""
         yield f"# {counted(written, 'job', 'jobs')} written, {left or 'none'} left out{without}"
@@ -610,9 +602,6 @@ class _Written:
             yield f"# {LEFT_OUT}: {counted(len(names), 'job', 'jobs')} of {task} (not in {file}){span}"
         if self._placed.before:
             yield f"# {counted(self._placed.before, 'job of the trace begins', 'jobs of the trace begin')} before time 0"
-        if len(self._whole_others) != len(self._others):
-            units = "whose times and works aren't whole in these units"
-            yield f"# {LEFT_OUT}: {counted(len(self._others), 'job', 'jobs')} of all other tasks, {units}"
         gone = sum((run.end - run.start for run in self._trace.runs if run.job not in self._names), 0)
         if gone:
             yield f"# jobs of the trace that aren't here ran for {self._by.milliseconds(Fraction(gone))} ms"

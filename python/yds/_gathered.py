@@ -10,14 +10,14 @@ from typing import Dict, Iterable, List, NamedTuple, Optional, Tuple
 from yds._comments import Clock, moved_of, other_span
 from yds._text import Comment, Fault, Job, Line, Point, Rows, Slot, Ticks, Units
 
-_NUMBER = re.compile(r".+\.([0-9]{1,64})").fullmatch
+_NUMBER = re.compile(r".+\.([0-9]{1,64})(?:@[0-9]+)?").fullmatch
 
 
 def number_of(job: str) -> Optional[int]:
-    """The number of a job in its task; None where its name has none.
+    """The number of a job in its task, as of a share of it; None where its name has none.
 
-    >>> number_of("decode.12"), number_of("a")
-    (12, None)
+    >>> number_of("decode.12"), number_of("a"), number_of("decode.12@3")
+    (12, None, 12)
     """
     found = _NUMBER(job)
     return None if found is None else int(found.group(1))

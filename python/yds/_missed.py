@@ -4,7 +4,7 @@ from __future__ import annotations
 
 from typing import Dict, Iterator, List, NamedTuple, Optional, Sequence, Set, Tuple
 
-from yds._comments import LEFT_OUT, LESS_THAN_UNIT, NOT_ENDED, WITHIN_TICK, WITHOUT_RUNS, Clock, Ends, Note, moved_of, note_of
+from yds._comments import HIDDEN, LEFT_OUT, LESS_THAN_UNIT, NOT_ENDED, WITHOUT_RUNS, Clock, Ends, Note, moved_of, note_of
 from yds._held import Held, HeldJob, Moment, is_before
 from yds._text import Comment, Job, Line, Row, Rows, Slot, Ticks
 
@@ -78,7 +78,7 @@ class Told:
     def __init__(self, reading: Reading) -> None:
         self._reading = reading
         self._notes = {
-            note.job: note for note in reading.notes if note.kind in (NOT_ENDED, WITHIN_TICK) and not note.at_least
+            note.job: note for note in reading.notes if note.kind in (NOT_ENDED, *HIDDEN) and not note.at_least
         }
         self._without_runs = {note.job for note in reading.notes if note.kind == WITHOUT_RUNS}
 
@@ -96,7 +96,7 @@ class Told:
         found = []
         for note in self._reading.notes:
             job = self._reading.held.named(note.job)
-            if note.kind in (WITHOUT_RUNS, NOT_ENDED, WITHIN_TICK) and (note.job in done or job is None):
+            if note.kind in (WITHOUT_RUNS, NOT_ENDED, *HIDDEN) and (note.job in done or job is None):
                 continue
             due = ""
             if note.window is not None:

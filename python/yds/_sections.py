@@ -176,8 +176,8 @@ def energies(facts: Facts) -> Markup:
         return element("p", text)
     scale = facts.scale
     parts = [*_sentence(facts, told), _bars(told, scale), _times(facts, told)]
-    parts += [element("p", of_bytes(text), class_="told") for text in [*told.told, *_of_others(facts)]]
-    return join(parts)
+    parts += [element("p", of_bytes(text), class_="told") for text in told.told]
+    return join([*parts, *_of_others(facts)])
 
 
 def _sentence(facts: Facts, told: Energies) -> List[Markup]:
@@ -259,14 +259,13 @@ def _times(facts: Facts, told: Energies) -> Markup:
     return table("The time at each point", heads, rows, "times")
 
 
-def _of_others(facts: Facts) -> List[str]:
-    """What the trace tells of other tasks, and of whose the changes of frequency were."""
-    kept = [text[2:] for text in facts.given.comments if text.startswith("# other tasks ran for ")]
-    kept += [text[2:] for text in facts.given.comments if " of frequency, " in text and " from another CPU" in text]
-    told = [text[:1].upper() + text[1:] + "." for text in kept[:4]]
-    if told:
-        told.append("The least is that of these jobs on a processor that has nothing else to do.")
-    return told
+def _of_others(facts: Facts) -> List[Markup]:
+    """For how long other threads had the processor while a job waited, where the document tells it."""
+    ran = sum((span.length for span in facts.given.others.all), Fraction(0))
+    if not ran:
+        return []
+    told = ["Other threads had the processor for ", facts.scale.time(ran), f" {facts.scale.time_unit} while a job waited. "]
+    return [element("p", *told, "The least is that of these jobs on a processor that has nothing else to do.", class_="told")]
 
 
 def speeds(facts: Facts) -> Markup:

@@ -159,9 +159,7 @@ class Reading:
                 late.add(name)
         self._add(misses, late)
         is_rounded = self._is_rounded or (self._has_slots and self._in_ticks)
-        others = "" if any(job.name.startswith("others.") for job in self.held.jobs) else self.missing.others
-        around = [told for told in (others, self.missing.shared) if told]
-        return Spent(energy, times, is_rounded, misses, [*around, *self._told()])
+        return Spent(energy, times, is_rounded, misses, self._told())
 
     def at(self, speed: int) -> Spent:
         """What all jobs spend at the point of this speed, idle for the rest."""

@@ -27,7 +27,10 @@ _REFUSED = re.compile(r"# refuse ([^ ]+) from [0-9]+ to [0-9]+ work ").match
 _NOT_DUE = re.compile(r"# not due by [0-9]+: (.+)").fullmatch
 _WRITTEN = re.compile(r"# ([0-9]{1,18}) jobs? written, ").match
 _LOST = re.compile(r"# places where events were lost: ([0-9]{1,18})").fullmatch
-_WRONG_UNIT = re.compile(r"# (the deadline|APART) of .*, and this looks like (micro|nano)?seconds").fullmatch
+_WRONG_UNIT = re.compile(
+    r"# (the deadline|APART) of .*(: is it in another unit\?|, and this looks like (micro|nano)?seconds)"
+).fullmatch
+_SHORT = re.compile(r"# (left out: .* within one tick|[0-9]+ stretch(es)? within one unit of time, )").match
 _OF_TRACE = re.compile(r"# CPU [0-9]+ of a kernel trace; ").match
 _SAID = re.compile(r"# (places where|the trace (begins|ends) at|no wake-up of|[0-9]+ switch|.* may sleep within)").match
 
@@ -111,7 +114,7 @@ def _others(comments: Iterable[str]) -> List[Unjudged]:
             found.append(Unjudged(text[2:], True, "in another unit each job may be in time, or late"))
         elif _SAID(text):
             found.append(Unjudged(text[2:], False, _why_said(text)))
-        elif text.startswith("# left out: ") and " within one tick" in text:
+        elif _SHORT(text):
             found.append(Unjudged(text[2:], False, "a job that was late in one is told"))
     return found
 

@@ -8,10 +8,10 @@ from math import inf
 from typing import Dict, Iterable, Iterator, List, NamedTuple, Optional, Set, Tuple, Union
 
 from yds._comments import (
+    HIDDEN,
     LEFT_OUT,
     LESS_THAN_UNIT,
     NOT_ENDED,
-    WITHIN_TICK,
     WITHOUT_RUNS,
     Clock,
     Ends,
@@ -80,7 +80,7 @@ class _Reading:
         self.late_ms: Dict[str, str] = {}
         self.open_ms: Dict[str, str] = {}
         """Of each job that hadn't ended where the trace ends, how long after its deadline that is."""
-        self.within_tick: Set[str] = set()
+        self.hidden: Set[str] = set()
         self.energies: Dict[str, Sum] = {}
         self._unpriced: List[Slot] = []
 
@@ -120,9 +120,9 @@ class _Reading:
             self.order.append(note)
         elif note.kind == WITHOUT_RUNS:
             self.notes[note.job] = note
-        elif note.kind in (WITHIN_TICK, LESS_THAN_UNIT) and note.late is not None:
+        elif note.kind in (*HIDDEN, LESS_THAN_UNIT) and note.late is not None:
             self.late_ms[note.job] = note.late
-            self.within_tick |= {note.job} if note.kind == WITHIN_TICK else set()
+            self.hidden |= {note.job} if note.kind in HIDDEN else set()
         elif note.kind == NOT_ENDED and note.late is not None:
             self.open_ms[note.job] = note.late
 
@@ -296,10 +296,10 @@ class _Moving:
             self._found.undone.extend([name] if not job.is_done and name not in self._reading.notes else [])
             return
         until = -(-end.numerator // end.denominator)
-        work = job.wanted - (name in self._reading.within_tick and job.work == (job.wanted - 1) * job.grain)
+        work = job.wanted - (name in self._reading.hidden and job.work == (job.wanted - 1) * job.grain)
         self._found.lines.extend([f"job {name} {job.release} {until} {work}", moved_by(name, until - job.deadline)])
         self._found.moved.append(name)
-        self._found.unended.extend([] if job.is_done or name in self._reading.within_tick else [name])
+        self._found.unended.extend([] if job.is_done or name in self._reading.hidden else [name])
 
     def _end(self, job: HeldJob) -> Optional[Fraction]:
         """The job's end, or until when it is known not to have ended; None where that isn't known."""

@@ -276,7 +276,7 @@ trace	0	0	1	0	-	-	-	-
 		done
 		[ $got -gt 1 ] || pass
 	fi
-	cat "$expected/points.txt" "$expected/trace-late.txt" >"$work/late"
+	cat "$expected/points.txt" "$expected/document-late.txt" >"$work/late"
 	energy --name governor "$work/late" >"$work/priced"
 	got=$?
 	if [ $got = 1 ] && [ "$(tail -n 1 "$work/priced")" = "# governor misses 1 deadline, the first decode.2" ]; then pass; else fail "energy: a trace that misses"; fi

@@ -2,10 +2,10 @@
 jobs() { tool jobs "$@"; }
 
 test_jobs() {
-	same "jobs: of a trace" 0 jobs-late.txt jobs "$expected/points.txt" "$expected/trace-late.txt"
-	same "jobs: on the trace's clock, as CSV" 0 jobs-late.csv jobs --zero trace --form csv "$expected/points.txt" "$expected/trace-late.txt"
-	same "jobs: left out" 0 jobs-elsewhere.csv jobs --form csv "$expected/trace-elsewhere.txt"
-	same "jobs: starving" 0 jobs-starving.txt jobs "$expected/trace-starving.txt"
+	same "jobs: of a trace" 0 jobs-late.txt jobs "$expected/points.txt" "$expected/document-late.txt"
+	same "jobs: on the trace's clock, as CSV" 0 jobs-late.csv jobs --zero trace --form csv "$expected/points.txt" "$expected/document-late.txt"
+	same "jobs: left out" 0 jobs-elsewhere.csv jobs --form csv "$expected/document-elsewhere.txt"
+	same "jobs: starving" 0 jobs-starving.txt jobs "$expected/document-starving.txt"
 	# By hand: a is done at 2+1/3 and needs nothing more; b got 4+1/2 of 5; c needs nothing.
 	printf 'job a 0 9 4\njob "b,2 0 10 5\njob c 3 4 0\nslot a 1 2+1/3 4\nslot "b,2 3 4 4\nslot "b,2 4 5 0+1/2\n' >"$work/fractions"
 	jobs --form csv "$work/fractions" >"$work/table"
@@ -13,7 +13,7 @@ test_jobs() {
 """b,2",0,10,3,inf,inf,-inf,inf,
 c,3,4,3,3,0,1,0,' ]; then pass; else fail "jobs: fractions and names"; cat "$work/table"; fi
 	# The jobs' energies and the idle time's, here at no power, are the whole.
-	cat "$expected/points.txt" "$expected/trace.txt" >"$work/both"
+	cat "$expected/points.txt" "$expected/document.txt" >"$work/both"
 	sum=$(jobs --form csv "$work/both" | $AWK -F , 'NR > 1 { sum += $9 } END { print sum }')
 	if [ "governor energy $sum" = "$(head -n 1 "$expected/energy.txt")" ]; then pass; else fail "jobs: the sum of the energies, $sum"; fi
 	printf 'job a 0 4 4\nslot a 0 4 4\n# refuse c from 0 to 4 work 9 top 2\n' | jobs >"$work/table"

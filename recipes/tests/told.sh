@@ -49,7 +49,7 @@ jobs_without_work() {
 jobs_that_are_not_whole() {
 	# render.0 and audio.1 never ended: at any speed they may need more than what is known of them.
 	unknown="# the work of 2 jobs isn't known, since they never ended or have no runs: what serves them whole may spend more and be later, the first render.0"
-	(printf 'point 0 1\npoint 100 20\npoint 200 90\n' && cat "$expected/trace-starving.txt") >"$work/starving"
+	(printf 'point 0 1\npoint 100 20\npoint 200 90\n' && cat "$expected/document-starving.txt") >"$work/starving"
 	tells "told: jobs that never ended" 1 "$unknown" energy "$work/starving"
 	tells "told: jobs that never ended, at one speed" 0 "$unknown" energy --at 200 "$work/starving"
 	# A job that was late, whose runs can't be written.

@@ -39,8 +39,8 @@ test_traces() {
 starving_traces() {
 	t=tasks=audio:5,render:16
 	same "traces: starving" 0 trace-starving.txt trace -v $t starving.txt
-	answers "traces: starving jobs aren't feasible" 1 "work render.0 given 20000 wanted 20001" from "$expected/trace-starving.txt" "$YDS" audit
-	same "misses: starving" 1 misses-starving.txt misses "$expected/trace-starving.txt"
+	answers "traces: starving jobs aren't feasible" 1 "work render.0 given 20000 wanted 20001" from "$expected/document-starving.txt" "$YDS" audit
+	same "misses: starving" 1 misses-starving.txt misses "$expected/document-starving.txt"
 	trace -v $t -v to=100.016 starving.txt >"$work/cut"
 	says "traces: starving at to=" 0 "job audio.1 1000 1500 1
 # not ended: audio.1, 1.000 ms after its deadline
@@ -73,8 +73,8 @@ starving_traces() {
 traces_of_two_processors() {
 	t=tasks=render:16
 	same "traces: on another CPU" 0 trace-elsewhere.txt trace -v $t elsewhere.txt
-	same "misses: on another CPU" 1 misses-elsewhere.txt misses "$expected/trace-elsewhere.txt"
-	answers "traces: late on another CPU isn't feasible" 1 "work render.1 given 0 wanted 1" from "$expected/trace-elsewhere.txt" "$YDS" audit
+	same "misses: on another CPU" 1 misses-elsewhere.txt misses "$expected/document-elsewhere.txt"
+	answers "traces: late on another CPU isn't feasible" 1 "work render.1 given 0 wanted 1" from "$expected/document-elsewhere.txt" "$YDS" audit
 	# A recording of a kernel: four of six jobs are moved or begin before it, and one of these is late.
 	same "traces: recorded, with a job that moved and was late" 0 trace-migrated-late.txt trace -v cpu=1 -v start=2000000 -v tasks=t5:15.5 migrated-late.txt
 	answers "traces: recorded, and not feasible" 1 "work t5.4 given 0 wanted 1" from "$expected/trace-migrated-late.txt" "$YDS" audit
@@ -169,8 +169,8 @@ audited() { "$@" >"$work/audited" && cat "$work/audited" && { "$YDS" audit <"$wo
 # What ends late in less than a tick, and what is late by less.
 traces_of_short_runs() {
 	same "traces: late in a short run" 0 trace-short-late.txt trace -v tasks=audio:5 short-late.txt
-	answers "traces: late in a short run isn't feasible" 1 "work audio.0 given 10000 wanted 10001" from "$expected/trace-short-late.txt" "$YDS" audit
-	same "misses: late by little" 1 misses-short-late.txt misses "$expected/trace-short-late.txt"
+	answers "traces: late in a short run isn't feasible" 1 "work audio.0 given 10000 wanted 10001" from "$expected/document-short-late.txt" "$YDS" audit
+	same "misses: late by little" 1 misses-short-late.txt misses "$expected/document-short-late.txt"
 	sed '4s/300.001000000/300.005000000/' short-late.txt >"$work/until"
 	says "traces: late in a short run, after a run until the deadline" 0 "job audio.0 0 500 50001
 # late in a run within one tick: audio.0, 15.004 ms after its deadline" trace -v tasks=audio:5 "$work/until"
@@ -191,9 +191,9 @@ traces_of_short_runs() {
 ends_in_short_runs() {
 	same "traces: ends in short runs" 0 trace-tick.txt trace -v tasks=render:9 tick.txt
 	says "jobs: ends in short runs" 0 "render.0        0       900      0   800       800    100     0       -
-render.1     1000      1900   1000  3800      2800  -1900  1900       -" tool jobs "$expected/trace-tick.txt"
+render.1     1000      1900   1000  3800      2800  -1900  1900       -" tool jobs "$expected/document-tick.txt"
 	says "misses: an end in a short run" 1 "late slot 2 render.1 3800 deadline 1900, by 1900 # due at 100.020000 s
-1 missed deadline" misses "$expected/trace-tick.txt"
+1 missed deadline" misses "$expected/document-tick.txt"
 	# A recording of a kernel: the job ends in a run of 3 us.
 	trace -v cpu=1 -v start=2000000 -v tasks=audio:10 recorded-tick.txt >"$work/document"
 	says "traces: recorded, and ends in a short run" 0 "# ends: audio.1 2881
@@ -405,7 +405,7 @@ lines_that_are_passed_over() {
 	# A name of which each character means something else in a regular expression.
 	sed 's/render/r.[*]+(a)^$|?{/g' elsewhere.txt >"$work/named"
 	trace -v 'tasks=r.[*]+(a)^$|?{:16' "$work/named" >"$work/document"
-	if sed 's/render/r.[*]+(a)^$|?{/g' "$expected/trace-elsewhere.txt" | cmp -s - "$work/document"; then pass; else
+	if sed 's/render/r.[*]+(a)^$|?{/g' "$expected/document-elsewhere.txt" | cmp -s - "$work/document"; then pass; else
 		fail "traces: a name with the characters of regular expressions"
 		cat "$work/document"
 	fi
@@ -461,7 +461,7 @@ who_else_ran() {
 # other kworker/0:1-57 2360 2376
 # other kworker/0:1-57 3650 3656" grep '^# other [^t]' "$work/document"
 	grep -v '^# other [^t]' "$work/document" >"$work/rest"
-	if cmp -s "$work/rest" "$expected/trace-late.txt"; then pass; else fail "traces: who else ran, in comments alone"; fi
+	if cmp -s "$work/rest" "$expected/document-late.txt"; then pass; else fail "traces: who else ran, in comments alone"; fi
 	says "traces: a hog ran to the end" 0 "# other hog-13 300 3000" trace -v tasks=render:10,audio:10 -v others=spans starving.txt
 	says "traces: from= and to= cut what others ran" 0 "# other hog-13 200 1200" \
 		eval "trace -v tasks=render:5 -v from=100.001 -v to=100.013 -v others=spans starving.txt | grep '^# other [^t]'"

@@ -1,18 +1,15 @@
--- Jobs once more.
+-- Items once more.
 use Rattle.yds_model.proofs.Common.{◌≡◌, ◌∙◌, ℕ, ◌+◌, ◌<◌, inl, inr, cases_lt, subst, arith, get_or_append_left, get_or_push, get_or_default, List, [], ◌∷◌, ◌++◌, map, length, get_or, take, sym, ap, ap₂, map-append, take_more}
-use Rattle.yds_trace.specs.declared.job.Job.{Job as JobKept}
-use Rattle.yds_trace.specs.Jobs.{Job}
-use Rattle.yds_trace.specs.Views.{job_read}
 
--- one more copy
-pub copied_more : (jobs all now : List JobKept) (made job : JobKept) (i : ℕ) → i < length jobs → now ≡ all ++ made ∷ [] → job ≡ get_or jobs i job →
-    job_read made ≡ job_read job → map job_read all ≡ map job_read (take i jobs) → map job_read now ≡ map job_read (take (i + 1) jobs)
-copied_more jobs all now made job i within now_is job_is same before =
-    ap (map job_read) now_is
-    ∙ map-append job_read all (made ∷ [])
-    ∙ ap₂ (λ (xs : List Job) (x : Job). xs ++ x ∷ []) before (same ∙ ap job_read job_is)
-    ∙ sym (map-append job_read (take i jobs) (get_or jobs i job ∷ []))
-    ∙ ap (map job_read) (sym (take_more jobs i job within))
+-- one more copy, by what is read of it
+pub copied_more : {A B : Type 0} (read : A → B) (items all now : List A) (made item : A) (i : ℕ) → i < length items → now ≡ all ++ made ∷ [] →
+    item ≡ get_or items i item → read made ≡ read item → map read all ≡ map read (take i items) → map read now ≡ map read (take (i + 1) items)
+copied_more {A} {B} read items all now made item i within now_is item_is same before =
+    ap (map read) now_is
+    ∙ map-append read all (made ∷ [])
+    ∙ ap₂ (λ (xs : List B) (x : B). xs ++ x ∷ []) before (same ∙ ap read item_is)
+    ∙ sym (map-append read (take i items) (get_or items i item ∷ []))
+    ∙ ap (map read) (sym (take_more items i item within))
 
 -- what holds of one more item and of what is made of it
 pub each_more : {A B : Type 0} (P : A → B → Type 0) (xs : List A) (all now : List B) (made : B) (i : ℕ) (item : A) → i < length xs → length all ≡ i →

@@ -8,18 +8,21 @@ use Rattle.yds_trace.specs.declared.job.Job.{Job as JobKept}
 use Rattle.yds_trace.specs.declared.job.Standing.{Standing}
 use Rattle.yds_trace.specs.declared.job.Stretch.{Stretch}
 use Rattle.yds_trace.specs.declared.kept.Kept.{Kept as Amount}
+use Rattle.yds_trace.specs.declared.others.Others.{Others as OthersKept}
 use Rattle.yds_trace.specs.Asked.{Task, Asked}
 use Rattle.yds_trace.specs.Past.{up_to}
 use Rattle.yds_trace.specs.Jobs.{Job, changed_last, ran}
 use Rattle.yds_trace.specs.Late.{last_asked}
-use Rattle.yds_trace.specs.Document.{Judged, judged, judged_of, judged_from, jobs_of, began_before, put_in, in_order}
+use Rattle.yds_trace.specs.Document.{Judged, judged, judged_of, judged_from, jobs_of, share_of, shares_of, began_before, put_in, in_order}
 use Rattle.yds_trace.specs.Parts.{begins_from, waiting_from, stretches_of as waiting_stretches}
 use Rattle.yds_trace.specs.Passing.{closed_at}
 use Rattle.yds_trace.specs.Following.{jobs_in, stretches_in, stretches_of}
-use Rattle.yds_trace.specs.Kept.{IsFollowed, IsEnough}
+use Rattle.yds_trace.specs.Kept.{IsFollowed, AreOthersOf, IsEnough}
 use Rattle.yds_trace.specs.Views.{job_read, jobs_listed, known_read}
 use Rattle.yds_trace.proofs.Listed.{some_listed}
 use Rattle.yds_trace.proofs.Showing.{jobs_behind}
+use Rattle.yds_trace.proofs.Spans.{few_others}
+use Rattle.yds_trace.proofs.Shares.{share_begin, share_length}
 
 -- # Sums over what passes a test
 
@@ -44,6 +47,10 @@ order_sum f p key (x ∷ xs) = omega (arith, put_sum f p key x (in_order key xs)
 if_le : (b : Bool) (n : ℕ) → (if b then n else 0) ≤ n
 if_le true n = omega arith
 if_le false n = omega arith
+
+if_less : (b : Bool) (m n : ℕ) → m ≤ n → (if b then m else 0) ≤ (if b then n else 0)
+if_less true m n less = less
+if_less false m n less = omega arith
 
 filter_le : {A : Type 0} (f : A → ℕ) (p : A → Bool) (xs : List A) → sum_by f (filter p xs) ≤ sum_by f xs
 filter_le f p [] = omega arith
@@ -90,15 +97,35 @@ closed_sum : (g : Job → ℕ) (more until : ℕ) (start : Option ℕ) (counting
 closed_sum g more until start counting None jobs woken each = omega arith
 closed_sum g more until start counting (Some standing) jobs woken each = changed_sum g more _ jobs (each _)
 
+shares_sum : (g : Job → ℕ) (asked : Asked) (boundary : ℕ) (jobs : List Job) → ((job : Job) → g (share_of asked job) ≤ g job) →
+    sum_by g (filter (late_job boundary) (map (share_of asked) jobs)) ≤ sum_by g (filter (late_job boundary) jobs)
+shares_sum g asked boundary [] less = omega arith
+shares_sum g asked boundary (job ∷ jobs) less =
+    let late : (if late_job boundary (share_of asked job) then g (share_of asked job) else 0) ≡ (if late_job boundary job then g (share_of asked job) else 0) =
+    ap (λ (begin : ℕ). if nat_le boundary begin then g (share_of asked job) else 0) (share_begin asked job) in
+    omega (
+      arith,
+      one_more g (late_job boundary (share_of asked job)) (share_of asked job) (filter (late_job boundary) (map (share_of asked) jobs)),
+      one_more g (late_job boundary job) job (filter (late_job boundary) jobs),
+      late,
+      if_less (late_job boundary job) (g (share_of asked job)) (g job) (less job),
+      shares_sum g asked boundary jobs less,
+    )
+
 task_sum : (g : Job → ℕ) (more : ℕ) → ((stretch : Stretch) (job : Job) → g (ran stretch job) ≤ g job + more) → (asked : Asked) (past : List Said)
-    (behind boundary number : ℕ) (followed : Followed) → behind ≤ boundary → IsFollowed asked (up_to asked.to past) behind number followed →
+    (behind boundary number : ℕ) (followed : Followed) → ((job : Job) → g (share_of asked job) ≤ g job) → behind ≤ boundary →
+    IsFollowed asked (up_to asked.to past) behind number followed →
     sum_by (λ (one : Judged). g one.job) (filter (begins_from boundary) (judged_of asked past number))
     ≤ sum_by g (jobs_listed followed.known.jobs.items) + (if is_some followed.known.on then more else 0)
-task_sum g more each asked past behind boundary number followed within is =
+task_sum g more each asked past behind boundary number followed less within is =
     let rest : List Job = closed_at (last_asked asked past) asked.start (up_to asked.to past) (known_read followed.known) in
-    let all : sum_by (λ (one : Judged). g one.job) (filter (begins_from boundary) (judged_of asked past number)) ≡ sum_by g (filter (late_job boundary) (is.forgotten ++ reverse rest)) =
-    judged_sum g asked past number (began_before (jobs_of asked past number)) boundary 0 (jobs_of asked past number)
-    ∙ ap (λ (jobs : List Job). sum_by g (filter (late_job boundary) jobs)) (jobs_behind asked past behind number followed is) in
+    let told : sum_by (λ (one : Judged). g one.job) (filter (begins_from boundary) (judged_of asked past number))
+    ≡ sum_by g (filter (late_job boundary) (map (share_of asked) (jobs_of asked past number))) =
+    judged_sum g asked past number (began_before (jobs_of asked past number)) boundary 0 (shares_of asked past number) in
+    let fewer : sum_by g (filter (late_job boundary) (map (share_of asked) (jobs_of asked past number))) ≤ sum_by g (filter (late_job boundary) (jobs_of asked past number)) =
+    shares_sum g asked boundary (jobs_of asked past number) less in
+    let all : sum_by g (filter (late_job boundary) (jobs_of asked past number)) ≡ sum_by g (filter (late_job boundary) (is.forgotten ++ reverse rest)) =
+    ap (λ (jobs : List Job). sum_by g (filter (late_job boundary) jobs)) (jobs_behind asked past behind number followed is) in
     let apart : sum_by g (filter (late_job boundary) (is.forgotten ++ reverse rest))
     ≡ sum_by g (filter (late_job boundary) is.forgotten) + sum_by g (filter (late_job boundary) (reverse rest)) =
     ap (sum_by g) (filter-append (late_job boundary) is.forgotten (reverse rest))
@@ -109,7 +136,7 @@ task_sum g more each asked past behind boundary number followed within is =
     let same : sum_by g (reverse rest) ≡ sum_by g rest = reverse_sum g rest in
     let shut : sum_by g rest ≤ sum_by g (jobs_listed followed.known.jobs.items) + (if is_some followed.known.on then more else 0) =
     closed_sum g more (last_asked asked past) asked.start (up_to asked.to past) followed.known.on (jobs_listed followed.known.jobs.items) followed.known.woken each in
-    omega (arith, all, apart, none, few, same, shut)
+    omega (arith, told, fewer, all, apart, none, few, same, shut)
 
 -- # All tasks
 
@@ -175,16 +202,17 @@ capped_rises a b less = grind (arith, nat_le, leb-true, le-leb)
 le_of : (a b c : ℕ) → a ≤ b → c ≡ b → a ≤ c
 le_of a b c less same = omega arith
 
-pub enough : (asked : Asked) (past : List Said) (behind boundary : ℕ) → behind ≤ boundary → (kept : List Followed) (amount : Amount) → length kept ≡ length asked.tasks →
+pub enough : (asked : Asked) (past : List Said) (behind boundary : ℕ) → behind ≤ boundary → (kept : List Followed) (others : OthersKept) (amount : Amount) → length kept ≡ length asked.tasks →
     ((k : ℕ) (d : Followed) → k < length asked.tasks → IsFollowed asked (up_to asked.to past) behind k (get_or kept k d)) →
+    AreOthersOf asked (up_to asked.to past) behind others → amount.others ≡ capped (length others.spans.items + (if is_some others.going then 1 else 0)) →
     amount.jobs ≡ capped (sum_by jobs_in kept) → amount.stretches ≡ capped (sum_by stretches_of kept) → IsEnough asked past boundary amount
-enough asked past behind boundary within kept amount many each jobs stretches =
+enough asked past behind boundary within kept others amount many each are others_is jobs stretches =
     let few_jobs : sum_by (λ (one : Judged). one_each one.job) (waiting_from asked past boundary) ≤ sum_by jobs_in kept =
     waiting_sum (λ (one : Judged). one_each one.job) jobs_in asked past boundary kept many
     (λ k n d inside is.
     omega (
       arith,
-      task_sum one_each 0 (λ stretch job. omega arith) asked past behind boundary n (get_or kept k d) within (at_number asked past behind kept each k n d inside is),
+      task_sum one_each 0 (λ stretch job. omega arith) asked past behind boundary n (get_or kept k d) (λ job. omega arith) within (at_number asked past behind kept each k n d inside is),
       jobs_weigh (get_or kept k d),
     )) in
     let few_stretches : waiting_stretches (waiting_from asked past boundary) ≤ sum_by stretches_of kept =
@@ -192,11 +220,12 @@ enough asked past behind boundary within kept amount many each jobs stretches =
     (λ k n d inside is.
     omega (
       arith,
-      task_sum stretches_each 1 (λ stretch job. omega arith) asked past behind boundary n (get_or kept k d) within (at_number asked past behind kept each k n d inside is),
+      task_sum stretches_each 1 (λ stretch job. omega arith) asked past behind boundary n (get_or kept k d) (share_length asked) within (at_number asked past behind kept each k n d inside is),
       stretches_weigh (get_or kept k d),
     )) in
     let fewer : length (waiting_from asked past boundary) ≤ sum_by jobs_in kept = omega (arith, ones (waiting_from asked past boundary), few_jobs) in
     record {
       jobs = le_of _ _ _ (capped_rises _ _ fewer) jobs;
       stretches = le_of _ _ _ (capped_rises _ _ few_stretches) stretches;
+      others = le_of _ _ _ (capped_rises _ _ (few_others asked past behind boundary others within are)) others_is;
     }

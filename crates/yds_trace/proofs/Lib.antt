@@ -7,9 +7,11 @@ pub mod Behind
 pub mod Counting
 pub mod Ending
 pub mod Showing
+pub mod Shares
 pub mod Forgetting
 pub mod Copying
 pub mod Enough
 pub mod Written
 pub mod OnProcessor
 pub mod Later
+pub mod Spans

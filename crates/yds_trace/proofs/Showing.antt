@@ -80,7 +80,7 @@ last_behind (job ∷ jobs) forgotten last = refl
 
 pub task_shown : (asked : Asked) (past : List Said) (kept boundary number until : ℕ) (followed : Followed) (shown : ShownTask) →
     kept ≤ boundary → IsFollowed asked (up_to asked.to past) kept number followed → until ≡ last_asked asked past →
-    Shows until asked.start (up_to asked.to past) followed shown → IsShownTask asked past boundary number shown
+    Shows until asked.start (up_to asked.to past) followed shown → IsShownTask (jobs_of asked past number) asked past boundary number shown
 task_shown asked past kept boundary number until followed shown within is until_is shows =
     let rest : List Job = closed_at (last_asked asked past) asked.start (up_to asked.to past) (known_read followed.known) in
     let all : jobs_of asked past number ≡ is.forgotten ++ reverse rest = jobs_behind asked past kept number followed is in

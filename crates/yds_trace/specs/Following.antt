@@ -1,5 +1,5 @@
 -- What a task's kept state becomes by an event.
-use Rattle.std.specs.Prelude.{◌≡◌, ℕ, ◌+◌, ◌<◌, ◌≤◌, ◌==◌, ◌||◌, if◌then◌else◌, Bool, true, false, List, map, length, take, drop, sum_by, Option, None, is_some}
+use Rattle.std.specs.Prelude.{◌≡◌, ℕ, ◌+◌, ◌<◌, ◌≤◌, ◌==◌, ◌&&◌, ◌||◌, if◌then◌else◌, Bool, true, false, List, [], map, length, reverse, take, drop, sum_by, Option, Some, None, is_some, option_map}
 use Rattle.std.specs.List.{slice_index_or, list_any, All}
 use Rattle.yds_kernel.specs.Event.{Said}
 use Rattle.yds_kernel.specs.Parts.{or_else}
@@ -7,19 +7,21 @@ use Rattle.yds_trace.specs.declared.asked.Task.{Task as TaskKept}
 use Rattle.yds_trace.specs.declared.followed.Followed.{Followed}
 use Rattle.yds_trace.specs.declared.job.Job.{Job as JobKept}
 use Rattle.yds_trace.specs.declared.job.Standing.{Standing}
+use Rattle.yds_trace.specs.declared.others.Others.{Others as OthersKept}
 use Rattle.yds_trace.specs.declared.shown.ShownTask.{ShownTask}
 use Rattle.yds_trace.specs.declared.step.Place.{Place}
 use Rattle.yds_trace.specs.declared.step.Place.TheVariants as places
 use Rattle.yds_trace.specs.declared.step.Step.{Step}
 use Rattle.yds_trace.specs.declared.step.Step.TheVariants as steps
 use Rattle.yds_trace.specs.declared.step.Whose.{Whose}
-use Rattle.yds_trace.specs.Asked.{no_task}
+use Rattle.yds_trace.specs.Asked.{Asked, no_task}
 use Rattle.yds_trace.specs.Jobs.{unknown, loses, stands_on}
-use Rattle.yds_trace.specs.Document.{began_before}
+use Rattle.yds_trace.specs.Document.{share_of, began_before}
+use Rattle.yds_trace.specs.Others.{Span, Spans, is_waiting, ended_at}
 use Rattle.yds_trace.specs.Parts.{last_begin}
 use Rattle.yds_trace.specs.Passing.{closed_at}
 use Rattle.yds_trace.specs.Steps.{stepped}
-use Rattle.yds_trace.specs.Views.{job_read, jobs_listed, known_read, task_read}
+use Rattle.yds_trace.specs.Views.{job_read, jobs_listed, known_read, task_read, going_read, span_read}
 
 -- A wake-up that comes less than so long after a job's begin goes on with it.
 abbrev pub apart_of : List TaskKept → ℕ → ℕ
@@ -86,6 +88,13 @@ pub record Shows (until : ℕ) (start : Option ℕ) (counting : List Said) (foll
   pub before : shown.before ≡ first_before followed
   pub last : shown.last_begin ≡ last_begin (jobs_listed followed.known.jobs.items)
 
+-- The same task, with its jobs as the documents of the processor that is asked for have them.
+pub record Shares (asked : Asked) (was now : ShownTask) : Type 0 where
+  pub jobs : map job_read now.jobs.items ≡ map (share_of asked) (map job_read was.jobs.items)
+  pub forgotten : now.forgotten ≡ was.forgotten
+  pub before : now.before ≡ was.before
+  pub last : now.last_begin ≡ was.last_begin
+
 -- # How much is kept
 
 abbrev pub jobs_in : Followed → ℕ
@@ -100,10 +109,25 @@ stretches_of followed = sum_by stretches_in followed.known.jobs.items + (if is_s
 
 -- # Events that tell of tasks
 
--- An event tells of one of these tasks.
-abbrev pub touches_by : Whose → Whose → Step → List Followed → Bool
-touches_by first second (steps.Switch state leaving) tasks = is_some first.number || is_some second.number
-touches_by first second (steps.WakeUp time) tasks = is_some first.number
-touches_by first second (steps.Speed processor time khz) tasks = list_any (λ followed. stands_on processor followed.known.on) tasks
-touches_by first second (steps.Loss since) tasks = false
-touches_by first second steps.Nothing tasks = false
+-- A job of one of these tasks waits.
+abbrev pub some_waits : List Followed → Bool
+some_waits tasks = list_any (λ followed. is_waiting (known_read followed.known)) tasks
+
+-- An event tells of one of these tasks; where it is told who was in the way, each switch does while a job waits.
+abbrev pub touches_by : Bool → Whose → Whose → Step → List Followed → Bool
+touches_by others first second (steps.Switch state leaving) tasks = is_some first.number || is_some second.number || (others && some_waits tasks)
+touches_by others first second (steps.WakeUp time) tasks = is_some first.number
+touches_by others first second (steps.Speed processor time khz) tasks = list_any (λ followed. stands_on processor followed.known.on) tasks
+touches_by others first second (steps.Loss since) tasks = false
+touches_by others first second steps.Nothing tasks = false
+
+-- # Who was in the way
+
+-- the spans that are kept, the last one first, and what goes on
+abbrev pub spans_kept : OthersKept → Spans
+spans_kept kept = record { ended = reverse (map span_read kept.spans.items); going = option_map going_read kept.going }
+
+-- Where they are asked for, in order of time. What goes on has gone on until this time.
+abbrev pub spans_at : Option ℕ → ℕ → OthersKept → List Span
+spans_at None until kept = []
+spans_at (Some processor) until kept = reverse (ended_at until (spans_kept kept))

@@ -1,23 +1,25 @@
 //! What is kept of the lines that count: those up to the end of what is asked for.
-ghost use Rattle.std.specs.Prelude.{◌≡◌, ℕ, ◌<◌, List, [], ◌∷◌, length, Option, None, IfOk, OnOk, IfErr, map, true, false};
+ghost use Rattle.std.specs.Prelude.{◌≡◌, ℕ, ◌<◌, ◌≤◌, List, [], ◌∷◌, length, Option, None, IfOk, OnOk, IfErr, map, is_some, true, false};
 ghost use Rattle.yds_kernel.specs.Event as trace;
 ghost use Rattle.yds_kernel.specs.Views.{event_read, happening_read};
 ghost use Rattle.yds_trace.specs.Asked as asking;
 ghost use Rattle.yds_trace.specs.Faults as spec;
 ghost use Rattle.yds_trace.specs.Finding.{found, first_found, second_found};
-ghost use Rattle.yds_trace.specs.Following.{touches_by};
-ghost use Rattle.yds_trace.specs.Kept.{IsCounted, IsLines};
-ghost use Rattle.yds_trace.specs.Past.{up_to, counts as spec_counts};
+ghost use Rattle.yds_trace.specs.Following.{some_waits, spans_at, touches_by};
+ghost use Rattle.yds_trace.specs.Kept.{AreOthersOf, IsCounted, IsLines};
+ghost use Rattle.yds_trace.specs.Others.{any_waits};
+ghost use Rattle.yds_trace.specs.Past.{last_time, up_to, counts as spec_counts};
 ghost use Rattle.yds_trace.specs.Steps.{first_in, second_in, step_of};
 ghost use Rattle.yds_trace.specs.Passing.{IsRefusedFor, fault_in};
-ghost use Rattle.yds_trace.specs.Views.{asked_read, task_read};
+ghost use Rattle.yds_trace.specs.Views.{asked_read, span_read, task_read};
 
 use crate::asked::Asked;
 use crate::fault::Cause;
 use crate::find::Found;
-use crate::followed::{Followed, follow, lose_each, runs_on, take_each};
+use crate::followed::{Followed, any_waits, follow, lose_each, runs_on, take_each};
 use crate::limits::MAX_TOUCHES;
 use crate::lines::{Lines, is_within_to};
+use crate::others::{Others, Span};
 use crate::past::Past;
 use crate::refused::Refused;
 use crate::step::{Step, Whose};
@@ -50,6 +52,7 @@ impl Counted {
             tasks: follow(alloc, asked.tasks.len())?,
             touched: 0,
             boundary: 0,
+            others: Others::new(alloc),
         })
     }
 
@@ -74,7 +77,7 @@ impl Counted {
         ensures boundary { OnOk result (self.new.boundary ≡ self.old.boundary) }
     {
         let step = self.past.step(event);
-        let touched = self.touched_by(asked.in_parts, first, second, step);
+        let touched = self.touched_by(asked, first, second, step);
         if touched > MAX_TOUCHES {
             return Err(Refused::Fault(Cause::TooLong));
         }
@@ -88,34 +91,46 @@ impl Counted {
             second,
             step,
         )?;
+        take_others(
+            &mut self.others,
+            alloc,
+            asked.others,
+            &self.tasks,
+            event,
+            second,
+        )?;
         self.past.take(event)?;
         Ok(())
     }
 
     /// How many lines tell of the tasks, with an event that is this step. Told in parts they aren't counted.
-    fn touched_by(&self, in_parts: bool, first: Whose, second: Whose, step: Step) -> u64
-        ensures counted { (asked : asking.Asked) (counting : List trace.Said) (event : trace.Event) → IsCounted asked counting self.now
-            → first ≡ first_in asked.tasks event.happening → second ≡ second_in asked.tasks event.happening
-            → step ≡ step_of asked.start counting event → in_parts ≡ false → asked.in_parts ≡ false
-            → result ≡ spec.touched asked (trace.Stamped event ∷ counting) }
-        ensures not_counted { in_parts ≡ true → result ≡ self.now.touched }
+    fn touched_by(&self, asked: &Asked, first: Whose, second: Whose, step: Step) -> u64
+        ensures counted { (counting : List trace.Said) (event : trace.Event) → IsCounted (asked_read asked.now) counting self.now
+            → first ≡ first_in (asked_read asked.now).tasks event.happening → second ≡ second_in (asked_read asked.now).tasks event.happening
+            → step ≡ step_of asked.now.start counting event → asked.now.in_parts ≡ false
+            → result ≡ spec.touched (asked_read asked.now) (trace.Stamped event ∷ counting) }
+        ensures not_counted { asked.now.in_parts ≡ true → result ≡ self.now.touched }
     {
-        if in_parts {
+        if asked.in_parts {
             return self.touched;
         }
-        if self.touches(first, second, step) {
+        if self.touches(asked.others.is_some(), first, second, step) {
             self.touched.saturating_add(1)
         } else {
             self.touched
         }
     }
 
-    /// Whether an event tells of a task.
-    fn touches(&self, first: Whose, second: Whose, step: Step) -> bool
-        ensures { result ≡ touches_by first second step self.now.tasks.items }
+    /// Whether an event tells of a task, also where it is told who was in the way.
+    fn touches(&self, others: bool, first: Whose, second: Whose, step: Step) -> bool
+        ensures { result ≡ touches_by others first second step self.now.tasks.items }
     {
         match step {
-            Step::Switch { .. } => first.number.is_some() || second.number.is_some(),
+            Step::Switch { .. } => {
+                first.number.is_some()
+                    || second.number.is_some()
+                    || (others && any_waits(&self.tasks))
+            }
             Step::WakeUp { .. } => first.number.is_some(),
             Step::Speed { processor, .. } => runs_on(&self.tasks, processor),
             Step::Loss { .. } | Step::Nothing => false,
@@ -123,33 +138,41 @@ impl Counted {
     }
 
     /// Takes a line without a stamp that counts: events of the processor were lost.
-    pub(crate) fn lose(&mut self, processor: u64, since: Since)
-        ensures stands { (asked : asking.Asked) (counting : List trace.Said) → IsCounted asked counting self.old
-            → IsCounted asked (trace.Lost processor since ∷ counting) self.new }
-        ensures boundary { self.new.boundary ≡ self.old.boundary }
+    pub(crate) fn lose(
+        &mut self,
+        wanted: Option<u64>,
+        processor: u64,
+        since: Since,
+    ) -> Result<(), Memory>
+        ensures stands { (asked : asking.Asked) (counting : List trace.Said) → asked.others ≡ wanted → IsCounted asked counting self.old
+            → OnOk result (IsCounted asked (trace.Lost processor since ∷ counting) self.new) }
+        ensures boundary { OnOk result (self.new.boundary ≡ self.old.boundary) }
     {
+        lose_others(&mut self.others, wanted, self.past.last)?;
         let time = self.past.lost_since(processor, since);
         lose_each(&mut self.tasks, time);
         self.past.lose();
+        Ok(())
     }
 
     /// Takes what counts of a line without a stamp which says that events of the processor were lost.
     pub(crate) fn count_loss(
         &mut self,
-        to: Option<u64>,
+        asked: &Asked,
         lines: &Lines,
         processor: u64,
         since: Since,
-    )
-        ensures stands { (asked : asking.Asked) (past : List trace.Said) → IsLines asked past lines.now → asked.to ≡ to
-            → IsCounted asked (up_to asked.to past) self.old
-            → IsCounted asked (up_to asked.to (trace.Lost processor since ∷ past)) self.new }
-        ensures boundary { self.new.boundary ≡ self.old.boundary }
+    ) -> Result<(), Memory>
+        ensures stands { (past : List trace.Said) → IsLines (asked_read asked.now) past lines.now
+            → IsCounted (asked_read asked.now) (up_to asked.now.to past) self.old
+            → OnOk result (IsCounted (asked_read asked.now) (up_to asked.now.to (trace.Lost processor since ∷ past)) self.new) }
+        ensures boundary { OnOk result (self.new.boundary ≡ self.old.boundary) }
     {
-        if !is_within_to(to, lines.past.lost_since(processor, since)) {
-            return;
+        if !is_within_to(asked.to, lines.past.lost_since(processor, since)) {
+            return Ok(());
         }
-        self.lose(processor, since);
+        self.lose(asked.others, processor, since)?;
+        Ok(())
     }
 
     /// The thread that was this task last.
@@ -274,6 +297,85 @@ impl Counted {
             | Happening::Marker
             | Happening::Other => Ok(()),
         }
+    }
+}
+
+/// Takes an event behind which this is known of the tasks, where it is asked who was in the way on this processor.
+fn take_others(
+    others: &mut Others,
+    alloc: Global,
+    wanted: Option<u64>,
+    tasks: &[Followed],
+    event: &Event<'_>,
+    second: Whose,
+) -> Result<(), Memory>
+    ensures { (asked : asking.Asked) (counting : List trace.Said) (boundary : ℕ) → asked.others ≡ wanted → AreOthersOf asked counting boundary others.old
+        → second ≡ second_in asked.tasks (event_read event.now).happening
+        → some_waits tasks.now ≡ any_waits asked (trace.Stamped (event_read event.now) ∷ counting)
+        → OnOk result (AreOthersOf asked (trace.Stamped (event_read event.now) ∷ counting) boundary others.new) }
+{
+    match wanted {
+        Some(processor) => {
+            others.take(alloc, processor, event, second, any_waits(tasks))?;
+            Ok(())
+        }
+        None => Ok(()),
+    }
+}
+
+/// Events were lost behind lines of which this is the last one's time, where it is asked who was in the way.
+fn lose_others(others: &mut Others, wanted: Option<u64>, time: u64) -> Result<(), Memory>
+    ensures { (asked : asking.Asked) (counting : List trace.Said) (boundary processor : ℕ) (since : Since) → asked.others ≡ wanted
+        → AreOthersOf asked counting boundary others.old → last_time counting ≡ time
+        → OnOk result (AreOthersOf asked (trace.Lost processor since ∷ counting) boundary others.new) }
+{
+    match wanted {
+        Some(_) => {
+            others.lose(time)?;
+            Ok(())
+        }
+        None => Ok(()),
+    }
+}
+
+/// Forgets the first spans, which end at this time or before it, where it is asked who was in the way.
+pub(crate) fn forget_others(others: &mut Others, wanted: Option<u64>, boundary: u64)
+    ensures { (asked : asking.Asked) (counting : List trace.Said) (before : ℕ) → asked.others ≡ wanted
+        → AreOthersOf asked counting before others.old → before ≤ boundary → AreOthersOf asked counting boundary others.new }
+{
+    match wanted {
+        Some(_) => others.forget(boundary),
+        None => {}
+    }
+}
+
+/// Who was in the way, where that is asked for. What goes on has gone on until this time.
+pub(crate) fn show_others(
+    alloc: Global,
+    wanted: Option<u64>,
+    others: &Others,
+    until: u64,
+) -> Result<Vec<Span>, Memory>
+    ensures { IfOk result (λ spans. map span_read spans.items ≡ spans_at wanted until others.now) }
+{
+    match wanted {
+        Some(_) => others.shown(alloc, until),
+        None => Ok(Vec::new(alloc)),
+    }
+}
+
+/// The same, and nothing is kept.
+pub(crate) fn end_others(
+    alloc: Global,
+    wanted: Option<u64>,
+    others: Others,
+    until: u64,
+) -> Result<Vec<Span>, Memory>
+    ensures { IfOk result (λ spans. map span_read spans.items ≡ spans_at wanted until others) }
+{
+    match wanted {
+        Some(_) => others.ended(until),
+        None => Ok(Vec::new(alloc)),
     }
 }
 

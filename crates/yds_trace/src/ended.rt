@@ -12,6 +12,7 @@ use crate::followed::Followed;
 use crate::job::{Job, Standing, Stretch};
 use crate::jobs::run_last;
 use crate::known::Known;
+use crate::others::Span;
 use crate::past::Past;
 use std::alloc::Global;
 use yds_model::Memory;

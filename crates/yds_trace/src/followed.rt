@@ -3,13 +3,14 @@ ghost use Rattle.std.specs.Prelude.{◌≡◌, ℕ, ◌+◌, ◌<◌, ◌≤◌,
 ghost use Rattle.std.specs.List.{list_any, All};
 ghost use Rattle.yds_kernel.specs.Parts.{or_else, capped};
 ghost use Rattle.yds_trace.specs.declared.followed.Followed.{Followed};
-ghost use Rattle.yds_trace.specs.Following.{IsUnknown, IsTaken, IsLost, Forgets, apart_of, place_of, first_before, jobs_in, stretches_of};
+ghost use Rattle.yds_trace.specs.Following.{IsUnknown, IsTaken, IsLost, Forgets, apart_of, place_of, first_before, jobs_in, stretches_of, some_waits};
 ghost use Rattle.yds_trace.specs.Jobs.{stands_on};
+ghost use Rattle.yds_trace.specs.Others.{is_waiting};
 ghost use Rattle.yds_trace.specs.Steps.{stepped, pid_of};
 ghost use Rattle.yds_trace.specs.Views.{known_read};
 
 use crate::asked::Task;
-use crate::jobs::{began_before, count_stretches, drop_first, early};
+use crate::jobs::{began_before, count_stretches, drop_first, early, has_open_job};
 use crate::known::{Known, stands_on};
 use crate::step::{Place, Step, Whose};
 use std::alloc::Global;
@@ -104,6 +105,13 @@ impl Followed {
         self.before = self.before_by(count);
         self.forgotten += count as u64;
         drop_first(&mut self.known.jobs, count);
+    }
+
+    /// Whether a job of it waits: it is open, and its thread has no processor.
+    fn waits(&self) -> bool
+        ensures { result ≡ is_waiting (known_read self.now.known) }
+    {
+        self.known.on.is_none() && has_open_job(&self.known.jobs)
     }
 
     /// How many stretches it has when it is closed, at most the greatest number of 64 bits.
@@ -255,4 +263,11 @@ pub(crate) fn runs_on(tasks: &[Followed], processor: u64) -> bool
     tasks
         .iter()
         .any(|followed| stands_on(processor, followed.known.on))
+}
+
+/// Whether a job of a task waits.
+pub(crate) fn any_waits(tasks: &[Followed]) -> bool
+    ensures { result ≡ some_waits tasks.now }
+{
+    tasks.iter().any(|followed| followed.waits())
 }

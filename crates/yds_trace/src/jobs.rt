@@ -5,6 +5,7 @@ ghost use Rattle.yds_kernel.specs.Parts.{capped};
 ghost use Rattle.yds_trace.specs.Document.{began_before};
 ghost use Rattle.yds_trace.specs.Following.{stretches_in};
 ghost use Rattle.yds_trace.specs.Jobs as spec;
+ghost use Rattle.yds_trace.specs.Others.{has_open_job};
 ghost use Rattle.yds_trace.specs.Parts.{last_begin};
 ghost use Rattle.yds_trace.specs.Views.{job_read, jobs_listed};
 
@@ -238,6 +239,19 @@ pub(crate) fn has_no_switch(jobs: &Vec<Job>) -> bool
     }
 }
 
+/// Whether a job of them is open.
+pub(crate) fn has_open_job(jobs: &Vec<Job>) -> bool
+    ensures { result ≡ has_open_job (jobs_listed jobs.now.items) }
+{
+    match jobs.last() {
+        Some(job) => match job.end {
+            End::Open => true,
+            End::Ended(_) | End::Unseen { .. } | End::Lost(_) => false,
+        },
+        None => false,
+    }
+}
+
 /// Events were lost after this time.
 #[tactic(auto, using(crate::proofs::Listed::lost_last))]
 pub(crate) fn lose_all(time: u64, jobs: &mut Vec<Job>)
@@ -309,12 +323,12 @@ pub(crate) fn early(jobs: &[Job], boundary: u64) -> usize
     0
 }
 
-/// Drops so many of the first jobs.
-pub(crate) fn drop_first(jobs: &mut Vec<Job>, count: usize)
-    requires { count ≤ vec_len jobs.old }
-    ensures { jobs.new.items ≡ drop count jobs.old.items }
+/// Drops so many of the first items.
+pub(crate) fn drop_first<T: Drop>(items: &mut Vec<T>, count: usize)
+    requires { count ≤ vec_len items.old }
+    ensures { items.new.items ≡ drop count items.old.items }
 {
-    drop(jobs.drain(..count));
+    drop(items.drain(..count));
 }
 
 /// How many stretches these jobs have, at most the greatest number of 64 bits.

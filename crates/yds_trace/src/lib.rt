@@ -25,6 +25,7 @@ mod past;
 mod places;
 mod reason;
 mod refused;
+mod share;
 mod shown;
 mod step;
 
@@ -43,6 +44,7 @@ pub use others::Span;
 pub use pass::Pass;
 pub use reason::Reason;
 pub use refused::Refused;
+pub use share::has_run_on;
 pub use shown::{Shown, ShownTask};
 
 #[cfg(test)]

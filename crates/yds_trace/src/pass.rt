@@ -15,7 +15,7 @@ ghost use Rattle.yds_trace.specs.Views.{asked_read};
 
 use crate::asked::Asked;
 use crate::check::{check_event, check_parts, check_place, check_processor, check_whole};
-use crate::counted::Counted;
+use crate::counted::{Counted, end_others, forget_others, show_others};
 use crate::cut::Cut;
 use crate::ended::{Ended, close_each};
 use crate::fault::Cause;
@@ -24,6 +24,7 @@ use crate::followed::{count_all_stretches, count_jobs, forget_each};
 use crate::kept::Kept;
 use crate::lines::Lines;
 use crate::refused::Refused;
+use crate::share::share_all;
 use crate::shown::{Shown, show_each};
 use std::alloc::Global;
 use yds_kernel::{Event, Said, Since};
@@ -85,12 +86,16 @@ impl Pass {
             tasks,
             touched: _,
             boundary: _,
+            others,
         } = counted;
         let until = last_asked(asked.to, lines.past.last);
-        let jobs = close_each(alloc, tasks, &past, until)?;
+        let mut jobs = close_each(alloc, tasks, &past, until)?;
+        share_all(&asked, &mut jobs);
+        let others = end_others(alloc, asked.others, others, until)?;
         Ok(Ended {
             asked,
             jobs,
+            others,
             first: lines.past.first.unwrap_or(0),
             last: lines.past.last,
         })
@@ -126,13 +131,15 @@ impl Pass {
         self.asked.begin_at_run || self.lines.woken
     }
 
-    /// At most so many jobs and stretches wait.
+    /// At most so many jobs, stretches and spans wait, on whichever processor.
     pub fn kept(&self) -> Kept
-        ensures { (asked : asking.Asked) (past : List trace.Said) (boundary : ℕ) → IsAtBehind asked past boundary self.now → IsEnough asked past boundary result }
+        ensures { (asked : asking.Asked) (past : List trace.Said) (boundary processor : ℕ) → IsAtBehind asked past boundary self.now
+            → IsEnough (asking.on processor asked) past boundary result }
     {
         Kept {
             jobs: count_jobs(&self.counted.tasks),
             stretches: count_all_stretches(&self.counted.tasks),
+            others: self.counted.others.count(),
         }
     }
 
@@ -142,20 +149,23 @@ impl Pass {
     {
         let until = last_asked(self.asked.to, self.lines.past.last);
         let tasks = show_each(alloc, &self.counted.tasks, &self.counted.past, until)?;
+        let others = show_others(alloc, self.asked.others, &self.counted.others, until)?;
         Ok(Shown {
             tasks,
+            others,
             first: self.lines.past.first.unwrap_or(0),
             last: self.lines.past.last,
         })
     }
 
-    /// Forgets the jobs that begin before this time, but for each task's last one.
+    /// Forgets the jobs that begin before this time, but for each task's last one, and the first spans that end by it.
     pub fn forget(&mut self, boundary: u64)
         ensures stands { (asked : asking.Asked) (past : List trace.Said) (before : ℕ) → IsAtBehind asked past before self.old → before ≤ boundary
             → IsAtBehind asked past boundary self.new }
         ensures forgets { told_to_forget self.new ≡ boundary }
     {
         forget_each(&mut self.counted.tasks, boundary);
+        forget_others(&mut self.counted.others, self.asked.others, boundary);
         self.counted.boundary = boundary;
     }
 
@@ -224,9 +234,9 @@ impl Pass {
         ensures boundary { OnOk result (self.new.counted.boundary ≡ self.old.counted.boundary) }
     {
         check_processor(processor)?;
-        let to = self.asked.to;
-        self.counted.count_loss(to, &self.lines, processor, since);
-        self.lines.lose(to, processor, since);
+        self.counted
+            .count_loss(&self.asked, &self.lines, processor, since)?;
+        self.lines.lose(self.asked.to, processor, since);
         Ok(())
     }
 }

@@ -1,16 +1,21 @@
 //! What is known of the tasks behind some lines, of the jobs that aren't forgotten.
-ghost use Rattle.std.specs.Prelude.{◌≡◌, ℕ, ◌<◌, List, Option, length, slice_index_or, vec_len, IfOk};
+ghost use Rattle.std.specs.Prelude.{◌≡◌, ℕ, ◌<◌, List, Option, unwrap_or, length, slice_index_or, vec_len, IfOk};
 ghost use Rattle.yds_kernel.specs.Event.{Said};
 ghost use Rattle.yds_trace.specs.declared.followed.Followed.{Followed};
 ghost use Rattle.yds_trace.specs.declared.shown.ShownTask.{ShownTask};
-ghost use Rattle.yds_trace.specs.Following.{Shows};
+ghost use Rattle.yds_trace.specs.Following.{Shares, Shows};
 ghost use Rattle.yds_trace.specs.Kept.{IsPast};
+ghost use Rattle.yds_trace.specs.Shown.{IsShared, IsShown};
+ghost use Rattle.yds_trace.specs.Views.{asked_read};
 
+use crate::asked::Asked;
 use crate::ended::close;
 use crate::followed::Followed;
 use crate::job::Job;
 use crate::jobs::{copied, last_begin};
+use crate::others::{Span, copied as copied_spans};
 use crate::past::Past;
+use crate::share::share_each;
 use std::alloc::Global;
 use yds_model::Memory;
 
@@ -37,6 +42,56 @@ pub struct Shown {
     pub first: u64,
     /// The time of its last line with a stamp, in nanoseconds; 0 where there is none.
     pub last: u64,
+}
+
+impl ShownTask {
+    /// The same with the jobs as the documents of the processor that is asked for have them.
+    fn shared(&self, alloc: Global, asked: &Asked) -> Result<ShownTask, Memory>
+        ensures { IfOk result (Shares (asked_read asked.now) self.now) }
+    {
+        let mut jobs = copied(alloc, &self.jobs)?;
+        share_each(asked, &mut jobs);
+        Ok(ShownTask {
+            forgotten: self.forgotten,
+            before: self.before,
+            jobs,
+            last_begin: self.last_begin,
+        })
+    }
+}
+
+impl Shown {
+    /// The same for the documents of the processor that is asked for: of a job that moved what it ran there, where that is
+    /// asked for; else nothing is to be changed.
+    pub fn shared(&self, alloc: Global, asked: &Asked) -> Result<Option<Shown>, Memory>
+        ensures { (past : List Said) (boundary : ℕ) → IsShown (asked_read asked.now) past boundary self.now
+            → IfOk result (λ own. IsShared (asked_read asked.now) past boundary (unwrap_or own self.now)) }
+    {
+        if !asked.moved_parts {
+            return Ok(None);
+        }
+        let tasks = share_tasks(alloc, asked, &self.tasks)?;
+        let others = copied_spans(alloc, &self.others)?;
+        Ok(Some(Shown {
+            tasks,
+            others,
+            first: self.first,
+            last: self.last,
+        }))
+    }
+}
+
+/// Each task with its jobs as the documents of the processor that is asked for have them.
+fn share_tasks(alloc: Global, asked: &Asked, tasks: &[ShownTask]) -> Result<Vec<ShownTask>, Memory>
+    ensures many { IfOk result (λ shared. vec_len shared ≡ length tasks.now) }
+    ensures each { IfOk result (λ shared. (number : ℕ) (default was : ShownTask) → number < length tasks.now
+        → Shares (asked_read asked.now) (slice_index_or tasks.now number was) (slice_index_or shared.items number default)) }
+{
+    let mut all = Vec::with_capacity(alloc, tasks.len())?;
+    for task in tasks {
+        all.push(task.shared(alloc, asked)?)?;
+    }
+    Ok(all)
 }
 
 /// What is known of a task: what still has its processor has had it until this time.

@@ -2,6 +2,7 @@
 
 use crate::{
     Asked, Cause, Cut, End, Ended, Kept, MAX_TOUCHES, NO_CUT, Pass, Refused, Stretch, Task, Which,
+    has_run_on,
 };
 use std::alloc::{AllocError, Global};
 use std::test::Fail;
@@ -72,6 +73,8 @@ fn asked(alloc: Global) -> Result<Asked, AllocError> {
         cut_losses: false,
         in_parts: false,
         everywhere: false,
+        moved_parts: false,
+        others: None,
     })
 }
 
@@ -261,6 +264,7 @@ fn what_is_written_is_forgotten(rt: HostRuntime) -> Result<(), Fail> {
     let all = Kept {
         jobs: 3,
         stretches: 3,
+        others: 0,
     };
     assert_eq!(rt; pass.kept(), all);
     let whole = pass.shown(alloc)?;
@@ -275,6 +279,7 @@ fn what_is_written_is_forgotten(rt: HostRuntime) -> Result<(), Fail> {
     let one = Kept {
         jobs: 1,
         stretches: 1,
+        others: 0,
     };
     assert_eq!(rt; pass.kept(), one);
     let rest = pass.shown(alloc)?;
@@ -377,6 +382,59 @@ fn another_processor_has_the_same_jobs(rt: HostRuntime) -> Result<(), Fail> {
 }
 
 #[test]
+fn each_processor_has_its_share_of_a_job(rt: HostRuntime) -> Result<(), Fail> {
+    let alloc = rt.alloc();
+    let lines = [
+        woken(10_000),
+        comes(0, 12_000),
+        leaves(0, 20_000, State::GoesOn),
+        comes(1, 25_000),
+        leaves(1, 40_000, State::Sleeps),
+        woken(110_000),
+        comes(0, 112_000),
+        leaves(0, 120_000, State::Sleeps),
+    ];
+    let first = stretch(0, 12_000, 20_000, 600_000);
+    let second = stretch(1, 25_000, 40_000, 600_000);
+    let stayed = stretch(0, 112_000, 120_000, 600_000);
+    let mut parts = asked(alloc)?;
+    parts.moved_parts = true;
+    let mut pass = pass_over(alloc, parts, &lines)?;
+    let whole = pass.shown(alloc)?;
+    assert_eq!(rt; whole.tasks.len(), 1);
+    let jobs = &whole.tasks[0].jobs;
+    assert_eq!(rt; jobs.len(), 2);
+    assert_eq!(rt; jobs[0].stretches.as_slice(), [first, second].as_slice());
+    assert!(rt; !jobs[0].shared);
+    assert!(rt; has_run_on(0, &jobs[0]));
+    assert!(rt; has_run_on(1, &jobs[0]));
+    assert!(rt; !has_run_on(1, &jobs[1]));
+    pass.turn_to(1);
+    let own = whole.shared(alloc, pass.asked())?.ok_or(())?;
+    assert_eq!(rt; own.tasks.len(), 1);
+    let jobs = &own.tasks[0].jobs;
+    assert_eq!(rt; jobs.len(), 2);
+    assert_eq!(rt; jobs[0].begin, 10_000);
+    assert_eq!(rt; jobs[0].end, End::Ended(40_000));
+    assert_eq!(rt; jobs[0].stretches.as_slice(), [second].as_slice());
+    assert!(rt; jobs[0].shared);
+    assert_eq!(rt; jobs[1].stretches.as_slice(), [stayed].as_slice());
+    assert!(rt; !jobs[1].shared);
+    pass.turn_to(0);
+    let ended = pass.end(alloc)?;
+    assert_eq!(rt; ended.jobs.len(), 1);
+    let jobs = &ended.jobs[0];
+    assert_eq!(rt; jobs.len(), 2);
+    assert_eq!(rt; jobs[0].stretches.as_slice(), [first].as_slice());
+    assert!(rt; jobs[0].shared);
+    assert_eq!(rt; jobs[1].stretches.as_slice(), [stayed].as_slice());
+    let alone = asked(alloc)?;
+    let shared = whole.shared(alloc, &alone)?;
+    assert!(rt; shared.is_none());
+    Ok(())
+}
+
+#[test]
 fn a_later_cut_is_behind_both(rt: HostRuntime) {
     let one = Cut {
         boundary: 40_000,
@@ -422,5 +480,66 @@ fn an_unseen_end_stays_behind_another_job(rt: HostRuntime) -> Result<(), Fail> {
     };
     assert_eq!(rt; first.end, unseen);
     assert_eq!(rt; second.end, End::Lost(20_000));
+    Ok(())
+}
+
+/// Another thread comes to processor 0, or leaves it.
+fn passes(time: u64, previous: Thread<'static>, next: Thread<'static>) -> Said<'static> {
+    line(
+        0,
+        time,
+        Happening::Switch {
+            previous,
+            state: State::GoesOn,
+            next,
+        },
+    )
+}
+
+#[test]
+fn who_is_in_the_way_is_told(rt: HostRuntime) -> Result<(), Fail> {
+    let alloc = rt.alloc();
+    let long = thread(
+        b"a thread whose name has more bytes than are kept of one, as it is so long",
+        9,
+    );
+    let (decode, idle) = (thread(b"decode", 7), thread(b"swapper", 0));
+    let lines = [
+        passes(5_000, idle, long),
+        woken(10_000),
+        passes(12_000, long, decode),
+        passes(30_000, decode, long),
+        passes(33_000, long, idle),
+        passes(35_000, idle, decode),
+        leaves(0, 40_000, State::Sleeps),
+        passes(45_000, idle, long),
+        woken(50_000),
+        marker(1, 60_000),
+    ];
+    let mut wanted = asked(alloc)?;
+    wanted.others = Some(0);
+    let mut pass = pass_over(alloc, wanted, &lines)?;
+    assert_eq!(rt; pass.kept().others, 3);
+    let shown = pass.shown(alloc)?;
+    assert_eq!(rt; shown.others.len(), 3);
+    let first = &shown.others[0];
+    assert_eq!(rt; first.name.len(), 64);
+    assert_eq!(rt; first.pid, 9);
+    assert_eq!(rt; first.from, 10_000);
+    assert_eq!(rt; first.to, 12_000);
+    assert_eq!(rt; shown.others[1].from, 30_000);
+    assert_eq!(rt; shown.others[1].to, 33_000);
+    assert_eq!(rt; shown.others[2].from, 50_000);
+    assert_eq!(rt; shown.others[2].to, 60_000);
+    pass.forget(30_000);
+    assert_eq!(rt; pass.kept().others, 2);
+    pass.take(alloc, lost(0))?;
+    assert_eq!(rt; pass.shown(alloc)?.others.len(), 2);
+    let mut wanted = asked(alloc)?;
+    wanted.others = Some(0);
+    let whole = ended(alloc, wanted, &lines)?;
+    assert_eq!(rt; whole.others.len(), 3);
+    let nothing = ended(alloc, asked(alloc)?, &lines)?;
+    assert_eq!(rt; nothing.others.len(), 0);
     Ok(())
 }

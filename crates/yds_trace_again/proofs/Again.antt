@@ -50,8 +50,8 @@ reads front asked settled silent plain fit short =
 -- # The laws
 
 pub some_are_read_again : SomeAreReadAgain
-some_are_read_again asked strict past units test fit labelled time none_before none short =
-    let settled : Settled = settled_where asked past units test in
+some_are_read_again asked strict past units test others fit labelled time none_before none short =
+    let settled : Settled = settled_where asked past units test others in
     reads [] asked settled (Leads-nil (SaysWith [] no_document)) (some_plain asked past test labelled)
     (fits asked units (filter test (all_judged asked past)) fit labelled (those_are_some asked past units test labelled time none_before) (passes_limits strict settled none)) short
 

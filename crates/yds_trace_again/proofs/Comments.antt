@@ -1,5 +1,5 @@
 -- The comments of a trace's document are passed over: none has a line feed in it but at its end.
-use Rattle.yds_model.proofs.Common.{◌≡◌, ℕ, zero, suc, ◌+◌, ◌-◌, ◌*◌, ◌/◌, ◌%◌, ◌==◌, ◌&&◌, Bool, true, false, not, nat_lt, nat_le, List, [], ◌∷◌, ◌++◌, length, map, filter, drop, reverse, decimal, Option, Some, None, refl, arith, codes, if◌then◌else◌, All, AllByRecursion, flat_map, zip, enumerate_from, sum_by, count_by, slice_index_or, cond_both, Entry, is_name}
+use Rattle.yds_model.proofs.Common.{◌≡◌, ℕ, zero, suc, ◌+◌, ◌-◌, ◌*◌, ◌/◌, ◌%◌, ◌≤◌, ◌==◌, ◌&&◌, ◌||◌, Bool, true, false, not, nat_lt, nat_le, ltb-false, and_from, list_all, List, [], ◌∷◌, ◌++◌, length, map, filter, drop, reverse, decimal, Option, Some, None, is_some, refl, arith, codes, if◌then◌else◌, All, AllByRecursion, flat_map, zip, enumerate_from, sum_by, count_by, slice_index_or, cond_both, Entry, is_name}
 use Rattle.yds_kernel.specs.Event.{Said}
 use Rattle.yds_kernel.specs.Parts.{capped}
 use Rattle.yds_trace.specs.declared.job.Stretch.{Stretch}
@@ -8,15 +8,16 @@ use Rattle.yds_trace.specs.declared.reason.Reason.TheVariants as reasons
 use Rattle.yds_trace.specs.Asked.{Task, no_task, Asked, task_at}
 use Rattle.yds_trace.specs.Jobs.{Job}
 use Rattle.yds_trace.specs.Late.{is_open}
+use Rattle.yds_trace.specs.Others.{Span}
 use Rattle.yds_trace.specs.WrittenTime.{Units, written_time, runs_end}
-use Rattle.yds_trace.specs.Document.{Judged, judged, judged_of, judged_from, all_judged, began_before, jobs_of, stands, written_end, written_runs}
+use Rattle.yds_trace.specs.Document.{named, Judged, judged, judged_of, judged_from, all_judged, began_before, jobs_of, shares_of, stands, written_end, written_name, written_runs}
 use Rattle.yds_trace_laws.proofs.Ordered.{filter-all, in_order-all, append-all, map-all}
 use Rattle.yds_trace_document.specs.Settled.{Settled, judged_by_task}
-use Rattle.yds_trace_text.specs.Text.{told, comment, nine_digits, six_digits, in_seconds, in_milliseconds, behind_point, counted, head_line, cycles, units_line, reason_text, behind_deadline, signed_time, window_text, how_late, without_runs_comment, late_kind, standing_comment, late_comment, first_begin, begin_later, end_comment, begins_comment, end_earlier, end_is_told, ends_comment, shown_comments, every_reason, is_left_out_for, first_name, last_name, Group, group_of, group_for, groups_of_task, has_jobs, groups_of, all_groups, most_first, one_left_out, some_left_out, group_comment, is_cut_off, cut_off_comment, left_out_comments, short_stretches, is_or_are, some_short, short_comment, length_of, wake_ups_of, most_woken, woken_comment, wake_up_comment, known_begins, mean_distance, distance_comment, unit_comment, deadline_comment, apart_comment, task_unit_comments, all_unit_comments, left_out_text, its_or_their, late_without, without_runs_text, last_line, comments_text}
+use Rattle.yds_trace_text.specs.Text.{told, comment, nine_digits, six_digits, in_seconds, in_milliseconds, behind_point, counted, head_line, cycles, units_line, reason_text, behind_deadline, signed_time, window_text, how_late, without_runs_comment, late_kind, standing_comment, late_comment, first_begin, begin_later, end_comment, begins_comment, end_earlier, end_is_told, ends_comment, shown_comments, every_reason, is_left_out_for, first_name, last_name, Group, group_of, group_for, groups_of_task, has_jobs, groups_of, all_groups, most_first, one_left_out, some_left_out, group_comment, is_cut_off, cut_off_comment, left_out_comments, short_stretches, is_or_are, some_short, short_comment, length_of, wake_ups_of, most_woken, woken_comment, wake_up_comment, known_begins, mean_distance, distance_comment, unit_comment, deadline_comment, apart_comment, task_unit_comments, all_unit_comments, shown_byte, other_comment, left_out_text, its_or_their, late_without, without_runs_text, last_line, comments_text}
 use Rattle.yds_texts.proofs.Brought.{Leads, Leads-nil, Leads-append, Leads-comment}
 use Rattle.yds_trace_again.specs.Laws.{AreLabelled}
-use Rattle.yds_trace_again.proofs.Plain.{Plain, plain_all, plain_append, plain_told, plain_if, plain_drop, plain_decimal, name_plain}
-use Rattle.yds_trace_again.proofs.Names.{named_plain}
+use Rattle.yds_trace_again.proofs.Plain.{is_other, is_other_true, Plain, plain_all, plain_append, plain_told, plain_if, plain_drop, plain_decimal, name_plain}
+use Rattle.yds_trace_again.proofs.Names.{named_plain, in_parts_plain}
 
 -- # Texts that are passed over
 
@@ -103,9 +104,9 @@ units_silent P units =
 
 -- # Late jobs
 
--- its name is plain
+-- the name by which it is written is plain
 abbrev pub HasPlainName : Judged → Type 0
-HasPlainName one = Plain one.name
+HasPlainName one = Plain (written_name one)
 
 plain_behind : (late : ℕ) → Plain (behind_deadline late)
 plain_behind late = plain_told (in_milliseconds late ∷ codes " ms after its deadline" ∷ []) (plain_milliseconds late, (refl, tt))
@@ -129,7 +130,9 @@ plain_kind : (units : Units) (one : Judged) → Plain (late_kind units one)
 plain_kind units one =
     plain_if (is_open one.job.end) (codes "not ended: ") _ refl
     (plain_if (nat_le (written_end units one.job.end) (written_time units one.due)) (codes "late by less than a unit of time: ") _ refl
-    (plain_if (nat_le (runs_end (written_runs units one.job)) (written_time units one.due)) (codes "late in a run within one tick: ") (codes "late: ") refl refl))
+    (plain_if (nat_le (runs_end (written_runs units one.job)) (written_time units one.due))
+    (if is_some one.part then codes "late on another processor: " else codes "late in a run within one tick: ") (codes "late: ")
+    (plain_if (is_some one.part) (codes "late on another processor: ") (codes "late in a run within one tick: ") refl refl) refl))
 
 late_silent : (P : List Entry → Type 0) (units : Units) (one : Judged) → HasPlainName one → Silent P (late_comment units one)
 late_silent P units one name = by one.late
@@ -141,9 +144,9 @@ late_silent P units one name = by one.late
     by None = Leads-nil P
     by (Some late) =
         silent_if P (stands one) (standing_comment units one late) (without_runs_comment units one late)
-        (silent_comment P (late_kind units one ∷ one.name ∷ codes ", " ∷ behind_deadline late ∷ []) (plain_kind units one, (name, (refl, (plain_behind late, tt)))))
+        (silent_comment P (late_kind units one ∷ written_name one ∷ codes ", " ∷ behind_deadline late ∷ []) (plain_kind units one, (name, (refl, (plain_behind late, tt)))))
         (silent_comment P
-        (codes "late, without its runs: " ∷ one.name ∷ codes " (" ∷ reason_text one.reason ∷ codes "), " ∷ how_late one.job ∷ behind_deadline late ∷ window_text units one ∷ [])
+        (codes "late, without its runs: " ∷ written_name one ∷ codes " (" ∷ reason_text one.reason ∷ codes "), " ∷ how_late one.job ∷ behind_deadline late ∷ window_text units one ∷ [])
         (refl, (name, (refl, (plain_reason one.reason, (refl, (plain_how_late one.job, (plain_behind late, (plain_window units one, tt)))))))))
 
 -- # Begins and ends
@@ -157,18 +160,18 @@ begins_silent P units one name = by (first_begin (reverse one.job.stretches))
     by : (begin : Option ℕ) → Silent P (elim begin as (λ _. List ℕ) [
       | None ↦ []
       | Some begin ↦ if begin_later (written_time units begin) (written_runs units one.job)
-          then end_comment (codes "begins: ") one.name (written_time units begin) else []
+          then end_comment (codes "begins: ") (written_name one) (written_time units begin) else []
     ])
     by None = Leads-nil P
     by (Some begin) =
-        silent_if P (begin_later (written_time units begin) (written_runs units one.job)) (end_comment (codes "begins: ") one.name (written_time units begin)) []
-        (end_silent P (codes "begins: ") one.name (written_time units begin) refl name) (Leads-nil P)
+        silent_if P (begin_later (written_time units begin) (written_runs units one.job)) (end_comment (codes "begins: ") (written_name one) (written_time units begin)) []
+        (end_silent P (codes "begins: ") (written_name one) (written_time units begin) refl name) (Leads-nil P)
 
 ends_silent : (P : List Entry → Type 0) (units : Units) (one : Judged) → HasPlainName one → Silent P (ends_comment units one)
 ends_silent P units one name =
     silent_if P (not (is_open one.job.end) && not (end_is_told units one) && end_earlier (written_end units one.job.end) (written_runs units one.job))
-    (end_comment (codes "ends: ") one.name (written_end units one.job.end)) []
-    (end_silent P (codes "ends: ") one.name (written_end units one.job.end) refl name) (Leads-nil P)
+    (end_comment (codes "ends: ") (written_name one) (written_end units one.job.end)) []
+    (end_silent P (codes "ends: ") (written_name one) (written_end units one.job.end) refl name) (Leads-nil P)
 
 shown_silent : (P : List Entry → Type 0) (units : Units) (one : Judged) → HasPlainName one → Silent P (shown_comments units one)
 shown_silent P units one name =
@@ -249,8 +252,8 @@ short_silent P stretches =
 most_plain : (ones : List Judged) (most : ℕ) (name : List ℕ) → AllByRecursion HasPlainName ones → Plain name → Plain (most_woken ones most name).1
 most_plain [] most name all plain = plain
 most_plain (one ∷ more) most name all plain =
-    cond_both (nat_lt most (wake_ups_of one)) (most_woken more (wake_ups_of one) one.name) (most_woken more most name) (λ (found : ℕ × List ℕ). Plain found.1)
-    (λ held. most_plain more (wake_ups_of one) one.name all.1 all.0) (λ denied. most_plain more most name all.1 plain)
+    cond_both (nat_lt most (wake_ups_of one)) (most_woken more (wake_ups_of one) (written_name one)) (most_woken more most name) (λ (found : ℕ × List ℕ). Plain found.1)
+    (λ held. most_plain more (wake_ups_of one) (written_name one) all.1 all.0) (λ denied. most_plain more most name all.1 plain)
 
 wake_up_silent : (P : List Entry → Type 0) (ones : List Judged) → AllByRecursion HasPlainName ones → Silent P (wake_up_comment ones)
 wake_up_silent P ones all =
@@ -290,6 +293,38 @@ task_unit_silent P pair plain =
     (silent_if P (pair.0.apart == 0) [] (unit_comment (codes "APART of ") pair.0.label pair.0.apart mean) (Leads-nil P)
     (unit_silent P (codes "APART of ") pair.0.label pair.0.apart mean refl plain.0))
 
+-- # Who else had the processor
+
+-- No byte that is shown is a line feed.
+shown_other : (byte : ℕ) → is_other 10 (shown_byte byte) ≡ true
+shown_other byte = by (nat_lt byte 32) refl (byte == 127)
+  where
+    by : (b : Bool) → nat_lt byte 32 ≡ b → (c : Bool) → is_other 10 (if b || c then 63 else byte) ≡ true
+    by true low c = refl
+    by false high true = refl
+    by false high false = is_other_true 10 byte (λ same. let least : 32 ≤ byte = ltb-false byte 32 high in omega (arith, same, least))
+
+plain_shown : (name : List ℕ) → Plain (map shown_byte name)
+plain_shown [] = refl
+plain_shown (byte ∷ name) = and_from (is_other 10 (shown_byte byte)) (list_all (is_other 10) (map shown_byte name)) (shown_other byte) (plain_shown name)
+
+other_silent : (P : List Entry → Type 0) (units : Units) (span : Span) → Silent P (other_comment units span)
+other_silent P units span =
+    silent_if P (nat_lt (written_time units span.from) (written_time units span.to))
+    (comment (codes "other " ∷ map shown_byte span.name ∷ codes "-" ∷ decimal span.pid ∷ codes " " ∷ decimal (written_time units span.from)
+    ∷ codes " " ∷ decimal (written_time units span.to) ∷ [])) []
+    (silent_comment P
+    (codes "other " ∷ map shown_byte span.name ∷ codes "-" ∷ decimal span.pid ∷ codes " " ∷ decimal (written_time units span.from)
+    ∷ codes " " ∷ decimal (written_time units span.to) ∷ []) (
+      refl,
+      (plain_shown span.name, (refl, (plain_decimal span.pid, (refl, (plain_decimal (written_time units span.from), (refl, (plain_decimal (written_time units span.to), tt))))))),
+    ))
+    (Leads-nil P)
+
+others_silent : (P : List Entry → Type 0) (units : Units) (spans : List Span) → Silent P (flat_map (other_comment units) spans)
+others_silent P units [] = Leads-nil P
+others_silent P units (span ∷ spans) = silent_both P (other_comment units span) (flat_map (other_comment units) spans) (other_silent P units span) (others_silent P units spans)
+
 -- # The last line
 
 last_silent : (P : List Entry → Type 0) (settled : Settled) → Silent P (last_line settled)
@@ -319,8 +354,9 @@ label_plain (task ∷ tasks) (suc number) named = label_plain tasks number (λ k
 
 names_of-all : (asked : Asked) (past : List Said) (number : ℕ) → AreLabelled asked.tasks → AllByRecursion HasPlainName (judged_of asked past number)
 names_of-all asked past number labelled =
-    map-all HasPlainName (judged asked past number (began_before (jobs_of asked past number))) (enumerate_from 0 (jobs_of asked past number))
-    (λ numbered. named_plain (task_at asked number).label (began_before (jobs_of asked past number)) numbered.0 (label_plain asked.tasks number labelled.names))
+    map-all HasPlainName (judged asked past number (began_before (jobs_of asked past number))) (enumerate_from 0 (shares_of asked past number))
+    (λ numbered. in_parts_plain (named (task_at asked number).label (began_before (jobs_of asked past number)) numbered.0) (if numbered.1.shared then Some asked.processor else None)
+    (named_plain (task_at asked number).label (began_before (jobs_of asked past number)) numbered.0 (label_plain asked.tasks number labelled.names)))
 
 names_from-all : (asked : Asked) (past : List Said) (number : ℕ) (tasks : List Task) → AreLabelled asked.tasks → AllByRecursion HasPlainName (judged_from asked past number tasks)
 names_from-all asked past number [] labelled = tt
@@ -386,4 +422,7 @@ comments_silent P tasks settled plain =
     let five : Silent P (late ++ shown ++ left ++ short ++ woken) = silent_both P (late ++ shown ++ left ++ short) woken four (wake_up_silent P settled.judged plain.names) in
     let six : Silent P (late ++ shown ++ left ++ short ++ woken ++ units) =
     silent_both P (late ++ shown ++ left ++ short ++ woken) units five (silent_each P IsPlainTask task_unit_comments (task_unit_silent P) (zip tasks settled.by_task) plain.pairs) in
-    silent_both P (late ++ shown ++ left ++ short ++ woken ++ units) (last_line settled) six (last_silent P settled)
+    let others : List ℕ = flat_map (other_comment settled.units) settled.others in
+    let seven : Silent P (late ++ shown ++ left ++ short ++ woken ++ units ++ others) =
+    silent_both P (late ++ shown ++ left ++ short ++ woken ++ units) others six (others_silent P settled.units settled.others) in
+    silent_both P (late ++ shown ++ left ++ short ++ woken ++ units ++ others) (last_line settled) seven (last_silent P settled)

@@ -7,7 +7,7 @@ use Rattle.yds_kernel.specs.Event.{Said}
 use Rattle.yds_trace.specs.Asked.{Task, no_task, Asked, IsAsked, task_at}
 use Rattle.yds_trace.specs.Jobs.{Job as TracedJob}
 use Rattle.yds_trace.specs.WrittenTime.{Units, Run, before, work_of_run, work_of_runs}
-use Rattle.yds_trace.specs.Document.{named, Judged, judged, judged_of, judged_from, all_judged, began_before, jobs_of, stands, put_in, in_order, units_of, Written, with_runs, without_runs, written_of, Placed, placed_runs, all_runs}
+use Rattle.yds_trace.specs.Document.{named, name_in_parts, written_name, Judged, judged, judged_of, judged_from, all_judged, began_before, jobs_of, shares_of, stands, put_in, in_order, units_of, Written, with_runs, without_runs, written_of, Placed, placed_runs, all_runs}
 use Rattle.yds_trace_laws.specs.AsSlots.{job_read, jobs_read, slot_read, slots_read}
 use Rattle.yds_trace_laws.specs.InUnits.{document_in, NoneBefore}
 use Rattle.yds_trace_laws.proofs.Ordered.{filter-all, put_in-all, in_order-all, append-all, map-all, filter_map-all}
@@ -98,12 +98,12 @@ pub record IsOfTask (asked : Asked) (low high : ℕ) (one : Judged) : Type 0 whe
   not_after : number < high
   before_first : Bool
   place : ℕ
-  name_is : one.name ≡ named (task_at asked number).label before_first place
+  name_is : written_name one ≡ name_in_parts (named (task_at asked number).label before_first place) one.part
   due_is : one.due ≡ one.job.begin + (task_at asked number).deadline
 
 of_task : (asked : Asked) (past : List Said) (number : ℕ) → AllByRecursion (IsOfTask asked number (number + 1)) (judged_of asked past number)
 of_task asked past number =
-    map-all (IsOfTask asked number (number + 1)) (judged asked past number (began_before (jobs_of asked past number))) (enumerate_from 0 (jobs_of asked past number))
+    map-all (IsOfTask asked number (number + 1)) (judged asked past number (began_before (jobs_of asked past number))) (enumerate_from 0 (shares_of asked past number))
     (λ numbered. record {
       number = number;
       not_before = omega arith;
@@ -168,29 +168,29 @@ apart_append name [] ys across first second = second
 apart_append name (x ∷ xs) ys across first second =
     (append-all (λ y. Other (name x) (name y)) xs ys first.0 across.0, apart_append name xs ys across.1 first.1 second)
 
-abbrev pub judged_name : Judged → List ℕ
-judged_name one = one.name
-
-later_names : (asked : Asked) (past : List Said) (number : ℕ) (before : Bool) (k start : ℕ) (jobs : List TracedJob) → k < start →
-    AllByRecursion (λ one. Other (named (task_at asked number).label before k) (judged_name one)) (map (judged asked past number before) (enumerate_from start jobs))
-later_names asked past number before k start [] order = tt
-later_names asked past number before k start (job ∷ jobs) order =
-    (one_task (task_at asked number).label before k start order, later_names asked past number before k (start + 1) jobs (omega (arith, order)))
+later_names : (asked : Asked) (past : List Said) (number : ℕ) (before moved : Bool) (k start : ℕ) (jobs : List TracedJob) → k < start →
+    AllByRecursion (λ one. Other (name_in_parts (named (task_at asked number).label before k) (if moved then Some asked.processor else None)) (written_name one))
+    (map (judged asked past number before) (enumerate_from start jobs))
+later_names asked past number before moved k start [] order = tt
+later_names asked past number before moved k start (job ∷ jobs) order = (
+  one_task (task_at asked number).label before k start asked.processor moved job.shared order,
+  later_names asked past number before moved k (start + 1) jobs (omega (arith, order)),
+)
 
 apart_of : (asked : Asked) (past : List Said) (number : ℕ) (before : Bool) (start : ℕ) (jobs : List TracedJob) →
-    Apart judged_name (map (judged asked past number before) (enumerate_from start jobs))
+    Apart written_name (map (judged asked past number before) (enumerate_from start jobs))
 apart_of asked past number before start [] = tt
 apart_of asked past number before start (job ∷ jobs) =
-    (later_names asked past number before start (start + 1) jobs (omega arith), apart_of asked past number before (start + 1) jobs)
+    (later_names asked past number before job.shared start (start + 1) jobs (omega arith), apart_of asked past number before (start + 1) jobs)
 
 two_others : (asked : Asked) (one other : Judged) (low middle high : ℕ) → high ≤ length asked.tasks → AllPairs (λ task other. task.label ≢ other.label) asked.tasks →
-    IsOfTask asked low middle one → IsOfTask asked middle high other → Other one.name other.name
+    IsOfTask asked low middle one → IsOfTask asked middle high other → Other (written_name one) (written_name other)
 two_others asked one other low middle high within different first second =
     let apart : (task_at asked first.number).label ≢ (task_at asked second.number).label =
     different first.number second.number no_task (omega (arith, first.not_after, second.not_before)) (omega (arith, second.not_after, within)) in
-    let names = two_tasks (task_at asked first.number).label (task_at asked second.number).label first.before_first second.before_first first.place second.place apart in
-    subst (λ name. Other name other.name) (sym first.name_is)
-    (subst (λ name. Other (named (task_at asked first.number).label first.before_first first.place) name) (sym second.name_is) names)
+    let names = two_tasks (task_at asked first.number).label (task_at asked second.number).label first.before_first second.before_first first.place second.place one.part other.part apart in
+    subst (λ name. Other name (written_name other)) (sym first.name_is)
+    (subst (λ name. Other (name_in_parts (named (task_at asked first.number).label first.before_first first.place) one.part) name) (sym second.name_is) names)
 
 all_across : {A B : Type 0} (P : A → Type 0) (Q : B → Type 0) (R : A → B → Type 0) (xs : List A) (ys : List B) →
     ((x : A) (y : B) → P x → Q y → R x y) → AllByRecursion P xs → AllByRecursion Q ys → AllByRecursion (λ x. AllByRecursion (R x) ys) xs
@@ -202,28 +202,28 @@ all_across P Q R (x ∷ xs) ys each first second = (inner ys second, all_across 
     inner (y ∷ ys) all = (each x y first.0 all.0, inner ys all.1)
 
 apart_from : (asked : Asked) (past : List Said) (number : ℕ) (tasks : List Task) → AllPairs (λ task other. task.label ≢ other.label) asked.tasks →
-    number + length tasks ≤ length asked.tasks → Apart judged_name (judged_from asked past number tasks)
+    number + length tasks ≤ length asked.tasks → Apart written_name (judged_from asked past number tasks)
 apart_from asked past number [] different within = tt
 apart_from asked past number (task ∷ tasks) different within =
-    apart_append judged_name (judged_of asked past number) (judged_from asked past (number + 1) tasks)
-    (all_across (IsOfTask asked number (number + 1)) (IsOfTask asked (number + 1) (number + 1 + length tasks)) (λ x y. Other x.name y.name)
+    apart_append written_name (judged_of asked past number) (judged_from asked past (number + 1) tasks)
+    (all_across (IsOfTask asked number (number + 1)) (IsOfTask asked (number + 1) (number + 1 + length tasks)) (λ x y. Other (written_name x) (written_name y))
     (judged_of asked past number) (judged_from asked past (number + 1) tasks)
     (λ x y first second. two_others asked x y number (number + 1) (number + 1 + length tasks) (omega (arith, within)) different first second)
     (of_task asked past number) (of_tasks asked past (number + 1) tasks))
-    (apart_of asked past number (began_before (jobs_of asked past number)) 0 (jobs_of asked past number))
+    (apart_of asked past number (began_before (jobs_of asked past number)) 0 (shares_of asked past number))
     (apart_from asked past (number + 1) tasks different (omega (arith, within)))
 
 -- # What is written
 
-written_name : (units : Units) (one : Judged) (job : Written) → written_of units one ≡ Some job → one.name ≡ job.name
-written_name units one job is = by (stands one) (is_some one.late) is
+name_written : (units : Units) (one : Judged) (job : Written) → written_of units one ≡ Some job → written_name one ≡ job.name
+name_written units one job is = by (stands one) (is_some one.late) is
   where
-    by : (b c : Bool) → (if b then Some (with_runs units one) else (if c then Some (without_runs units one) else None)) ≡ Some job → one.name ≡ job.name
+    by : (b c : Bool) → (if b then Some (with_runs units one) else (if c then Some (without_runs units one) else None)) ≡ Some job → written_name one ≡ job.name
     by true c is = let same : with_runs units one ≡ job = cc in ap (λ (job : Written). job.name) same
     by false true is = let same : without_runs units one ≡ job = cc in ap (λ (job : Written). job.name) same
     by false false is = cc
 
-written_apart : (units : Units) (ones : List Judged) → Apart judged_name ones → Apart name_of (filter_map (written_of units) ones)
+written_apart : (units : Units) (ones : List Judged) → Apart written_name ones → Apart name_of (filter_map (written_of units) ones)
 written_apart units [] apart = tt
 written_apart units (one ∷ ones) apart = by (written_of units one) refl (written_apart units ones apart.1)
   where
@@ -231,8 +231,8 @@ written_apart units (one ∷ ones) apart = by (written_of units one) refl (writt
         Apart name_of (cons_option o (filter_map (written_of units) ones))
     by None is rest = rest
     by (Some job) is rest = (
-      filter_map-all (written_of units) (λ y. Other one.name y.name) (λ y. Other job.name y.name)
-          (λ x y other given. subst (λ name. Other name y.name) (written_name units one job is) (subst (λ name. Other one.name name) (written_name units x y given) other)) ones apart.0,
+      filter_map-all (written_of units) (λ y. Other (written_name one) (written_name y)) (λ y. Other job.name y.name)
+          (λ x y other given. subst (λ name. Other name y.name) (name_written units one job is) (subst (λ name. Other (written_name one) name) (name_written units x y given) other)) ones apart.0,
       rest,
     )
 
@@ -309,7 +309,7 @@ written_is units one job positive later is = by (stands one) (is_some one.late) 
 -- Jobs of a trace whose names differ, in units of their own: none that stands as it is begins before time 0.
 pub record AreSome (asked : Asked) (units : Units) (ones : List Judged) : Type 0 where
   pub of_tasks : AllByRecursion (IsOfTask asked 0 (length asked.tasks)) ones
-  pub apart : Apart judged_name ones
+  pub apart : Apart written_name ones
   pub time_is : units.time ≡ asked.unit
   pub none_before : NoneBefore units ones
 
@@ -320,9 +320,9 @@ apart_filter name test (x ∷ xs) apart =
     (λ held. (filter-all (λ y. Other (name x) (name y)) test xs apart.0, apart_filter name test xs apart.1))
     (λ denied. apart_filter name test xs apart.1)
 
-all_apart : (asked : Asked) (past : List Said) → AreLabelled asked.tasks → Apart judged_name (all_judged asked past)
+all_apart : (asked : Asked) (past : List Said) → AreLabelled asked.tasks → Apart written_name (all_judged asked past)
 all_apart asked past labelled =
-    apart_in_order judged_name (λ one. one.job.begin) (judged_from asked past 0 asked.tasks) (apart_from asked past 0 asked.tasks labelled.different (omega arith))
+    apart_in_order written_name (λ one. one.job.begin) (judged_from asked past 0 asked.tasks) (apart_from asked past 0 asked.tasks labelled.different (omega arith))
 
 pub all_are_some : (asked : Asked) (past : List Said) → AreLabelled asked.tasks → AreSome asked (units_of asked past) (all_judged asked past)
 all_are_some asked past labelled = record {
@@ -336,7 +336,7 @@ pub those_are_some : (asked : Asked) (past : List Said) (units : Units) (test : 
     NoneBefore units (filter test (all_judged asked past)) → AreSome asked units (filter test (all_judged asked past))
 those_are_some asked past units test labelled time none_before = record {
   of_tasks = filter-all (IsOfTask asked 0 (length asked.tasks)) test (all_judged asked past) (of_all_tasks asked past);
-  apart = apart_filter judged_name test (all_judged asked past) (all_apart asked past labelled);
+  apart = apart_filter written_name test (all_judged asked past) (all_apart asked past labelled);
   time_is = time;
   none_before = none_before;
 }
@@ -407,19 +407,29 @@ named_some label true zero = omega (arith, length-append label (codes ".before")
 named_some label true (suc k) = omega (arith, length-append (label ++ codes ".") (decimal k), length-append label (codes "."))
 named_some label false k = omega (arith, length-append (label ++ codes ".") (decimal k), length-append label (codes "."))
 
+visible_in_parts : (name : List ℕ) (part : Option ℕ) → list_all is_visible name ≡ true → list_all is_visible (name_in_parts name part) ≡ true
+visible_in_parts name None visible = visible
+visible_in_parts name (Some processor) visible =
+    visible_both (name ++ codes "@") (decimal processor) (visible_both name (codes "@") visible refl) (visible_digits (decimal processor) (decimal_digits processor))
+
+some_in_parts : (name : List ℕ) (part : Option ℕ) → 1 ≤ length name → 1 ≤ length (name_in_parts name part)
+some_in_parts name None some = some
+some_in_parts name (Some processor) some = omega (arith, length-append (name ++ codes "@") (decimal processor), length-append name (codes "@"), some)
+
 -- of a name that isn't judged yet whether it is short
 record IsShown (name : List ℕ) : Type 0 where
   some : 1 ≤ length name
   visible : list_all is_visible name ≡ true
 
-shown : (asked : Asked) (one : Judged) → AreLabelled asked.tasks → IsOfTask asked 0 (length asked.tasks) one → IsShown one.name
+shown : (asked : Asked) (one : Judged) → AreLabelled asked.tasks → IsOfTask asked 0 (length asked.tasks) one → IsShown (written_name one)
 shown asked one labelled of =
     let label : is_name (task_at asked of.number).label ≡ true = labelled.names of.number no_task of.not_after in
     let parts = and_parts _ _ label in
+    let name : List ℕ = named (task_at asked of.number).label of.before_first of.place in
     subst IsShown (sym of.name_is)
     (record {
-      some = named_some (task_at asked of.number).label of.before_first of.place;
-      visible = named_visible (task_at asked of.number).label of.before_first of.place parts.1;
+      some = some_in_parts name one.part (named_some (task_at asked of.number).label of.before_first of.place);
+      visible = visible_in_parts name one.part (named_visible (task_at asked of.number).label of.before_first of.place parts.1);
     })
 
 name_fits : (name : List ℕ) → IsShown name → length name ≤ MAX_NAME → is_name name ≡ true
@@ -440,7 +450,7 @@ fits asked units ones fit labelled some limits =
     let apart : Apart name_of jobs = written_apart units ones some.apart in
     let shown_names : AllByRecursion (λ job. IsShown job.name) jobs =
     filter_map-all (written_of units) (IsOfTask asked 0 (length asked.tasks)) (λ job. IsShown job.name)
-    (λ one job of is. subst IsShown (written_name units one job is) (shown asked one labelled of)) ones some.of_tasks in
+    (λ one job of is. subst IsShown (name_written units one job is) (shown asked one labelled of)) ones some.of_tasks in
     let placed : AllByRecursion (λ (placed : Placed). (placed.job < length jobs) × IsRun placed.run) (all_runs jobs) =
     in_order-all (λ (placed : Placed). (placed.job < length jobs) × IsRun placed.run) (λ placed. placed.run.from) (flat_map placed_runs (enumerate_from 0 jobs))
     (placed_are 0 (length jobs) jobs (omega arith) (all_runs_are jobs written small)) in

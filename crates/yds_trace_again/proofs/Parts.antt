@@ -8,6 +8,7 @@ use Rattle.yds_trace.specs.Past.{first_time}
 use Rattle.yds_trace.specs.Faults.{first_fault}
 use Rattle.yds_trace.specs.WrittenTime.{Units}
 use Rattle.yds_trace.specs.Document.{Judged, judged_of, all_judged, stands, Written}
+use Rattle.yds_trace.specs.Others.{Span}
 use Rattle.yds_trace.specs.Parts.{belongs, begin_of, begins_from, is_before_end, of_part, waiting, part_until}
 use Rattle.yds_trace_laws.specs.InUnits.{document_in, AreOf, NoneBefore}
 use Rattle.yds_trace_laws.proofs.Ordered.{filter-all}
@@ -126,16 +127,16 @@ part_some asked past cut until fit labelled none =
     (subst (NoneBefore units) (sym (part_is asked past cut until)) (part_not_before asked past cut until fit none)))
 
 -- a part without a job passes each limit
-part_limits : (asked : Asked) (strict : Bool) (cut : Cut) (units : Units) (by_task : List (List Judged)) (part : List Judged) →
-    part_limit_fault asked strict cut (settled_in units by_task part) ≡ None → PassesLimits (document_in units part).jobs (document_in units part).runs
-part_limits asked strict cut units by_task part none = by ((asked.everywhere || nat_lt 0 cut.parts) && (length (document_in units part).jobs == 0)) refl none
+part_limits : (asked : Asked) (strict : Bool) (cut : Cut) (units : Units) (by_task : List (List Judged)) (part : List Judged) (others : List Span) →
+    part_limit_fault asked strict cut (settled_in units by_task part others) ≡ None → PassesLimits (document_in units part).jobs (document_in units part).runs
+part_limits asked strict cut units by_task part others none = by ((asked.everywhere || nat_lt 0 cut.parts) && (length (document_in units part).jobs == 0)) refl none
   where
     by : (b : Bool) → ((asked.everywhere || nat_lt 0 cut.parts) && (length (document_in units part).jobs == 0)) ≡ b →
-        (if b then (if strict then missed_fault part else None) else limit_fault strict (settled_in units by_task part)) ≡ None →
+        (if b then (if strict then missed_fault part else None) else limit_fault strict (settled_in units by_task part others)) ≡ None →
         PassesLimits (document_in units part).jobs (document_in units part).runs
     by true is none =
         no_jobs (document_in units part).jobs (and_parts (asked.everywhere || nat_lt 0 cut.parts) (length (document_in units part).jobs == 0) is).1
-    by false is none = passes_limits strict (settled_in units by_task part) none
+    by false is none = passes_limits strict (settled_in units by_task part others) none
 
 plain_windows : (cut : Cut) → Plain (windows_text cut)
 plain_windows cut = plain_if (nat_lt cut.boundary cut.due) (codes ", windows open") [] refl refl
@@ -201,5 +202,5 @@ parts_are_read_again asked strict past cut until fit labelled none limits short 
     (part_silent (SaysWith [] no_document) asked cut (is_none until) (shift_of asked past part) settled.document.jobs)
     (part_plain asked past cut until labelled)
     (fits asked settled.units part fit labelled (part_some asked past cut until fit labelled none)
-    (part_limits asked strict cut settled.units (part_by_task asked past cut until) part limits))
+    (part_limits asked strict cut settled.units (part_by_task asked past cut until) part settled.others limits))
     short

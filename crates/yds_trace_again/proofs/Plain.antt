@@ -9,7 +9,7 @@ is_other other byte = not (byte == other)
 abbrev pub Plain : List ℕ → Type 0
 Plain text = list_all (is_other 10) text ≡ true
 
-is_other_true : (other byte : ℕ) → byte ≢ other → is_other other byte ≡ true
+pub is_other_true : (other byte : ℕ) → byte ≢ other → is_other other byte ≡ true
 is_other_true other byte apart = ap not (ne_eqb byte other apart)
 
 is_other_apart : (other byte : ℕ) → is_other other byte ≡ true → byte ≢ other

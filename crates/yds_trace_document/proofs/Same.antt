@@ -11,11 +11,13 @@ use Rattle.yds_trace.specs.Past.{first_time, last_time}
 use Rattle.yds_trace.specs.Jobs.{Job}
 use Rattle.yds_trace.specs.Late.{due, is_open, late_by}
 use Rattle.yds_trace.specs.Ended.{IsEnded, in_order_of_begin, jobs_from}
-use Rattle.yds_trace.specs.Views.{asked_read}
+use Rattle.yds_trace.specs.Others.{Span, spans_within, others_of}
+use Rattle.yds_trace.specs.Views.{asked_read, span_read}
 use Rattle.yds_trace.specs.WrittenTime.{Units}
-use Rattle.yds_trace.specs.Document.{is_lost, named, jobs_of, began_before, Judged, judged, judged_of, judged_from, in_order, least_begin, all_judged, units_of, Written, written_of, written_jobs, Placed, placed_runs, all_runs}
+use Rattle.yds_trace.specs.Document.{is_lost, named, jobs_of, shares_of, began_before, Judged, judged, judged_of, judged_from, in_order, least_begin, all_judged, time_zero, units_of, Written, written_of, written_jobs, Placed, placed_runs, all_runs}
+use Rattle.yds_trace.proofs.Shares.{shares_began_before}
 use Rattle.yds_trace_document.specs.Settled.{judged_by_task, Settled, settled_of, with_capped_work, with_capped_works}
-use Rattle.yds_trace_document.specs.Kept.{last_of, is_to_reached, run_reason, judged_at, judged_task, judged_tasks, begin_of, together, zero_of, units_at, capped_option, capped_jobs, within_of, settled_at}
+use Rattle.yds_trace_document.specs.Kept.{last_of, is_to_reached, run_reason, judged_at, judged_jobs, judged_task, judged_tasks, begin_of, together, zero_of, units_at, capped_option, capped_jobs, within_of, settled_at}
 
 -- # One job
 
@@ -39,6 +41,7 @@ abbrev judged_by : Asked → ℕ → Task → Bool → ℕ × Job → ℕ → Bo
 judged_by asked number task before numbered last reached = record {
   task = number;
   name = named task.label before numbered.0;
+  part = if numbered.1.shared then Some asked.processor else None;
   job = numbered.1;
   due = due task numbered.1;
   late = late_by asked.from last (due task numbered.1) numbered.1.end;
@@ -57,12 +60,14 @@ map_same f g each [] = refl
 map_same {A} {B} f g each (x ∷ xs) = ap₂ (λ (y : B) (ys : List B). y ∷ ys) (each x) (map_same f g each xs)
 
 task_same : (asked : Asked) (past : List Said) (number : ℕ) (task : Task) → task_at asked number ≡ task →
-    judged_task (within_of asked (last_time past)) number task (jobs_of asked past number) ≡ judged_of asked past number
+    judged_task (within_of asked (last_time past)) number task (shares_of asked past number) ≡ judged_of asked past number
 task_same asked past number task is =
-    ap (λ (t : Task). judged_task (within_of asked (last_time past)) number t (jobs_of asked past number)) (sym is)
+    ap (λ (t : Task). judged_task (within_of asked (last_time past)) number t (shares_of asked past number)) (sym is)
+    ∙ ap (λ (before : Bool). judged_jobs (within_of asked (last_time past)) number (task_at asked number) before 0 (shares_of asked past number))
+    (shares_began_before asked (jobs_of asked past number))
     ∙ map_same (judged_at (within_of asked (last_time past)) number (task_at asked number) (began_before (jobs_of asked past number)))
     (judged asked past number (began_before (jobs_of asked past number)))
-    (one_same asked past number (began_before (jobs_of asked past number))) (enumerate_from 0 (jobs_of asked past number))
+    (one_same asked past number (began_before (jobs_of asked past number))) (enumerate_from 0 (shares_of asked past number))
 
 tasks_same : (asked : Asked) (past : List Said) (front tasks : List Task) → asked.tasks ≡ front ++ tasks →
     judged_tasks (within_of asked (last_time past)) (length front) tasks (jobs_from asked past (length front) tasks)
@@ -108,18 +113,19 @@ pub runs_same : (place : ℕ) (jobs : List Written) →
 runs_same place [] = refl
 runs_same place (job ∷ jobs) = ap (λ (more : List Placed). placed_runs (place, job) ++ more) (runs_same (place + 1) jobs)
 
-abbrev pub built : Units → List (List Judged) → List Judged → List Written → List Placed → Settled
-built units by_task judged jobs runs =
-    record { units = units; by_task = by_task; judged = judged; document = record { jobs = jobs; runs = runs } }
+abbrev pub built : Units → List (List Judged) → List Judged → List Span → List Written → List Placed → Settled
+built units by_task judged others jobs runs =
+    record { units = units; by_task = by_task; judged = judged; document = record { jobs = jobs; runs = runs }; others = others }
 
-built_same : (units units' : Units) (by_task by_task' : List (List Judged)) (judged judged' : List Judged) (jobs jobs' : List Written)
-    (runs runs' : List Placed) → units ≡ units' → by_task ≡ by_task' → judged ≡ judged' → jobs ≡ jobs' → runs ≡ runs' →
-    built units by_task judged jobs runs ≡ built units' by_task' judged' jobs' runs'
-built_same units units' by_task by_task' judged judged' jobs jobs' runs runs' a b c d e = cc
+built_same : (units units' : Units) (by_task by_task' : List (List Judged)) (judged judged' : List Judged) (others others' : List Span)
+    (jobs jobs' : List Written) (runs runs' : List Placed) → units ≡ units' → by_task ≡ by_task' → judged ≡ judged' → others ≡ others' →
+    jobs ≡ jobs' → runs ≡ runs' → built units by_task judged others jobs runs ≡ built units' by_task' judged' others' jobs' runs'
+built_same units units' by_task by_task' judged judged' others others' jobs jobs' runs runs' a b c d e f = cc
 
-settled_same : (asked : Asked) (past : List Said) (first : ℕ) (by_task : List (List Judged)) → first ≡ first_time 0 past →
-    by_task ≡ judged_by_task asked past 0 asked.tasks → settled_at asked first by_task ≡ with_capped_works (settled_of asked past)
-settled_same asked past first by_task begins are =
+settled_same : (asked : Asked) (past : List Said) (first : ℕ) (by_task : List (List Judged)) (others : List Span) → first ≡ first_time 0 past →
+    by_task ≡ judged_by_task asked past 0 asked.tasks → others ≡ others_of asked past →
+    settled_at asked first by_task others ≡ with_capped_works (settled_of asked past)
+settled_same asked past first by_task others begins are told =
     let in_line : in_order begin_of (together by_task) ≡ all_judged asked past =
     ap (in_order begin_of) (ap together are ∙ together_same asked past 0 asked.tasks) in
     let units : units_at asked first (in_order begin_of (together by_task)) ≡ units_of asked past =
@@ -135,19 +141,23 @@ settled_same asked past first by_task begins are =
     built_same (units_at asked first (in_order begin_of (together by_task))) (units_of asked past)
     by_task (judged_by_task asked past 0 asked.tasks)
     (in_order begin_of (together by_task)) (all_judged asked past)
+    (spans_within (units_at asked first (in_order begin_of (together by_task))).zero None others) (spans_within (time_zero asked past) None (others_of asked past))
     (capped_jobs (units_at asked first (in_order begin_of (together by_task))) (in_order begin_of (together by_task)))
     (map with_capped_work (written_jobs asked past))
     (all_runs (capped_jobs (units_at asked first (in_order begin_of (together by_task))) (in_order begin_of (together by_task))))
-    (all_runs (written_jobs asked past)) units are in_line jobs runs
+    (all_runs (written_jobs asked past)) units are in_line
+    (ap₂ (λ (made : Units) (spans : List Span). spans_within made.zero None spans) units told) jobs runs
 
-pub kept_same : (ended : EndedKept) (asked : Asked) (past : List Said) (by_task : List (List Judged)) → IsEnded asked past ended →
+pub kept_same : (ended : EndedKept) (asked : Asked) (past : List Said) (by_task : List (List Judged)) (others : List Span) → IsEnded asked past ended →
     by_task ≡ judged_tasks (within_of (asked_read ended.asked) ended.last) 0 (asked_read ended.asked).tasks (map in_order_of_begin ended.jobs.items) →
-    settled_at (asked_read ended.asked) ended.first by_task ≡ with_capped_works (settled_of asked past)
-kept_same ended asked past by_task is are =
-    ap (λ (a : Asked). settled_at a ended.first by_task) is.same_asked
-    ∙ settled_same asked past ended.first by_task is.first
+    others ≡ map span_read ended.others.items →
+    settled_at (asked_read ended.asked) ended.first by_task others ≡ with_capped_works (settled_of asked past)
+kept_same ended asked past by_task others is are told =
+    ap (λ (a : Asked). settled_at a ended.first by_task others) is.same_asked
+    ∙ settled_same asked past ended.first by_task others is.first
     (are
     ∙ ap (λ (a : Asked). judged_tasks (within_of a ended.last) 0 a.tasks (map in_order_of_begin ended.jobs.items)) is.same_asked
     ∙ ap (λ (last : ℕ). judged_tasks (within_of asked last) 0 asked.tasks (map in_order_of_begin ended.jobs.items)) is.last
     ∙ ap (judged_tasks (within_of asked (last_time past)) 0 asked.tasks) is.jobs
     ∙ tasks_same asked past [] asked.tasks refl)
+    (told ∙ is.others)

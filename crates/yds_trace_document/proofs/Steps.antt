@@ -1,5 +1,5 @@
 -- What one step of a loop adds.
-use Rattle.yds_model.proofs.Common.{◌≡◌, ℕ, suc, ◌+◌, ◌-◌, ◌<◌, List, [], ◌∷◌, ◌++◌, map, reverse, length, get_or, take, take_more, ◌∙◌, refl, sym, ap, ap₂, arith, Option, Some, None, option_to_list, enumerate_from, flat_map, flat_map-append, append-nil, map-append, map_more, length-map, filter_map-append}
+use Rattle.yds_model.proofs.Common.{◌≡◌, ℕ, suc, ◌+◌, ◌-◌, ◌<◌, List, [], ◌∷◌, ◌++◌, map, reverse, length, get_or, take, take_more, ◌∙◌, refl, sym, ap, ap₂, arith, Option, Some, None, option_to_list, enumerate_from, flat_map, flat_map-append, append-nil, map-append, map_more, length-map, filter_map, filter_map-append, option_map}
 use Rattle.std.proofs.lemmas.List.{reverse-reverse, length-take-le}
 use Rattle.std.specs.Prelude.{Vec, Bool}
 use Rattle.std.specs.List.{cons_option}
@@ -12,13 +12,12 @@ use Rattle.yds_trace.specs.Asked.{Task}
 use Rattle.yds_trace.specs.Jobs.{Job}
 use Rattle.yds_trace.specs.Ended.{in_order_of_begin}
 use Rattle.yds_trace.specs.Views.{job_read, task_read}
-use Rattle.yds_trace.specs.WrittenTime.{Units, runs_end}
-use Rattle.yds_trace.specs.Document.{Judged, Written, Placed, placed_runs}
+use Rattle.yds_trace.specs.WrittenTime.{runs_end}
+use Rattle.yds_trace.specs.Document.{Judged, Placed, placed_runs}
 use Rattle.yds_trace_document.specs.declared.run.Run.{Run as RunKept}
-use Rattle.yds_trace_document.specs.declared.judged.Judged.{Judged as JudgedKept}
 use Rattle.yds_trace_document.specs.declared.written.Written.{Written as WrittenKept}
-use Rattle.yds_trace_document.specs.Kept.{Within, placed_of, judged_at, judged_task, judged_tasks, shown_task, shown_tasks, capped_of, capped_jobs}
-use Rattle.yds_trace_document.specs.Views.{runs_read, written_option, written_read, written_list, judged_read, judged_list}
+use Rattle.yds_trace_document.specs.Kept.{Within, placed_of, judged_at, judged_task, judged_tasks, shown_task, shown_tasks}
+use Rattle.yds_trace_document.specs.Views.{runs_read, written_read, written_list}
 use Rattle.yds_trace_document.proofs.Lists.{enumerate_push}
 
 -- # Numbered lists
@@ -107,33 +106,31 @@ shown_more within boundary tasks shown i t s inside also =
     shown_tasks within boundary 0 (map task_read (take i tasks)) (take i shown) ++ one ∷ [])
     (let e : 0 + length (map task_read (take i tasks)) ≡ i = omega (arith, length_taken task_read tasks i inside) in e)
 
--- # Written jobs
+-- # What is made of some of the items of a list
 
 listed : {B : Type 0} (o : Option B) → cons_option o [] ≡ option_to_list o
 listed None = refl
 listed (Some x) = refl
 
-written_more : (units : Units) (judged : List JudgedKept) (i : ℕ) (d : JudgedKept) → i < length judged →
-    capped_jobs units (judged_list (take (i + 1) judged))
-    ≡ capped_jobs units (judged_list (take i judged)) ++ option_to_list (capped_of units (judged_read (get_or judged i d)))
-written_more units judged i d within =
-    ap (capped_jobs units) (map_more judged_read judged i d within)
-    ∙ filter_map-append (capped_of units) (judged_list (take i judged)) (judged_read (get_or judged i d) ∷ [])
-    ∙ ap (λ (l : List Written). capped_jobs units (judged_list (take i judged)) ++ l) (listed (capped_of units (judged_read (get_or judged i d))))
+made_more : {A B D : Type 0} (read : A → B) (make : B → Option D) (xs : List A) (i : ℕ) (d : A) → i < length xs →
+    filter_map make (map read (take (i + 1) xs)) ≡ filter_map make (map read (take i xs)) ++ option_to_list (make (read (get_or xs i d)))
+made_more {A} {B} {D} read make xs i d within =
+    ap (filter_map make) (map_more read xs i d within)
+    ∙ filter_map-append make (map read (take i xs)) (read (get_or xs i d) ∷ [])
+    ∙ ap (λ (l : List D). filter_map make (map read (take i xs)) ++ l) (listed (make (read (get_or xs i d))))
 
-option_read : (job : Option WrittenKept) → written_list (option_to_list job) ≡ option_to_list (written_option job)
-option_read None = refl
-option_read (Some job) = refl
+option_read : {C D : Type 0} (shown : C → D) (o : Option C) → map shown (option_to_list o) ≡ option_to_list (option_map shown o)
+option_read shown None = refl
+option_read shown (Some x) = refl
 
-pub written_step : (units : Units) (judged : List JudgedKept) (i : ℕ) (d : JudgedKept) (jobs after : List WrittenKept) (job : Option WrittenKept) →
-    i < length judged → written_list jobs ≡ capped_jobs units (judged_list (take i judged)) →
-    written_option job ≡ capped_of units (judged_read (get_or judged i d)) → after ≡ jobs ++ option_to_list job →
-    written_list after ≡ capped_jobs units (judged_list (take (i + 1) judged))
-written_step units judged i d jobs after job within before one put =
-    ap written_list put
-    ∙ map-append written_read jobs (option_to_list job)
-    ∙ ap₂ (λ (front rest : List Written). front ++ rest) before (option_read job ∙ ap option_to_list one)
-    ∙ sym (written_more units judged i d within)
+pub made_step : {A B C D : Type 0} (read : A → B) (make : B → Option D) (shown : C → D) (xs : List A) (i : ℕ) (d : A) (some after : List C) (one : Option C) →
+    i < length xs → map shown some ≡ filter_map make (map read (take i xs)) → option_map shown one ≡ make (read (get_or xs i d)) →
+    after ≡ some ++ option_to_list one → map shown after ≡ filter_map make (map read (take (i + 1) xs))
+made_step {A} {B} {C} {D} read make shown xs i d some after one within before made put =
+    ap (map shown) put
+    ∙ map-append shown some (option_to_list one)
+    ∙ ap₂ (λ (front rest : List D). front ++ rest) before (option_read shown one ∙ ap option_to_list made)
+    ∙ sym (made_more read make xs i d within)
 
 pub read_back : (stretches : List Stretch) → reverse (reverse stretches) ≡ stretches
 read_back stretches = reverse-reverse stretches

@@ -8,7 +8,7 @@ use Rattle.yds_trace.specs.Past.{last_time}
 use Rattle.yds_trace.specs.Jobs.{Job}
 use Rattle.yds_trace.specs.Shown.{IsShownTask}
 use Rattle.yds_trace.specs.Views.{job_read}
-use Rattle.yds_trace.specs.Document.{Judged, judged, judged_of, judged_from, jobs_of, began_before, put_in, in_order, all_judged}
+use Rattle.yds_trace.specs.Document.{Judged, judged, judged_of, judged_from, jobs_of, shares_of, began_before, put_in, in_order, all_judged}
 use Rattle.yds_trace.specs.Parts.{belongs, begins_from, is_before_end, of_part, waiting, part_until}
 use Rattle.yds_trace_document.specs.Kept.{Within, within_of, judged_at, judged_jobs, shown_task, shown_tasks, begin_of, together}
 use Rattle.yds_trace_document.specs.Part.{waiting_by_task, part_by_task}
@@ -68,7 +68,7 @@ kept_left within number task before boundary forgotten jobs earlier =
     ∙ ap (λ (n : ℕ). filter (begins_from boundary) (judged_jobs within number task before n jobs)) (let e : 0 + length forgotten ≡ length forgotten = omega arith in e)
 
 shown_same : (asked : Asked) (past : List Said) (cut : Cut) (number : ℕ) (task : Task) (shown : ShownTask) → task_at asked number ≡ task →
-    IsShownTask asked past cut.boundary number shown →
+    IsShownTask (shares_of asked past number) asked past cut.boundary number shown →
     shown_task (within_of asked (last_time past)) cut.boundary number task shown ≡ filter (begins_from cut.boundary) (judged_of asked past number)
 shown_same asked past cut number task shown is known =
     ap₂ (λ (before : Bool) (first : ℕ). filter (begins_from cut.boundary)
@@ -78,17 +78,17 @@ shown_same asked past cut number task shown is known =
     ∙ ap (λ (jobs : List Job). filter (begins_from cut.boundary)
     (judged_jobs (within_of asked (last_time past)) number task (began_before (jobs_of asked past number)) 0 jobs)) (sym known.jobs)
     ∙ ap (λ (t : Task). filter (begins_from cut.boundary)
-    (judged_jobs (within_of asked (last_time past)) number t (began_before (jobs_of asked past number)) 0 (jobs_of asked past number))) (sym is)
+    (judged_jobs (within_of asked (last_time past)) number t (began_before (jobs_of asked past number)) 0 (shares_of asked past number))) (sym is)
     ∙ ap (filter (begins_from cut.boundary))
     (map_same (judged_at (within_of asked (last_time past)) number (task_at asked number) (began_before (jobs_of asked past number)))
     (judged asked past number (began_before (jobs_of asked past number)))
-    (one_same asked past number (began_before (jobs_of asked past number))) (enumerate_from 0 (jobs_of asked past number)))
+    (one_same asked past number (began_before (jobs_of asked past number))) (enumerate_from 0 (shares_of asked past number)))
 
 -- # All tasks
 
 tasks_shown : (asked : Asked) (past : List Said) (cut : Cut) (front tasks : List Task) (shown : List ShownTask) → asked.tasks ≡ front ++ tasks →
     length shown ≡ length tasks →
-    ((i : ℕ) (d : ShownTask) → i < length tasks → IsShownTask asked past cut.boundary (length front + i) (get_or shown i d)) →
+    ((i : ℕ) (d : ShownTask) → i < length tasks → IsShownTask (shares_of asked past (length front + i)) asked past cut.boundary (length front + i) (get_or shown i d)) →
     shown_tasks (within_of asked (last_time past)) cut.boundary (length front) tasks shown ≡ waiting_by_task asked past cut (length front) tasks
 tasks_shown asked past cut front [] shown is same each = refl
 tasks_shown asked past cut front (task ∷ tasks) [] is same each = absurd (omega arith)
@@ -96,21 +96,21 @@ tasks_shown asked past cut front (task ∷ tasks) (one ∷ shown) is same each =
     let here : task_at asked (length front) ≡ task =
     ap (λ (ts : List Task). get_or ts (length front) no_task) is ∙ get_or_at front task tasks no_task (length front) refl in
     let counted : length (front ++ task ∷ []) ≡ length front + 1 = omega (arith, length_push front task) in
-    let first : IsShownTask asked past cut.boundary (length front) one =
-    subst (λ (n : ℕ). IsShownTask asked past cut.boundary n one) (let e : length front + 0 ≡ length front = omega arith in e) (each 0 one (omega arith)) in
-    let later : (i : ℕ) (d : ShownTask) → i < length tasks → IsShownTask asked past cut.boundary (length (front ++ task ∷ []) + i) (get_or shown i d) =
-    λ i d within. subst (λ (n : ℕ). IsShownTask asked past cut.boundary n (get_or shown i d))
+    let first : IsShownTask (shares_of asked past (length front)) asked past cut.boundary (length front) one =
+    subst (λ (n : ℕ). IsShownTask (shares_of asked past n) asked past cut.boundary n one) (let e : length front + 0 ≡ length front = omega arith in e) (each 0 one (omega arith)) in
+    let later : (i : ℕ) (d : ShownTask) → i < length tasks → IsShownTask (shares_of asked past (length (front ++ task ∷ []) + i)) asked past cut.boundary (length (front ++ task ∷ []) + i) (get_or shown i d) =
+    λ i d within. subst (λ (n : ℕ). IsShownTask (shares_of asked past n) asked past cut.boundary n (get_or shown i d))
     (let e : length front + suc i ≡ length (front ++ task ∷ []) + i = omega (arith, counted) in e) (each (suc i) d (omega arith)) in
     let rest = subst (λ (n : ℕ). shown_tasks (within_of asked (last_time past)) cut.boundary n tasks shown ≡ waiting_by_task asked past cut n tasks)
     counted (tasks_shown asked past cut (front ++ task ∷ []) tasks shown (is ∙ sym (append_assoc front (task ∷ []) tasks)) (omega (arith, same)) later) in
     ap₂ (λ (some : List Judged) (more : List (List Judged)). some ∷ more) (shown_same asked past cut (length front) task one here first) rest
 
 pub all_shown : (asked : Asked) (past : List Said) (cut : Cut) (shown : List ShownTask) → length shown ≡ length asked.tasks →
-    ((i : ℕ) (d : ShownTask) → i < length asked.tasks → IsShownTask asked past cut.boundary i (get_or shown i d)) →
+    ((i : ℕ) (d : ShownTask) → i < length asked.tasks → IsShownTask (shares_of asked past i) asked past cut.boundary i (get_or shown i d)) →
     shown_tasks (within_of asked (last_time past)) cut.boundary 0 asked.tasks shown ≡ waiting_by_task asked past cut 0 asked.tasks
 all_shown asked past cut shown same each =
     tasks_shown asked past cut [] asked.tasks shown refl same
-    (λ i d within. subst (λ (n : ℕ). IsShownTask asked past cut.boundary n (get_or shown i d)) (let e : i ≡ 0 + i = omega arith in e) (each i d within))
+    (λ i d within. subst (λ (n : ℕ). IsShownTask (shares_of asked past n) asked past cut.boundary n (get_or shown i d)) (let e : i ≡ 0 + i = omega arith in e) (each i d within))
 
 -- # The waiting jobs in order of begin
 
@@ -184,7 +184,7 @@ of_from : (asked : Asked) (past : List Said) (number most : ℕ) (tasks : List T
 of_from asked past number most [] within = tt
 of_from asked past number most (task ∷ tasks) within =
     of_append most (judged_of asked past number) (judged_from asked past (number + 1) tasks)
-    (of_numbered asked past number most (began_before (jobs_of asked past number)) 0 (jobs_of asked past number) (omega (arith, within)))
+    (of_numbered asked past number most (began_before (jobs_of asked past number)) 0 (shares_of asked past number) (omega (arith, within)))
     (of_from asked past (number + 1) most tasks (omega (arith, within)))
 
 of_put : (most : ℕ) (key : Judged → ℕ) (one : Judged) (jobs : List Judged) → one.task < most → OfTasks most jobs → OfTasks most (put_in key one jobs)

@@ -1,5 +1,5 @@
 -- The definitions of a document by what is kept at a trace's end: its first and its last time stand in the place of its lines.
-use Rattle.std.specs.Prelude.{◌≡◌, ◌≤◌, ℕ, ◌+◌, List, [], ◌∷◌, map, filter, min, length, not, Bool, false, ◌&&◌, nat_lt, nat_le, if◌then◌else◌, Option, Some, None, is_none, unwrap_or, Vec}
+use Rattle.std.specs.Prelude.{◌≡◌, ◌≤◌, ℕ, ◌+◌, List, [], ◌∷◌, map, filter, min, length, decimal, not, Bool, false, ◌&&◌, nat_lt, nat_le, if◌then◌else◌, Option, Some, None, is_none, unwrap_or, Vec}
 use Rattle.std.specs.List.{list_any, filter_map, flat_map, enumerate_from, All}
 use Rattle.std.specs.declared.alloc.Global.{Global}
 use Rattle.yds_kernel.specs.declared.limits.TheConstants.{MAX_U64}
@@ -14,6 +14,7 @@ use Rattle.yds_trace.specs.declared.reason.Reason.TheVariants as reasons
 use Rattle.yds_trace.specs.Asked.{Task, Asked, is_after_from}
 use Rattle.yds_trace.specs.Jobs.{Job}
 use Rattle.yds_trace.specs.Views.{job_read}
+use Rattle.yds_trace.specs.Others.{Span, spans_within}
 use Rattle.yds_trace.specs.Parts.{begins_from}
 use Rattle.yds_trace.specs.Late.{due, is_open, late_by}
 use Rattle.yds_trace.specs.WrittenTime.{Units, Run, before}
@@ -43,6 +44,13 @@ pub record IsPlainShown (asked : AskedKept) (shown : ShownKept) : Type 0 where
   pub deadlines : All (λ task. task.deadline ≤ MAX_DEADLINE) asked.tasks.items
   pub tasks : All IsPlainTask shown.tasks.items
   pub of_each_task : length shown.tasks.items ≡ length asked.tasks.items
+
+-- # Names
+
+-- so many bytes tell the processor
+abbrev pub part_len : Option ℕ → ℕ
+part_len None = 0
+part_len (Some processor) = 1 + length (decimal processor)
 
 -- # Jobs
 
@@ -86,6 +94,7 @@ abbrev pub judged_at : Within → ℕ → Task → Bool → ℕ × Job → Judge
 judged_at within number task before numbered = record {
   task = number;
   name = named task.label before numbered.0;
+  part = if numbered.1.shared then Some within.processor else None;
   job = numbered.1;
   due = due task numbered.1;
   late = late_at within task numbered.1;
@@ -148,25 +157,27 @@ capped_of units judged = capped_option (written_of units judged)
 abbrev pub capped_jobs : Units → List Judged → List Written
 capped_jobs units judged = filter_map (capped_of units) judged
 
--- what is kept of these jobs in these units: of each task, and in order of begin
-abbrev pub capped_in : Units → List (List Judged) → List Judged → Settled
-capped_in units by_task judged = record {
+-- what is kept of these jobs in these units: of each task, and in order of begin; and who else had the processor
+abbrev pub capped_in : Units → List (List Judged) → List Judged → List Span → Settled
+capped_in units by_task judged others = record {
   units = units;
   by_task = by_task;
   judged = judged;
   document = record { jobs = capped_jobs units judged; runs = all_runs (capped_jobs units judged) };
+  others = others;
 }
 
--- what is kept of these judged jobs
-abbrev pub settled_at : Asked → ℕ → List (List Judged) → Settled
-settled_at asked first by_task =
-    capped_in (units_at asked first (in_order begin_of (together by_task))) by_task (in_order begin_of (together by_task))
+-- of these spans those from time 0 on
+abbrev pub capped_from : Units → List (List Judged) → List Judged → List Span → Settled
+capped_from units by_task judged others = capped_in units by_task judged (spans_within units.zero None others)
+
+-- what is kept of these judged jobs and spans
+abbrev pub settled_at : Asked → ℕ → List (List Judged) → List Span → Settled
+settled_at asked first by_task others =
+    capped_from (units_at asked first (in_order begin_of (together by_task))) by_task (in_order begin_of (together by_task)) others
 
 abbrev pub within_of : Asked → ℕ → Within
 within_of asked last = record { processor = asked.processor; from = asked.from; to = asked.to; last = last }
-
-abbrev pub kept_settled : Asked → ℕ → ℕ → List (List Job) → Settled
-kept_settled asked first last jobs = settled_at asked first (judged_tasks (within_of asked last) 0 asked.tasks jobs)
 
 -- the runs of the job at this place
 abbrev pub placed_of : ℕ → List Run → List Placed

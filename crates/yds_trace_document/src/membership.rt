@@ -1,12 +1,11 @@
 //! Which document has a job.
 ghost use Rattle.std.specs.Prelude.{◌≡◌, ◌==◌, length};
-ghost use Rattle.std.specs.List.{list_any};
 ghost use Rattle.yds_trace.specs.Parts as spec;
 ghost use Rattle.yds_trace.specs.Views.{asked_read, job_read};
 ghost use Rattle.yds_trace_document.specs.Views.{judged_read};
 
 use crate::judged::Judged;
-use yds_trace::{Asked, Job, Stretch};
+use yds_trace::{Asked, Job, has_run_on};
 
 /// Whether a document of the processor that is asked for has this job. Where each processor has documents of its own, they have
 /// the jobs that ran on it, and those of processor 0 also the jobs that ran on none.
@@ -16,22 +15,6 @@ pub fn belongs(asked: &Asked, judged: &Judged<'_>) -> bool
     !asked.everywhere
         || has_run_on(asked.processor, judged.job)
         || (asked.processor == 0 && has_run_nowhere(judged.job))
-}
-
-/// Whether the job has run on this processor.
-#[tactic(auto, using(crate::proofs::Lists::list_any_reverse))]
-fn has_run_on(processor: u64, job: &Job) -> bool
-    ensures { result ≡ spec.has_run_on processor (job_read job.now) }
-{
-    any_on(processor, &job.stretches)
-}
-
-fn any_on(processor: u64, stretches: &[Stretch]) -> bool
-    ensures { result ≡ list_any (λ stretch. stretch.processor == processor) stretches.now }
-{
-    stretches
-        .iter()
-        .any(|stretch| stretch.processor == processor)
 }
 
 /// Whether the job has run on no processor.

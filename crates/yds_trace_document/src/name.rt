@@ -1,7 +1,8 @@
 //! The names of a trace's jobs.
 ghost use Rattle.std.specs.Prelude.{◌≡◌, ◌≤◌, ◌++◌, IfOk, OnOk, length, codes, decimal, nat_lt};
 ghost use Rattle.yds_model.specs.declared.limits.TheConstants.{MAX_NAME};
-ghost use Rattle.yds_trace_document.specs.Views.{name_read};
+ghost use Rattle.yds_trace_document.specs.Kept as kept;
+ghost use Rattle.yds_trace_document.specs.Views.{base_name, name_read};
 
 use itoa::Buffer;
 use std::alloc::{AllocError, Global};
@@ -9,7 +10,8 @@ use yds_model::Memory;
 use yds_model::limits::MAX_NAME;
 
 /// The name of a task's job: the task's, a dot and the job's number, counted from 0. Where the first job began before the
-/// trace, it is called `before`, and the next one has the number 0.
+/// trace, it is called `before`, and the next one has the number 0. Behind it stands the processor of a job that moved, where
+/// each processor has what it ran there.
 #[derive(Clone, Copy, Debug, PartialEq, Eq)]
 pub struct Name<'a> {
     /// The task's name.
@@ -23,17 +25,28 @@ pub struct Name<'a> {
 }
 
 impl Name<'_> {
-    /// Its bytes.
+    /// Its bytes. Of what a job ran on one of its processors they end with that one's number.
     pub fn text(self, alloc: Global) -> Result<Vec<u8>, Memory>
         ensures { IfOk result (λ text. text.items ≡ name_read self.entry) }
     {
+        let mut text = self.job_text(alloc)?;
+        if let Some(processor) = self.part {
+            put_number(b"@", processor, &mut text)?;
+        }
+        Ok(text)
+    }
+
+    /// The bytes of the whole job's name.
+    pub fn job_text(self, alloc: Global) -> Result<Vec<u8>, Memory>
+        ensures { IfOk result (λ text. text.items ≡ base_name self.entry) }
+    {
         let mut text = Vec::from_slice(alloc, self.label)?;
         if !self.before {
-            put_number(&mut text, self.number)?;
+            put_number(b".", self.number, &mut text)?;
         } else if self.number == 0 {
             text.extend_from_slice(b".before")?;
         } else {
-            put_number(&mut text, self.number - 1)?;
+            put_number(b".", self.number - 1, &mut text)?;
         }
         Ok(text)
     }
@@ -49,16 +62,27 @@ impl Name<'_> {
         } else {
             1 + number_len(self.number - 1)
         };
-        self.label.len() > MAX_NAME || self.label.len() + behind > MAX_NAME
+        self.label.len() > MAX_NAME || self.label.len() + behind + part_len(self.part) > MAX_NAME
     }
 }
 
-/// A dot and a number.
-fn put_number(text: &mut Vec<u8>, number: u64) -> Result<(), AllocError>
-    ensures { OnOk result (text.new.items ≡ text.old.items ++ codes "." ++ decimal number) }
+/// A mark and a number.
+fn put_number(mark: &[u8], number: u64, text: &mut Vec<u8>) -> Result<(), AllocError>
+    ensures { OnOk result (text.new.items ≡ text.old.items ++ mark.now ++ decimal number) }
 {
-    text.extend_from_slice(b".")?;
+    text.extend_from_slice(mark)?;
     text.extend_from_slice(Buffer::new().format(number).as_bytes())
+}
+
+/// How many bytes tell the processor.
+fn part_len(part: Option<u64>) -> usize
+    ensures len { result ≡ kept.part_len part }
+    ensures few { result ≤ 21 }
+{
+    match part {
+        Some(processor) => 1 + number_len(processor),
+        None => 0,
+    }
 }
 
 /// How many digits a number has.

@@ -8,7 +8,7 @@ ghost use Rattle.yds_trace.specs.declared.limits.TheConstants.{MAX_DEADLINE};
 ghost use Rattle.yds_trace.specs.Asked as words;
 ghost use Rattle.yds_trace.specs.Past.{first_time};
 ghost use Rattle.yds_trace.specs.Parts as parts;
-ghost use Rattle.yds_trace.specs.Shown.{IsShown};
+ghost use Rattle.yds_trace.specs.Shown.{IsShared};
 ghost use Rattle.yds_trace.specs.Views.{task_read, asked_read};
 ghost use Rattle.yds_trace_document.specs.Kept as kept;
 ghost use Rattle.yds_trace_document.specs.Part as spec;
@@ -18,6 +18,7 @@ ghost use Rattle.yds_trace_document.specs.Views.{units_read, judged_list, judged
 use crate::judge::{Within, judge_jobs};
 use crate::judged::Judged;
 use crate::membership::belongs;
+use crate::other::{Other, all_lent, all_within, behind};
 use crate::settlement::{Settled, in_order_of_begins, settled_in};
 use crate::units::Units;
 use std::alloc::Global;
@@ -39,6 +40,10 @@ pub struct Waiting<'a> {
     pub by_task: Vec<Vec<Judged<'a>>>,
     /// Those of all tasks, in order of begin; those of one time in order of tasks.
     pub judged: Vec<Judged<'a>>,
+    /// The end of the parts before, in nanoseconds.
+    pub boundary: u64,
+    /// Who else had the processor behind it while a job waited, in order of time. The first may have had it since before.
+    pub others: Vec<Other<'a>>,
 }
 
 /// What becomes of the jobs that wait: they begin at the boundary or later. The only error is want of memory.
@@ -49,12 +54,18 @@ pub fn judge_waiting<'a>(
     boundary: u64,
 ) -> Result<Waiting<'a>, Memory>
     requires { kept.IsPlainShown asked.now shown.now }
-    ensures { (past : List Said) (cut : Cut) → cut.boundary ≡ boundary → IsShown (asked_read asked.entry.now) past boundary shown.entry.now
+    ensures { (past : List Said) (cut : Cut) → cut.boundary ≡ boundary → IsShared (asked_read asked.entry.now) past boundary shown.entry.now
         → IfOk result (made.IsWaiting (asked_read asked.entry.now) past cut) }
 {
     let by_task = judge_by_task(alloc, asked, shown, boundary)?;
     let judged = waiting_jobs(alloc, &by_task)?;
-    Ok(Waiting { by_task, judged })
+    let others = behind(boundary, all_lent(alloc, &shown.others)?);
+    Ok(Waiting {
+        by_task,
+        judged,
+        boundary,
+        others,
+    })
 }
 
 /// The same for each task.
@@ -65,7 +76,7 @@ fn judge_by_task<'a>(
     boundary: u64,
 ) -> Result<Vec<Vec<Judged<'a>>>, Memory>
     requires { kept.IsPlainShown asked.now shown.now }
-    ensures { (past : List Said) (cut : Cut) → cut.boundary ≡ boundary → IsShown (asked_read asked.entry.now) past boundary shown.entry.now
+    ensures { (past : List Said) (cut : Cut) → cut.boundary ≡ boundary → IsShared (asked_read asked.entry.now) past boundary shown.entry.now
         → IfOk result (λ by_task. judged_lists by_task.items
         ≡ spec.waiting_by_task (asked_read asked.entry.now) past cut 0 (map task_read asked.entry.now.tasks.items)) }
 {
@@ -224,6 +235,8 @@ pub fn settle_part<'a>(
         time: asked.unit,
         speed: asked.khz,
     };
-    let settled = settled_in(alloc, units, by_task, judged)?;
+    let start = waiting.boundary.max(units.zero);
+    let others = all_within(alloc, start, until, &waiting.others)?;
+    let settled = settled_in(alloc, units, by_task, judged, others)?;
     Ok(Part { settled, shift })
 }

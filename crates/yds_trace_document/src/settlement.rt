@@ -9,10 +9,11 @@ ghost use Rattle.yds_trace.specs.Views.{task_read, asked_read};
 ghost use Rattle.yds_trace.specs.Document.{in_order, least_begin};
 ghost use Rattle.yds_trace_document.specs.Kept as kept;
 ghost use Rattle.yds_trace_document.specs.Settled.{settled_of, with_capped_works};
-ghost use Rattle.yds_trace_document.specs.Views.{units_read, judged_read, judged_list, judged_lists, settled_read, within_read};
+ghost use Rattle.yds_trace_document.specs.Views.{units_read, judged_read, judged_list, judged_lists, other_read, settled_read, within_read};
 
 use crate::judge::{Within, judge_task};
 use crate::judged::Judged;
+use crate::other::{Other, all_lent, all_within};
 use crate::placed::{Placed, placed_in_order};
 use crate::units::Units;
 use crate::written::{Written, written_jobs};
@@ -49,23 +50,26 @@ pub fn settle<'a>(alloc: Global, ended: &'a Ended) -> Result<Settled<'a>, Memory
         last: ended.last,
     };
     let by_task = judge_tasks(alloc, within, &ended.asked.tasks, &ended.jobs)?;
-    settled_from(alloc, &ended.asked, ended.first, by_task)
+    let others = all_lent(alloc, &ended.others)?;
+    settled_from(alloc, &ended.asked, ended.first, by_task, &others)
 }
 
-/// The document of these jobs.
+/// The document of these jobs, and who else had the processor from time 0 on.
 fn settled_from<'a>(
     alloc: Global,
     asked: &Asked,
     first: u64,
     by_task: Vec<Vec<Judged<'a>>>,
+    others: &[Other<'a>],
 ) -> Result<Settled<'a>, Memory>
     requires has_unit { 1 ≤ asked.now.unit }
     requires has_speed_unit { 1 ≤ asked.now.khz }
-    ensures { IfOk result (λ settled. settled_read settled ≡ kept.settled_at (asked_read asked.now) first (judged_lists by_task.entry.items)) }
+    ensures { IfOk result (λ settled. settled_read settled ≡ kept.settled_at (asked_read asked.now) first (judged_lists by_task.entry.items) (map other_read others.now)) }
 {
     let judged = in_order_of_begins(alloc, &by_task)?;
     let units = units_of(asked, first, &judged);
-    settled_in(alloc, units, by_task, judged)
+    let others = all_within(alloc, units.zero, None, others)?;
+    settled_in(alloc, units, by_task, judged, others)
 }
 
 /// What is written of these jobs in these units.
@@ -74,8 +78,9 @@ pub(crate) fn settled_in<'a>(
     units: Units,
     by_task: Vec<Vec<Judged<'a>>>,
     judged: Vec<Judged<'a>>,
+    others: Vec<Other<'a>>,
 ) -> Result<Settled<'a>, Memory>
-    ensures { IfOk result (λ settled. settled_read settled ≡ kept.capped_in (units_read units) (judged_lists by_task.entry.items) (judged_list judged.entry.items)) }
+    ensures { IfOk result (λ settled. settled_read settled ≡ kept.capped_in (units_read units) (judged_lists by_task.entry.items) (judged_list judged.entry.items) (map other_read others.entry.items)) }
 {
     let jobs = written_jobs(alloc, units, &judged)?;
     let runs = placed_in_order(alloc, &jobs)?;
@@ -85,6 +90,7 @@ pub(crate) fn settled_in<'a>(
         judged,
         jobs,
         runs,
+        others,
     })
 }
 

@@ -8,7 +8,7 @@ use Rattle.yds_trace.specs.Asked.{no_task, Asked, IsAsked, task_at}
 use Rattle.yds_trace.specs.Past.{first_time, last_time, is_loss, counts, up_to}
 use Rattle.yds_trace.specs.Jobs.{Job, counted as counted_job, lost_end, lost_before}
 use Rattle.yds_trace.specs.Late.{last_asked, due, is_judged, is_open, lateness, late_by, shown_until}
-use Rattle.yds_trace.specs.Document.{jobs_of, reason_of, Judged, all_judged, stands}
+use Rattle.yds_trace.specs.Document.{jobs_of, shares_of, reason_of, Judged, all_judged, stands}
 use Rattle.yds_trace_laws.specs.Laws.{NoneBeginsBefore}
 use Rattle.yds_trace_laws.proofs.Judging.{each_judged}
 use Rattle.yds_trace_laws.proofs.Runs.{contained}
@@ -16,6 +16,7 @@ use Rattle.yds_trace_laws.proofs.Holding.{IsKept, Allows, EndsAt, AllowsEach, Wh
 use Rattle.yds_trace_laws.proofs.Begins.{HasBegin, begin_kept, begin_allowed, begin_ends, up_to_allows}
 use Rattle.yds_trace_laws.proofs.Sharing.{GoesOn, lines_go_on, counts_by}
 use Rattle.yds_trace_laws.proofs.Faithful.{whole_job}
+use Rattle.yds_trace_laws.proofs.Shares.{shares_kept}
 use Rattle.yds_trace_laws.proofs.Units.{IsOne, all_are}
 
 -- # Times of lines
@@ -224,22 +225,28 @@ none_stands asked past to one fit is of known begin goes_on stand =
 
 -- # The law
 
+-- what holds of the begin of each of a task's jobs
+begin_of_share : (P : ℕ → Type 0) (asked : Asked) (past : List Said) (one : Judged) → IsOne asked past one → All (HasBegin P) (jobs_of asked past one.task) → P one.job.begin
+begin_of_share P asked past one has all =
+    contained (HasBegin P) (shares_of asked past one.task) one.job has.job (shares_kept (HasBegin P) (λ processor job begins. begins) asked past one.task all)
+
 begins_behind : (asked : Asked) (past : List Said) (one : Judged) → IsAsked asked → IsOne asked past one → IsOfJobs asked past one → stands one ≡ true →
     (to : Option ℕ) → asked.to ≡ to → GoesOn to past → first_time 0 past ≤ one.job.begin
 begins_behind asked past one fit has of stand None is goes =
-    contained (HasBegin (IsBehind (first_time 0 past))) (jobs_of asked past one.task) one.job has.job
+    begin_of_share (IsBehind (first_time 0 past)) asked past one has
     (each_from asked past one.task (all_from_first past goes) (λ time other. let none : None ≡ Some time = sym is ∙ other in cc))
 begins_behind asked past one fit has of stand (Some to) is goes = elim (cases_lt to (first_time 0 past)) [
   | inl before ↦
       let from : AreFrom (suc to) past = from_earlier (suc to) (low to (first_time 0 past)) past (omega (arith, before)) (all_from_low to past goes) in
       absurd (none_stands asked past to one fit is of has.known
-      (contained (HasBegin (λ time. time ≡ to)) (jobs_of asked past one.task) one.job has.job
+      (begin_of_share (λ time. time ≡ to) asked past one has
       (each_stayed (HasBegin (λ time. time ≡ to)) (begin_kept (λ time. time ≡ to)) asked past one.task to is (begin_allowed (λ time. time ≡ to) to refl) from))
-      (contained GoesOnStill (jobs_of asked past one.task) one.job has.job
-      (each_stayed GoesOnStill still_kept asked past one.task to is (record { new = λ certain. tt; by = λ job is. is }) from))
+      (contained GoesOnStill (shares_of asked past one.task) one.job has.job
+      (shares_kept GoesOnStill (λ processor job still. still) asked past one.task
+      (each_stayed GoesOnStill still_kept asked past one.task to is (record { new = λ certain. tt; by = λ job is. is }) from)))
       stand)
   | inr reached ↦
-      contained (HasBegin (IsBehind (first_time 0 past))) (jobs_of asked past one.task) one.job has.job
+      begin_of_share (IsBehind (first_time 0 past)) asked past one has
       (each_from asked past one.task (from_earlier (first_time 0 past) (low to (first_time 0 past)) past (omega (arith, reached)) (all_from_low to past goes))
       (λ time other. let same : Some to ≡ Some time = sym is ∙ other in let equal : to ≡ time = cc in omega (arith, reached, equal)))
 ]

@@ -6,7 +6,7 @@ use Rattle.yds_trace.specs.declared.reason.Reason.{Reason}
 use Rattle.yds_trace.specs.Asked.{Task, Asked, is_after_from}
 use Rattle.yds_trace.specs.Jobs.{Job}
 use Rattle.yds_trace.specs.Late.{last_asked, late_by}
-use Rattle.yds_trace.specs.Document.{Judged, began_before, jobs_of, judged, judged_of, judged_from, all_judged, stands, least_of, least_begin, units_of}
+use Rattle.yds_trace.specs.Document.{Judged, began_before, jobs_of, shares_of, judged, judged_of, judged_from, all_judged, stands, least_of, least_begin, units_of}
 use Rattle.yds_trace_laws.proofs.Ordered.{append-all, map-all, in_order-all}
 
 -- what each judged job is
@@ -34,7 +34,7 @@ each_of : (P : Judged → Type 0) (asked : Asked) (past : List Said) → ((numbe
 each_of P asked past each number [] = tt
 each_of P asked past each number (task ∷ tasks) =
     append-all P (judged_of asked past number) (judged_from asked past (number + 1) tasks)
-    (map-all P (judged asked past number (began_before (jobs_of asked past number))) (enumerate_from 0 (jobs_of asked past number))
+    (map-all P (judged asked past number (began_before (jobs_of asked past number))) (enumerate_from 0 (shares_of asked past number))
     (each number (began_before (jobs_of asked past number)))) (each_of P asked past each (number + 1) tasks)
 
 pub each_judged : (P : Judged → Type 0) (asked : Asked) (past : List Said) → ((number : ℕ) (before : Bool) (numbered : ℕ × Job) → P (judged asked past number before numbered)) →

@@ -13,4 +13,5 @@ pub mod Sharing
 pub mod Units
 pub mod First
 pub mod Told
+pub mod Shares
 pub mod Processors

@@ -1,75 +1,236 @@
--- Of a trace's jobs only the reasons depend on the processor that is asked for. Each job belongs to a processor, and none to one of which no line
+-- Of a trace's jobs only the reasons and the shares of what moved depend on the processor that is asked for. Each job belongs to a processor, and none to one of which no line
 -- tells.
-use Rattle.yds_model.proofs.Common.{◌≡◌, ◌∙◌, ℕ, zero, suc, ◌+◌, ◌<◌, ◌≤◌, ◌==◌, ◌&&◌, ◌||◌, max, List, [], ◌∷◌, ◌++◌, map, filter, length, Bool, true, false, not, nat_le, cond, if◌then◌else◌, Option, Some, None, is_none, refl, sym, ap, ap₂, subst, arith, inl, inr, cases_lt, eq-eqb, ne_eqb, fun_ext, map-append, All-from_recursion, Contains-append_left, Contains-push}
+use Rattle.yds_model.proofs.Common.{◌≡◌, ◌≢◌, ◌∙◌, get_or, All, All-contains_itself, ℕ, zero, suc, ◌+◌, ◌<◌, ◌≤◌, ◌==◌, ◌&&◌, ◌||◌, max, List, [], ◌∷◌, ◌++◌, map, filter, length, Bool, true, false, not, nat_le, cond, if◌then◌else◌, Option, Some, None, is_none, refl, sym, ap, ap₂, subst, arith, inl, inr, cases_lt, eq-eqb, ne_eqb, fun_ext, map-append, All-from_recursion, Contains-append_left, Contains-push}
 use Rattle.std.specs.List.{AllByRecursion, Contains, list_any, enumerate_from}
 use Rattle.yds_kernel.specs.Parts.{or_else, capped}
 use Rattle.yds_kernel.specs.Event.{Said}
 use Rattle.yds_trace.specs.declared.cut.Cut.{Cut}
 use Rattle.yds_trace.specs.declared.job.Stretch.{Stretch}
+use Rattle.yds_trace.specs.declared.reason.Reason.{Reason}
 use Rattle.yds_trace.specs.declared.reason.Reason.TheVariants as reasons
 use Rattle.yds_trace.specs.Asked.{Task, Asked, on, task_at, is_after_from}
 use Rattle.yds_trace.specs.Jobs.{Job}
 use Rattle.yds_trace.specs.Late.{last_asked, due, is_open, lateness}
-use Rattle.yds_trace.specs.Document.{Judged, is_lost, is_elsewhere, is_of_unknown_speed, reaches_to, named, began_before, jobs_of, judged, judged_of, judged_from, put_in, in_order, all_judged, stands}
-use Rattle.yds_trace.specs.Parts.{has_run_on, belongs, begin_of, begins_from, waiting_from, ended_by, is_written, is_closed_by, each_before, has_job, is_quiet, is_closed, last_where, place_among, is_much, is_due, may_write, waiting, is_before_end, part_until, place_of, with_part, cut_at, cut_after, next_processor, processor_count, first_numbers, processors_of}
-use Rattle.yds_trace.proofs.OnProcessor.{jobs_of_on, is_settled_on, may_write_on}
-use Rattle.yds_trace_laws.specs.Processors.{without_reason, JobsAreTheSame, BelongsTo, EachJobBelongs, IsIdle, UnseenAreTheSame}
-use Rattle.yds_trace_laws.proofs.Ordered.{filter-all}
+use Rattle.yds_trace.specs.Document.{Judged, is_lost, is_elsewhere, has_run_on, is_of_unknown_speed, reaches_to, is_shared_by, share_of, named, began_before, jobs_of, judged, judged_of, judged_from, put_in, in_order, all_judged, stands}
+use Rattle.yds_trace.specs.Parts.{belongs, begin_of, begins_from, begins_before, waiting_from, ended_by, is_written, is_own, has_own_job, is_closed_by, each_before, has_job, is_quiet, is_closed, last_where, place_among, is_much, is_due, may_write, waiting, is_before_end, part_until, place_of, with_part, cut_at, cut_after, next_processor, processor_count, first_numbers, processors_of}
+use Rattle.yds_trace.specs.Others.{Span, others_from}
+use Rattle.yds_trace.proofs.Shares.{jobs_alone, share_stranger, share_begin, share_end}
+use Rattle.yds_trace.proofs.OnProcessor.{jobs_of_on, is_settled_on, may_write_on, others_from_on}
+use Rattle.yds_trace_laws.specs.Processors.{without_reason, whole_job, JobsAreTheSame, HasItsShare, SharesAreTheWhole, OnlyItsOwn, NoneHasMoved, BelongsTo, EachJobBelongs, IsIdle, UnseenAreTheSame}
+use Rattle.yds_trace_laws.proofs.Ordered.{filter-all, append-all, in_order-all}
 use Rattle.yds_trace_laws.proofs.Runs.{all_weaker}
+use Rattle.yds_trace_laws.proofs.Shares.{share_if, jobs_unshared, in_shares, share_has, none_elsewhere}
 use Rattle.yds_trace_laws.proofs.Sharing.{Ran}
+use Rattle.yds_trace_laws.proofs.Units.{there}
 use Rattle.yds_trace_laws.proofs.Told.{IsUnder, TellUnder, RanUnder, jobs_under, all_under, tell_under}
 
 -- # The jobs of a task
 
 -- asked of a processor, they are judged there
 judged_there : (asked : Asked) (processor : ℕ) (past : List Said) (number : ℕ) → judged_of (on processor asked) past number
-    ≡ map (judged (on processor asked) past number (began_before (jobs_of asked past number))) (enumerate_from 0 (jobs_of asked past number))
+    ≡ map (judged (on processor asked) past number (began_before (jobs_of asked past number))) (enumerate_from 0 (map (share_of (on processor asked)) (jobs_of asked past number)))
 judged_there asked processor past number =
-    ap (λ (jobs : List Job). map (judged (on processor asked) past number (began_before jobs)) (enumerate_from 0 jobs)) (jobs_of_on asked processor past number)
+    ap (λ (jobs : List Job). map (judged (on processor asked) past number (began_before jobs)) (enumerate_from 0 (map (share_of (on processor asked)) jobs)))
+    (jobs_of_on asked processor past number)
 
 -- # Jobs are the same
 
-mapped_if : (b : Bool) (one other : Judged) (ones rest : List Judged) →
-    map without_reason (if b then one ∷ other ∷ ones else other ∷ rest)
-    ≡ (if b then without_reason one ∷ without_reason other ∷ map without_reason ones else without_reason other ∷ map without_reason rest)
-mapped_if true one other ones rest = refl
-mapped_if false one other ones rest = refl
+-- a part of what is said of a job that doesn't change its begin
+abbrev KeepsBegin : (Judged → Judged) → Type 0
+KeepsBegin part = (one : Judged) → begin_of (part one) ≡ begin_of one
 
-put_mapped : (one : Judged) (ones : List Judged) → map without_reason (put_in begin_of one ones) ≡ put_in begin_of (without_reason one) (map without_reason ones)
-put_mapped one [] = refl
-put_mapped one (other ∷ ones) =
-    mapped_if (nat_le one.job.begin other.job.begin) one other ones (put_in begin_of one ones)
-    ∙ ap (λ (rest : List Judged). if nat_le one.job.begin other.job.begin then without_reason one ∷ without_reason other ∷ map without_reason ones
-    else without_reason other ∷ rest) (put_mapped one ones)
+mapped_if : (part : Judged → Judged) (b : Bool) (one other : Judged) (ones rest : List Judged) →
+    map part (if b then one ∷ other ∷ ones else other ∷ rest) ≡ (if b then part one ∷ part other ∷ map part ones else part other ∷ map part rest)
+mapped_if part true one other ones rest = refl
+mapped_if part false one other ones rest = refl
 
--- order doesn't depend on the reasons
-order_mapped : (ones : List Judged) → map without_reason (in_order begin_of ones) ≡ in_order begin_of (map without_reason ones)
-order_mapped [] = refl
-order_mapped (one ∷ ones) = put_mapped one (in_order begin_of ones) ∙ ap (put_in begin_of (without_reason one)) (order_mapped ones)
+put_mapped : (part : Judged → Judged) → KeepsBegin part → (one : Judged) (ones : List Judged) → map part (put_in begin_of one ones) ≡ put_in begin_of (part one) (map part ones)
+put_mapped part keeps one [] = refl
+put_mapped part keeps one (other ∷ ones) =
+    mapped_if part (nat_le (begin_of one) (begin_of other)) one other ones (put_in begin_of one ones)
+    ∙ ap (λ (rest : List Judged). if nat_le (begin_of one) (begin_of other) then part one ∷ part other ∷ map part ones else part other ∷ rest) (put_mapped part keeps one ones)
+    ∙ ap₂ (λ (begin next : ℕ). if nat_le begin next then part one ∷ part other ∷ map part ones else part other ∷ put_in begin_of (part one) (map part ones))
+    (sym (keeps one)) (sym (keeps other))
 
-numbered_same : (asked : Asked) (processor : ℕ) (past : List Said) (number : ℕ) (before : Bool) (numbered : List (ℕ × Job)) →
-    map without_reason (map (judged (on processor asked) past number before) numbered) ≡ map without_reason (map (judged asked past number before) numbered)
-numbered_same asked processor past number before [] = refl
-numbered_same asked processor past number before (one ∷ numbered) =
-    ap (λ (rest : List Judged). without_reason (judged asked past number before one) ∷ rest) (numbered_same asked processor past number before numbered)
+-- order depends on the begins alone
+order_mapped : (part : Judged → Judged) → KeepsBegin part → (ones : List Judged) → map part (in_order begin_of ones) ≡ in_order begin_of (map part ones)
+order_mapped part keeps [] = refl
+order_mapped part keeps (one ∷ ones) = put_mapped part keeps one (in_order begin_of ones) ∙ ap (put_in begin_of (part one)) (order_mapped part keeps ones)
 
-tasks_same : (asked : Asked) (processor : ℕ) (past : List Said) (number : ℕ) (tasks : List Task) →
-    map without_reason (judged_from (on processor asked) past number tasks) ≡ map without_reason (judged_from asked past number tasks)
-tasks_same asked processor past number [] = refl
-tasks_same asked processor past number (task ∷ tasks) =
-    map-append without_reason (judged_of (on processor asked) past number) (judged_from (on processor asked) past (number + 1) tasks)
-    ∙ ap₂ (λ (ones others : List Judged). ones ++ others)
-    (ap (map without_reason) (judged_there asked processor past number)
-    ∙ numbered_same asked processor past number (began_before (jobs_of asked past number)) (enumerate_from 0 (jobs_of asked past number)))
-    (tasks_same asked processor past (number + 1) tasks)
-    ∙ sym (map-append without_reason (judged_of asked past number) (judged_from asked past (number + 1) tasks))
+-- where that is the same of each job of each task, on both processors
+abbrev SameOf : (Judged → Judged) → Asked → ℕ → List Said → Type 0
+SameOf part asked processor past = (number : ℕ) →
+    map part (judged_of (on processor asked) past number) ≡ map part (judged_of asked past number)
+
+tasks_same : (part : Judged → Judged) (asked : Asked) (processor : ℕ) (past : List Said) → SameOf part asked processor past → (number : ℕ) (tasks : List Task) →
+    map part (judged_from (on processor asked) past number tasks) ≡ map part (judged_from asked past number tasks)
+tasks_same part asked processor past same number [] = refl
+tasks_same part asked processor past same number (task ∷ tasks) =
+    map-append part (judged_of (on processor asked) past number) (judged_from (on processor asked) past (number + 1) tasks)
+    ∙ ap₂ (λ (ones others : List Judged). ones ++ others) (same number) (tasks_same part asked processor past same (number + 1) tasks)
+    ∙ sym (map-append part (judged_of asked past number) (judged_from asked past (number + 1) tasks))
+
+all_same : (part : Judged → Judged) → KeepsBegin part → (asked : Asked) (processor : ℕ) (past : List Said) → SameOf part asked processor past →
+    map part (all_judged (on processor asked) past) ≡ map part (all_judged asked past)
+all_same part keeps asked processor past same =
+    order_mapped part keeps (judged_from (on processor asked) past 0 asked.tasks)
+    ∙ ap (in_order begin_of) (tasks_same part asked processor past same 0 asked.tasks)
+    ∙ sym (order_mapped part keeps (judged_from asked past 0 asked.tasks))
+
+-- what is said of a whole job is said of each share of it
+whole_if : (asked : Asked) (past : List Said) (number : ℕ) (before : Bool) (k : ℕ) (moved : Bool) (processor : ℕ) (job : Job) →
+    whole_job (judged asked past number before (k, share_if moved processor job)) ≡ whole_job (judged asked past number before (k, job))
+whole_if asked past number before k true processor job = refl
+whole_if asked past number before k false processor job = refl
+
+whole_same : (asked : Asked) (processor : ℕ) (past : List Said) (number : ℕ) (before : Bool) (k : ℕ) (job : Job) →
+    whole_job (judged (on processor asked) past number before (k, share_of (on processor asked) job)) ≡ whole_job (judged asked past number before (k, share_of asked job))
+whole_same asked processor past number before k job =
+    whole_if asked past number before k (asked.moved_parts && is_shared_by processor job) processor job
+    ∙ sym (whole_if asked past number before k (asked.moved_parts && is_shared_by asked.processor job) asked.processor job)
+
+wholes_same : (asked : Asked) (processor : ℕ) (past : List Said) (number : ℕ) (before : Bool) (start : ℕ) (jobs : List Job) →
+    map whole_job (map (judged (on processor asked) past number before) (enumerate_from start (map (share_of (on processor asked)) jobs)))
+    ≡ map whole_job (map (judged asked past number before) (enumerate_from start (map (share_of asked) jobs)))
+wholes_same asked processor past number before start [] = refl
+wholes_same asked processor past number before start (job ∷ jobs) =
+    ap₂ (λ (one : Judged) (rest : List Judged). one ∷ rest) (whole_same asked processor past number before start job)
+    (wholes_same asked processor past number before (start + 1) jobs)
+
+-- # Where nothing is told in parts
+
+-- but for the reason, with this part
+abbrev parted : Judged → Option ℕ → Judged
+parted one part = record one { part = part; reason = None }
+
+no_part : (processor : ℕ) (job : Job) → job.shared ≡ false → (if job.shared then Some processor else None) ≡ None
+no_part processor job is = ap (λ (shared : Bool). if shared then Some processor else None) is
+
+unparted_same : (asked : Asked) (processor : ℕ) (past : List Said) (number : ℕ) (before : Bool) (start : ℕ) (jobs : List Job) → AllByRecursion (λ job. job.shared ≡ false) jobs →
+    map without_reason (map (judged (on processor asked) past number before) (enumerate_from start jobs)) ≡ map without_reason (map (judged asked past number before) (enumerate_from start jobs))
+unparted_same asked processor past number before start [] unshared = refl
+unparted_same asked processor past number before start (job ∷ jobs) unshared =
+    ap₂ (λ (one : Judged) (rest : List Judged). one ∷ rest)
+    (ap (parted (judged asked past number before (start, job))) (no_part processor job unshared.0 ∙ sym (no_part asked.processor job unshared.0)))
+    (unparted_same asked processor past number before (start + 1) jobs unshared.1)
 
 -- the law
 pub jobs_are_the_same : JobsAreTheSame
-jobs_are_the_same asked past processor =
-    order_mapped (judged_from (on processor asked) past 0 asked.tasks)
-    ∙ ap (in_order begin_of) (tasks_same asked processor past 0 asked.tasks)
-    ∙ sym (order_mapped (judged_from asked past 0 asked.tasks))
+jobs_are_the_same asked past processor = record {
+  jobs = all_same whole_job (λ one. refl) asked processor past
+      (λ number. ap (map whole_job) (judged_there asked processor past number)
+      ∙ wholes_same asked processor past number (began_before (jobs_of asked past number)) 0 (jobs_of asked past number));
+  stretches = λ whole. all_same without_reason (λ one. refl) asked processor past (λ number.
+      let jobs : List Job = jobs_of asked past number in
+      ap (map without_reason) (judged_there asked processor past number)
+      ∙ ap (λ (shares : List Job). map without_reason (map (judged (on processor asked) past number (began_before jobs)) (enumerate_from 0 shares)))
+      (jobs_alone (on processor asked) jobs whole)
+      ∙ unparted_same asked processor past number (began_before jobs) 0 jobs (jobs_unshared asked past number)
+      ∙ ap (λ (shares : List Job). map without_reason (map (judged asked past number (began_before jobs)) (enumerate_from 0 shares)))
+      (sym (jobs_alone asked jobs whole)));
+}
+
+-- # What a job that moved ran
+
+its_share : (asked : Asked) (past : List Said) (number : ℕ) (job : Job) (stretch : Stretch) → Contains (jobs_of asked past number) job → Contains job.stretches stretch →
+    HasItsShare asked past number job stretch
+its_share asked past number job stretch known ran = record {
+  share = share_of (on stretch.processor asked) job;
+  is_there = subst (λ (jobs : List Job). Contains (map (share_of (on stretch.processor asked)) jobs) (share_of (on stretch.processor asked) job))
+      (sym (jobs_of_on asked stretch.processor past number)) (in_shares asked stretch.processor past number job known);
+  begins = share_begin (on stretch.processor asked) job;
+  ends = share_end (on stretch.processor asked) job;
+  has = share_has asked job stretch ran;
+}
+
+-- the law
+pub shares_are_the_whole : SharesAreTheWhole
+shares_are_the_whole asked past number k d within j e inside =
+    let job : Job = get_or (jobs_of asked past number) k d in
+    its_share asked past number job (get_or job.stretches j e) (All-contains_itself (jobs_of asked past number) k d within) (All-contains_itself job.stretches j e inside)
+
+-- it isn't left out for having moved
+abbrev IsNotMoved : Option Reason → Type 0
+IsNotMoved reason = reason ≢ Some reasons.Moved
+
+either_not : (b : Bool) (one other : Option Reason) → IsNotMoved one → IsNotMoved other → IsNotMoved (if b then one else other)
+either_not true one other first second = first
+either_not false one other first second = second
+
+later_or_open : (b : Bool) → IsNotMoved (Some (if b then reasons.AfterTo else reasons.NotEnded))
+later_or_open true = λ is. cc
+later_or_open false = λ is. cc
+
+-- what is said of a job that has run elsewhere, or that hasn't
+abbrev judged_if : Asked → List Said → ℕ → Bool → ℕ × Job → Option ℕ → Bool → Judged
+judged_if asked past number before numbered part moved = record {
+  task = number;
+  name = named (task_at asked number).label before numbered.0;
+  part = part;
+  job = numbered.1;
+  due = due (task_at asked number) numbered.1;
+  late = lateness asked (task_at asked number) (last_asked asked past) numbered.1;
+  reason = if not (is_after_from asked.from numbered.1.begin) then Some reasons.BeforeFrom
+      else (if is_lost (last_asked asked past) numbered.1.end then Some reasons.EventsLost
+      else (if numbered.1.switch_missing then Some reasons.SwitchMissing
+      else (if is_open numbered.1.end && is_none (lateness asked (task_at asked number) (last_asked asked past) numbered.1)
+      then Some (if reaches_to asked past then reasons.AfterTo else reasons.NotEnded)
+      else (if not numbered.1.begin_known then Some reasons.BeginUnseen
+      else (if moved then Some reasons.Moved
+      else (if list_any is_of_unknown_speed numbered.1.stretches then Some reasons.SpeedUnknown else None))))));
+}
+
+not_moved : (asked : Asked) (past : List Said) (number : ℕ) (before : Bool) (numbered : ℕ × Job) (part : Option ℕ) →
+    IsNotMoved (judged_if asked past number before numbered part false).reason
+not_moved asked past number before numbered part =
+    either_not (not (is_after_from asked.from numbered.1.begin)) _ _ (λ is. cc)
+    (either_not (is_lost (last_asked asked past) numbered.1.end) _ _ (λ is. cc)
+    (either_not numbered.1.switch_missing _ _ (λ is. cc)
+    (either_not (is_open numbered.1.end && is_none (lateness asked (task_at asked number) (last_asked asked past) numbered.1)) _ _ (later_or_open (reaches_to asked past))
+    (either_not (not numbered.1.begin_known) _ _ (λ is. cc)
+    (either_not (list_any is_of_unknown_speed numbered.1.stretches) _ _ (λ is. cc) (λ is. cc))))))
+
+-- If it ran where the document is, it ran nowhere else, and isn't left out for that.
+record StaysIn (asked : Asked) (one : Judged) : Type 0 where
+  own : All (λ stretch. stretch.processor ≡ asked.processor) one.job.stretches
+  not_moved : IsNotMoved one.reason
+
+abbrev WhereRan : Asked → Judged → Type 0
+WhereRan asked one = has_run_on asked.processor one.job ≡ true → StaysIn asked one
+
+share_stays_in : (asked : Asked) (past : List Said) (number : ℕ) (before : Bool) (k : ℕ) (job : Job) → asked.moved_parts ≡ true →
+    WhereRan asked (judged asked past number before (k, share_of asked job))
+share_stays_in asked past number before k job parts ran =
+    let none : list_any (is_elsewhere asked.processor) (share_of asked job).stretches ≡ false = none_elsewhere asked job parts ran in
+    record {
+      own = All-from_recursion (λ stretch. stretch.processor ≡ asked.processor) (share_of asked job).stretches (there asked.processor (share_of asked job).stretches none);
+      not_moved = subst (λ (moved : Bool). IsNotMoved (judged_if asked past number before (k, share_of asked job) None moved).reason) (sym none)
+          (not_moved asked past number before (k, share_of asked job) None);
+    }
+
+shares_stay : (asked : Asked) (past : List Said) (number : ℕ) (before : Bool) (start : ℕ) (jobs : List Job) → asked.moved_parts ≡ true →
+    AllByRecursion (WhereRan asked) (map (judged asked past number before) (enumerate_from start (map (share_of asked) jobs)))
+shares_stay asked past number before start [] parts = tt
+shares_stay asked past number before start (job ∷ jobs) parts =
+    (share_stays_in asked past number before start job parts, shares_stay asked past number before (start + 1) jobs parts)
+
+tasks_stay : (asked : Asked) (past : List Said) (number : ℕ) (tasks : List Task) → asked.moved_parts ≡ true → AllByRecursion (WhereRan asked) (judged_from asked past number tasks)
+tasks_stay asked past number [] parts = tt
+tasks_stay asked past number (task ∷ tasks) parts =
+    append-all (WhereRan asked) (judged_of asked past number) (judged_from asked past (number + 1) tasks)
+    (shares_stay asked past number (began_before (jobs_of asked past number)) 0 (jobs_of asked past number) parts) (tasks_stay asked past (number + 1) tasks parts)
+
+all_stay : (asked : Asked) (past : List Said) → asked.moved_parts ≡ true → All (WhereRan asked) (all_judged asked past)
+all_stay asked past parts =
+    All-from_recursion (WhereRan asked) (all_judged asked past)
+    (in_order-all (WhereRan asked) begin_of (judged_from asked past 0 asked.tasks) (tasks_stay asked past 0 asked.tasks parts))
+
+-- the laws
+pub none_has_moved : NoneHasMoved
+none_has_moved asked past parts k d within ran = (all_stay asked past parts k d within ran).not_moved
+
+pub only_its_own : OnlyItsOwn
+only_its_own asked past parts k d within ran = (all_stay asked past parts k d within ran).own
 
 -- # Each job belongs to a processor
 
@@ -141,6 +302,13 @@ first_holds : (a b : Bool) → a ≡ true → (a || b) ≡ true
 first_holds true b holds = refl
 first_holds false b holds = cc
 
+-- and no job has run there
+never_ran : (bound processor : ℕ) (stretches : List Stretch) → bound ≤ processor → AllByRecursion (IsUnder bound) stretches →
+    list_any (λ (stretch : Stretch). stretch.processor == processor) stretches ≡ false
+never_ran bound processor [] beyond ran = refl
+never_ran bound processor (stretch ∷ stretches) beyond ran =
+    ap₂ (λ (here rest : Bool). here || rest) (not_there bound processor stretch.processor ran.0 beyond) (never_ran bound processor stretches beyond ran.1)
+
 -- each job that ran has run elsewhere
 elsewhere_same : (bound processor other : ℕ) (stretches : List Stretch) → bound ≤ processor → bound ≤ other → AllByRecursion (IsUnder bound) stretches →
     list_any (is_elsewhere processor) stretches ≡ list_any (is_elsewhere other) stretches
@@ -149,32 +317,26 @@ elsewhere_same bound processor other (stretch ∷ stretches) beyond also ran =
     first_holds (is_elsewhere processor stretch) (list_any (is_elsewhere processor) stretches) (ap not (not_there bound processor stretch.processor ran.0 beyond))
     ∙ sym (first_holds (is_elsewhere other stretch) (list_any (is_elsewhere other) stretches) (ap not (not_there bound other stretch.processor ran.0 also)))
 
--- what is said of a job that has run elsewhere, or that hasn't
-abbrev judged_if : Asked → List Said → ℕ → Bool → ℕ × Job → Bool → Judged
-judged_if asked past number before numbered moved = record {
-  task = number;
-  name = named (task_at asked number).label before numbered.0;
-  job = numbered.1;
-  due = due (task_at asked number) numbered.1;
-  late = lateness asked (task_at asked number) (last_asked asked past) numbered.1;
-  reason = if not (is_after_from asked.from numbered.1.begin) then Some reasons.BeforeFrom
-      else (if is_lost (last_asked asked past) numbered.1.end then Some reasons.EventsLost
-      else (if numbered.1.switch_missing then Some reasons.SwitchMissing
-      else (if is_open numbered.1.end && is_none (lateness asked (task_at asked number) (last_asked asked past) numbered.1)
-      then Some (if reaches_to asked past then reasons.AfterTo else reasons.NotEnded)
-      else (if not numbered.1.begin_known then Some reasons.BeginUnseen
-      else (if moved then Some reasons.Moved
-      else (if list_any is_of_unknown_speed numbered.1.stretches then Some reasons.SpeedUnknown else None))))));
-}
+-- the job as it is judged on a processor of which no line tells
+judged_never : (bound : ℕ) (asked : Asked) (processor : ℕ) (past : List Said) (number : ℕ) (before : Bool) (k : ℕ) (job : Job) → bound ≤ processor →
+    AllByRecursion (IsUnder bound) job.stretches → job.shared ≡ false →
+    judged (on processor asked) past number before (k, share_of (on processor asked) job)
+    ≡ judged_if asked past number before (k, job) None (list_any (is_elsewhere processor) job.stretches)
+judged_never bound asked processor past number before k job beyond ran unshared =
+    ap (λ (share : Job). judged (on processor asked) past number before (k, share)) (share_stranger (on processor asked) job (never_ran bound processor job.stretches beyond ran))
+    ∙ ap (λ (part : Option ℕ). judged_if asked past number before (k, job) part (list_any (is_elsewhere processor) job.stretches)) (no_part processor job unshared)
 
 numbered_unseen : (bound : ℕ) (asked : Asked) (processor other : ℕ) (past : List Said) (number : ℕ) (before : Bool) (start : ℕ) (jobs : List Job) → bound ≤ processor → bound ≤ other →
-    Ran (IsUnder bound) jobs →
-    map (judged (on processor asked) past number before) (enumerate_from start jobs) ≡ map (judged (on other asked) past number before) (enumerate_from start jobs)
-numbered_unseen bound asked processor other past number before start [] beyond also ran = refl
-numbered_unseen bound asked processor other past number before start (job ∷ jobs) beyond also ran =
+    Ran (IsUnder bound) jobs → AllByRecursion (λ job. job.shared ≡ false) jobs →
+    map (judged (on processor asked) past number before) (enumerate_from start (map (share_of (on processor asked)) jobs))
+    ≡ map (judged (on other asked) past number before) (enumerate_from start (map (share_of (on other asked)) jobs))
+numbered_unseen bound asked processor other past number before start [] beyond also ran unshared = refl
+numbered_unseen bound asked processor other past number before start (job ∷ jobs) beyond also ran unshared =
     ap₂ (λ (one : Judged) (rest : List Judged). one ∷ rest)
-    (ap (judged_if asked past number before (start, job)) (elsewhere_same bound processor other job.stretches beyond also ran.0))
-    (numbered_unseen bound asked processor other past number before (start + 1) jobs beyond also ran.1)
+    (judged_never bound asked processor past number before start job beyond ran.0 unshared.0
+    ∙ ap (judged_if asked past number before (start, job) None) (elsewhere_same bound processor other job.stretches beyond also ran.0)
+    ∙ sym (judged_never bound asked other past number before start job also ran.0 unshared.0))
+    (numbered_unseen bound asked processor other past number before (start + 1) jobs beyond also ran.1 unshared.1)
 
 tasks_unseen : (bound : ℕ) (asked : Asked) (processor other : ℕ) (past : List Said) (number : ℕ) (tasks : List Task) → bound ≤ processor → bound ≤ other → TellUnder bound past →
     judged_from (on processor asked) past number tasks ≡ judged_from (on other asked) past number tasks
@@ -183,7 +345,7 @@ tasks_unseen bound asked processor other past number (task ∷ tasks) beyond als
     ap₂ (λ (ones rest : List Judged). ones ++ rest)
     (judged_there asked processor past number
     ∙ numbered_unseen bound asked processor other past number (began_before (jobs_of asked past number)) 0 (jobs_of asked past number) beyond also
-    (jobs_under bound asked past number tell) ∙ sym (judged_there asked other past number))
+    (jobs_under bound asked past number tell) (jobs_unshared asked past number) ∙ sym (judged_there asked other past number))
     (tasks_unseen bound asked processor other past (number + 1) tasks beyond also tell)
 
 pub judged_unseen : (asked : Asked) (past : List Said) (processor other : ℕ) → processor_count past ≤ processor → processor_count past ≤ other →
@@ -199,12 +361,6 @@ none_holds false false false first second third = refl
 none_holds true b c first second third = cc
 none_holds false true c first second third = cc
 none_holds false false true first second third = cc
-
-never_ran : (bound processor : ℕ) (stretches : List Stretch) → bound ≤ processor → AllByRecursion (IsUnder bound) stretches →
-    list_any (λ (stretch : Stretch). stretch.processor == processor) stretches ≡ false
-never_ran bound processor [] beyond ran = refl
-never_ran bound processor (stretch ∷ stretches) beyond ran =
-    ap₂ (λ (here rest : Bool). here || rest) (not_there bound processor stretch.processor ran.0 beyond) (never_ran bound processor stretches beyond ran.1)
 
 not_of_it : (bound : ℕ) (asked : Asked) (processor : ℕ) (one : Judged) → asked.everywhere ≡ true → 1 ≤ bound → bound ≤ processor → RanUnder bound one →
     belongs (on processor asked) one ≡ false
@@ -261,14 +417,42 @@ quiet_same asked processor other past ones time =
     (fun_ext (λ (one : Judged). ap (λ (settled : Bool). settled && (not (stands one) || ended_by time one.job.end))
     (is_settled_on asked processor past one ∙ sym (is_settled_on asked other past one))))
 
+any_same : (test other : Judged → Bool) (ones : List Judged) → AllByRecursion (λ one. test one ≡ other one) ones → list_any test ones ≡ list_any other ones
+any_same test other [] same = refl
+any_same test other (one ∷ ones) same = ap₂ (λ (here rest : Bool). here || rest) same.0 (any_same test other ones same.1)
+
+own_same : (bound : ℕ) (asked : Asked) (processor other : ℕ) (one : Judged) → asked.everywhere ≡ true → 1 ≤ bound → bound ≤ processor → bound ≤ other → RanUnder bound one →
+    is_own (on processor asked) one ≡ is_own (on other asked) one
+own_same bound asked processor other one everywhere some beyond also own =
+    ap (λ (mine : Bool). mine && is_written one)
+    (not_of_it bound asked processor one everywhere some beyond own ∙ sym (not_of_it bound asked other one everywhere some also own))
+
+has_own_same : (bound : ℕ) (asked : Asked) (processor other : ℕ) (ones : List Judged) (time : ℕ) → asked.everywhere ≡ true → 1 ≤ bound → bound ≤ processor →
+    bound ≤ other → AllByRecursion (RanUnder bound) ones → has_own_job (on processor asked) time ones ≡ has_own_job (on other asked) time ones
+has_own_same bound asked processor other ones time everywhere some beyond also ran =
+    ap₂ (λ (early any : Bool). early || not any)
+    (any_same (λ (one : Judged). begins_before time one && is_own (on processor asked) one) (λ (one : Judged). begins_before time one && is_own (on other asked) one) ones
+    (all_weaker (RanUnder bound) (λ (one : Judged). (begins_before time one && is_own (on processor asked) one) ≡ (begins_before time one && is_own (on other asked) one))
+    (λ one own. ap (λ (mine : Bool). begins_before time one && mine) (own_same bound asked processor other one everywhere some beyond also own)) ones ran))
+    (any_same (is_own (on processor asked)) (is_own (on other asked)) ones
+    (all_weaker (RanUnder bound) (λ (one : Judged). is_own (on processor asked) one ≡ is_own (on other asked) one)
+    (λ one own. own_same bound asked processor other one everywhere some beyond also own) ones ran))
+
+none_open_same : (bound : ℕ) (asked : Asked) (processor other : ℕ) (ones : List Judged) (time : ℕ) → asked.everywhere ≡ true → 1 ≤ bound → bound ≤ processor →
+    bound ≤ other → AllByRecursion (RanUnder bound) ones →
+    each_before (is_closed_by (on processor asked) time) time ones ≡ each_before (is_closed_by (on other asked) time) time ones
+none_open_same bound asked processor other ones time everywhere some beyond also ran =
+    each_same (is_closed_by (on processor asked) time) (is_closed_by (on other asked) time) time ones
+    (all_weaker (RanUnder bound) (λ (one : Judged). is_closed_by (on processor asked) time one ≡ is_closed_by (on other asked) time one)
+    (λ one own. ap (λ (mine : Bool). not mine || nat_le one.due time) (own_same bound asked processor other one everywhere some beyond also own)) ones ran)
+
 closed_same : (bound : ℕ) (asked : Asked) (processor other : ℕ) (past : List Said) (ones : List Judged) (time : ℕ) → asked.everywhere ≡ true → 1 ≤ bound → bound ≤ processor →
     bound ≤ other → AllByRecursion (RanUnder bound) ones → is_closed (on processor asked) past ones time ≡ is_closed (on other asked) past ones time
 closed_same bound asked processor other past ones time everywhere some beyond also ran =
-    ap₂ (λ (quiet closed : Bool). quiet && closed) (quiet_same asked processor other past ones time)
-    (each_same (is_closed_by (on processor asked) time) (is_closed_by (on other asked) time) time ones
-    (all_weaker (RanUnder bound) (λ (one : Judged). is_closed_by (on processor asked) time one ≡ is_closed_by (on other asked) time one)
-    (λ one own. ap (λ (mine : Bool). not (mine && is_written one) || nat_le one.due time)
-    (not_of_it bound asked processor one everywhere some beyond own ∙ sym (not_of_it bound asked other one everywhere some also own))) ones ran))
+    ap₂ (λ (quiet closed : Bool). quiet && closed)
+    (ap₂ (λ (quiet own : Bool). quiet && own) (quiet_same asked processor other past ones time)
+    (has_own_same bound asked processor other ones time everywhere some beyond also ran))
+    (none_open_same bound asked processor other ones time everywhere some beyond also ran)
 
 among_same : (bound : ℕ) (asked : Asked) (processor other : ℕ) (past : List Said) (ones : List Judged) → asked.everywhere ≡ true → 1 ≤ bound → bound ≤ processor →
     bound ≤ other → AllByRecursion (RanUnder bound) ones → place_among (on processor asked) past ones ≡ place_among (on other asked) past ones
@@ -282,10 +466,14 @@ place_same : (asked : Asked) (processor other : ℕ) (past : List Said) (cut : C
 place_same asked processor other past cut everywhere beyond also =
     let bound : ℕ = processor_count past in
     let waits : List Judged = waiting (on other asked) past cut in
-    ap₂ (λ (may : Bool) (ones : List Judged). if is_due past && may && is_much ones then place_among (on processor asked) past ones else None)
+    let spans : List Span = others_from (on other asked) past cut.boundary in
+    ap₂ (λ (may : Bool) (ones : List Judged). if is_due past && may && is_much ones (others_from (on processor asked) past cut.boundary)
+    then place_among (on processor asked) past ones else None)
     (may_write_on asked processor past ∙ sym (may_write_on asked other past))
     (ap (filter (begins_from cut.boundary)) (judged_unseen asked past processor other beyond also))
-    ∙ ap (λ (place : Option ℕ). if is_due past && may_write (on other asked) past && is_much waits then place else None)
+    ∙ ap (λ (told : List Span). if is_due past && may_write (on other asked) past && is_much waits told then place_among (on processor asked) past waits else None)
+    (others_from_on asked processor past cut.boundary ∙ sym (others_from_on asked other past cut.boundary))
+    ∙ ap (λ (place : Option ℕ). if is_due past && may_write (on other asked) past && is_much waits spans then place else None)
     (among_same bound asked processor other past waits everywhere (some_processor past) beyond also (waiting_under (on other asked) past cut.boundary))
 
 cut_at_same : (asked : Asked) (processor other : ℕ) (past : List Said) (cut : Cut) (until : Option ℕ) → asked.everywhere ≡ true → processor_count past ≤ processor →

@@ -8,11 +8,12 @@ use Rattle.yds_trace.specs.declared.job.Leaving.{Leaving}
 use Rattle.yds_trace.specs.Asked.{Task, Asked, task_at, is_of}
 use Rattle.yds_trace.specs.Past.{counts, is_first_switch, stayed, up_to_time, up_to, speed_after}
 use Rattle.yds_trace.specs.Jobs.{Job, Known, leaving_at, after_event, known_after}
-use Rattle.yds_trace.specs.Document.{Judged, closed, jobs_of, began_before, judged, judged_of, judged_from, all_judged}
+use Rattle.yds_trace.specs.Document.{Judged, closed, jobs_of, shares_of, began_before, judged, judged_of, judged_from, all_judged}
 use Rattle.yds_trace.specs.Parts.{next_processor, processor_count}
 use Rattle.yds_trace_laws.specs.Processors.{RanWhereTold, EachRanWhereTold}
 use Rattle.yds_trace_laws.proofs.Ordered.{append-all, either_all, in_order-all}
 use Rattle.yds_trace_laws.proofs.Runs.{all_weaker, reverse-all}
+use Rattle.yds_trace_laws.proofs.Shares.{shares_ran}
 use Rattle.yds_trace_laws.proofs.Sharing.{Ran, IsLeft, IsOn, Still, Fresh, left_at, lost_ran, switch_ran, switch_on, speeds_ran, speeds_on, woken_known, woken_on, closed_ran}
 
 -- on a processor below this number
@@ -127,7 +128,8 @@ tasks_under : (bound : ℕ) (asked : Asked) (past : List Said) (number : ℕ) (t
 tasks_under bound asked past number [] tell = tt
 tasks_under bound asked past number (task ∷ tasks) tell =
     append-all (RanUnder bound) (judged_of asked past number) (judged_from asked past (number + 1) tasks)
-    (numbered_under bound asked past number (began_before (jobs_of asked past number)) 0 (jobs_of asked past number) (jobs_under bound asked past number tell))
+    (numbered_under bound asked past number (began_before (jobs_of asked past number)) 0 (shares_of asked past number)
+    (shares_ran (IsUnder bound) asked (jobs_of asked past number) (jobs_under bound asked past number tell)))
     (tasks_under bound asked past (number + 1) tasks tell)
 
 pub all_under : (bound : ℕ) (asked : Asked) (past : List Said) → TellUnder bound past → AllByRecursion (RanUnder bound) (all_judged asked past)

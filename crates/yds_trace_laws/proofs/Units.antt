@@ -7,7 +7,7 @@ use Rattle.yds_trace.specs.Asked.{Task, Asked}
 use Rattle.yds_trace.specs.Jobs.{Job}
 use Rattle.yds_trace.specs.Faults.{first_fault}
 use Rattle.yds_trace.specs.WrittenTime.{Units, Run, run_of, runs_of}
-use Rattle.yds_trace.specs.Document.{is_elsewhere, Judged, judged, judged_of, judged_from, all_judged, began_before, jobs_of, units_of}
+use Rattle.yds_trace.specs.Document.{is_elsewhere, Judged, judged, judged_of, judged_from, all_judged, began_before, jobs_of, shares_of, units_of}
 use Rattle.yds_trace_laws.specs.Faithful.{IsRounded}
 use Rattle.yds_trace_laws.specs.Sharing.{AreApart, EachStretch, RunsAreApart, HaveOwnUnits}
 use Rattle.yds_trace_laws.specs.Laws.{UnitsAreOwn, RunsHaveOwnUnits}
@@ -15,6 +15,7 @@ use Rattle.yds_trace_laws.proofs.Ordered.{append-all, in_order-all}
 use Rattle.yds_trace_laws.proofs.Times.{order_is_kept}
 use Rattle.yds_trace_laws.proofs.Runs.{all_weaker, contained, reverse-all, IsForward, runs_forward, IsRunOf, WhereForward, runs_are_stretches}
 use Rattle.yds_trace_laws.proofs.Faithful.{IsWhole, all_whole, same_processor}
+use Rattle.yds_trace_laws.proofs.Shares.{shares_each}
 use Rattle.yds_trace_laws.proofs.Sharing.{tasks_have_own_time}
 
 -- # Runs of two lists of stretches
@@ -99,13 +100,13 @@ all_runs_apart units ss ts all =
 
 -- # Jobs of two tasks
 
--- a job that is judged is one of its task's, and that is one of the tasks
+-- a job that is judged is one of its task's, as the processor's documents have it, and that is one of the tasks
 pub record IsOne (asked : Asked) (past : List Said) (one : Judged) : Type 0 where
   pub known : one.task < length asked.tasks
-  pub job : Contains (jobs_of asked past one.task) one.job
+  pub job : Contains (shares_of asked past one.task) one.job
 
 numbered_are : (asked : Asked) (past : List Said) (number : ℕ) (before : Bool) (start : ℕ) (jobs : List Job) → number < length asked.tasks →
-    AllByRecursion (Contains (jobs_of asked past number)) jobs → AllByRecursion (IsOne asked past) (map (judged asked past number before) (enumerate_from start jobs))
+    AllByRecursion (Contains (shares_of asked past number)) jobs → AllByRecursion (IsOne asked past) (map (judged asked past number before) (enumerate_from start jobs))
 numbered_are asked past number before start [] known all = tt
 numbered_are asked past number before start (job ∷ jobs) known all =
     (record { known = known; job = all.0 }, numbered_are asked past number before (start + 1) jobs known all.1)
@@ -115,8 +116,8 @@ tasks_are : (asked : Asked) (past : List Said) (number : ℕ) (tasks : List Task
 tasks_are asked past number [] within = tt
 tasks_are asked past number (task ∷ tasks) within =
     append-all (IsOne asked past) (judged_of asked past number) (judged_from asked past (number + 1) tasks)
-    (numbered_are asked past number (began_before (jobs_of asked past number)) 0 (jobs_of asked past number) (omega (arith, within))
-    (recursion_from_All (Contains (jobs_of asked past number)) (jobs_of asked past number) (All-contains_itself (jobs_of asked past number))))
+    (numbered_are asked past number (began_before (jobs_of asked past number)) 0 (shares_of asked past number) (omega (arith, within))
+    (recursion_from_All (Contains (shares_of asked past number)) (shares_of asked past number) (All-contains_itself (shares_of asked past number))))
     (tasks_are asked past (number + 1) tasks (omega (arith, within)))
 
 pub all_are : (asked : Asked) (past : List Said) → All (IsOne asked past) (all_judged asked past)
@@ -124,7 +125,7 @@ all_are asked past =
     All-from_recursion (IsOne asked past) (all_judged asked past)
     (in_order-all (IsOne asked past) (λ one. one.job.begin) (judged_from asked past 0 asked.tasks) (tasks_are asked past 0 asked.tasks (omega arith)))
 
-there : (processor : ℕ) (stretches : List Stretch) → list_any (is_elsewhere processor) stretches ≡ false → AllByRecursion (λ s. s.processor ≡ processor) stretches
+pub there : (processor : ℕ) (stretches : List Stretch) → list_any (is_elsewhere processor) stretches ≡ false → AllByRecursion (λ s. s.processor ≡ processor) stretches
 there processor [] none = tt
 there processor (stretch ∷ stretches) none =
     let parts = or_parts (is_elsewhere processor stretch) (list_any (is_elsewhere processor) stretches) none in
@@ -148,11 +149,12 @@ own_units asked past units positive none one other first second whole whole_too 
     let theirs : List Stretch = other.job.stretches in
     let mine : List Stretch = one.job.stretches in
     let all : All (λ s. EachStretch (AreApart s) (jobs_of asked past other.task)) mine =
-    contained (λ (job : Job). All (λ s. EachStretch (AreApart s) (jobs_of asked past other.task)) job.stretches) (jobs_of asked past one.task) one.job first.job
-    (tasks_have_own_time asked past none one.task other.task apart) in
+    contained (λ (job : Job). All (λ s. EachStretch (AreApart s) (jobs_of asked past other.task)) job.stretches) (shares_of asked past one.task) one.job first.job
+    (shares_each (λ s. EachStretch (AreApart s) (jobs_of asked past other.task)) asked past one.task (tasks_have_own_time asked past none one.task other.task apart)) in
     let pairs : AllByRecursion (λ s. AllByRecursion (AreApart s) theirs) mine =
     all_weaker (λ s. EachStretch (AreApart s) (jobs_of asked past other.task)) (λ s. AllByRecursion (AreApart s) theirs)
-    (λ s each. recursion_from_All (AreApart s) theirs (contained (λ (job : Job). All (AreApart s) job.stretches) (jobs_of asked past other.task) other.job second.job each)) mine
+    (λ s each. recursion_from_All (AreApart s) theirs (contained (λ (job : Job). All (AreApart s) job.stretches) (shares_of asked past other.task) other.job second.job
+    (shares_each (AreApart s) asked past other.task each))) mine
     (recursion_from_All (λ s. EachStretch (AreApart s) (jobs_of asked past other.task)) mine all) in
     let written : Pairs units mine theirs =
     written_pairs units asked.processor mine theirs positive pairs (there asked.processor mine (whole.none_elsewhere stand)) (there asked.processor theirs (whole_too.none_elsewhere stand_too)) in

@@ -44,7 +44,12 @@ abbrev pub SharesAreTheWhole : Type 0
 SharesAreTheWhole = (asked : Asked) (past : List Said) (number : ℕ) →
     All (λ job. All (HasItsShare asked past number job) job.stretches) (jobs_of asked past number)
 
--- And where that is asked for, no job is left out for having moved that ran on the processor.
+-- And where that is asked for, a job has there no stretch of another processor.
+abbrev pub OnlyItsOwn : Type 0
+OnlyItsOwn = (asked : Asked) (past : List Said) → asked.moved_parts ≡ true →
+    All (λ judged. has_run_on asked.processor judged.job ≡ true → All (λ stretch. stretch.processor ≡ asked.processor) judged.job.stretches) (all_judged asked past)
+
+-- So no job is left out for having moved that ran on the processor.
 abbrev pub NoneHasMoved : Type 0
 NoneHasMoved = (asked : Asked) (past : List Said) → asked.moved_parts ≡ true →
     All (λ judged. has_run_on asked.processor judged.job ≡ true → judged.reason ≢ Some reasons.Moved) (all_judged asked past)

@@ -1,5 +1,5 @@
 ghost use Rattle.yds_trace_laws.specs.Laws.{BeginsAreInTime, DocumentsAreFaithful, EndsAreKept, FeasibleMeansInTime, FrontsAreInfeasible, LatenessIsKept, NoneBeginsBefore, OrderIsKept, RunsHaveOwnUnits, SomeAreFaithful, SomeAreInTime, TasksHaveOwnTime, UnitsAreOwn, WorkNeedsASlot};
-ghost use Rattle.yds_trace_laws.specs.Processors.{EachJobBelongs, EachRanWhereTold, JobsAreTheSame, UnseenAreTheSame};
+ghost use Rattle.yds_trace_laws.specs.Processors.{EachJobBelongs, EachRanWhereTold, JobsAreTheSame, NoneHasMoved, OnlyItsOwn, SharesAreTheWhole, UnseenAreTheSame};
 
 /// A written time keeps order.
 pub fn order_is_kept()
@@ -71,7 +71,8 @@ pub fn runs_have_own_units()
     ensures { RunsHaveOwnUnits }
 {}
 
-/// The same jobs are judged on each processor, and the same is said of them but for why one isn't written as it stands.
+/// The same jobs are judged on each processor, and the same is said of them but for why one isn't written as it stands, and for
+/// what a job that moved ran there, where each processor has that.
 pub fn jobs_are_the_same()
     ensures { JobsAreTheSame }
 {}
@@ -79,6 +80,11 @@ pub fn jobs_are_the_same()
 /// Of a job that moved, each processor has what it ran there, where that is asked for.
 pub fn shares_are_the_whole()
     ensures { SharesAreTheWhole }
+{}
+
+/// Where that is asked for, a job that ran on the processor has there no stretch of another one.
+pub fn only_its_own()
+    ensures { OnlyItsOwn }
 {}
 
 /// Where that is asked for, no job is left out for having moved that ran on the processor.

@@ -12,31 +12,28 @@ use Rattle.yds_trace.specs.Asked.{Asked, on}
 use Rattle.yds_trace.specs.Faults.{said_fault, first_fault, numbered}
 use Rattle.yds_trace.specs.Document.{Judged}
 use Rattle.yds_trace.specs.Parts.{cut_after, part_until, parts_fault, place_of, processors_of}
+use Rattle.yds_trace_laws.proofs.Begins.{or_none}
 use Rattle.yds_trace_document.specs.declared.fault.DocumentFault.{DocumentFault}
 use Rattle.yds_trace_document.specs.Part.{part_of, part_limit_fault}
 use Rattle.yds_trace_text.specs.PartText.{part_text}
 use Rattle.yds_trace_reading.specs.LineFault.{past_of}
-use Rattle.yds_trace_parts.specs.Told.{Halt, OfText, Told, at_line, line_halt, next_number, of_document, of_text, part_halt, both, piece_unless, part_piece, piece_with, piece_at, piece_of, pieces, told_with, told_next, told_after, last_pieces, no_job_halt, last_piece, end_halt, told_last, told_at_end, told_of}
+use Rattle.yds_trace_parts.specs.Told.{Halt, OfText, at_line, line_halt, next_number, part_processor, of_document, of_text, part_halt, both, piece_unless, part_piece, piece_with, piece_at, piece_of, pieces, told_with, told_next, told_after, last_pieces, no_job_halt, last_piece, end_halt, told_last, told_at_end, told_of}
 use Rattle.yds_trace_whole.specs.Parts.{Part, made, made_with, made_at, made_behind, written_behind, last_made, written_parts, KeepsAllParts}
 
 -- # No fault
-
-pub no_fault : {A : Type 0} (first second : Option A) → or_else first second ≡ None → (first ≡ None) × (second ≡ None)
-no_fault None second none = (refl, none)
-no_fault (Some x) second none = cc
 
 no_cause : (number : ℕ) (cause : Option Cause) → at_line number cause ≡ None → cause ≡ None
 no_cause number None none = refl
 no_cause number (Some cause) none = cc
 
-no_limit : (part : ℕ) (limit : Option DocumentFault) → of_document part limit ≡ None → limit ≡ None
-no_limit part None none = refl
-no_limit part (Some fault) none = cc
+no_limit : (processor : Option ℕ) (part : ℕ) (limit : Option DocumentFault) → of_document processor part limit ≡ None → limit ≡ None
+no_limit processor part None none = refl
+no_limit processor part (Some fault) none = cc
 
-not_long : (part : ℕ) (text : List ℕ) → of_text part text ≡ None → length text ≤ MAX_INPUT
-not_long part text none = by (nat_lt MAX_INPUT (length text)) refl none
+not_long : (processor : Option ℕ) (part : ℕ) (text : List ℕ) → of_text processor part text ≡ None → length text ≤ MAX_INPUT
+not_long processor part text none = by (nat_lt MAX_INPUT (length text)) refl none
   where
-    by : (b : Bool) → nat_lt MAX_INPUT (length text) ≡ b → (if b then Some (OfText part) else None) ≡ None → length text ≤ MAX_INPUT
+    by : (b : Bool) → nat_lt MAX_INPUT (length text) ≡ b → (if b then Some (OfText processor part) else None) ≡ None → length text ≤ MAX_INPUT
     by true is none = cc
     by false is none = ltb-false MAX_INPUT (length text) is
 
@@ -75,9 +72,9 @@ both_put asked strict one more text None later None first second goes_on = joine
 may_stand : (asked : Asked) (strict : Bool) (past : List Said) (cut : Cut) (until : Option ℕ) → part_halt asked strict past cut until ≡ None
     → MayStand asked strict (made asked past cut until)
 may_stand asked strict past cut until none =
-    let parts = no_fault (of_document (next_number cut) (part_limit_fault asked strict cut (part_of asked past cut until))) (of_text (next_number cut) (part_text asked past cut until)) none in (
-      no_limit (next_number cut) (part_limit_fault asked strict cut (part_of asked past cut until)) parts.0,
-      not_long (next_number cut) (part_text asked past cut until) parts.1,
+    let parts = or_none (of_document (part_processor asked) (next_number cut) (part_limit_fault asked strict cut (part_of asked past cut until))) (of_text (part_processor asked) (next_number cut) (part_text asked past cut until)) none in (
+      no_limit (part_processor asked) (next_number cut) (part_limit_fault asked strict cut (part_of asked past cut until)) parts.0,
+      not_long (part_processor asked) (next_number cut) (part_text asked past cut until) parts.1,
     )
 
 one_put : (asked : Asked) (strict : Bool) (past : List Said) (cut : Cut) (until : Option ℕ) → (part_piece asked strict past cut until).halt ≡ None
@@ -166,7 +163,7 @@ line_told : (asked : Asked) (strict : Bool) (past : List Said) (said : Said) (te
     → IsToldAs asked strict (said ∷ past) (written_behind asked (said ∷ past)) (told_with asked strict past said text halt).text
 line_told asked strict past said text (Some halt) before is goes_on = cc
 line_told asked strict past said text None before is goes_on =
-    let causes = no_fault (said_fault asked past said) (parts_fault asked past said)
+    let causes = or_none (said_fault asked past said) (parts_fault asked past said)
     (no_cause (length past + 1) (or_else (said_fault asked past said) (parts_fault asked past said)) is) in
     let processors = processors_of asked (said ∷ past) in
     let put = with_parts asked strict past (written_behind asked past) (made_behind asked past said processors) text (pieces asked strict past said processors).text

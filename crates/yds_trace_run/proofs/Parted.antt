@@ -1,7 +1,8 @@
 -- From what was told in parts to what was written.
-use Rattle.yds_model.proofs.Common.{◌≡◌, ◌≢◌, ℕ, ◌<◌, ◌≤◌, ◌⊎◌, inl, inr, List, [], ◌++◌, append_assoc, append-nil, Bool, true, Option, Some, None, Ok, Err, refl, sym, ap, subst, ◌∙◌, arith, cases_lt}
+use Rattle.yds_model.proofs.Common.{◌≡◌, ◌≢◌, ℕ, ◌<◌, ◌≤◌, ◌⊎◌, inl, inr, List, [], ◌++◌, append-nil, Bool, true, Option, Some, None, Ok, Err, refl, sym, ap, subst, ◌∙◌, arith, cases_lt}
 use Rattle.std.specs.Prelude.{IfSome}
 use Rattle.std.specs.Io.KnownBytes.{Appends}
+use Rattle.std.proofs.KnownBytes.{Appends-trans}
 use Rattle.yds_model.specs.declared.status.Status.{Status}
 use Rattle.yds_model.specs.declared.status.Status.TheVariants as statuses
 use Rattle.yds_port.specs.Count.{Rose, next_count}
@@ -13,6 +14,7 @@ use Rattle.yds_trace_parts.specs.declared.halt.Halt.{Halt as HaltKept}
 use Rattle.yds_trace_parts.specs.declared.halt.Halt.TheVariants as halts
 use Rattle.yds_trace_parts.specs.Told.{Halt, InForm, AtLine, OfDocument, OfText, NoPlace, told_after, told_of}
 use Rattle.yds_trace_parts.specs.Driving.{WritesSome, Writes as WritesParts}
+use Rattle.yds_trace_parts.proofs.Driven.{front_after, front_longer}
 use Rattle.yds_trace_words.specs.Request.{ReadTrace}
 use Rattle.yds_trace_run.specs.FaultText.{halt_text, too_long_text, memory_text, read_fault_text}
 use Rattle.yds_trace_run.specs.Answer.{IsTold, IsUncounted, WasWritten, EndsWith}
@@ -21,44 +23,21 @@ use Rattle.yds_trace_run.proofs.Left.{leaves_read_out, leaves_failed}
 
 -- # One text behind another
 
-appends_more : (old mid new : Option (List ℕ)) (first second : List ℕ) → Appends old mid first → Appends mid new second → Appends old new (first ++ second)
-appends_more None mid new first second before behind = tt
-appends_more (Some xs) None new first second before behind = absurd before
-appends_more (Some xs) (Some ys) None first second before behind = absurd behind
-appends_more (Some xs) (Some ys) (Some zs) first second before behind =
-    behind ∙ ap (λ (front : List ℕ). front ++ second) before ∙ append_assoc xs first second
-
-front_more : (old mid new : Option (List ℕ)) (first second : List ℕ) → Appends old mid first → AppendsFront second mid new → AppendsFront (first ++ second) old new
-front_more old mid new first second before behind = record {
-  front = first ++ behind.front;
-  rest = behind.rest;
-  is_front = ap (λ (text : List ℕ). first ++ text) behind.is_front ∙ sym (append_assoc first behind.front behind.rest);
-  appended = appends_more old mid new first behind.front before behind.appended;
-}
-
-front_of_front : (text more : List ℕ) (old new : Option (List ℕ)) → AppendsFront text old new → AppendsFront (text ++ more) old new
-front_of_front text more old new is = record {
-  front = is.front;
-  rest = is.rest ++ more;
-  is_front = ap (λ (one : List ℕ). one ++ more) is.is_front ∙ append_assoc is.front is.rest more;
-  appended = is.appended;
-}
-
 pub outcome_more : (ended : Status) (first text : List ℕ) (status : Status) (old mid new : Option (List ℕ)) (flushed : Option ℕ) → Appends old mid first → Outcome ended text status mid new flushed
     → Outcome ended (first ++ text) status old new flushed
-outcome_more statuses.WriteFault first text status old mid new flushed before behind = front_more old mid new first text before behind
+outcome_more statuses.WriteFault first text status old mid new flushed before behind = front_after first text old mid new before behind
 outcome_more statuses.Done first text status old mid new flushed before behind =
-    record { said = behind.said; whole = appends_more old mid new first text before behind.whole; all_flushed = behind.all_flushed }
+    record { said = behind.said; whole = Appends-trans old mid new first text before behind.whole; all_flushed = behind.all_flushed }
 outcome_more statuses.No first text status old mid new flushed before behind =
-    record { said = behind.said; whole = appends_more old mid new first text before behind.whole; all_flushed = behind.all_flushed }
+    record { said = behind.said; whole = Appends-trans old mid new first text before behind.whole; all_flushed = behind.all_flushed }
 outcome_more statuses.Usage first text status old mid new flushed before behind =
-    record { said = behind.said; whole = appends_more old mid new first text before behind.whole; all_flushed = behind.all_flushed }
+    record { said = behind.said; whole = Appends-trans old mid new first text before behind.whole; all_flushed = behind.all_flushed }
 outcome_more statuses.Refused first text status old mid new flushed before behind =
-    record { said = behind.said; whole = appends_more old mid new first text before behind.whole; all_flushed = behind.all_flushed }
+    record { said = behind.said; whole = Appends-trans old mid new first text before behind.whole; all_flushed = behind.all_flushed }
 outcome_more statuses.ReadFault first text status old mid new flushed before behind =
-    record { said = behind.said; whole = appends_more old mid new first text before behind.whole; all_flushed = behind.all_flushed }
+    record { said = behind.said; whole = Appends-trans old mid new first text before behind.whole; all_flushed = behind.all_flushed }
 outcome_more statuses.Memory first text status old mid new flushed before behind =
-    record { said = behind.said; whole = appends_more old mid new first text before behind.whole; all_flushed = behind.all_flushed }
+    record { said = behind.said; whole = Appends-trans old mid new first text before behind.whole; all_flushed = behind.all_flushed }
 
 -- # What was written
 
@@ -101,7 +80,7 @@ module _ (asked : Asked) (strict : Bool) (bytes : List ℕ) (in_parts : asked.in
     status = statuses.Refused;
     is_text = inl (told_so ((told_of asked strict (trace_of bytes)).text ++ halt_text halt) statuses.Refused (record { halt = halt; first = is; says = refl }));
     outcome = subst (λ (one : Status). Outcome one ((told_of asked strict (trace_of bytes)).text ++ halt_text halt) statuses.Refused old new flushed) (sym failed)
-        (front_of_front (told_of asked strict (trace_of bytes)).text (halt_text halt) old new front);
+        (front_longer (told_of asked strict (trace_of bytes)).text (halt_text halt) old new front);
   }
 
   done_so : (ended : Status) (old mid new : Option (List ℕ)) (flushed : Option ℕ) → WritesParts asked strict bytes (Ok tt) old mid
@@ -121,10 +100,10 @@ module _ (asked : Asked) (strict : Bool) (bytes : List ℕ) (in_parts : asked.in
         refused_so (InForm (record { line = number; column = fault.column; reason = fault.reason })) ended (written old) (written mid) (written new) (flushed new) drives.told drives.appended tells.outcome
     halted_so (halts.AtLine number cause) ended old mid new drives tells =
         refused_so (AtLine number cause) ended (written old) (written mid) (written new) (flushed new) drives.told drives.appended tells.outcome
-    halted_so (halts.Limit part fault) ended old mid new drives tells =
-        refused_so (OfDocument part fault) ended (written old) (written mid) (written new) (flushed new) drives.told drives.appended tells.outcome
-    halted_so (halts.TooLong part) ended old mid new drives tells =
-        refused_so (OfText part) ended (written old) (written mid) (written new) (flushed new) drives.told drives.appended tells.outcome
+    halted_so (halts.Limit processor part fault) ended old mid new drives tells =
+        refused_so (OfDocument processor part fault) ended (written old) (written mid) (written new) (flushed new) drives.told drives.appended tells.outcome
+    halted_so (halts.TooLong processor part) ended old mid new drives tells =
+        refused_so (OfText processor part) ended (written old) (written mid) (written new) (flushed new) drives.told drives.appended tells.outcome
     halted_so (halts.NoPlace name begin late) ended old mid new drives tells =
         refused_so (NoPlace name.items begin late) ended (written old) (written mid) (written new) (flushed new) drives.told drives.appended tells.outcome
     halted_so halts.Endless ended old mid new drives tells = record {
@@ -155,8 +134,8 @@ write_failed : (halt : HaltKept) → (halt ≡ halts.WriteFault) ⊎ (halt ≢ h
 write_failed halts.WriteFault = inl refl
 write_failed (halts.InForm number fault) = inr (λ same. absurd cc)
 write_failed (halts.AtLine number cause) = inr (λ same. absurd cc)
-write_failed (halts.Limit part fault) = inr (λ same. absurd cc)
-write_failed (halts.TooLong part) = inr (λ same. absurd cc)
+write_failed (halts.Limit processor part fault) = inr (λ same. absurd cc)
+write_failed (halts.TooLong processor part) = inr (λ same. absurd cc)
 write_failed (halts.NoPlace name begin late) = inr (λ same. absurd cc)
 write_failed halts.Endless = inr (λ same. absurd cc)
 write_failed halts.ReadFault = inr (λ same. absurd cc)
@@ -165,8 +144,8 @@ write_failed halts.Memory = inr (λ same. absurd cc)
 status_not_done : (halt : HaltKept) → halted_status halt ≢ statuses.Done
 status_not_done (halts.InForm number fault) done = absurd cc
 status_not_done (halts.AtLine number cause) done = absurd cc
-status_not_done (halts.Limit part fault) done = absurd cc
-status_not_done (halts.TooLong part) done = absurd cc
+status_not_done (halts.Limit processor part fault) done = absurd cc
+status_not_done (halts.TooLong processor part) done = absurd cc
 status_not_done (halts.NoPlace name begin late) done = absurd cc
 status_not_done halts.Endless done = absurd cc
 status_not_done halts.ReadFault done = absurd cc
@@ -176,8 +155,8 @@ status_not_done halts.Memory done = absurd cc
 status_of_read : (halt : HaltKept) → halted_status halt ≡ statuses.ReadFault → halt ≡ halts.ReadFault
 status_of_read (halts.InForm number fault) is = absurd cc
 status_of_read (halts.AtLine number cause) is = absurd cc
-status_of_read (halts.Limit part fault) is = absurd cc
-status_of_read (halts.TooLong part) is = absurd cc
+status_of_read (halts.Limit processor part fault) is = absurd cc
+status_of_read (halts.TooLong processor part) is = absurd cc
 status_of_read (halts.NoPlace name begin late) is = absurd cc
 status_of_read halts.Endless is = absurd cc
 status_of_read halts.ReadFault is = refl
@@ -224,8 +203,8 @@ module _ {K : Type 0} (written : K → Option (List ℕ)) (flushed : K → Optio
   other_halt halts.WriteFault ended mid new other tells = absurd (other refl)
   other_halt (halts.InForm number fault) ended mid new other tells = tells
   other_halt (halts.AtLine number cause) ended mid new other tells = tells
-  other_halt (halts.Limit part fault) ended mid new other tells = tells
-  other_halt (halts.TooLong part) ended mid new other tells = tells
+  other_halt (halts.Limit processor part fault) ended mid new other tells = tells
+  other_halt (halts.TooLong processor part) ended mid new other tells = tells
   other_halt (halts.NoPlace name begin late) ended mid new other tells = tells
   other_halt halts.Endless ended mid new other tells = tells
   other_halt halts.ReadFault ended mid new other tells = tells

@@ -8,13 +8,14 @@ use Rattle.yds_trace.specs.declared.job.Job.{Job as JobKept}
 use Rattle.yds_trace.specs.declared.ended.Ended.{Ended}
 use Rattle.yds_trace.specs.Asked.{Task, Asked}
 use Rattle.yds_trace.specs.Jobs.{Job}
-use Rattle.yds_trace.specs.Document.{jobs_of}
+use Rattle.yds_trace.specs.Document.{shares_of}
 use Rattle.yds_trace.specs.Ended.{jobs_from, in_order_of_begin}
 use Rattle.yds_trace.specs.Faults.{first_fault}
 use Rattle.yds_trace.specs.Views.{task_read, job_read, asked_read}
 use Rattle.yds_trace_laws.specs.Laws.{IsReached}
 use Rattle.yds_trace_laws.proofs.Begins.{begins_in_time}
 use Rattle.yds_trace_laws.proofs.Ordered.{All-map_back}
+use Rattle.yds_trace_laws.proofs.Shares.{shares_kept}
 use Rattle.yds_trace_document.specs.Kept.{IsPlain, HaveBegins}
 use Rattle.yds_trace_words.specs.Request.{IsFit}
 use Rattle.yds_trace_reading.specs.Reading.{IsEndOfSome}
@@ -24,12 +25,17 @@ reached : (to : Option ℕ) → IfSome to (λ time. time ≤ MAX_TIME) → IsRea
 reached None is = tt
 reached (Some time) is = is
 
+shares_in_time : (asked : Asked) (past : List Said) (number : ℕ) → IsReached asked.to → first_fault asked past ≡ None
+    → All (λ (job : Job). job.begin ≤ MAX_TIME) (shares_of asked past number)
+shares_in_time asked past number to sound =
+    shares_kept (λ (job : Job). job.begin ≤ MAX_TIME) (λ processor job begins. begins) asked past number (begins_in_time asked past number to sound)
+
 lists_in_time : (asked : Asked) (past : List Said) (number : ℕ) (tasks : List Task) → IsReached asked.to → first_fault asked past ≡ None
     → All (λ (jobs : List Job). All (λ (job : Job). job.begin ≤ MAX_TIME) jobs) (jobs_from asked past number tasks)
 lists_in_time asked past number [] to sound = All-nil _
 lists_in_time asked past number (task ∷ tasks) to sound =
-    All-cons (λ (jobs : List Job). All (λ (job : Job). job.begin ≤ MAX_TIME) jobs) (jobs_of asked past number) (jobs_from asked past (number + 1) tasks)
-    (begins_in_time asked past number to sound) (lists_in_time asked past (number + 1) tasks to sound)
+    All-cons (λ (jobs : List Job). All (λ (job : Job). job.begin ≤ MAX_TIME) jobs) (shares_of asked past number) (jobs_from asked past (number + 1) tasks)
+    (shares_in_time asked past number to sound) (lists_in_time asked past (number + 1) tasks to sound)
 
 lists_len : (asked : Asked) (past : List Said) (number : ℕ) (tasks : List Task) → length (jobs_from asked past number tasks) ≡ length tasks
 lists_len asked past number [] = refl

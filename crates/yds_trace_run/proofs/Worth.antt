@@ -13,6 +13,7 @@ use Rattle.yds_trace.specs.Parts.{processors_of}
 use Rattle.yds_trace.proofs.OnProcessor.{first_fault_on}
 use Rattle.yds_trace.specs.Document.{all_judged, units_of}
 use Rattle.yds_trace_laws.proofs.Faithful.{documents_are_faithful}
+use Rattle.yds_trace_laws.proofs.Begins.{or_none}
 use Rattle.yds_trace_laws.proofs.Seen.{feasible_means_in_time}
 use Rattle.yds_trace_document.specs.declared.fault.DocumentFault.{DocumentFault}
 use Rattle.yds_trace_document.specs.Settled.{settled_of}
@@ -29,14 +30,14 @@ use Rattle.yds_trace_reading.specs.LineFault.{past_of}
 use Rattle.yds_trace_words.specs.Request.{ReadTrace, IsFit}
 use Rattle.yds_trace_run.specs.Answer.{AreParts, IsTold}
 use Rattle.yds_trace_run.specs.Endings.{IsText, Outcome, Writes}
-use Rattle.yds_trace_laws.proofs.Processors.{jobs_are_the_same, each_job_belongs}
+use Rattle.yds_trace_laws.proofs.Processors.{jobs_are_the_same, each_job_belongs, shares_are_the_whole, only_its_own, none_has_moved}
 use Rattle.yds_trace_whole.specs.Parts.{written_parts}
 use Rattle.yds_trace_whole.proofs.Worth.{parts_are_faithful}
 use Rattle.yds_trace_whole.proofs.Parting.{parts_are_the_whole}
 use Rattle.yds_trace_whole.proofs.Together.{parts_make_the_document}
 use Rattle.yds_trace_whole.proofs.Everywhere.{all_parts_are_kept, parts_are_of_processors, nothing_is_late_anywhere, each_part_is_read}
-use Rattle.yds_trace_run.specs.Worth.{NothingLate, HidesNothing, ArePartsReadAgain, IsReadSo, IsFaithfulSo, IsWholeSo}
-use Rattle.yds_trace_run.proofs.InParts.{no_fault, IsToldAs, told_as}
+use Rattle.yds_trace_run.specs.Worth.{NothingLate, HidesNothing, AreSharedIfAsked, ArePartsReadAgain, IsReadSo, IsFaithfulSo, IsWholeSo}
+use Rattle.yds_trace_run.proofs.InParts.{IsToldAs, told_as}
 
 told_late : (asked : Asked) (past : List Said) (text : List ℕ) → IsAsked asked → text ≡ text_of asked past → NothingLate asked past text
 told_late asked past text fit is = λ feasible i d within by late. (
@@ -125,7 +126,7 @@ not_long text none = by (nat_lt MAX_INPUT (length text)) refl none
 document_again : (asked : Asked) (strict : Bool) (past : List Said) (text : List ℕ) → IsFit asked → document_fault asked strict past ≡ None → text ≡ text_of asked past
     → IsReadAgain asked past text
 document_again asked strict past text fit none is =
-    let parts = no_fault (of_document (limit_fault strict (settled_of asked past))) (of_text (text_of asked past)) none in
+    let parts = or_none (of_document (limit_fault strict (settled_of asked past))) (of_text (text_of asked past)) none in
     subst (IsReadAgain asked past) (sym is)
     (is_read_again asked strict past fit.plain (labelled asked.tasks fit.labels fit.different) (no_limit (limit_fault strict (settled_of asked past)) parts.0)
     (not_long (text_of asked past) parts.1))
@@ -169,8 +170,16 @@ faithful asked strict input old new flushed ended fit done writes =
     lines_hold (λ bytes. IsFaithfulSo asked.in_parts asked (past_of (trace_of bytes))) asked strict
     (λ bytes text told. faithful_so asked.in_parts asked strict (trace_of bytes) text fit told) input old new flushed ended done writes
 
+-- Of a job that moved, no stretch is lost where that is asked for.
+shared : (asked : Asked) (past : List Said) → AreSharedIfAsked asked past
+shared asked past moved = record {
+  shares = λ number. shares_are_the_whole asked past number;
+  only_own = λ processor. only_its_own (on processor asked) past moved;
+  none_moved = λ processor. none_has_moved (on processor asked) past moved;
+}
+
 whole_so : (in_parts : Bool) (asked : Asked) (strict : Bool) (trace : Trace) (text : List ℕ) → IsFit asked → IsTold in_parts asked strict trace text statuses.Done → IsWholeSo in_parts asked (past_of trace)
-whole_so false asked strict trace text fit told = tt
+whole_so false asked strict trace text fit told = shared asked (past_of trace)
 whole_so true asked strict trace text fit told =
     let past = past_of trace in
     let parts = told_parts asked strict trace text told in
@@ -185,6 +194,7 @@ whole_so true asked strict trace text fit told =
             same_document = parts_make_the_document (on processor asked) past (fit_on processor asked fit.plain) sound kept;
           };
       same_jobs = λ processor. jobs_are_the_same asked past processor;
+      shared = shared asked past;
       belong = each_job_belongs asked past;
     }
 

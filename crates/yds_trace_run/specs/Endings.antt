@@ -96,8 +96,8 @@ stopped_status stops.Memory = statuses.Memory
 abbrev pub halted_text : Halt → List ℕ
 halted_text (halts.InForm number fault) = halt_text (told.InForm (record { line = number; column = fault.column; reason = fault.reason }))
 halted_text (halts.AtLine number cause) = halt_text (told.AtLine number cause)
-halted_text (halts.Limit part fault) = halt_text (told.OfDocument part fault)
-halted_text (halts.TooLong part) = halt_text (told.OfText part)
+halted_text (halts.Limit processor part fault) = halt_text (told.OfDocument processor part fault)
+halted_text (halts.TooLong processor part) = halt_text (told.OfText processor part)
 halted_text (halts.NoPlace name begin late) = halt_text (told.NoPlace name.items begin late)
 halted_text halts.Endless = too_long_text
 halted_text halts.ReadFault = read_fault_text

@@ -1,5 +1,5 @@
 -- The texts of a run that tells no document: one comment with the place, the cause and what to do, and a line that no reader of documents takes.
-use Rattle.std.specs.Prelude.{ℕ, ◌+◌, List, ◌++◌, codes, decimal, Option, Some, None}
+use Rattle.std.specs.Prelude.{ℕ, ◌+◌, List, [], ◌++◌, codes, decimal, Option, Some, None}
 use Rattle.yds_kernel.specs.declared.fault.Reason.{Reason}
 use Rattle.yds_kernel.specs.declared.fault.Reason.TheVariants as reasons
 use Rattle.yds_trace.specs.declared.fault.Cause.{Cause}
@@ -73,8 +73,13 @@ fault_text OfText = failed (codes "the document is longer than 8388608 bytes; ch
 
 -- # Parts
 
-abbrev pub of_part : ℕ → List ℕ → List ℕ
-of_part part text = codes "part " ++ decimal part ++ codes ": " ++ text
+-- where each processor has documents of its own, whose part it is
+abbrev pub on_processor : Option ℕ → List ℕ
+on_processor None = []
+on_processor (Some processor) = codes " of processor " ++ decimal processor
+
+abbrev pub of_part : Option ℕ → ℕ → List ℕ → List ℕ
+of_part processor part text = codes "part " ++ decimal part ++ on_processor processor ++ codes ": " ++ text
 
 -- by how much a job is known to be late
 abbrev pub late_text : Option ℕ → List ℕ
@@ -91,8 +96,8 @@ no_place_text name begin late =
 abbrev pub halt_text : told.Halt → List ℕ
 halt_text (told.InForm fault) = failed (line_text (InForm fault))
 halt_text (told.AtLine number cause) = failed (line_text (AtLine number cause))
-halt_text (told.OfDocument part fault) = failed (of_part part (document_text fault))
-halt_text (told.OfText part) = failed (of_part part (codes "the document is longer than 8388608 bytes; choose fewer tasks, or greater units by --us and --khz"))
+halt_text (told.OfDocument processor part fault) = failed (of_part processor part (document_text fault))
+halt_text (told.OfText processor part) = failed (of_part processor part (codes "the document is longer than 8388608 bytes; choose fewer tasks, or greater units by --us and --khz"))
 halt_text (told.NoPlace name begin late) = failed (no_place_text name begin late)
 
 -- # Other ends

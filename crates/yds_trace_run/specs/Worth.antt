@@ -1,14 +1,15 @@
 -- What a document, or documents in parts, are worth to whoever asked for them: no late job is hidden, each is read again, and each is faithful.
-use Rattle.std.specs.Prelude.{◌≡◌, ℕ, ◌<◌, List, map, filter, Bool, true, false, Some}
+use Rattle.std.specs.Prelude.{◌≡◌, ◌≢◌, ℕ, ◌<◌, List, filter, Bool, true, false, Some}
 use Rattle.std.specs.List.{All, flat_map}
 use Rattle.yds_model.specs.Feasible.{IsFeasible}
 use Rattle.yds_kernel.specs.Event.{Said}
 use Rattle.yds_trace.specs.Asked.{Asked, on}
-use Rattle.yds_trace.specs.Document.{Judged, all_judged, units_of, document_of}
+use Rattle.yds_trace.specs.declared.reason.Reason.TheVariants as reasons
+use Rattle.yds_trace.specs.Document.{Judged, jobs_of, has_run_on, all_judged, units_of, document_of}
 use Rattle.yds_trace.specs.Parts.{belongs, processors_of}
 use Rattle.yds_trace_laws.specs.AsSlots.{jobs_read, slots_read}
 use Rattle.yds_trace_laws.specs.Faithful.{IsFaithful}
-use Rattle.yds_trace_laws.specs.Processors.{BelongsTo, without_reason}
+use Rattle.yds_trace_laws.specs.Processors.{BelongsTo, HasItsShare, AreTheSame}
 use Rattle.yds_trace_text.specs.Text.{late_comment}
 use Rattle.yds_trace_again.specs.Again.{IsReadAs, IsReadAgain}
 use Rattle.yds_trace_again.specs.Holds.{Holds}
@@ -25,6 +26,27 @@ abbrev pub NothingLate : Asked → List Said → List ℕ → Type 0
 NothingLate asked past text =
     IsFeasible (jobs_read (document_of asked past).jobs) (slots_read (document_of asked past).runs)
     → All (IsToldLate asked past text) (all_judged asked past)
+
+-- # Jobs that moved
+
+-- It is not left out for having moved, where it ran on this processor.
+abbrev pub HasNotMoved : ℕ → Judged → Type 0
+HasNotMoved processor judged = has_run_on processor judged.job ≡ true → judged.reason ≢ Some reasons.Moved
+
+-- It has nothing that it ran elsewhere, where it ran on this processor.
+abbrev pub HasOnlyItsOwn : ℕ → Judged → Type 0
+HasOnlyItsOwn processor judged = has_run_on processor judged.job ≡ true → All (λ stretch. stretch.processor ≡ processor) judged.job.stretches
+
+-- Each stretch of a task's job is in the job as the documents of its processor have it, and in those of no other where it ran on that too.
+-- And no processor leaves out a job for having moved that ran on it.
+pub record AreSharedOut (asked : Asked) (past : List Said) : Type 0 where
+  pub shares : (number : ℕ) → All (λ job. All (HasItsShare asked past number job) job.stretches) (jobs_of asked past number)
+  pub only_own : (processor : ℕ) → All (HasOnlyItsOwn processor) (all_judged (on processor asked) past)
+  pub none_moved : (processor : ℕ) → All (HasNotMoved processor) (all_judged (on processor asked) past)
+
+-- That is so where it is asked for.
+abbrev pub AreSharedIfAsked : Asked → List Said → Type 0
+AreSharedIfAsked asked past = asked.moved_parts ≡ true → AreSharedOut asked past
 
 -- # By whether it is told in parts
 
@@ -55,9 +77,10 @@ pub record AreTheWhole (asked : Asked) (past : List Said) (processor : ℕ) : Ty
 -- It is so of each processor. On each the same jobs are judged, and each job belongs to one.
 pub record AreWhole (asked : Asked) (past : List Said) : Type 0 where
   pub each : All (AreTheWhole asked past) (processors_of asked past)
-  pub same_jobs : (processor : ℕ) → map without_reason (all_judged (on processor asked) past) ≡ map without_reason (all_judged asked past)
+  pub same_jobs : (processor : ℕ) → AreTheSame asked past processor
+  pub shared : AreSharedIfAsked asked past
   pub belong : All (λ judged. BelongsTo asked judged (processors_of asked past)) (all_judged asked past)
 
 abbrev pub IsWholeSo : Bool → Asked → List Said → Type 0
-IsWholeSo false asked past = Unit {0}
+IsWholeSo false asked past = AreSharedIfAsked asked past
 IsWholeSo true asked past = AreWhole asked past

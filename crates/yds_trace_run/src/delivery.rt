@@ -1,7 +1,6 @@
 //! How a text is delivered to a sink.
 ghost use Rattle.yds_trace_run.specs.Endings.{IsDelivered};
-ghost use Rattle.std.specs.Prelude.{◌≡◌, ◌≢◌};
-ghost use Rattle.yds_port.specs.Sink.{Puts};
+ghost use Rattle.std.specs.Prelude.{◌≢◌};
 
 use yds_model::Status;
 use yds_port::{Flushed, Sink, WriteFault, write_all};

@@ -88,7 +88,7 @@ pub(crate) fn cause_line(number: u64, cause: Cause) -> ArrayString<LINE_BYTES>
 fn push_cause(cause: Cause, line: &mut ArrayString<LINE_BYTES>)
     requires { array_string_len line.old ≤ 40 }
     ensures text { line.new.bytes ≡ line.old.bytes ++ spec.cause_text cause }
-    ensures short { array_string_len line.new ≤ 240 }
+    ensures short { array_string_len line.new ≤ 270 }
 {
     match cause {
         Cause::Unseen(number) => push_placed(
@@ -146,9 +146,9 @@ pub(crate) fn document_line(fault: DocumentFault) -> ArrayString<LINE_BYTES>
 
 /// Which limit it is, and what to do.
 fn push_document(fault: DocumentFault, line: &mut ArrayString<LINE_BYTES>)
-    requires { array_string_len line.old ≤ 40 }
+    requires { array_string_len line.old ≤ 70 }
     ensures text { line.new.bytes ≡ line.old.bytes ++ spec.document_text fault }
-    ensures short { array_string_len line.new ≤ 240 }
+    ensures short { array_string_len line.new ≤ 270 }
 {
     match fault {
         DocumentFault::TooManyJobs => {
@@ -199,21 +199,25 @@ fn push_document(fault: DocumentFault, line: &mut ArrayString<LINE_BYTES>)
     }
 }
 
-/// The text for a part that is beyond a limit.
-pub(crate) fn part_line(part: u64, fault: DocumentFault) -> ArrayString<LINE_BYTES>
-    ensures { result.bytes ≡ spec.halt_text (OfDocument part fault) }
+/// The text for a part that is beyond a limit; where each processor has documents of its own, for one of this processor's.
+pub(crate) fn part_line(
+    processor: Option<u64>,
+    part: u64,
+    fault: DocumentFault,
+) -> ArrayString<LINE_BYTES>
+    ensures { result.bytes ≡ spec.halt_text (OfDocument processor part fault) }
 {
-    let mut line = part_front(part);
+    let mut line = part_front(processor, part);
     push_document(fault, &mut line);
     line.push_str(FAILED);
     line
 }
 
 /// The text for a part that is longer than a document may be.
-pub(crate) fn long_part_line(part: u64) -> ArrayString<LINE_BYTES>
-    ensures { result.bytes ≡ spec.halt_text (OfText part) }
+pub(crate) fn long_part_line(processor: Option<u64>, part: u64) -> ArrayString<LINE_BYTES>
+    ensures { result.bytes ≡ spec.halt_text (OfText processor part) }
 {
-    let mut line = part_front(part);
+    let mut line = part_front(processor, part);
     line.push_str(
         "the document is longer than 8388608 bytes; choose fewer tasks, or greater units by --us and --khz",
     );
@@ -222,15 +226,28 @@ pub(crate) fn long_part_line(part: u64) -> ArrayString<LINE_BYTES>
 }
 
 /// The begin of a comment on the part of this number.
-fn part_front(part: u64) -> ArrayString<LINE_BYTES>
-    ensures text { result.bytes ≡ codes "# " ++ (codes "part " ++ decimal part ++ codes ": ") }
-    ensures short { array_string_len result ≤ 30 }
+fn part_front(processor: Option<u64>, part: u64) -> ArrayString<LINE_BYTES>
+    ensures text { result.bytes ≡ codes "# " ++ (codes "part " ++ decimal part ++ spec.on_processor processor ++ codes ": ") }
+    ensures short { array_string_len result ≤ 70 }
 {
     let mut line = ArrayString::new();
     line.push_str("# part ");
     line.push_str(Buffer::new().format(part));
+    push_processor(processor, &mut line);
     line.push_str(": ");
     line
+}
+
+/// Whose part it is, where each processor has documents of its own.
+fn push_processor(processor: Option<u64>, line: &mut ArrayString<LINE_BYTES>)
+    requires { array_string_len line.old ≤ 30 }
+    ensures text { line.new.bytes ≡ line.old.bytes ++ spec.on_processor processor }
+    ensures short { array_string_len line.new ≤ array_string_len line.old + 38 }
+{
+    if let Some(processor) = processor {
+        line.push_str(" of processor ");
+        line.push_str(Buffer::new().format(processor));
+    }
 }
 
 /// The text where too much waits and there is no place to cut: the job that has been open longest, or else the first that waits,
@@ -301,11 +318,11 @@ fn push_behind_first(number: u64, line: &mut ArrayString<LINE_BYTES>)
 
 /// What is wrong with the job or the task at a place, which counts from 0.
 fn push_placed(which: &str, place: usize, text: &str, line: &mut ArrayString<LINE_BYTES>)
-    requires room { array_string_len line.old ≤ 40 }
+    requires room { array_string_len line.old ≤ 70 }
     requires which { length which.now ≤ 20 }
     requires text { length text.now ≤ 140 }
     ensures text { line.new.bytes ≡ line.old.bytes ++ (which.now ++ decimal (place + 1) ++ text.now) }
-    ensures short { array_string_len line.new ≤ 240 }
+    ensures short { array_string_len line.new ≤ 270 }
 {
     line.push_str(which);
     push_place(place, line);
@@ -314,7 +331,7 @@ fn push_placed(which: &str, place: usize, text: &str, line: &mut ArrayString<LIN
 
 /// A place that counts from 1, of one that counts from 0.
 fn push_place(place: usize, line: &mut ArrayString<LINE_BYTES>)
-    requires { array_string_len line.old ≤ 60 }
+    requires { array_string_len line.old ≤ 90 }
     ensures text { line.new.bytes ≡ line.old.bytes ++ decimal (place + 1) }
     ensures short { array_string_len line.new ≤ array_string_len line.old + 40 }
 {

@@ -1,5 +1,5 @@
 //! The run of the program.
-ghost use Rattle.std.specs.Prelude.{◌≡◌, ◌≢◌, ◌⊎◌, ◌<◌, ◌≤◌, ℕ, List, [], Ok, IfSome, Bool, true, false};
+ghost use Rattle.std.specs.Prelude.{◌≡◌, ◌≢◌, ◌<◌, ◌≤◌, ℕ, List, [], Ok, IfSome, Bool, true, false};
 ghost use Rattle.std.specs.Io.KnownBytes.{Appends};
 ghost use Rattle.yds_port.specs.Count.{Rose, next_count};
 ghost use Rattle.yds_kernel.specs.Text.{trace_of};
@@ -87,7 +87,8 @@ pub fn run<S: Source, K: Sink>(
         → IfSome (S.left source.old) (λ input. IsFaithfulSo asked.in_parts asked (past_of (trace_of input))) }
 
     // In parts, a part that was written long ago says of its jobs what the whole trace says of them, and put together the parts are
-    // the one document that the trace would have without limits.
+    // the one document that the trace would have without limits. Where what a job ran is shared out among the processors, none of it
+    // is lost.
     ensures whole { result ≡ Status.Done → (asked : asking.Asked) (strict : Bool) → request_of (words_of words.now) ≡ Ok (ReadTrace asked strict)
         → IfSome (S.left source.old) (λ input. IsWholeSo asked.in_parts asked (past_of (trace_of input))) }
 {
@@ -232,8 +233,12 @@ fn tell_halt<K: Sink>(halt: &Halt, sink: &mut K) -> Status
         Halt::Endless => deliver(TOO_LONG, Status::Refused, sink),
         Halt::InForm { number, fault } => refuse(&form_line(*number, *fault), sink),
         Halt::AtLine { number, cause } => refuse(&cause_line(*number, *cause), sink),
-        Halt::Limit { part, fault } => refuse(&part_line(*part, *fault), sink),
-        Halt::TooLong { part } => refuse(&long_part_line(*part), sink),
+        Halt::Limit {
+            processor,
+            part,
+            fault,
+        } => refuse(&part_line(*processor, *part, *fault), sink),
+        Halt::TooLong { processor, part } => refuse(&long_part_line(*processor, *part), sink),
         Halt::NoPlace { name, begin, late } => refuse(&place_line(name, *begin, *late), sink),
     }
 }

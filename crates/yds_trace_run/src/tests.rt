@@ -1,6 +1,6 @@
 //! What no clause says: that a small trace is told, and what is written where one isn't.
 use crate::run;
-use std::alloc::Global;
+use std::alloc::{AllocError, Global};
 use std::hash::RandomState;
 use std::test::Fail;
 use yds_model::{Memory, Status};
@@ -22,6 +22,32 @@ run t.0 0 200 100
 # 1 job written, none left out
 ";
 
+/// A job that runs on two processors, and a thread in its way.
+const MOVED: &[u8] = b"\
+  <idle>-0 [000] d..2. 5.000000: cpu_frequency: state=1000000 cpu_id=0
+  <idle>-0 [000] d..2. 5.000000: cpu_frequency: state=1000000 cpu_id=1
+  <idle>-0 [000] d..2. 5.001000: sched_waking: comm=t pid=7 prio=120 target_cpu=000
+  <idle>-0 [000] d..2. 5.001000: sched_switch: prev_comm=swapper prev_pid=0 prev_prio=120 prev_state=R ==> next_comm=k next_pid=9 next_prio=120
+  k-9 [000] d..2. 5.001500: sched_switch: prev_comm=k prev_pid=9 prev_prio=120 prev_state=R ==> next_comm=t next_pid=7 next_prio=120
+  t-7 [000] d..2. 5.002500: sched_switch: prev_comm=t prev_pid=7 prev_prio=120 prev_state=R ==> next_comm=k next_pid=9 next_prio=120
+  <idle>-0 [001] d..2. 5.003000: sched_switch: prev_comm=swapper prev_pid=0 prev_prio=120 prev_state=R ==> next_comm=t next_pid=7 next_prio=120
+  t-7 [001] d..2. 5.004000: sched_switch: prev_comm=t prev_pid=7 prev_prio=120 prev_state=S ==> next_comm=swapper next_pid=0 next_prio=120
+  k-9 [000] d..2. 5.005000: sched_switch: prev_comm=k prev_pid=9 prev_prio=120 prev_state=S ==> next_comm=swapper next_pid=0 next_prio=120
+";
+
+/// What it ran on processor 0, and who else had that while it waited.
+const SHARE: &[u8] = b"\
+# CPU 0 of a kernel trace; time 0 is 5.001000000 s
+# time unit 10 us, speed unit 10000 kHz, work unit 100 cycles
+job t.0@0 0 1000 10000
+ticks 1
+run t.0@0 50 150 100
+# ends: t.0@0 300
+# other k-9 0 50
+# other k-9 150 200
+# 1 job written, none left out
+";
+
 /// The first line of its only part: a job begins 100 units after the trace does.
 const PART: &[u8] = b"# part 1: jobs 1 to 1, from 100 to 1100, shift 100, the last\n";
 
@@ -32,6 +58,21 @@ fn words(alloc: Global, line: &str) -> Result<Vec<String>, Memory> {
         words.push(String::from_str(alloc, word)?)?;
     }
     Ok(words)
+}
+
+/// How a run of these words over a trace ends, and what it wrote. The read of this number fails.
+fn told(
+    rt: &HostRuntime,
+    line: &str,
+    trace: Vec<u8>,
+    failing: u32,
+) -> Result<(Status, Vec<u8>), Fail> {
+    let alloc = rt.alloc();
+    let words = words(alloc, line)?;
+    let mut source = MemorySource::new(trace, 100, [failing].to_vec(alloc)?);
+    let mut sink = MemorySink::with_room(alloc, 300_000, 300_000, Vec::new(alloc))?;
+    let status = run(alloc, RandomState::new(rt)?, &words, &mut source, &mut sink);
+    Ok((status, sink.bytes().to_vec(alloc)?))
 }
 
 #[test]
@@ -64,25 +105,9 @@ fn a_trace_is_told_or_refused(rt: HostRuntime) -> Result<(), Fail> {
         ),
     ];
     for (line, failing, status, want) in cases {
-        let words = words(rt.alloc(), line)?;
-        let mut source = MemorySource::new(
-            TRACE.to_vec(rt.alloc())?,
-            100,
-            [failing].to_vec(rt.alloc())?,
-        );
-        let mut sink = MemorySink::with_room(rt.alloc(), 10_000, 50, Vec::new(rt.alloc()))?;
-        assert_eq!(rt;
-            run(
-                rt.alloc(),
-                RandomState::new(&rt)?,
-                &words,
-                &mut source,
-                &mut sink
-            ),
-            status,
-            "{line}"
-        );
-        assert_eq!(rt; sink.bytes(), want, "{line}");
+        let (ended, written) = told(&rt, line, TRACE.to_vec(rt.alloc())?, failing)?;
+        assert_eq!(rt; ended, status, "{line}");
+        assert_eq!(rt; written.as_slice(), want, "{line}");
     }
     Ok(())
 }
@@ -107,25 +132,63 @@ fn a_trace_is_told_in_parts_or_refused(rt: HostRuntime) -> Result<(), Fail> {
         ),
     ];
     for (line, failing, status, want) in cases {
-        let words = words(rt.alloc(), line)?;
-        let mut source = MemorySource::new(
-            TRACE.to_vec(rt.alloc())?,
-            100,
-            [failing].to_vec(rt.alloc())?,
-        );
-        let mut sink = MemorySink::with_room(rt.alloc(), 10_000, 50, Vec::new(rt.alloc()))?;
-        assert_eq!(rt;
-            run(
-                rt.alloc(),
-                RandomState::new(&rt)?,
-                &words,
-                &mut source,
-                &mut sink
-            ),
-            status,
-            "{line}"
-        );
-        assert_eq!(rt; sink.bytes(), want, "{line}");
+        let (ended, written) = told(&rt, line, TRACE.to_vec(rt.alloc())?, failing)?;
+        assert_eq!(rt; ended, status, "{line}");
+        assert_eq!(rt; written.as_slice(), want, "{line}");
     }
+    Ok(())
+}
+
+#[test]
+fn a_job_that_moved_is_shared_out(rt: HostRuntime) -> Result<(), Fail> {
+    let cases = [
+        (
+            "--tasks t:10 --moved parts --others spans",
+            Status::Done,
+            SHARE,
+        ),
+        (
+            "--tasks t:10 --cpu all --strict",
+            Status::Refused,
+            b"# part 1 of processor 0: found job 1: it doesn't stand as it is, and --strict is given; leave that out, or choose --from and --to around the job\nfailed\n".as_slice(),
+        ),
+    ];
+    for (line, status, want) in cases {
+        let (ended, written) = told(&rt, line, MOVED.to_vec(rt.alloc())?, 0)?;
+        assert_eq!(rt; ended, status, "{line}");
+        assert_eq!(rt; written.as_slice(), want, "{line}");
+    }
+    Ok(())
+}
+
+/// A line for each of these jobs, which has its processor for ten microseconds: two threads take turns.
+fn turns(alloc: Global, jobs: u64) -> Result<Vec<u8>, AllocError> {
+    let mut text = Vec::new(alloc);
+    for number in 0..jobs {
+        let time = 100_000 + 10 * number;
+        let (from, to) = if number % 2 == 0 {
+            ("b prev_pid=8", "a next_pid=7")
+        } else {
+            ("a prev_pid=7", "b next_pid=8")
+        };
+        let line = format!(in alloc;
+            "  x-1 [000] d..2. 5.{time}: sched_switch: prev_comm={from} prev_prio=120 prev_state=S ==> next_comm={to} next_prio=120\n"
+        )?;
+        text.extend_from_slice(line.as_bytes())?;
+    }
+    Ok(text)
+}
+
+#[test]
+fn a_part_stands_before_a_failed_read(rt: HostRuntime) -> Result<(), Fail> {
+    // Behind line 2,048 more than 2,000 jobs wait, and the first part is written. Some 20 lines later the read fails.
+    let trace = turns(rt.alloc(), 2_100)?;
+    let line = "--tasks a:0.01,b:0.01 --us 1 --start 1000000 --begin run --parts";
+    let (ended, written) = told(&rt, line, trace, 2_760)?;
+    assert_eq!(rt; ended, Status::ReadFault);
+    assert!(rt; written.starts_with(b"# part 1: jobs 1 to 2046, from "));
+    assert!(rt;
+        written.ends_with(b"\n# the input couldn't be read to its end; give it anew\nfailed\n")
+    );
     Ok(())
 }

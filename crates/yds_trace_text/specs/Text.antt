@@ -121,11 +121,13 @@ without_runs_comment units judged late =
     ∷ behind_deadline late ∷ window_text units judged ∷ [])
 
 -- Of a late job that stands as it is: whether its work or its runs show it. One that ended in its deadline's unit of time is written in time.
+-- What a job ran on one of its processors may be over by its deadline; then it went on on another one.
 abbrev pub late_kind : Units → Judged → List ℕ
 late_kind units judged =
     if is_open judged.job.end then codes "not ended: "
     else (if nat_le (written_end units judged.job.end) (written_time units judged.due) then codes "late by less than a unit of time: "
-    else (if nat_le (runs_end (written_runs units judged.job)) (written_time units judged.due) then codes "late in a run within one tick: "
+    else (if nat_le (runs_end (written_runs units judged.job)) (written_time units judged.due)
+    then (if is_some judged.part then codes "late on another processor: " else codes "late in a run within one tick: ")
     else codes "late: "))
 
 abbrev pub standing_comment : Units → Judged → ℕ → List ℕ
@@ -365,13 +367,16 @@ all_unit_comments tasks by_task = flat_map task_unit_comments (zip tasks by_task
 abbrev pub shown_byte : ℕ → ℕ
 shown_byte byte = if nat_lt byte 32 || (byte == 127) then 63 else byte
 
+-- whose span it is, from one unit of time to another
+abbrev pub span_comment : Span → ℕ → ℕ → List ℕ
+span_comment span from to =
+    comment (codes "other " ∷ map shown_byte span.name ∷ codes "-" ∷ decimal span.pid ∷ codes " " ∷ decimal from ∷ codes " " ∷ decimal to ∷ [])
+
 -- a span within one unit of time isn't told
 abbrev pub other_comment : Units → Span → List ℕ
 other_comment units span =
     if nat_lt (written_time units span.from) (written_time units span.to)
-    then comment (codes "other " ∷ map shown_byte span.name ∷ codes "-" ∷ decimal span.pid ∷ codes " " ∷ decimal (written_time units span.from)
-    ∷ codes " " ∷ decimal (written_time units span.to) ∷ [])
-    else []
+    then span_comment span (written_time units span.from) (written_time units span.to) else []
 
 -- # The last line
 

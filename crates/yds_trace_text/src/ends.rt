@@ -101,7 +101,7 @@ fn put_end(
     time: u64,
     text: &mut Vec<u8>,
 ) -> Result<(), Memory>
-    ensures { OnOk result (text.new.items ≡ text.old.items ++ spec.end_comment what.now (judged_read judged.now).name time) }
+    ensures { OnOk result (text.new.items ≡ text.old.items ++ spec.end_comment what.now (document.written_name (judged_read judged.now)) time) }
 {
     let name = judged.name.text(alloc)?;
     let number = decimal(alloc, time)?;

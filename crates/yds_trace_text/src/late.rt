@@ -1,5 +1,5 @@
 //! Comments on late jobs: just one for each.
-ghost use Rattle.std.specs.Prelude.{◌≡◌, ◌++◌, OnOk, IfOk, Some};
+ghost use Rattle.std.specs.Prelude.{◌≡◌, ◌++◌, OnOk, IfOk, Some, codes, is_some, if◌then◌else◌};
 ghost use Rattle.std.specs.List.{flat_map};
 ghost use Rattle.yds_trace.specs.Views.{job_read};
 ghost use Rattle.yds_trace.specs.Document as document;
@@ -11,7 +11,7 @@ use crate::numbers::{decimal, in_milliseconds};
 use std::alloc::Global;
 use yds_model::Memory;
 use yds_trace::{Job, Reason};
-use yds_trace_document::{Judged, Run, Units, is_open, runs_end, written_end, written_runs};
+use yds_trace_document::{Judged, Name, Run, Units, is_open, runs_end, written_end, written_runs};
 
 /// Why a job doesn't stand as it is.
 pub(crate) fn reason_text(reason: Option<Reason>) -> &'static [u8]
@@ -125,9 +125,20 @@ fn late_kind(units: Units, judged: &Judged<'_>, runs: &[Run]) -> &'static [u8]
     } else if written_end(units, judged.job.end) <= due {
         b"late by less than a unit of time: "
     } else if runs_end(runs) <= due {
-        b"late in a run within one tick: "
+        behind_runs(judged.name)
     } else {
         b"late: "
+    }
+}
+
+/// Where a late job whose runs are over by its deadline ended.
+fn behind_runs(name: Name<'_>) -> &'static [u8]
+    ensures { result.now ≡ (if is_some name.entry.part then codes "late on another processor: " else codes "late in a run within one tick: ") }
+{
+    if name.part.is_some() {
+        b"late on another processor: "
+    } else {
+        b"late in a run within one tick: "
     }
 }
 

@@ -14,6 +14,7 @@ mod late;
 mod laws;
 mod left_out;
 mod numbers;
+mod others;
 mod part;
 mod rows;
 mod short;
@@ -22,7 +23,7 @@ mod writing;
 mod wrong_unit;
 
 pub use fault::{NoText, TextFault};
-pub use laws::every_job_has_its_place;
+pub use laws::{every_job_has_its_place, parts_count_on};
 pub use part::part_text;
 pub use writing::{document_text, text};
 

@@ -2,7 +2,7 @@
 use crate::{NoText, document_text, part_text};
 use std::alloc::{AllocError, Global};
 use std::test::Fail;
-use yds_trace::{Asked, Cut, End, Ended, Job, Shown, ShownTask, Stretch, Task, Which};
+use yds_trace::{Asked, Cut, End, Ended, Job, Shown, ShownTask, Span, Stretch, Task, Which};
 use yds_trace_document::{DocumentFault, is_plain, is_plain_shown, judge_waiting, settle_part};
 
 /// The begin of the first job, in nanoseconds.
@@ -38,6 +38,7 @@ ticks 1
 # begins: t.4 200
 # left out: t.3 (ran on another processor)
 # 1 stretch within one unit of time, 0.000001 ms together, is in no run
+# other sh-9 0 20
 # 1 job written, 1 left out
 ";
 
@@ -49,6 +50,18 @@ const PART_OF_ONE: &[u8] =
 job t.3 0 100 1000
 ticks 1
 run t.3 0 10 100
+# other sh-9 0 20
+# 1 job written, none left out
+";
+
+/// The text of what a late job ran on processor 0, which went on on another one.
+const SHARE: &[u8] = b"# CPU 0 of a kernel trace; time 0 is 5123.400623456 s
+# time unit 10 us, speed unit 10000 kHz, work unit 100 cycles
+job t.0@0 0 100 5001
+ticks 1
+run t.0@0 0 50 100
+# late on another processor: t.0@0, 0.500000 ms after its deadline
+# other k?w-9 0 5
 # 1 job written, none left out
 ";
 
@@ -71,7 +84,18 @@ fn job(from: u32, to: u32, stretches: Vec<Stretch>) -> Job {
         stretches,
         wake_ups: 0,
         switch_missing: false,
+        shared: false,
     }
+}
+
+/// Who else had the processor, from a time to another one, both counted from `BEGIN`.
+fn span(alloc: Global, name: &[u8], from: u32, to: u32) -> Result<Span, AllocError> {
+    Ok(Span {
+        name: Vec::from_slice(alloc, name)?,
+        pid: 9,
+        from: BEGIN + u64::from(from),
+        to: BEGIN + u64::from(to),
+    })
 }
 
 /// What is asked: the jobs of the task `t`, each due 1 ms after its begin.
@@ -96,6 +120,8 @@ fn asked(alloc: Global) -> Result<Asked, AllocError> {
         cut_losses: false,
         in_parts: false,
         everywhere: false,
+        moved_parts: false,
+        others: None,
     })
 }
 
@@ -106,6 +132,7 @@ fn ended(alloc: Global, jobs: Vec<Job>) -> Result<Ended, AllocError> {
     Ok(Ended {
         asked: asked(alloc)?,
         jobs: by_task,
+        others: Vec::new(alloc),
         first: BEGIN - 1,
         last: BEGIN + 20_000_000,
     })
@@ -152,6 +179,31 @@ fn the_text_is_the_one_written_by_hand(rt: HostRuntime) -> Result<(), Fail> {
     Ok(())
 }
 
+/// A span since before the job's begin, and one within a unit of time.
+fn spans(alloc: Global) -> Result<Vec<Span>, AllocError> {
+    let mut spans = Vec::new(alloc);
+    let mut first = span(alloc, b"k\x1bw", 0, 55_000)?;
+    first.from = BEGIN - 5_000;
+    spans.push(first)?;
+    spans.push(span(alloc, b"sh", 61_000, 64_000)?)?;
+    Ok(spans)
+}
+
+#[test]
+fn what_a_job_ran_on_a_processor_has_its_number(rt: HostRuntime) -> Result<(), Fail> {
+    let alloc = rt.alloc();
+    let mut share = job(0, 1_500_000, vec![in alloc; stretch(0, 0, 500_000)]?);
+    share.shared = true;
+    let mut ended = ended(alloc, vec![in alloc; share]?)?;
+    ended.others = spans(alloc)?;
+    assert!(rt; is_plain(&ended));
+    match document_text(alloc, &ended, false) {
+        Ok(text) => assert_eq!(rt; text.as_slice(), SHARE),
+        Err(fault) => assert_eq!(rt; fault, NoText::Memory),
+    }
+    Ok(())
+}
+
 #[test]
 fn a_job_that_is_missed_is_a_fault_where_none_may_be(rt: HostRuntime) -> Result<(), Fail> {
     let alloc = rt.alloc();
@@ -190,8 +242,11 @@ fn shown(alloc: Global) -> Result<Shown, AllocError> {
         jobs,
         last_begin: BEGIN + 8_000_000,
     })?;
+    let mut others = Vec::new(alloc);
+    others.push(span(alloc, b"sh", 4_900_000, 6_200_000)?)?;
     Ok(Shown {
         tasks,
+        others,
         first: BEGIN - 1,
         last: BEGIN + 20_000_000,
     })

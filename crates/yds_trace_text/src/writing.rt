@@ -18,6 +18,7 @@ use crate::head::{put_head, put_units};
 use crate::last::put_last;
 use crate::late::put_all_late;
 use crate::left_out::put_left_out;
+use crate::others::put_all_others;
 use crate::rows::{names_of, put_jobs, put_runs};
 use crate::short::put_short_stretches;
 use crate::woken::put_wake_ups;
@@ -121,5 +122,6 @@ fn put_comments(
     put_short_stretches(alloc, settled.units, &settled.judged, text)?;
     put_wake_ups(alloc, &settled.judged, text)?;
     put_all_wrong_units(alloc, tasks, &settled.by_task, text)?;
+    put_all_others(alloc, settled.units, &settled.others, text)?;
     put_last(alloc, settled, text)
 }

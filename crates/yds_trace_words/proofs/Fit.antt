@@ -9,7 +9,7 @@ use Rattle.yds_model.specs.declared.number_fault.NumberFault.{NumberFault}
 use Rattle.yds_model.specs.declared.number_fault.NumberFault.TheVariants.{BadNumber, OutOfRange}
 use Rattle.yds_kernel.specs.Parts.{◌>>=◌ as ◌>>?◌}
 use Rattle.yds_kernel.specs.declared.limits.TheConstants.{MAX_NUMBER}
-use Rattle.yds_trace.specs.declared.limits.TheConstants.{MAX_TIME, MAX_PROCESSOR, MAX_DEADLINE}
+use Rattle.yds_trace.specs.declared.limits.TheConstants.{MAX_TIME, MAX_DEADLINE}
 use Rattle.yds_trace.specs.Asked.{Task, Asked, Numbered, Named}
 use Rattle.yds_trace_words.specs.declared.limits.TheConstants.{MAX_UNIT, MAX_TASKS}
 use Rattle.yds_trace_words.specs.declared.fault.Reason.{Reason}
@@ -20,7 +20,7 @@ use Rattle.yds_trace_words.specs.Words.{WordFault, refuse, ◌>>=◌, Setting, s
 use Rattle.yds_trace_words.specs.Decimal.{decimal_at, at_most, fraction_at, behind_point, is_point}
 use Rattle.yds_trace_words.specs.Letters.{letters_of, is_at, text_of}
 use Rattle.yds_trace_words.specs.Tasks.{known, is_label, refuse_task, label_at, Called, pid_at, numbered_at, named_at, called_at, milliseconds_at, deadline_at, Times, apart_at, alone_at, times_at, task_of_parts, task_at, tasks_behind, before_tasks, tasks_from, tasks_of, tasks_asked, is_same_label, is_same_thread, again_in, different_from, unless}
-use Rattle.yds_trace_words.specs.Request.{Request, ShowHelp, ShowVersion, ReadTrace, ListThreads, whole_or_refused, whole_or, start_of, time_or_refused, time_of, ordered, only, processor_of, asked_by, read_trace, threads_alone, threads_or_trace, is_question, asked_once, request_by, request_of, IsFit, IsFitRequest}
+use Rattle.yds_trace_words.specs.Request.{Request, ShowHelp, ShowVersion, ReadTrace, ListThreads, whole_or_refused, whole_or, start_of, time_or_refused, time_of, ordered, only, processor_of, others_asked, asked_by, read_trace, threads_alone, threads_or_trace, is_question, asked_once, request_by, request_of, IsFit, IsFitRequest}
 
 -- # Steps
 
@@ -298,8 +298,8 @@ record AskedParts (unit khz : ℕ) (to : Option ℕ) (found : Result (List Task)
   pub to_is : to ≡ asked.to
   pub tasks_is : found ≡ Ok asked.tasks
 
-last_parts : (order begin lost : Result Bool WordFault) (parts every : Bool) (found : Result (List Task) WordFault) (cpu unit khz : ℕ) (start from to : Option ℕ) (asked : Asked)
-    → (order >>= (λ o. begin >>= (λ b. lost >>= (λ l. found >>= (λ t. Ok (record {
+last_parts : (order begin lost moved : Result Bool WordFault) (others : Result (Option ℕ) WordFault) (parts every : Bool) (found : Result (List Task) WordFault) (cpu unit khz : ℕ) (start from to : Option ℕ) (asked : Asked)
+    → (order >>= (λ o. begin >>= (λ b. lost >>= (λ l. moved >>= (λ m. others >>= (λ w. found >>= (λ t. Ok (record {
       tasks = t;
       processor = cpu;
       unit = unit;
@@ -311,13 +311,17 @@ last_parts : (order begin lost : Result Bool WordFault) (parts every : Bool) (fo
       cut_losses = l;
       in_parts = parts;
       everywhere = every;
-    }))))))
+      moved_parts = m;
+      others = w;
+    }))))))))
     ≡ Ok asked → AskedParts unit khz to found asked
-last_parts (Err fault) begin lost parts every found cpu unit khz start from to asked is = absurd cc
-last_parts (Ok o) (Err fault) lost parts every found cpu unit khz start from to asked is = absurd cc
-last_parts (Ok o) (Ok b) (Err fault) parts every found cpu unit khz start from to asked is = absurd cc
-last_parts (Ok o) (Ok b) (Ok l) parts every (Err fault) cpu unit khz start from to asked is = absurd cc
-last_parts (Ok o) (Ok b) (Ok l) parts every (Ok t) cpu unit khz start from to asked is = record { unit_is = cc; khz_is = cc; to_is = cc; tasks_is = cc }
+last_parts (Err fault) begin lost moved others parts every found cpu unit khz start from to asked is = absurd cc
+last_parts (Ok o) (Err fault) lost moved others parts every found cpu unit khz start from to asked is = absurd cc
+last_parts (Ok o) (Ok b) (Err fault) moved others parts every found cpu unit khz start from to asked is = absurd cc
+last_parts (Ok o) (Ok b) (Ok l) (Err fault) others parts every found cpu unit khz start from to asked is = absurd cc
+last_parts (Ok o) (Ok b) (Ok l) (Ok m) (Err fault) parts every found cpu unit khz start from to asked is = absurd cc
+last_parts (Ok o) (Ok b) (Ok l) (Ok m) (Ok w) parts every (Err fault) cpu unit khz start from to asked is = absurd cc
+last_parts (Ok o) (Ok b) (Ok l) (Ok m) (Ok w) parts every (Ok t) cpu unit khz start from to asked is = record { unit_is = cc; khz_is = cc; to_is = cc; tasks_is = cc }
 
 record AllParts (us khz : Result ℕ WordFault) (to : Result (Option ℕ) WordFault) (tasks : ℕ → Result (List Task) WordFault) (asked : Asked) : Type 0 where
   pub number : ℕ
@@ -328,9 +332,9 @@ record AllParts (us khz : Result ℕ WordFault) (to : Result (Option ℕ) WordFa
   pub end_is : to ≡ Ok end
   pub rest : AskedParts (number * 1000) speed end (tasks (number * 1000)) asked
 
-all_parts : (cpu : Result (Option ℕ) WordFault) (us khz : Result ℕ WordFault) (start from to : Result (Option ℕ) WordFault) (order : Option ℕ → Option ℕ → Result Bool WordFault) (begin lost : Result Bool WordFault) (parts : Bool)
+all_parts : (cpu : Result (Option ℕ) WordFault) (us khz : Result ℕ WordFault) (start from to : Result (Option ℕ) WordFault) (order : Option ℕ → Option ℕ → Result Bool WordFault) (begin lost moved : Result Bool WordFault) (others : Option ℕ → Result (Option ℕ) WordFault) (parts : Bool)
     (tasks : ℕ → Result (List Task) WordFault) (asked : Asked)
-    → (cpu >>= (λ c. us >>= (λ u. khz >>= (λ k. start >>= (λ s. from >>= (λ f. to >>= (λ e. order f e >>= (λ o. begin >>= (λ b. lost >>= (λ l. tasks (u * 1000) >>= (λ t. Ok (record {
+    → (cpu >>= (λ c. us >>= (λ u. khz >>= (λ k. start >>= (λ s. from >>= (λ f. to >>= (λ e. order f e >>= (λ o. begin >>= (λ b. lost >>= (λ l. moved >>= (λ m. others c >>= (λ w. tasks (u * 1000) >>= (λ t. Ok (record {
       tasks = t;
       processor = unwrap_or c 0;
       unit = u * 1000;
@@ -342,16 +346,18 @@ all_parts : (cpu : Result (Option ℕ) WordFault) (us khz : Result ℕ WordFault
       cut_losses = l;
       in_parts = is_none c || parts;
       everywhere = is_none c;
-    }))))))))))))
+      moved_parts = m;
+      others = w;
+    }))))))))))))))
     ≡ Ok asked → AllParts us khz to tasks asked
-all_parts (Err fault) us khz start from to order begin lost parts tasks asked is = absurd cc
-all_parts (Ok c) (Err fault) khz start from to order begin lost parts tasks asked is = absurd cc
-all_parts (Ok c) (Ok u) (Err fault) start from to order begin lost parts tasks asked is = absurd cc
-all_parts (Ok c) (Ok u) (Ok k) (Err fault) from to order begin lost parts tasks asked is = absurd cc
-all_parts (Ok c) (Ok u) (Ok k) (Ok s) (Err fault) to order begin lost parts tasks asked is = absurd cc
-all_parts (Ok c) (Ok u) (Ok k) (Ok s) (Ok f) (Err fault) order begin lost parts tasks asked is = absurd cc
-all_parts (Ok c) (Ok u) (Ok k) (Ok s) (Ok f) (Ok e) order begin lost parts tasks asked is =
-    record { number = u; speed = k; us_is = refl; khz_is = refl; end = e; end_is = refl; rest = last_parts (order f e) begin lost (is_none c || parts) (is_none c) (tasks (u * 1000)) (unwrap_or c 0) (u * 1000) k s f e asked is }
+all_parts (Err fault) us khz start from to order begin lost moved others parts tasks asked is = absurd cc
+all_parts (Ok c) (Err fault) khz start from to order begin lost moved others parts tasks asked is = absurd cc
+all_parts (Ok c) (Ok u) (Err fault) start from to order begin lost moved others parts tasks asked is = absurd cc
+all_parts (Ok c) (Ok u) (Ok k) (Err fault) from to order begin lost moved others parts tasks asked is = absurd cc
+all_parts (Ok c) (Ok u) (Ok k) (Ok s) (Err fault) to order begin lost moved others parts tasks asked is = absurd cc
+all_parts (Ok c) (Ok u) (Ok k) (Ok s) (Ok f) (Err fault) order begin lost moved others parts tasks asked is = absurd cc
+all_parts (Ok c) (Ok u) (Ok k) (Ok s) (Ok f) (Ok e) order begin lost moved others parts tasks asked is =
+    record { number = u; speed = k; us_is = refl; khz_is = refl; end = e; end_is = refl; rest = last_parts (order f e) begin lost moved (others c) (is_none c || parts) (is_none c) (tasks (u * 1000)) (unwrap_or c 0) (u * 1000) k s f e asked is }
 
 weaker : (P Q : Task → Type 0) (tasks : List Task) → ((task : Task) → P task → Q task) → All P tasks → All Q tasks
 weaker P Q tasks so all = λ i d within. so _ (all i d within)
@@ -372,7 +378,8 @@ asked_fits given asked is =
     let parts = all_parts (processor_of (value (codes "--cpu"))) (whole_or 10 1 MAX_UNIT (codes "--us") reasons.Unit (value (codes "--us")))
     (whole_or 10000 1 MAX_NUMBER (codes "--khz") reasons.Speed (value (codes "--khz"))) (start_of (value (codes "--start"))) (time_of (codes "--from") (value (codes "--from")))
     (time_of (codes "--to") (value (codes "--to"))) ordered (only (codes "--begin") (codes "run") reasons.Begin (value (codes "--begin")))
-    (only (codes "--lost") (codes "cut") reasons.Lost (value (codes "--lost"))) (is_given (codes "--parts") given) (λ (unit : ℕ). tasks_asked unit (value (codes "--tasks"))) asked is in
+    (only (codes "--lost") (codes "cut") reasons.Lost (value (codes "--lost"))) (only (codes "--moved") (codes "parts") reasons.Moved (value (codes "--moved")))
+    (λ (cpu : Option ℕ). others_asked cpu (value (codes "--others"))) (is_given (codes "--parts") given) (λ (unit : ℕ). tasks_asked unit (value (codes "--tasks"))) asked is in
     let unit = unit_between (value (codes "--us")) parts.number parts.us_is in
     let speed = speed_between (value (codes "--khz")) parts.speed parts.khz_is in
     let fine = subst (λ u. AreAsked u asked.tasks) parts.rest.unit_is (are_asked (parts.number * 1000) (value (codes "--tasks")) asked.tasks parts.rest.tasks_is) in

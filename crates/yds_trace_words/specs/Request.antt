@@ -60,6 +60,16 @@ processor_of None = Ok (Some 0)
 processor_of (Some text) =
     if bytes_eq text (codes "all") then Ok None else some_of (whole_at 0 MAX_PROCESSOR (codes "--cpu") reasons.Processor text)
 
+-- of which processor it is told; each of them has no answer
+abbrev pub of_one : Option ℕ → Result (Option ℕ) WordFault
+of_one None = refuse (codes "--others") reasons.EachProcessor
+of_one (Some processor) = Ok (Some processor)
+
+-- who else had the processor is told of one
+abbrev pub others_asked : Option ℕ → Option (List ℕ) → Result (Option ℕ) WordFault
+others_asked cpu None = Ok None
+others_asked cpu (Some text) = if bytes_eq text (codes "spans") then of_one cpu else refuse (codes "--others") reasons.Others
+
 -- # Requests
 
 pub data Request : Type 0 where
@@ -82,6 +92,8 @@ asked_by given = do
   in_order ← ordered from to
   begin ← only (codes "--begin") (codes "run") reasons.Begin (value_of (codes "--begin") given)
   lost ← only (codes "--lost") (codes "cut") reasons.Lost (value_of (codes "--lost") given)
+  moved ← only (codes "--moved") (codes "parts") reasons.Moved (value_of (codes "--moved") given)
+  others ← others_asked cpu (value_of (codes "--others") given)
   tasks ← tasks_asked (us * 1000) (value_of (codes "--tasks") given)
   Ok (record {
     tasks = tasks;
@@ -95,6 +107,8 @@ asked_by given = do
     cut_losses = lost;
     in_parts = is_none cpu || is_given (codes "--parts") given;
     everywhere = is_none cpu;
+    moved_parts = moved;
+    others = others;
   })
 
 abbrev pub read_trace : Bool → Result Asked WordFault → Result Request WordFault

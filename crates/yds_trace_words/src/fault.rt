@@ -30,6 +30,12 @@ pub enum Reason {
     Begin,
     /// It is no way to go on where events were lost.
     Lost,
+    /// It is no way to tell of jobs that moved.
+    Moved,
+    /// It is nothing that is told of other threads.
+    Others,
+    /// It is told of one processor, and not of each.
+    EachProcessor,
     /// It says nothing of the list of threads.
     Threads,
     /// No tasks are given.

@@ -97,6 +97,13 @@ fn asked_by<'a>(alloc: Global, given: &[Setting<'a>]) -> Result<Asked, NoRequest
     check_order(from, to)?;
     let begin_at_run = only(b"--begin", b"run", Reason::Begin, value(given, b"--begin"))?;
     let cut_losses = only(b"--lost", b"cut", Reason::Lost, value(given, b"--lost"))?;
+    let moved_parts = only(
+        b"--moved",
+        b"parts",
+        Reason::Moved,
+        value(given, b"--moved"),
+    )?;
+    let others = others(processor, value(given, b"--others"))?;
     let everywhere = processor.is_none();
     let in_parts = everywhere || value(given, b"--parts").is_some();
     let tasks = tasks_asked(alloc, unit * 1000, value(given, b"--tasks"))?;
@@ -112,6 +119,8 @@ fn asked_by<'a>(alloc: Global, given: &[Setting<'a>]) -> Result<Asked, NoRequest
         cut_losses,
         in_parts,
         everywhere,
+        moved_parts,
+        others,
     })
 }
 
@@ -162,6 +171,22 @@ fn processor<'a>(value: Option<&[u8]>) -> Result<Option<u64>, WordFault<'a>>
     match number_of(text, 0, MAX_PROCESSOR) {
         Ok(number) => Ok(Some(number)),
         Err(_) => Err(WordFault::of(b"--cpu", Reason::Processor)),
+    }
+}
+
+/// The processor of which it is told who else had it, if that is asked for.
+fn others<'a>(processor: Option<u64>, value: Option<&[u8]>) -> Result<Option<u64>, WordFault<'a>>
+    ensures { Takes (λ others. others) result (spec.others_asked processor (option_map (λ value. value.now) value.entry)) }
+{
+    let Some(text) = value else {
+        return Ok(None);
+    };
+    if text != b"spans".as_slice() {
+        return Err(WordFault::of(b"--others", Reason::Others));
+    }
+    match processor {
+        Some(processor) => Ok(Some(processor)),
+        None => Err(WordFault::of(b"--others", Reason::EachProcessor)),
     }
 }
 

@@ -3,7 +3,7 @@ ghost use Rattle.std.specs.Prelude.{◌≡◌, ◌==◌, map, true, false, optio
 ghost use Rattle.std.specs.List.{list_any, before_first, after_first};
 ghost use Rattle.yds_trace_words.specs.Words as spec;
 ghost use Rattle.yds_trace_words.specs.Words.{settings_of, value_of, other_than, given_twice};
-ghost use Rattle.yds_trace_words.specs.Views.{words_of, setting_read, settings_read, fault_read, Reads, IsWord};
+ghost use Rattle.yds_trace_words.specs.Views.{words_of, setting_read, settings_read, Reads, IsWord};
 
 use crate::fault::{NoRequest, Reason, WordFault};
 use std::alloc::Global;
@@ -111,6 +111,8 @@ fn takes_value(name: &[u8]) -> bool
         || name == b"--to".as_slice()
         || name == b"--begin".as_slice()
         || name == b"--lost".as_slice()
+        || name == b"--moved".as_slice()
+        || name == b"--others".as_slice()
 }
 
 fn ends_words(name: &[u8]) -> bool

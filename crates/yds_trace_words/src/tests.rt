@@ -35,15 +35,19 @@ fn words_ask(rt: HostRuntime) -> Result<(), Fail> {
         ("--cpu 1 --version", "version"),
         (
             "--tasks a:16.667:2 --cpu=3 --strict --from 1.5 --to 9223372036.854775807 --start 600000 --begin run --lost=cut --us 1 --khz 7 --parts",
-            "Asked { tasks: [Task { label: [97], thread: Named([97]), deadline: 16667000, apart: 2000000 }], processor: 3, unit: 1000, khz: 7, start: Some(600000), from: Some(1500000000), to: Some(9223372036854775807), begin_at_run: true, cut_losses: true, in_parts: true, everywhere: false } true",
+            "Asked { tasks: [Task { label: [97], thread: Named([97]), deadline: 16667000, apart: 2000000 }], processor: 3, unit: 1000, khz: 7, start: Some(600000), from: Some(1500000000), to: Some(9223372036854775807), begin_at_run: true, cut_losses: true, in_parts: true, everywhere: false, moved_parts: false, others: None } true",
         ),
         (
             "--tasks 7=a\\,b:1,c\\:\\d:0.01",
-            "Asked { tasks: [Task { label: [97, 44, 98], thread: Numbered(7), deadline: 1000000, apart: 0 }, Task { label: [99, 58, 92, 100], thread: Named([99, 58, 92, 100]), deadline: 10000, apart: 0 }], processor: 0, unit: 10000, khz: 10000, start: None, from: None, to: None, begin_at_run: false, cut_losses: false, in_parts: false, everywhere: false } false",
+            "Asked { tasks: [Task { label: [97, 44, 98], thread: Numbered(7), deadline: 1000000, apart: 0 }, Task { label: [99, 58, 92, 100], thread: Named([99, 58, 92, 100]), deadline: 10000, apart: 0 }], processor: 0, unit: 10000, khz: 10000, start: None, from: None, to: None, begin_at_run: false, cut_losses: false, in_parts: false, everywhere: false, moved_parts: false, others: None } false",
         ),
         (
             "--cpu all --tasks a:1",
-            "Asked { tasks: [Task { label: [97], thread: Named([97]), deadline: 1000000, apart: 0 }], processor: 0, unit: 10000, khz: 10000, start: None, from: None, to: None, begin_at_run: false, cut_losses: false, in_parts: true, everywhere: true } false",
+            "Asked { tasks: [Task { label: [97], thread: Named([97]), deadline: 1000000, apart: 0 }], processor: 0, unit: 10000, khz: 10000, start: None, from: None, to: None, begin_at_run: false, cut_losses: false, in_parts: true, everywhere: true, moved_parts: false, others: None } false",
+        ),
+        (
+            "--others=spans --tasks a:1 --moved parts --cpu 5",
+            "Asked { tasks: [Task { label: [97], thread: Named([97]), deadline: 1000000, apart: 0 }], processor: 5, unit: 10000, khz: 10000, start: None, from: None, to: None, begin_at_run: false, cut_losses: false, in_parts: false, everywhere: false, moved_parts: true, others: Some(5) } false",
         ),
         ("--tasks ?", "threads"),
     ];
@@ -99,6 +103,26 @@ fn words_are_refused_by_name(rt: HostRuntime) -> Result<(), Fail> {
         (
             "--tasks ? --from 1",
             "# --from: it says nothing of the list of threads; leave it out, or name the tasks\nfailed\n",
+        ),
+        (
+            "--tasks ? --others spans",
+            "# --others: it says nothing of the list of threads; leave it out, or name the tasks\nfailed\n",
+        ),
+        (
+            "--tasks a:1 --moved whole",
+            "# --moved: no way to tell of jobs that moved; write parts, or leave it out\nfailed\n",
+        ),
+        (
+            "--tasks a:1 --others",
+            "# --others: its value is missing; write it behind\nfailed\n",
+        ),
+        (
+            "--tasks a:1 --cpu all --others span",
+            "# --others: nothing else is told of other threads; write spans, or leave it out\nfailed\n",
+        ),
+        (
+            "--tasks a:1 --others spans --cpu all",
+            "# --others: it is told of one processor; give its number with --cpu\nfailed\n",
         ),
         (
             "--parts --tasks a:1 --parts",

@@ -31,6 +31,8 @@ thread is woken and ends where that leaves the processor to sleep.
   --to S         up to this time
   --begin run    jobs begin at their first run, and wake-ups aren't read
   --lost cut     goes on where events were lost, and leaves out the jobs that may have been open there
+  --moved parts  shares out a job that ran on several processors: the documents of each have what it ran there, as NAME@CPU
+  --others spans tells in comments who else had the processor while a job waited
   --parts        writes documents one behind the other, each as soon as it is whole, for a trace of any length
   --strict       fails where a job is left out for another reason than --from and --to
   --help         writes this
@@ -112,6 +114,9 @@ fn reason_text(reason: Reason) -> &'static str
             "no way in which jobs begin; write run, or leave it out for jobs that begin at wake-ups"
         }
         Reason::Lost => "no way to go on behind lost events; write cut, or leave it out",
+        Reason::Moved => "no way to tell of jobs that moved; write parts, or leave it out",
+        Reason::Others => "nothing else is told of other threads; write spans, or leave it out",
+        Reason::EachProcessor => "it is told of one processor; give its number with --cpu",
         Reason::Threads => {
             "it says nothing of the list of threads; leave it out, or name the tasks"
         }

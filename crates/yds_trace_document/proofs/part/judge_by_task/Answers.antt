@@ -1,7 +1,7 @@
 use Rattle.yds_model.proofs.Common.{◌≡◌, ◌∙◌, ℕ, List, IfOk, map, ap₂, subst, sym}
 use Rattle.yds_trace.specs.declared.asked.Task.{Task as TaskKept}
 use Rattle.yds_trace.specs.declared.shown.ShownTask.{ShownTask}
-use Rattle.yds_trace.specs.Shown.{IsShown}
+use Rattle.yds_trace.specs.Shown.{IsShared}
 use Rattle.yds_trace.specs.Document.{Judged}
 use Rattle.yds_trace.specs.Views.{asked_read, task_read}
 use Rattle.yds_trace_document.specs.Kept.{shown_tasks, within_of}
@@ -11,8 +11,8 @@ use Rattle.yds_trace_document.proofs.part.judge_by_task.Goals as goal
 
 pub returns : goal.returns
 returns c past cut at is =
-    let known : IsShown (asked_read c.args.asked.now) past cut.boundary c.args.shown.now =
-    subst (λ (boundary : ℕ). IsShown (asked_read c.args.asked.now) past boundary c.args.shown.now) (sym at) is in
+    let known : IsShared (asked_read c.args.asked.now) past cut.boundary c.args.shown.now =
+    subst (λ (boundary : ℕ). IsShared (asked_read c.args.asked.now) past boundary c.args.shown.now) (sym at) is in
     subst (λ (made : List (List Judged)). IfOk c.judge_each.result (λ by_task. judged_lists by_task.items ≡ made))
     (ap₂ (λ (tasks : List TaskKept) (shown : List ShownTask).
     shown_tasks (within_of (asked_read c.args.asked.now) c.args.shown.now.last) c.args.boundary 0 (map task_read tasks) shown)
