@@ -111,6 +111,7 @@ test_trace() {
 	same "trace: late on another processor" 0 document-elsewhere.txt from elsewhere.txt trace --tasks render:16
 	same "trace: late in a short run" 0 document-short-late.txt from short-late.txt trace --tasks audio:5
 	same "trace: ends in short runs" 0 document-tick.txt from tick.txt trace --tasks render:9
+	same "trace: the stored document" 0 document.txt cat governor.txt
 	answers "trace: feasible" 0 feasible from "$expected/document.txt" "$YDS" audit
 	cat "$expected/points.txt" "$expected/document.txt" >"$work/both"
 	answers "trace: feasible on the points" 0 feasible from "$work/both" "$YDS" audit --points
