@@ -55,9 +55,6 @@ MOST_OF = {
     "yds_run": 12,
     "yds_admit": 12,
     "yds_document": 12,
-    "yds_trace": 12,
-    "yds_trace_document": 12,
-    "yds_trace_text": 12,
     "yds_trace_run": 10,
 }
 NEEDED = [

@@ -102,7 +102,7 @@ MISTAKES = [
     Mistake("windows_of_the_part_before_forgotten", "yds_trace_parts/src/part.rt", (
         ("        due: greatest_due(cut.due, part),\n", "        due: cut.due,\n"),), "parts"),
     Mistake("stretches_that_wait_not_counted", "yds_trace_parts/src/telling.rt", (
-        ("        && amount.stretches <= PART_STRETCHES\n", ""),), "parts"),
+        (" && amount.stretches <= PART_STRETCHES", ""),), "parts"),
     Mistake("the_shift_not_told", "yds_trace_document/src/part.rt", (("    Ok(Part { settled, shift })\n", "    Ok(Part { settled, shift: 0 })\n"),), "parts"),
     Mistake("the_shift_not_taken_off", "yds_trace_document/src/part.rt", (
         ("        zero: zero + shift * asked.unit,\n", "        zero,\n"),), "parts"),
@@ -161,7 +161,7 @@ MISTAKES = [
         ("        if span.to > boundary {\n", "        if span.from >= boundary {\n"),), "parts"),
     Mistake("spans_told_whole_in_each_part", "yds_trace_document/src/other.rt", (
         ("        Some(until) => until.min(other.to),\n", "        Some(until) => until.max(other.to),\n"),), "parts"),
-    Mistake("spans_that_wait_not_counted", "yds_trace_parts/src/telling.rt", (("        && amount.others <= PART_OTHERS\n", ""),), "parts"),
+    Mistake("spans_that_wait_not_counted", "yds_trace_parts/src/telling.rt", ((" && amount.others <= PART_OTHERS", ""),), "parts"),
 ]
 
 

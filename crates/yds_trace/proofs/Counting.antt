@@ -1,5 +1,5 @@
 -- What is known of each task behind one more line that counts.
-use Rattle.yds_model.proofs.Common.{◌≡◌, ◌∙◌, ℕ, suc, ◌+◌, ◌<◌, ◌≤◌, List, [], ◌∷◌, map, reverse, length, get_or, Bool, true, false, not, ◌||◌, ◌&&◌, if◌then◌else◌, Option, Some, None, is_some, list_any, refl, sym, ap, ap₂, arith, lt-ltb, le-ltb, subst}
+use Rattle.yds_model.proofs.Common.{◌≡◌, ◌∙◌, ℕ, suc, ◌+◌, ◌<◌, ◌≤◌, List, [], ◌∷◌, ◌++◌, map, reverse, length, get_or, Bool, true, false, not, ◌||◌, ◌&&◌, if◌then◌else◌, Option, Some, None, is_some, is_none, list_any, refl, sym, ap, ap₂, arith, lt-ltb, le-ltb, subst}
 use Rattle.yds_kernel.specs.declared.loss.Since.{Since}
 use Rattle.yds_kernel.specs.Parts.{or_else}
 use Rattle.yds_kernel.specs.Event.{Happening, Switch, WakeUp, Speed, Loss, Marker, Other, Event, Said, Stamped, Lost}
@@ -12,11 +12,12 @@ use Rattle.yds_trace.specs.declared.step.Whose.{Whose}
 use Rattle.yds_trace.specs.Asked.{Task, Asked, task_at, task_of, is_number}
 use Rattle.yds_trace.specs.Jobs.{Job, Known, lost_earlier, lost_jobs, loses, stands_on, after_switch, wakes_up, after_event, known_after}
 use Rattle.yds_trace.specs.Past.{lost_since}
+use Rattle.yds_trace.specs.Others.{has_open_job, is_waiting, one_waits, any_waits}
 use Rattle.yds_trace.specs.Faults.{pid_in, pid_before, runs_on, touches, touched, touched_fault, counted_fault}
 use Rattle.yds_trace.specs.Steps.{leaving_after, step_in, step_of, stepped, first_in, second_in, pid_of}
-use Rattle.yds_trace.specs.Following.{IsTaken, IsLost, touches_by}
+use Rattle.yds_trace.specs.Following.{IsTaken, IsLost, some_waits, touches_by}
 use Rattle.yds_trace.specs.Kept.{behind, KeepsLast, IsFollowed}
-use Rattle.yds_trace.specs.Views.{known_read}
+use Rattle.yds_trace.specs.Views.{jobs_listed, known_read}
 use Rattle.yds_trace.proofs.Behind.{IsBehind, forgotten_after, stepped_behind, lost_behind, forgotten_reverse, forgotten_kept, are_forgotten_after, lost_are_forgotten}
 use Rattle.yds_trace.proofs.Listed.{map_reverse}
 
@@ -124,25 +125,60 @@ runs_on_is asked counting boundary processor start (task ∷ tasks) (one ∷ kep
     (sym (ap (λ (known : Known). stands_on processor known.on) (each 0 start one (omega arith) (omega arith)).known))
     (runs_on_is asked counting boundary processor (start + 1) tasks kept (omega arith) (λ k n d within is. each (suc k) n d (omega arith) (omega arith)))
 
+at_number : (asked : Asked) (counting : List Said) (boundary : ℕ) (kept : List Followed) →
+    ((k : ℕ) (d : Followed) → k < length asked.tasks → IsFollowed asked counting boundary k (get_or kept k d)) →
+    (k n : ℕ) (d : Followed) → k < length asked.tasks → 0 + k ≡ n → IsFollowed asked counting boundary n (get_or kept k d)
+at_number asked counting boundary kept each k n d within is =
+    let same : k ≡ n = omega arith in let P : ℕ → Type 0 = λ m. IsFollowed asked counting boundary m (get_or kept k d) in subst P same (each k d within)
+
+-- Whether a job waits is seen of the last one, which is kept.
+open_behind : (jobs forgotten : List Job) → KeepsLast jobs forgotten → has_open_job (jobs ++ forgotten) ≡ has_open_job jobs
+open_behind [] forgotten none = ap has_open_job none
+open_behind (job ∷ jobs) forgotten last = refl
+
+waiting_is : (asked : Asked) (counting : List Said) (boundary number : ℕ) (followed : Followed) → IsFollowed asked counting boundary number followed →
+    is_waiting (known_after asked number counting) ≡ is_waiting (known_read followed.known)
+waiting_is asked counting boundary number followed is =
+    ap is_waiting (sym is.known)
+    ∙ ap (λ (waits : Bool). is_none followed.known.on && waits) (open_behind (jobs_listed followed.known.jobs.items) (reverse is.forgotten) is.last)
+
+one_waits_is : (asked : Asked) (counting : List Said) (boundary start : ℕ) (tasks : List Task) (kept : List Followed) → length kept ≡ length tasks →
+    ((k n : ℕ) (d : Followed) → k < length tasks → start + k ≡ n → IsFollowed asked counting boundary n (get_or kept k d)) →
+    one_waits asked counting start tasks ≡ some_waits kept
+one_waits_is asked counting boundary start [] [] many each = refl
+one_waits_is asked counting boundary start [] (one ∷ kept) many each = absurd (omega arith)
+one_waits_is asked counting boundary start (task ∷ tasks) [] many each = absurd (omega arith)
+one_waits_is asked counting boundary start (task ∷ tasks) (one ∷ kept) many each =
+    ap₂ (λ (here rest : Bool). here || rest)
+    (waiting_is asked counting boundary start one (each 0 start one (omega arith) (omega arith)))
+    (one_waits_is asked counting boundary (start + 1) tasks kept (omega arith) (λ k n d within is. each (suc k) n d (omega arith) (omega arith)))
+
+pub waits_is : (asked : Asked) (counting : List Said) (boundary : ℕ) (kept : List Followed) → length kept ≡ length asked.tasks →
+    ((k : ℕ) (d : Followed) → k < length asked.tasks → IsFollowed asked counting boundary k (get_or kept k d)) → some_waits kept ≡ any_waits asked counting
+waits_is asked counting boundary kept many each = sym (one_waits_is asked counting boundary 0 asked.tasks kept many (at_number asked counting boundary kept each))
+
 touches_in : (asked : Asked) (counting : List Said) (boundary : ℕ) (event : Event) (happening : Happening) (kept : List Followed) → length kept ≡ length asked.tasks →
     ((k : ℕ) (d : Followed) → k < length asked.tasks → IsFollowed asked counting boundary k (get_or kept k d)) →
-    touches_by (first_in asked.tasks happening) (second_in asked.tasks happening) (step_in asked.start counting event happening) kept ≡ touches asked counting happening
-touches_in asked counting boundary event (Switch previous state next) kept many each = refl
+    touches_by (is_some asked.others) (first_in asked.tasks happening) (second_in asked.tasks happening) (step_in asked.start counting event happening) kept
+    ≡ touches asked counting happening
+touches_in asked counting boundary event (Switch previous state next) kept many each =
+    ap (λ (waits : Bool). is_some (task_of asked.tasks previous) || is_some (task_of asked.tasks next) || (is_some asked.others && waits))
+    (waits_is asked counting boundary kept many each)
 touches_in asked counting boundary event (WakeUp thread) kept many each = refl
 touches_in asked counting boundary event (Speed processor khz) kept many each =
-    sym (runs_on_is asked counting boundary processor 0 asked.tasks kept many
-    (λ k n d within is. let same : k ≡ n = omega arith in let P : ℕ → Type 0 = λ m. IsFollowed asked counting boundary m (get_or kept k d) in subst P same (each k d within)))
+    sym (runs_on_is asked counting boundary processor 0 asked.tasks kept many (at_number asked counting boundary kept each))
 touches_in asked counting boundary event Loss kept many each = refl
 touches_in asked counting boundary event Marker kept many each = refl
 touches_in asked counting boundary event Other kept many each = refl
 
-pub touches_is : (asked : Asked) (counting : List Said) (boundary : ℕ) (event : Event) (first second : Whose) (step : Step) (kept : List Followed) →
-    first ≡ first_in asked.tasks event.happening → second ≡ second_in asked.tasks event.happening → step ≡ step_of asked.start counting event →
-    length kept ≡ length asked.tasks → ((k : ℕ) (d : Followed) → k < length asked.tasks → IsFollowed asked counting boundary k (get_or kept k d)) →
-    touches_by first second step kept ≡ touches asked counting event.happening
-touches_is asked counting boundary event first second step kept first_is second_is step_is many each =
-    ap₂ (λ (f s : Whose). touches_by f s step kept) first_is second_is
-    ∙ ap (λ (by : Step). touches_by (first_in asked.tasks event.happening) (second_in asked.tasks event.happening) by kept) step_is
+pub touches_is : (asked : Asked) (counting : List Said) (boundary : ℕ) (event : Event) (others : Bool) (first second : Whose) (step : Step) (kept : List Followed) →
+    others ≡ is_some asked.others → first ≡ first_in asked.tasks event.happening → second ≡ second_in asked.tasks event.happening →
+    step ≡ step_of asked.start counting event → length kept ≡ length asked.tasks →
+    ((k : ℕ) (d : Followed) → k < length asked.tasks → IsFollowed asked counting boundary k (get_or kept k d)) →
+    touches_by others first second step kept ≡ touches asked counting event.happening
+touches_is asked counting boundary event others first second step kept others_is first_is second_is step_is many each =
+    ap₂ (λ (f s : Whose). touches_by others f s step kept) first_is second_is
+    ∙ ap₂ (λ (b : Bool) (by : Step). touches_by b (first_in asked.tasks event.happening) (second_in asked.tasks event.happening) by kept) others_is step_is
     ∙ touches_in asked counting boundary event event.happening kept many each
 
 pub touched_more : (asked : Asked) (counting : List Said) (event : Event) → touches asked counting event.happening ≡ true →

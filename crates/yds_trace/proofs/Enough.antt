@@ -8,6 +8,7 @@ use Rattle.yds_trace.specs.declared.job.Job.{Job as JobKept}
 use Rattle.yds_trace.specs.declared.job.Standing.{Standing}
 use Rattle.yds_trace.specs.declared.job.Stretch.{Stretch}
 use Rattle.yds_trace.specs.declared.kept.Kept.{Kept as Amount}
+use Rattle.yds_trace.specs.declared.others.Others.{Others as OthersKept}
 use Rattle.yds_trace.specs.Asked.{Task, Asked}
 use Rattle.yds_trace.specs.Past.{up_to}
 use Rattle.yds_trace.specs.Jobs.{Job, changed_last, ran}
@@ -16,10 +17,11 @@ use Rattle.yds_trace.specs.Document.{Judged, judged, judged_of, judged_from, job
 use Rattle.yds_trace.specs.Parts.{begins_from, waiting_from, stretches_of as waiting_stretches}
 use Rattle.yds_trace.specs.Passing.{closed_at}
 use Rattle.yds_trace.specs.Following.{jobs_in, stretches_in, stretches_of}
-use Rattle.yds_trace.specs.Kept.{IsFollowed, IsEnough}
+use Rattle.yds_trace.specs.Kept.{IsFollowed, AreOthersOf, IsEnough}
 use Rattle.yds_trace.specs.Views.{job_read, jobs_listed, known_read}
 use Rattle.yds_trace.proofs.Listed.{some_listed}
 use Rattle.yds_trace.proofs.Showing.{jobs_behind}
+use Rattle.yds_trace.proofs.Spans.{few_others}
 use Rattle.yds_trace.proofs.Shares.{share_begin, share_length}
 
 -- # Sums over what passes a test
@@ -200,10 +202,11 @@ capped_rises a b less = grind (arith, nat_le, leb-true, le-leb)
 le_of : (a b c : ℕ) → a ≤ b → c ≡ b → a ≤ c
 le_of a b c less same = omega arith
 
-pub enough : (asked : Asked) (past : List Said) (behind boundary : ℕ) → behind ≤ boundary → (kept : List Followed) (amount : Amount) → length kept ≡ length asked.tasks →
+pub enough : (asked : Asked) (past : List Said) (behind boundary : ℕ) → behind ≤ boundary → (kept : List Followed) (others : OthersKept) (amount : Amount) → length kept ≡ length asked.tasks →
     ((k : ℕ) (d : Followed) → k < length asked.tasks → IsFollowed asked (up_to asked.to past) behind k (get_or kept k d)) →
+    AreOthersOf asked (up_to asked.to past) behind others → amount.others ≡ capped (length others.spans.items + (if is_some others.going then 1 else 0)) →
     amount.jobs ≡ capped (sum_by jobs_in kept) → amount.stretches ≡ capped (sum_by stretches_of kept) → IsEnough asked past boundary amount
-enough asked past behind boundary within kept amount many each jobs stretches =
+enough asked past behind boundary within kept others amount many each are others_is jobs stretches =
     let few_jobs : sum_by (λ (one : Judged). one_each one.job) (waiting_from asked past boundary) ≤ sum_by jobs_in kept =
     waiting_sum (λ (one : Judged). one_each one.job) jobs_in asked past boundary kept many
     (λ k n d inside is.
@@ -224,5 +227,5 @@ enough asked past behind boundary within kept amount many each jobs stretches =
     record {
       jobs = le_of _ _ _ (capped_rises _ _ fewer) jobs;
       stretches = le_of _ _ _ (capped_rises _ _ few_stretches) stretches;
-      others = ?;
+      others = le_of _ _ _ (capped_rises _ _ (few_others asked past behind boundary others within are)) others_is;
     }

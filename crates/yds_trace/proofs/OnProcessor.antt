@@ -1,5 +1,5 @@
 -- What is known of the tasks doesn't depend on the processor that is asked for: only why a job isn't written as it stands does.
-use Rattle.yds_model.proofs.Common.{◌≡◌, ◌∙◌, ℕ, suc, ◌+◌, ◌<◌, ◌≤◌, List, [], ◌∷◌, reverse, length, Bool, false, not, ◌&&◌, ◌||◌, nat_lt, nat_le, if◌then◌else◌, Option, Some, None, is_some, is_none, All-weaker, refl, sym, ap, ap₂, arith}
+use Rattle.yds_model.proofs.Common.{◌≡◌, ◌∙◌, ℕ, suc, ◌+◌, ◌<◌, ◌≤◌, List, [], ◌∷◌, reverse, length, filter, Bool, true, false, not, ◌&&◌, ◌||◌, nat_lt, nat_le, if◌then◌else◌, Option, Some, None, is_some, is_none, All-weaker, refl, sym, ap, ap₂, arith, ltb-false, le-ltb}
 use Rattle.yds_kernel.specs.Parts.{or_else}
 use Rattle.yds_kernel.specs.Event.{Thread, Happening, Switch, WakeUp, Speed, Loss, Marker, Other, Event, Said, Stamped, Lost, Nothing}
 use Rattle.yds_trace.specs.declared.counted.Counted.{Counted}
@@ -9,6 +9,7 @@ use Rattle.yds_trace.specs.declared.fault.Cause.TheVariants as causes
 use Rattle.yds_trace.specs.declared.followed.Followed.{Followed}
 use Rattle.yds_trace.specs.declared.limits.TheConstants.{MAX_TOUCHES}
 use Rattle.yds_trace.specs.declared.lines.Lines.{Lines}
+use Rattle.yds_trace.specs.declared.others.Others.{Others as OthersKept}
 use Rattle.yds_trace.specs.declared.shown.Shown.{Shown}
 use Rattle.yds_trace.specs.declared.shown.ShownTask.{ShownTask}
 use Rattle.yds_trace.specs.Asked.{Task, Asked, on, task_at, task_of, is_before_to}
@@ -18,7 +19,8 @@ use Rattle.yds_trace.specs.Late.{last_asked}
 use Rattle.yds_trace.specs.Document.{Judged, closed, jobs_of, began_before}
 use Rattle.yds_trace.specs.Faults.{pid_in, pid_before, is_another, is_two_tasks, thread_fault, first_thread_fault, state_fault, both_fault, happening_fault, is_torn, stamped_fault, place_fault, runs_on, touches, touched, length_fault, said_fault, numbered, first_fault, wakes_task, has_wake_up, has_stamp, lost_just_before, unseen_from, unseen_fault, whole_fault}
 use Rattle.yds_trace.specs.Parts.{last_begin, last_begin_of, is_over, is_settled, may_write, changes_parts}
-use Rattle.yds_trace.specs.Kept.{IsFollowed, IsCounted, IsLines}
+use Rattle.yds_trace.specs.Kept.{IsFollowed, AreOthers, IsCounted, IsLines}
+use Rattle.yds_trace.specs.Others.{Span, Spans, is_waiting, one_waits, any_waits, who_has, other_of, in_the_way, ended_at, spans_by, spans_after, spans_on, others_of, goes_behind, others_from}
 use Rattle.yds_trace.specs.Shown.{IsShownTask, IsShown}
 
 -- # Jobs
@@ -44,6 +46,65 @@ pub is_settled_on : (asked : Asked) (processor : ℕ) (past : List Said) (judged
 is_settled_on asked processor past judged =
     ap (λ (begin : ℕ). is_over (last_asked asked past) (nat_lt judged.job.begin begin) judged.job.end
     && nat_le (judged.job.begin + (task_at asked judged.task).apart) (last_time past)) (last_begin_of_on asked processor past judged.task)
+
+-- # Who was in the way
+
+one_waits_on : (asked : Asked) (processor : ℕ) (past : List Said) (number : ℕ) (tasks : List Task) →
+    one_waits (on processor asked) past number tasks ≡ one_waits asked past number tasks
+one_waits_on asked processor past number [] = refl
+one_waits_on asked processor past number (task ∷ tasks) =
+    ap₂ (λ (here rest : Bool). here || rest) (ap is_waiting (known_after_on asked processor number past)) (one_waits_on asked processor past (number + 1) tasks)
+
+pub any_waits_on : (asked : Asked) (processor : ℕ) (past : List Said) → any_waits (on processor asked) past ≡ any_waits asked past
+any_waits_on asked processor past = one_waits_on asked processor past 0 asked.tasks
+
+in_the_way_on : (asked : Asked) (processor there : ℕ) (past : List Said) → in_the_way (on processor asked) there past ≡ in_the_way asked there past
+in_the_way_on asked processor there past =
+    ap {B = Option Thread} (λ (waits : Bool). if waits then other_of asked.tasks (who_has there past) else None) (any_waits_on asked processor past)
+
+pub spans_after_on : (asked : Asked) (processor there : ℕ) (past : List Said) → spans_after (on processor asked) there past ≡ spans_after asked there past
+spans_after_on asked processor there [] = refl
+spans_after_on asked processor there (Stamped event ∷ past) =
+    ap₂ (spans_by event.time) (in_the_way_on asked processor there (Stamped event ∷ past)) (spans_after_on asked processor there past)
+spans_after_on asked processor there (Lost other reach ∷ past) = ap (spans_by (last_time past) None) (spans_after_on asked processor there past)
+spans_after_on asked processor there (Nothing ∷ past) = spans_after_on asked processor there past
+
+others_on : (asked : Asked) (processor : ℕ) (past : List Said) (others : Option ℕ) →
+    (elim others as (λ _. List Span) [ None ↦ [] | Some there ↦ spans_on (on processor asked) past there ])
+    ≡ (elim others as (λ _. List Span) [ None ↦ [] | Some there ↦ spans_on asked past there ])
+others_on asked processor past None = refl
+others_on asked processor past (Some there) =
+    ap (λ (spans : Spans). reverse (ended_at (last_asked asked past) spans)) (spans_after_on asked processor there (up_to asked.to past))
+
+pub others_of_on : (asked : Asked) (processor : ℕ) (past : List Said) → others_of (on processor asked) past ≡ others_of asked past
+others_of_on asked processor past = others_on asked processor past asked.others
+
+pub others_from_on : (asked : Asked) (processor : ℕ) (past : List Said) (boundary : ℕ) → others_from (on processor asked) past boundary ≡ others_from asked past boundary
+others_from_on asked processor past boundary = ap (filter (goes_behind boundary)) (others_of_on asked processor past)
+
+-- Who goes on behind a time is among those that go on behind an earlier one.
+later_of : (boundary later : ℕ) (b : Bool) (span : Span) (spans : List Span) → nat_lt boundary span.to ≡ b → boundary ≤ later →
+    filter (goes_behind later) (if b then span ∷ filter (goes_behind boundary) spans else filter (goes_behind boundary) spans)
+    ≡ (if nat_lt later span.to then span ∷ filter (goes_behind later) (filter (goes_behind boundary) spans) else filter (goes_behind later) (filter (goes_behind boundary) spans))
+later_of boundary later true span spans so within = refl
+later_of boundary later false span spans so within =
+    let ends : span.to ≤ boundary = ltb-false boundary span.to so in
+    let before : span.to ≤ later = omega arith in
+    rw (le-ltb later span.to before)
+
+behind_later : (boundary later : ℕ) (spans : List Span) → boundary ≤ later → filter (goes_behind later) (filter (goes_behind boundary) spans) ≡ filter (goes_behind later) spans
+behind_later boundary later [] within = refl
+behind_later boundary later (span ∷ spans) within =
+    later_of boundary later (nat_lt boundary span.to) span spans refl within
+    ∙ ap (λ (rest : List Span). if nat_lt later span.to then span ∷ rest else rest) (behind_later boundary later spans within)
+
+pub others_shown_on : (asked : Asked) (processor : ℕ) (past : List Said) (boundary later : ℕ) (spans : List Span) → boundary ≤ later →
+    filter (goes_behind boundary) spans ≡ others_from asked past boundary → filter (goes_behind later) spans ≡ others_from (on processor asked) past later
+others_shown_on asked processor past boundary later spans within is =
+    sym (behind_later boundary later spans within)
+    ∙ ap (filter (goes_behind later)) is
+    ∙ behind_later boundary later (others_of asked past) within
+    ∙ sym (others_from_on asked processor past later)
 
 -- # Lines that tell of the tasks
 
@@ -73,7 +134,8 @@ runs_on_on asked processor past there number (task ∷ tasks) =
 
 touches_on : (asked : Asked) (processor : ℕ) (past : List Said) (happening : Happening) →
     touches (on processor asked) past happening ≡ touches asked past happening
-touches_on asked processor past (Switch previous state next) = ?
+touches_on asked processor past (Switch previous state next) =
+    ap (λ (waits : Bool). is_some (task_of asked.tasks previous) || is_some (task_of asked.tasks next) || (is_some asked.others && waits)) (any_waits_on asked processor past)
 touches_on asked processor past (WakeUp thread) = refl
 touches_on asked processor past (Speed there khz) = runs_on_on asked processor past there 0 asked.tasks
 touches_on asked processor past Loss = refl
@@ -178,12 +240,24 @@ followed_on asked processor counting boundary number followed is = record {
   pid = is.pid ∙ sym (pid_before_on asked processor number counting);
 }
 
+others_kept_on : (asked : Asked) (processor : ℕ) (counting : List Said) (boundary : ℕ) (kept : OthersKept) (others : Option ℕ) →
+    (elim others as (λ _. Type 0) [ None ↦ Unit {0} | Some there ↦ AreOthers asked counting boundary there kept ]) →
+    (elim others as (λ _. Type 0) [ None ↦ Unit {0} | Some there ↦ AreOthers (on processor asked) counting boundary there kept ])
+others_kept_on asked processor counting boundary kept None is = tt
+others_kept_on asked processor counting boundary kept (Some there) is = record {
+  holder = is.holder;
+  going = is.going ∙ ap (λ (spans : Spans). spans.going) (sym (spans_after_on asked processor there counting));
+  forgotten = is.forgotten;
+  spans = ap (λ (spans : Spans). reverse spans.ended) (spans_after_on asked processor there counting) ∙ is.spans;
+  earlier = is.earlier;
+}
+
 pub counted_on : (asked : Asked) (processor : ℕ) (counting : List Said) (counted : Counted) → IsCounted asked counting counted → IsCounted (on processor asked) counting counted
 counted_on asked processor counting counted is = record {
   times = is.times;
   as_many = is.as_many;
   tasks = λ number default within. followed_on asked processor counting counted.boundary number _ (is.tasks number default within);
-  others = ?;
+  others = others_kept_on asked processor counting counted.boundary counted.others asked.others is.others;
   touched = λ alone. is.touched alone ∙ sym (touched_on asked processor counting);
   few = is.few;
 }
@@ -215,7 +289,7 @@ pub shown_on : (asked : Asked) (processor : ℕ) (past : List Said) (boundary la
 shown_on asked processor past boundary later shown within is = record {
   as_many = is.as_many;
   tasks = λ number default inside. shown_task_on asked processor past boundary later number _ within (is.tasks number default inside);
-  others = ?;
+  others = others_shown_on asked processor past boundary later _ within is.others;
   first = is.first;
   last = is.last;
 }

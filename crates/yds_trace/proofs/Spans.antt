@@ -1,16 +1,15 @@
 -- Who was in the way: the spans that are kept, and those that are forgotten before them.
-use Rattle.yds_model.proofs.Common.{◌≡◌, ◌∙◌, ℕ, suc, ◌+◌, ◌<◌, ◌≤◌, List, [], ◌∷◌, ◌++◌, map, reverse, length, take, drop, filter, get_or, min, Bool, true, false, ◌||◌, ◌&&◌, if◌then◌else◌, nat_lt, Option, Some, None, option_map, is_some, is_none, list_any, All, All-head, All-tail, All-cons, All-nil, All-append, All-weaker, All-map, refl, sym, ap, ap₂, subst, arith, cond, append-nil, append_assoc, map-append, reverse-append, filter-append, length-map, length-reverse, length-filter, count_by-le-length, All-permutation, ltb-true, le-ltb, take-take, filter_agree}
+use Rattle.yds_model.proofs.Common.{◌≡◌, ◌∙◌, ℕ, ◌+◌, ◌<◌, ◌≤◌, List, [], ◌∷◌, ◌++◌, map, reverse, length, take, drop, filter, min, Bool, true, false, if◌then◌else◌, nat_lt, Option, Some, None, option_map, is_some, All, All-head, All-tail, All-cons, All-nil, All-append, All-weaker, All-map, refl, sym, ap, ap₂, subst, arith, append_assoc, map-append, reverse-append, filter-append, length-map, length-reverse, length-filter, count_by-le-length, All-permutation, ltb-true, le-ltb}
 use Rattle.std.proofs.lemmas.List.{reverse-reverse, take-append-drop, take_min}
 use Rattle.std.proofs.lemmas.List.Sorted.{IsPermutation-reverse}
 use Rattle.yds_kernel.specs.declared.loss.Since.{Since}
 use Rattle.yds_kernel.specs.Event.{Thread, Event, Said, Stamped, Lost, Nothing}
-use Rattle.yds_trace.specs.declared.followed.Followed.{Followed}
 use Rattle.yds_trace.specs.declared.others.Others.{Others as OthersKept}
 use Rattle.yds_trace.specs.declared.others.Span.{Span as SpanKept}
-use Rattle.yds_trace.specs.Asked.{Task, Asked}
+use Rattle.yds_trace.specs.Asked.{Asked}
 use Rattle.yds_trace.specs.Past.{last_time, up_to}
 use Rattle.yds_trace.specs.Late.{last_asked}
-use Rattle.yds_trace.specs.Others.{Span, Spans, Going, who_has, is_waiting, one_waits, any_waits, other_of, in_the_way, shortened, is_same, span_until, ended_at, going_from, spans_by, spans_after, spans_on, others_of, goes_behind, others_from}
+use Rattle.yds_trace.specs.Others.{Span, Spans, Going, who_has, any_waits, other_of, in_the_way, shortened, is_same, span_until, ended_at, going_from, spans_by, spans_after, spans_on, others_of, goes_behind, others_from}
 use Rattle.yds_trace.specs.Following.{spans_kept, spans_at}
 use Rattle.yds_trace.specs.Kept.{AreOthers, AreOthersOf}
 use Rattle.yds_trace.specs.Views.{another_read, going_read, span_read}
@@ -108,6 +107,22 @@ others_lost asked counting other since boundary processor time was now is time_i
     ∙ ap (behind_spans (reverse is.forgotten)) (none_by time (spans_kept was).ended (spans_kept was).going ∙ sym spans))
     is.earlier
 
+-- # Where it is asked for
+
+abbrev of_wanted : Asked → List Said → ℕ → OthersKept → Option ℕ → Type 0
+of_wanted asked counting boundary kept others = elim others as (λ _. Type 0) [ None ↦ Unit {0} | Some processor ↦ AreOthers asked counting boundary processor kept ]
+
+pub unwanted : (asked : Asked) (counting : List Said) (boundary : ℕ) (kept : OthersKept) → asked.others ≡ None → AreOthersOf asked counting boundary kept
+unwanted asked counting boundary kept none = subst (of_wanted asked counting boundary kept) (sym none) tt
+
+pub wanted_are : (asked : Asked) (counting : List Said) (boundary processor : ℕ) (kept : OthersKept) → asked.others ≡ Some processor →
+    AreOthersOf asked counting boundary kept → AreOthers asked counting boundary processor kept
+wanted_are asked counting boundary processor kept some are = subst (of_wanted asked counting boundary kept) some are
+
+pub are_wanted : (asked : Asked) (counting : List Said) (boundary processor : ℕ) (kept : OthersKept) → asked.others ≡ Some processor →
+    AreOthers asked counting boundary processor kept → AreOthersOf asked counting boundary kept
+are_wanted asked counting boundary processor kept some are = subst (of_wanted asked counting boundary kept) (sym some) are
+
 -- # The first ones are forgotten
 
 pub others_forget : (asked : Asked) (counting : List Said) (before boundary processor count : ℕ) (was now : OthersKept) →
@@ -145,7 +160,7 @@ closed_spans asked counting boundary processor until kept is =
     ∙ ap (λ (first : List Span). first ++ reverse (ended_at until (spans_kept kept))) (reverse-reverse is.forgotten)
 
 shown_of : (asked : Asked) (past : List Said) (behind boundary until : ℕ) (kept : OthersKept) (others : Option ℕ) → behind ≤ boundary → until ≡ last_asked asked past →
-    (elim others as (λ _. Type 0) [ None ↦ Unit {0} | Some processor ↦ AreOthers asked (up_to asked.to past) behind processor kept ]) →
+    of_wanted asked (up_to asked.to past) behind kept others →
     filter (goes_behind boundary) (spans_at others until kept)
     ≡ filter (goes_behind boundary) (elim others as (λ _. List Span) [ None ↦ [] | Some processor ↦ spans_on asked past processor ])
 shown_of asked past behind boundary until kept None within until_is is = refl
@@ -246,7 +261,7 @@ none_forgotten (span ∷ forgotten) rest ended same later early =
     absurd (omega (arith, first, none))
 
 ended_of : (asked : Asked) (past : List Said) (boundary until : ℕ) (kept : OthersKept) (others : Option ℕ) → boundary ≤ 0 → until ≡ last_asked asked past →
-    (elim others as (λ _. Type 0) [ None ↦ Unit {0} | Some processor ↦ AreOthers asked (up_to asked.to past) boundary processor kept ]) →
+    of_wanted asked (up_to asked.to past) boundary kept others →
     spans_at others until kept ≡ (elim others as (λ _. List Span) [ None ↦ [] | Some processor ↦ spans_on asked past processor ])
 ended_of asked past boundary until kept None none until_is is = refl
 ended_of asked past boundary until kept (Some processor) none until_is is =

@@ -4,7 +4,7 @@
 -- line behind which it is in the way to the line behind which it isn't any more.
 use Rattle.std.specs.Prelude.{ℕ, ◌+◌, List, [], ◌∷◌, take, filter, reverse, max, min, Bool, true, false, not, ◌==◌, ◌&&◌, ◌||◌, nat_lt, if◌then◌else◌, Option, Some, None, is_none}
 use Rattle.std.specs.List.{filter_map}
-use Rattle.yds_kernel.specs.Event.{Thread, Happening, Switch, WakeUp, Speed, Loss, Marker, Other, Event, Said, Stamped, Lost, Nothing}
+use Rattle.yds_kernel.specs.Event.{Thread, Happening, Switch, Loss, Event, Said, Stamped, Lost, Nothing}
 use Rattle.yds_trace.specs.declared.job.End.TheVariants as ends
 use Rattle.yds_trace.specs.declared.limits.TheConstants.{MAX_OTHER_NAME}
 use Rattle.yds_trace.specs.Asked.{Task, Asked, task_of}

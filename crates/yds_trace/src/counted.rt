@@ -138,12 +138,17 @@ impl Counted {
     }
 
     /// Takes a line without a stamp that counts: events of the processor were lost.
-    pub(crate) fn lose(&mut self, asked: Option<u64>, processor: u64, since: Since) -> Result<(), Memory>
-        ensures stands { (asking : asking.Asked) (counting : List trace.Said) → asking.others ≡ asked → IsCounted asking counting self.old
-            → OnOk result (IsCounted asking (trace.Lost processor since ∷ counting) self.new) }
+    pub(crate) fn lose(
+        &mut self,
+        wanted: Option<u64>,
+        processor: u64,
+        since: Since,
+    ) -> Result<(), Memory>
+        ensures stands { (asked : asking.Asked) (counting : List trace.Said) → asked.others ≡ wanted → IsCounted asked counting self.old
+            → OnOk result (IsCounted asked (trace.Lost processor since ∷ counting) self.new) }
         ensures boundary { OnOk result (self.new.boundary ≡ self.old.boundary) }
     {
-        lose_others(&mut self.others, asked, self.past.last)?;
+        lose_others(&mut self.others, wanted, self.past.last)?;
         let time = self.past.lost_since(processor, since);
         lose_each(&mut self.tasks, time);
         self.past.lose();
@@ -166,7 +171,8 @@ impl Counted {
         if !is_within_to(asked.to, lines.past.lost_since(processor, since)) {
             return Ok(());
         }
-        self.lose(asked.others, processor, since)
+        self.lose(asked.others, processor, since)?;
+        Ok(())
     }
 
     /// The thread that was this task last.
@@ -298,54 +304,61 @@ impl Counted {
 fn take_others(
     others: &mut Others,
     alloc: Global,
-    asked: Option<u64>,
+    wanted: Option<u64>,
     tasks: &[Followed],
     event: &Event<'_>,
     second: Whose,
 ) -> Result<(), Memory>
-    ensures { (asking : asking.Asked) (counting : List trace.Said) (boundary : ℕ) → asking.others ≡ asked → AreOthersOf asking counting boundary others.old
-        → second ≡ second_in asking.tasks (event_read event.now).happening
-        → some_waits tasks.now ≡ any_waits asking (trace.Stamped (event_read event.now) ∷ counting)
-        → OnOk result (AreOthersOf asking (trace.Stamped (event_read event.now) ∷ counting) boundary others.new) }
+    ensures { (asked : asking.Asked) (counting : List trace.Said) (boundary : ℕ) → asked.others ≡ wanted → AreOthersOf asked counting boundary others.old
+        → second ≡ second_in asked.tasks (event_read event.now).happening
+        → some_waits tasks.now ≡ any_waits asked (trace.Stamped (event_read event.now) ∷ counting)
+        → OnOk result (AreOthersOf asked (trace.Stamped (event_read event.now) ∷ counting) boundary others.new) }
 {
-    match asked {
-        Some(processor) => others.take(alloc, processor, event, second, any_waits(tasks)),
+    match wanted {
+        Some(processor) => {
+            others.take(alloc, processor, event, second, any_waits(tasks))?;
+            Ok(())
+        }
         None => Ok(()),
     }
 }
 
 /// Events were lost behind lines of which this is the last one's time, where it is asked who was in the way.
-fn lose_others(others: &mut Others, asked: Option<u64>, time: u64) -> Result<(), Memory>
-    ensures { (asking : asking.Asked) (counting : List trace.Said) (boundary processor : ℕ) (since : Since) → asking.others ≡ asked
-        → AreOthersOf asking counting boundary others.old → last_time counting ≡ time
-        → OnOk result (AreOthersOf asking (trace.Lost processor since ∷ counting) boundary others.new) }
+fn lose_others(others: &mut Others, wanted: Option<u64>, time: u64) -> Result<(), Memory>
+    ensures { (asked : asking.Asked) (counting : List trace.Said) (boundary processor : ℕ) (since : Since) → asked.others ≡ wanted
+        → AreOthersOf asked counting boundary others.old → last_time counting ≡ time
+        → OnOk result (AreOthersOf asked (trace.Lost processor since ∷ counting) boundary others.new) }
 {
-    match asked {
-        Some(_) => others.lose(time),
+    match wanted {
+        Some(_) => {
+            others.lose(time)?;
+            Ok(())
+        }
         None => Ok(()),
     }
 }
 
 /// Forgets the first spans, which end at this time or before it, where it is asked who was in the way.
-pub(crate) fn forget_others(others: &mut Others, asked: Option<u64>, boundary: u64)
-    ensures { (asking : asking.Asked) (counting : List trace.Said) (before : ℕ) → asking.others ≡ asked
-        → AreOthersOf asking counting before others.old → before ≤ boundary → AreOthersOf asking counting boundary others.new }
+pub(crate) fn forget_others(others: &mut Others, wanted: Option<u64>, boundary: u64)
+    ensures { (asked : asking.Asked) (counting : List trace.Said) (before : ℕ) → asked.others ≡ wanted
+        → AreOthersOf asked counting before others.old → before ≤ boundary → AreOthersOf asked counting boundary others.new }
 {
-    if asked.is_some() {
-        others.forget(boundary);
+    match wanted {
+        Some(_) => others.forget(boundary),
+        None => {}
     }
 }
 
 /// Who was in the way, where that is asked for. What goes on has gone on until this time.
 pub(crate) fn show_others(
     alloc: Global,
-    asked: Option<u64>,
+    wanted: Option<u64>,
     others: &Others,
     until: u64,
 ) -> Result<Vec<Span>, Memory>
-    ensures { IfOk result (λ spans. map span_read spans.items ≡ spans_at asked until others.now) }
+    ensures { IfOk result (λ spans. map span_read spans.items ≡ spans_at wanted until others.now) }
 {
-    match asked {
+    match wanted {
         Some(_) => others.shown(alloc, until),
         None => Ok(Vec::new(alloc)),
     }
@@ -354,13 +367,13 @@ pub(crate) fn show_others(
 /// The same, and nothing is kept.
 pub(crate) fn end_others(
     alloc: Global,
-    asked: Option<u64>,
+    wanted: Option<u64>,
     others: Others,
     until: u64,
 ) -> Result<Vec<Span>, Memory>
-    ensures { IfOk result (λ spans. map span_read spans.items ≡ spans_at asked until others) }
+    ensures { IfOk result (λ spans. map span_read spans.items ≡ spans_at wanted until others) }
 {
-    match asked {
+    match wanted {
         Some(_) => others.ended(until),
         None => Ok(Vec::new(alloc)),
     }

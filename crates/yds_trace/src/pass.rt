@@ -131,9 +131,10 @@ impl Pass {
         self.asked.begin_at_run || self.lines.woken
     }
 
-    /// At most so many jobs, stretches and spans wait.
+    /// At most so many jobs, stretches and spans wait, on whichever processor.
     pub fn kept(&self) -> Kept
-        ensures { (asked : asking.Asked) (past : List trace.Said) (boundary : ℕ) → IsAtBehind asked past boundary self.now → IsEnough asked past boundary result }
+        ensures { (asked : asking.Asked) (past : List trace.Said) (boundary processor : ℕ) → IsAtBehind asked past boundary self.now
+            → IsEnough (asking.on processor asked) past boundary result }
     {
         Kept {
             jobs: count_jobs(&self.counted.tasks),
@@ -157,7 +158,7 @@ impl Pass {
         })
     }
 
-    /// Forgets the jobs that begin before this time, but for each task's last one, and the first spans that end at it or before.
+    /// Forgets the jobs that begin before this time, but for each task's last one, and the first spans that end by it.
     pub fn forget(&mut self, boundary: u64)
         ensures stands { (asked : asking.Asked) (past : List trace.Said) (before : ℕ) → IsAtBehind asked past before self.old → before ≤ boundary
             → IsAtBehind asked past boundary self.new }

@@ -82,11 +82,7 @@ impl Shown {
 }
 
 /// Each task with its jobs as the documents of the processor that is asked for have them.
-fn share_tasks(
-    alloc: Global,
-    asked: &Asked,
-    tasks: &[ShownTask],
-) -> Result<Vec<ShownTask>, Memory>
+fn share_tasks(alloc: Global, asked: &Asked, tasks: &[ShownTask]) -> Result<Vec<ShownTask>, Memory>
     ensures many { IfOk result (λ shared. vec_len shared ≡ length tasks.now) }
     ensures each { IfOk result (λ shared. (number : ℕ) (default was : ShownTask) → number < length tasks.now
         → Shares (asked_read asked.now) (slice_index_or tasks.now number was) (slice_index_or shared.items number default)) }

@@ -482,3 +482,64 @@ fn an_unseen_end_stays_behind_another_job(rt: HostRuntime) -> Result<(), Fail> {
     assert_eq!(rt; second.end, End::Lost(20_000));
     Ok(())
 }
+
+/// Another thread comes to processor 0, or leaves it.
+fn passes(time: u64, previous: Thread<'static>, next: Thread<'static>) -> Said<'static> {
+    line(
+        0,
+        time,
+        Happening::Switch {
+            previous,
+            state: State::GoesOn,
+            next,
+        },
+    )
+}
+
+#[test]
+fn who_is_in_the_way_is_told(rt: HostRuntime) -> Result<(), Fail> {
+    let alloc = rt.alloc();
+    let long = thread(
+        b"a thread whose name has more bytes than are kept of one, as it is so long",
+        9,
+    );
+    let (decode, idle) = (thread(b"decode", 7), thread(b"swapper", 0));
+    let lines = [
+        passes(5_000, idle, long),
+        woken(10_000),
+        passes(12_000, long, decode),
+        passes(30_000, decode, long),
+        passes(33_000, long, idle),
+        passes(35_000, idle, decode),
+        leaves(0, 40_000, State::Sleeps),
+        passes(45_000, idle, long),
+        woken(50_000),
+        marker(1, 60_000),
+    ];
+    let mut wanted = asked(alloc)?;
+    wanted.others = Some(0);
+    let mut pass = pass_over(alloc, wanted, &lines)?;
+    assert_eq!(rt; pass.kept().others, 3);
+    let shown = pass.shown(alloc)?;
+    assert_eq!(rt; shown.others.len(), 3);
+    let first = &shown.others[0];
+    assert_eq!(rt; first.name.len(), 64);
+    assert_eq!(rt; first.pid, 9);
+    assert_eq!(rt; first.from, 10_000);
+    assert_eq!(rt; first.to, 12_000);
+    assert_eq!(rt; shown.others[1].from, 30_000);
+    assert_eq!(rt; shown.others[1].to, 33_000);
+    assert_eq!(rt; shown.others[2].from, 50_000);
+    assert_eq!(rt; shown.others[2].to, 60_000);
+    pass.forget(30_000);
+    assert_eq!(rt; pass.kept().others, 2);
+    pass.take(alloc, lost(0))?;
+    assert_eq!(rt; pass.shown(alloc)?.others.len(), 2);
+    let mut wanted = asked(alloc)?;
+    wanted.others = Some(0);
+    let whole = ended(alloc, wanted, &lines)?;
+    assert_eq!(rt; whole.others.len(), 3);
+    let nothing = ended(alloc, asked(alloc)?, &lines)?;
+    assert_eq!(rt; nothing.others.len(), 0);
+    Ok(())
+}

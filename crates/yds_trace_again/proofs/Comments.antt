@@ -1,5 +1,5 @@
 -- The comments of a trace's document are passed over: none has a line feed in it but at its end.
-use Rattle.yds_model.proofs.Common.{◌≡◌, ℕ, zero, suc, ◌+◌, ◌-◌, ◌*◌, ◌/◌, ◌%◌, ◌≤◌, ◌==◌, ◌&&◌, ◌||◌, Bool, true, false, not, nat_lt, nat_le, ltb-false, and_from, list_all, List, [], ◌∷◌, ◌++◌, length, map, filter, drop, reverse, decimal, Option, Some, None, refl, arith, codes, if◌then◌else◌, All, AllByRecursion, flat_map, zip, enumerate_from, sum_by, count_by, slice_index_or, cond_both, Entry, is_name}
+use Rattle.yds_model.proofs.Common.{◌≡◌, ℕ, zero, suc, ◌+◌, ◌-◌, ◌*◌, ◌/◌, ◌%◌, ◌≤◌, ◌==◌, ◌&&◌, ◌||◌, Bool, true, false, not, nat_lt, nat_le, ltb-false, and_from, list_all, List, [], ◌∷◌, ◌++◌, length, map, filter, drop, reverse, decimal, Option, Some, None, is_some, refl, arith, codes, if◌then◌else◌, All, AllByRecursion, flat_map, zip, enumerate_from, sum_by, count_by, slice_index_or, cond_both, Entry, is_name}
 use Rattle.yds_kernel.specs.Event.{Said}
 use Rattle.yds_kernel.specs.Parts.{capped}
 use Rattle.yds_trace.specs.declared.job.Stretch.{Stretch}
@@ -130,7 +130,9 @@ plain_kind : (units : Units) (one : Judged) → Plain (late_kind units one)
 plain_kind units one =
     plain_if (is_open one.job.end) (codes "not ended: ") _ refl
     (plain_if (nat_le (written_end units one.job.end) (written_time units one.due)) (codes "late by less than a unit of time: ") _ refl
-    (plain_if (nat_le (runs_end (written_runs units one.job)) (written_time units one.due)) (codes "late in a run within one tick: ") (codes "late: ") refl refl))
+    (plain_if (nat_le (runs_end (written_runs units one.job)) (written_time units one.due))
+    (if is_some one.part then codes "late on another processor: " else codes "late in a run within one tick: ") (codes "late: ")
+    (plain_if (is_some one.part) (codes "late on another processor: ") (codes "late in a run within one tick: ") refl refl) refl))
 
 late_silent : (P : List Entry → Type 0) (units : Units) (one : Judged) → HasPlainName one → Silent P (late_comment units one)
 late_silent P units one name = by one.late

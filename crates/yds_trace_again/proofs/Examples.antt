@@ -6,9 +6,9 @@ use Rattle.yds_kernel.specs.Event.{Thread, Happening, Switch, WakeUp, Said, Stam
 use Rattle.yds_trace.specs.Asked.{Asked, Named}
 use Rattle.yds_trace.specs.declared.job.Stretch.{Stretch}
 use Rattle.yds_trace.specs.WrittenTime.{Units, Run, written_time}
-use Rattle.yds_trace.specs.Document.{named, Written, Placed, document_of}
+use Rattle.yds_trace.specs.Document.{named, name_in_parts, Written, Placed, document_of}
 use Rattle.yds_trace_laws.specs.Faithful.{IsRounded, IsWithinRun}
-use Rattle.yds_trace_text.specs.Text.{comment, unit_comment, job_text, ticks_text, run_text, settled_text, text_of}
+use Rattle.yds_trace_text.specs.Text.{comment, unit_comment, job_text, ticks_text, run_text, other_comment, settled_text, text_of}
 use Rattle.yds_trace_text.specs.PartText.{part_text}
 use Rattle.yds_trace.specs.Parts.{no_cut}
 use Rattle.yds_trace_again.specs.Again.{document_read}
@@ -22,8 +22,11 @@ thread = record { name = codes "t"; pid = 7 }
 abbrev idle : Thread
 idle = record { name = codes "swapper"; pid = 0 }
 
+abbrev line_of : ℕ → ℕ → Happening → Said
+line_of processor time happening = Stamped (record { processor = processor; time = time; happening = happening })
+
 abbrev at : ℕ → Happening → Said
-at time happening = Stamped (record { processor = 0; time = time; happening = happening })
+at = line_of 0
 
 -- it is woken, comes, and sleeps
 abbrev lines : List Said
@@ -76,6 +79,32 @@ empty_part_is_read : reading (part_text asked_elsewhere lines no_cut None) ≡ O
 unfolding digits comment unit_comment
 empty_part_is_read = refl
 
+-- # A job that moved
+
+-- It runs on processor 0 until 1040, and goes on on processor 1.
+abbrev moved : List Said
+moved = reverse
+    (at 1000 (WakeUp thread) ∷ at 1020 (Switch idle states.GoesOn thread) ∷ at 1040 (Switch thread states.GoesOn idle) ∷ line_of 1 1045 (Switch idle states.GoesOn thread)
+    ∷ line_of 1 1060 (Switch thread states.Sleeps idle) ∷ [])
+
+-- Of each processor, what it ran there is read under a name of its own.
+share_on_0 : reading (text_of (record asked { moved_parts = true }) moved) ≡ Ok (record just_this { names = codes "t.0@0" ∷ [] })
+unfolding digits comment unit_comment
+share_on_0 = refl
+
+share_on_1 : reading (text_of (record asked { moved_parts = true; processor = 1 }) moved) ≡ Ok (record no_document {
+  names = codes "t.0@1" ∷ [];
+  jobs = record { release = 0; deadline = 10; work = 10 } ∷ [];
+  slots = record { job = 0; from = of_whole 4; to = of_whole 6; work = of_whole 10 } ∷ [];
+})
+unfolding digits comment unit_comment
+share_on_1 = refl
+
+-- Near miss: where that isn't asked for, it is left out.
+left_out_on_0 : reading (text_of asked moved) ≡ Ok no_document
+unfolding digits comment unit_comment
+left_out_on_0 = refl
+
 -- # Near misses
 
 -- Time 0 is after the job's deadline: both of its times are 0.
@@ -122,6 +151,12 @@ carriage_return : reading (comment (codes "left out: a\rjob b 0 5 1\r" ∷ [])) 
 unfolding comment
 carriage_return = refl
 
+-- So it is not in the name of another thread: it is told without its line feeds.
+other_thread : reading (other_comment (record { zero = 1000; time = 10; speed = 1 }) (record { name = codes "a\njob b 0 5 1"; pid = 9; from = 1000; to = 1030 }))
+    ≡ Ok no_document
+unfolding digits comment
+other_thread = refl
+
 -- # Names
 
 -- A label may have a dot and a number in it, and be another's with one more: the last dot parts it from the job's number.
@@ -136,6 +171,15 @@ first_of_a_1 = refl
 -- The first job that began before the trace has a word in the number's place.
 before_the_trace : named (codes "a") true 0 ≡ codes "a.before"
 before_the_trace = refl
+
+-- What a job that moved ran on processor 3. A label may have that in it: the last dot parts it from the number.
+on_3 : name_in_parts (named (codes "a") false 1) (Some 3) ≡ codes "a.1@3"
+unfolding digits
+on_3 = refl
+
+first_of_a_1_3 : named (codes "a.1@3") false 0 ≡ codes "a.1@3.0"
+unfolding digits
+first_of_a_1_3 = refl
 
 -- Near miss: numbers of more digits than are told have one name. None is so long within 64 bytes.
 too_long : named (codes "a") false 10000000000000000000000000000000000000000000000000000000000000000 ≡ named (codes "a") false 20000000000000000000000000000000000000000000000000000000000000000

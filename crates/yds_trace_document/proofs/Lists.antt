@@ -1,6 +1,5 @@
 -- Lists as they are kept and as they are read.
-use Rattle.yds_model.proofs.Common.{◌≡◌, ℕ, suc, ◌+◌, ◌||◌, Bool, true, false, not, cond, List, [], ◌∷◌, ◌++◌, map, reverse, length, ◌∙◌, refl, sym, ap, ap₂, arith, nat_lt, Some, None, list_any, position, prefix_len, enumerate_from, length-map, map-append, reverse-append}
-use Rattle.std.proofs.lemmas.List.Folds.{list_any-append}
+use Rattle.yds_model.proofs.Common.{◌≡◌, ℕ, suc, ◌+◌, ◌||◌, Bool, not, cond, List, [], ◌∷◌, ◌++◌, map, reverse, length, ◌∙◌, refl, sym, ap, ap₂, arith, nat_lt, Some, None, list_any, position, prefix_len, enumerate_from, length-map, map-append, reverse-append}
 
 pub map_reverse : {A B : Type 0} (f : A → B) (xs : List A) → map f (reverse xs) ≡ reverse (map f xs)
 map_reverse f [] = refl
@@ -9,20 +8,6 @@ map_reverse {A} {B} f (x ∷ xs) =
     ∙ map-append f (reverse xs) (x ∷ [])
     ∙ ap (λ (rest : List B). rest ++ f x ∷ []) (map_reverse f xs)
     ∙ sym (reverse-append (f x ∷ []) (map f xs))
-
-or_comm : (b c : Bool) → (b || (c || false)) ≡ (c || b)
-or_comm true true = refl
-or_comm true false = refl
-or_comm false true = refl
-or_comm false false = refl
-
-pub list_any_reverse : {A : Type 0} (p : A → Bool) (xs : List A) → list_any p (reverse xs) ≡ list_any p xs
-list_any_reverse p [] = refl
-list_any_reverse p (x ∷ xs) =
-    ap (list_any p) (reverse-append (x ∷ []) xs)
-    ∙ list_any-append p (reverse xs) (x ∷ [])
-    ∙ ap (λ (b : Bool). b || (p x || false)) (list_any_reverse p xs)
-    ∙ or_comm (list_any p xs) (p x)
 
 pub list_any_map : {A B : Type 0} (p : B → Bool) (f : A → B) (xs : List A) → list_any p (map f xs) ≡ list_any (λ x. p (f x)) xs
 list_any_map p f [] = refl

@@ -1,5 +1,5 @@
 -- What is kept at a trace's end gives what the definitions say of its lines.
-use Rattle.yds_model.proofs.Common.{◌≡◌, ℕ, ◌+◌, List, [], ◌∷◌, ◌++◌, map, length, get_or, ◌∙◌, refl, sym, ap, ap₂, subst, arith, min, Bool, false, not, ◌&&◌, nat_le, if◌then◌else◌, cond_both, Option, Some, None, unwrap_or, flat_map, enumerate_from, filter_map, get_or_at, append_assoc, length_push}
+use Rattle.yds_model.proofs.Common.{◌≡◌, ℕ, ◌+◌, List, [], ◌∷◌, ◌++◌, map, length, get_or, ◌∙◌, refl, sym, ap, ap₂, subst, arith, min, Bool, false, not, ◌&&◌, nat_le, if◌then◌else◌, Option, Some, None, unwrap_or, flat_map, enumerate_from, filter_map, get_or_at, append_assoc, length_push}
 use Rattle.std.specs.Prelude.{is_none}
 use Rattle.std.specs.List.{cons_option}
 use Rattle.yds_kernel.specs.Event.{Said}
@@ -14,7 +14,8 @@ use Rattle.yds_trace.specs.Ended.{IsEnded, in_order_of_begin, jobs_from}
 use Rattle.yds_trace.specs.Others.{Span, spans_within, others_of}
 use Rattle.yds_trace.specs.Views.{asked_read, span_read}
 use Rattle.yds_trace.specs.WrittenTime.{Units}
-use Rattle.yds_trace.specs.Document.{is_lost, named, jobs_of, share_of, shares_of, is_shared_by, share_on, began_before, Judged, judged, judged_of, judged_from, in_order, least_begin, all_judged, time_zero, units_of, Written, written_of, written_jobs, Placed, placed_runs, all_runs}
+use Rattle.yds_trace.specs.Document.{is_lost, named, jobs_of, shares_of, began_before, Judged, judged, judged_of, judged_from, in_order, least_begin, all_judged, time_zero, units_of, Written, written_of, written_jobs, Placed, placed_runs, all_runs}
+use Rattle.yds_trace.proofs.Shares.{shares_began_before}
 use Rattle.yds_trace_document.specs.Settled.{judged_by_task, Settled, settled_of, with_capped_work, with_capped_works}
 use Rattle.yds_trace_document.specs.Kept.{last_of, is_to_reached, run_reason, judged_at, judged_jobs, judged_task, judged_tasks, begin_of, together, zero_of, units_at, capped_option, capped_jobs, within_of, settled_at}
 
@@ -58,19 +59,12 @@ pub map_same : {A B : Type 0} (f g : A → B) → ((x : A) → f x ≡ g x) → 
 map_same f g each [] = refl
 map_same {A} {B} f g each (x ∷ xs) = ap₂ (λ (y : B) (ys : List B). y ∷ ys) (each x) (map_same f g each xs)
 
--- what a job ran on one of its processors has its begin
-began_same : (asked : Asked) (jobs : List Job) → began_before (map (share_of asked) jobs) ≡ began_before jobs
-began_same asked [] = refl
-began_same asked (job ∷ jobs) =
-    cond_both (asked.moved_parts && is_shared_by asked.processor job) (share_on asked.processor job) job
-    (λ (one : Job). not one.begin_known ≡ not job.begin_known) (λ held. refl) (λ denied. refl)
-
 task_same : (asked : Asked) (past : List Said) (number : ℕ) (task : Task) → task_at asked number ≡ task →
     judged_task (within_of asked (last_time past)) number task (shares_of asked past number) ≡ judged_of asked past number
 task_same asked past number task is =
     ap (λ (t : Task). judged_task (within_of asked (last_time past)) number t (shares_of asked past number)) (sym is)
     ∙ ap (λ (before : Bool). judged_jobs (within_of asked (last_time past)) number (task_at asked number) before 0 (shares_of asked past number))
-    (began_same asked (jobs_of asked past number))
+    (shares_began_before asked (jobs_of asked past number))
     ∙ map_same (judged_at (within_of asked (last_time past)) number (task_at asked number) (began_before (jobs_of asked past number)))
     (judged asked past number (began_before (jobs_of asked past number)))
     (one_same asked past number (began_before (jobs_of asked past number))) (enumerate_from 0 (shares_of asked past number))

@@ -12,13 +12,12 @@ use Rattle.yds_trace.specs.Asked.{Task}
 use Rattle.yds_trace.specs.Jobs.{Job}
 use Rattle.yds_trace.specs.Ended.{in_order_of_begin}
 use Rattle.yds_trace.specs.Views.{job_read, task_read}
-use Rattle.yds_trace.specs.WrittenTime.{Units, runs_end}
-use Rattle.yds_trace.specs.Document.{Judged, Written, Placed, placed_runs}
+use Rattle.yds_trace.specs.WrittenTime.{runs_end}
+use Rattle.yds_trace.specs.Document.{Judged, Placed, placed_runs}
 use Rattle.yds_trace_document.specs.declared.run.Run.{Run as RunKept}
-use Rattle.yds_trace_document.specs.declared.judged.Judged.{Judged as JudgedKept}
 use Rattle.yds_trace_document.specs.declared.written.Written.{Written as WrittenKept}
-use Rattle.yds_trace_document.specs.Kept.{Within, placed_of, judged_at, judged_task, judged_tasks, shown_task, shown_tasks, capped_of, capped_jobs}
-use Rattle.yds_trace_document.specs.Views.{runs_read, written_option, written_read, written_list, judged_read, judged_list}
+use Rattle.yds_trace_document.specs.Kept.{Within, placed_of, judged_at, judged_task, judged_tasks, shown_task, shown_tasks}
+use Rattle.yds_trace_document.specs.Views.{runs_read, written_read, written_list}
 use Rattle.yds_trace_document.proofs.Lists.{enumerate_push}
 
 -- # Numbered lists

@@ -129,7 +129,7 @@ fn is_of_unknown_speed(stretch: &Stretch) -> bool
 }
 
 /// Why a job's runs can't stand.
-#[tactic(auto, using(crate::proofs::Lists::list_any_reverse))]
+#[tactic(auto, using(yds_trace::proofs::Shares::list_any_reverse))]
 fn run_reason(processor: u64, job: &Job) -> Option<Reason>
     ensures { result ≡ kept.run_reason processor (job_read job.now) }
 {

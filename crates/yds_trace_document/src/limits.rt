@@ -150,7 +150,7 @@ fn first_too_fast(units: Units, judged: &[Judged<'_>]) -> Option<usize>
     judged.iter().position(|one| runs_too_fast(units, one))
 }
 
-#[tactic(auto, using(crate::proofs::Lists::list_any_reverse))]
+#[tactic(auto, using(yds_trace::proofs::Shares::list_any_reverse))]
 fn runs_coarsely(units: Units, judged: &Judged<'_>) -> bool
     ensures { result ≡ spec.runs_coarsely (units_read units) (judged_read judged.now) }
 {
@@ -178,7 +178,7 @@ fn is_in_a_run(units: Units, stretch: &Stretch) -> bool
     units.written_time(stretch.from) < units.written_time(stretch.to)
 }
 
-#[tactic(auto, using(crate::proofs::Lists::list_any_reverse))]
+#[tactic(auto, using(yds_trace::proofs::Shares::list_any_reverse))]
 fn runs_too_fast(units: Units, judged: &Judged<'_>) -> bool
     ensures { result ≡ spec.runs_too_fast (units_read units) (judged_read judged.now) }
 {

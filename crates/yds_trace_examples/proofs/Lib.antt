@@ -2,6 +2,8 @@ pub mod Lines
 mod JobExamples
 mod LateExamples
 mod DocumentExamples
+mod MovedExamples
+mod OthersExamples
 mod FaultExamples
 mod PartExamples
 mod ToldExamples

@@ -44,7 +44,10 @@ preempted processor time = line processor time (Switch t states.GoesOn other)
 abbrev pub back : ℕ → ℕ → Said
 back processor time = line processor time (Switch other states.Sleeps t)
 
--- another thread leaves
+-- another thread comes to the idle processor, or leaves it
+abbrev pub other_comes : ℕ → ℕ → Said
+other_comes processor time = line processor time (Switch idle states.GoesOn other)
+
 abbrev pub other_leaves : ℕ → ℕ → Said
 other_leaves processor time = line processor time (Switch other states.Sleeps idle)
 
@@ -53,6 +56,10 @@ speed processor time khz = line processor time (Speed processor khz)
 
 abbrev pub marker : ℕ → ℕ → Said
 marker processor time = line processor time Marker
+
+-- it leaves the processor, and goes on later
+abbrev pub gives_way : ℕ → ℕ → Said
+gives_way processor time = line processor time (Switch t states.GoesOn idle)
 
 -- events of a processor were lost since its last line
 abbrev pub lost : ℕ → Said
@@ -65,7 +72,7 @@ abbrev pub task : Task
 task = record { label = codes "t"; thread = Named (codes "t"); deadline = 100; apart = 0 }
 
 abbrev pub of_task : Task → Asked
-of_task task = record { tasks = task ∷ []; processor = 0; unit = 10; khz = 1; start = Some 5; from = None; to = None; begin_at_run = false; cut_losses = false; in_parts = false; everywhere = false }
+of_task task = record { tasks = task ∷ []; processor = 0; unit = 10; khz = 1; start = Some 5; from = None; to = None; begin_at_run = false; cut_losses = false; in_parts = false; everywhere = false; moved_parts = false; others = None }
 
 abbrev pub asked : Asked
 asked = of_task task
@@ -81,6 +88,14 @@ at_run = record asked { begin_at_run = true }
 abbrev pub of_each : ℕ → Asked
 of_each processor = record asked { processor = processor; everywhere = true }
 
+-- and of a job that ran on several processors they have what it ran there
+abbrev pub in_shares : ℕ → Asked
+in_shares processor = record (of_each processor) { moved_parts = true }
+
+-- and it is told who else had this processor while a job waited
+abbrev pub with_others : ℕ → Asked
+with_others processor = record asked { others = Some processor }
+
 abbrev pub up_to : ℕ → Asked
 up_to time = record asked { to = Some time }
 
@@ -95,7 +110,11 @@ stretch processor from to = record { processor = processor; from = from; to = to
 
 abbrev pub job : ℕ → End → List Stretch → Job
 job begin end stretches =
-    record { begin = begin; begin_known = true; end = end; stretches = stretches; wake_ups = 0; switch_missing = false }
+    record { begin = begin; begin_known = true; end = end; stretches = stretches; wake_ups = 0; switch_missing = false; shared = false }
+
+-- what the job ran on one of its processors
+abbrev pub share : ℕ → End → List Stretch → Job
+share begin end stretches = record (job begin end stretches) { shared = true }
 
 -- of a job that began by this time
 abbrev pub begun_by : ℕ → End → List Stretch → Job

@@ -1,11 +1,12 @@
 -- Where a part of a trace may end. Jobs of `t` and of another thread wait; each is due 100 after its begin.
-use Rattle.yds_model.proofs.Common.{◌≡◌, ℕ, List, [], ◌∷◌, map, filter, list_any, codes, reverse, Bool, true, false, Option, Some, None, refl}
-use Rattle.yds_kernel.specs.declared.state.State.TheVariants as states
-use Rattle.yds_kernel.specs.Event.{Switch, WakeUp, Said}
+use Rattle.yds_model.proofs.Common.{◌≡◌, ℕ, ◌<◌, ◌≤◌, length, List, [], ◌∷◌, map, filter, list_any, codes, reverse, Bool, true, false, Option, Some, None, refl}
+use Rattle.std.proofs.lemmas.Bool.{lt-ltb, le-ltb}
+use Rattle.yds_kernel.specs.Event.{WakeUp, Said}
 use Rattle.yds_trace.specs.Asked.{Named, Task, Asked}
 use Rattle.yds_trace.specs.Document.{Judged, all_judged}
-use Rattle.yds_trace.specs.Parts.{belongs, waiting_from, is_settled, place_among}
-use Rattle.yds_trace_examples.proofs.Lines.{t, other, idle, line, woken, comes, sleeps, preempted, marker, task, asked, of_each}
+use Rattle.yds_trace.specs.Others.{Span}
+use Rattle.yds_trace.specs.Parts.{belongs, waiting_from, is_settled, place_among, is_much}
+use Rattle.yds_trace_examples.proofs.Lines.{other, line, woken, comes, sleeps, preempted, gives_way, marker, task, asked, of_each, in_shares}
 
 -- # Which documents have a job
 
@@ -14,8 +15,15 @@ abbrev documents_with : List Said → List ℕ
 documents_with lines = filter (λ processor. list_any (belongs (of_each processor)) (all_judged (of_each processor) (reverse lines))) (0 ∷ 1 ∷ 2 ∷ 3 ∷ [])
 
 -- The job ran on 1 and then on 2.
-on_both : documents_with (woken 1000 ∷ comes 1 1020 ∷ preempted 1 1030 ∷ comes 2 1040 ∷ sleeps 2 1050 ∷ []) ≡ 1 ∷ 2 ∷ []
+abbrev ran_on_both : List Said
+ran_on_both = woken 1000 ∷ comes 1 1020 ∷ preempted 1 1030 ∷ comes 2 1040 ∷ sleeps 2 1050 ∷ []
+
+on_both : documents_with ran_on_both ≡ 1 ∷ 2 ∷ []
 on_both = refl
+
+-- So have both shares of it theirs, and no third processor has one.
+shares_on_both : filter (λ processor. list_any (belongs (in_shares processor)) (all_judged (in_shares processor) (reverse ran_on_both))) (0 ∷ 1 ∷ 2 ∷ 3 ∷ []) ≡ 1 ∷ 2 ∷ []
+shares_on_both = refl
 
 -- One that ran nowhere has its place in the documents of 0.
 ran_nowhere : documents_with (woken 1000 ∷ marker 1 1200 ∷ []) ≡ 0 ∷ []
@@ -40,10 +48,6 @@ both_tasks apart = record asked { tasks = record task { apart = apart } ∷ othe
 
 abbrev other_woken : ℕ → Said
 other_woken time = line 3 time (WakeUp other)
-
--- `t` leaves its processor, and goes on later
-abbrev gives_way : ℕ → ℕ → Said
-gives_way processor time = line processor time (Switch t states.GoesOn idle)
 
 -- # Tests
 
@@ -107,3 +111,27 @@ closed_elsewhere = refl
 -- Without a closed place a quiet one serves.
 at_the_quiet_one : place (both_tasks 0) (woken 1200 ∷ comes 0 1220 ∷ sleeps 0 1240 ∷ other_woken 1250 ∷ []) ≡ Some 1250
 at_the_quiet_one = refl
+
+-- # Jobs that aren't written here
+
+-- The job from 1000 to 1040 ran on 0 and on 1, in time: it is left out. No window is open at 1200, but no job of the documents' own begins before that.
+-- So the part goes on to where one does.
+abbrev left_out_first : List Said
+left_out_first = woken 1000 ∷ comes 0 1010 ∷ gives_way 0 1015 ∷ comes 1 1020 ∷ sleeps 1 1040 ∷ woken 1200 ∷ comes 0 1220 ∷ sleeps 0 1240 ∷ other_woken 1250 ∷ []
+
+left_out_alone : place (record (both_tasks 0) { everywhere = true }) left_out_first ≡ Some 1250
+left_out_alone = refl
+
+-- Near miss: where each processor has what it ran there, it is one of their own.
+its_share : place (record (both_tasks 0) { everywhere = true; moved_parts = true }) left_out_first ≡ Some 1200
+its_share = refl
+
+-- # When a part is written
+
+-- More spans of other threads than 12500 are enough for one, without any job.
+many_spans : (others : List Span) → 12500 < length others → is_much [] others ≡ true
+many_spans others many = lt-ltb 12500 (length others) many
+
+-- near miss: just as many aren't
+few_spans : (others : List Span) → length others ≤ 12500 → is_much [] others ≡ false
+few_spans others few = le-ltb 12500 (length others) few

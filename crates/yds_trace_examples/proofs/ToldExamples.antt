@@ -11,7 +11,7 @@ use Rattle.yds_trace_document.specs.declared.fault.DocumentFault.TheVariants as 
 use Rattle.yds_trace_text.specs.Text.{comment, unit_comment}
 use Rattle.yds_trace_text.specs.PartText.{part_text}
 use Rattle.yds_trace_parts.specs.Told.{InForm, AtLine, OfDocument, Told, told_of}
-use Rattle.yds_trace_examples.proofs.Lines.{woken, comes, sleeps, marker, lost, asked, of_each}
+use Rattle.yds_trace_examples.proofs.Lines.{woken, comes, sleeps, preempted, back, marker, lost, asked, of_each, in_shares, with_others}
 
 abbrev two_jobs : List Said
 two_jobs = woken 1000 ∷ comes 0 1020 ∷ sleeps 0 1040 ∷ woken 1200 ∷ comes 0 1210 ∷ sleeps 0 1230 ∷ []
@@ -94,7 +94,7 @@ no_line_at_all = refl
 abbrev one_moved : List Said
 one_moved = woken 1000 ∷ comes 1 1020 ∷ sleeps 1 1030 ∷ woken 1200 ∷ comes 0 1210 ∷ sleeps 0 1230 ∷ []
 
-one_missed : told asked true one_moved ≡ record { text = []; halt = Some (OfDocument 1 (faults.Missed 0)) }
+one_missed : told asked true one_moved ≡ record { text = []; halt = Some (OfDocument None 1 (faults.Missed 0)) }
 unfolding digits
 one_missed = refl
 
@@ -140,9 +140,66 @@ unfolding digits comment unit_comment
 told_of_each = refl
 
 -- Near miss: the only job began before what is asked for. A part without a job is no fault, but no document at all would have one.
-none_of_each : told (record (of_each 0) { from = Some 1100 }) false (woken 1000 ∷ comes 0 1020 ∷ sleeps 0 1040 ∷ []) ≡ record { text = []; halt = Some (OfDocument 1 faults.NoJob) }
+none_of_each : told (record (of_each 0) { from = Some 1100 }) false (woken 1000 ∷ comes 0 1020 ∷ sleeps 0 1040 ∷ []) ≡ record { text = []; halt = Some (OfDocument None 1 faults.NoJob) }
 unfolding digits comment unit_comment
 none_of_each = refl
+
+-- A limit that a document of one of them passes is told with its processor: with `strict` the job that ran on 0 and on 1 may not be missed.
+abbrev ran_on_both : List Said
+ran_on_both = woken 1000 ∷ comes 0 1020 ∷ preempted 0 1040 ∷ comes 1 1050 ∷ sleeps 1 1080 ∷ []
+
+missed_on_the_first : told (of_each 0) true ran_on_both ≡ record { text = []; halt = Some (OfDocument (Some 0) 1 (faults.Missed 0)) }
+unfolding digits
+missed_on_the_first = refl
+
+-- near miss: where each has what it ran there, none is missed
+none_missed : one_halt (told (in_shares 0) true ran_on_both) ≡ None
+unfolding digits comment unit_comment
+none_missed = refl
+
+-- # What moved
+
+-- On 0 the job ran until 1040, and on 1 until 1130, after its deadline: its document on 0 has more work than its run gives, and says why.
+moved_and_late : part_text (in_shares 0) (reverse (woken 1000 ∷ comes 0 1020 ∷ preempted 0 1040 ∷ comes 1 1050 ∷ sleeps 1 1130 ∷ [])) no_cut None ≡ lines (
+    codes "# part 1: jobs 1 to 1, from 0 to 10, shift 0, cpu 0, the last"
+    ∷ codes "# CPU 0 of a kernel trace; time 0 is 0.000001000 s"
+    ∷ codes "# time unit 0 us, speed unit 1 kHz, work unit 0 cycles"
+    ∷ codes "job t.0@0 0 10 11"
+    ∷ codes "ticks 1"
+    ∷ codes "run t.0@0 2 4 5"
+    ∷ codes "# late on another processor: t.0@0, 0.000030 ms after its deadline"
+    ∷ codes "# 1 job written, none left out" ∷ [])
+unfolding digits comment unit_comment
+moved_and_late = refl
+
+-- near miss: in time, its end is told
+moved_in_time : part_text (in_shares 0) (reverse ran_on_both) no_cut None ≡ lines (
+    codes "# part 1: jobs 1 to 1, from 0 to 10, shift 0, cpu 0, the last"
+    ∷ codes "# CPU 0 of a kernel trace; time 0 is 0.000001000 s"
+    ∷ codes "# time unit 0 us, speed unit 1 kHz, work unit 0 cycles"
+    ∷ codes "job t.0@0 0 10 10"
+    ∷ codes "ticks 1"
+    ∷ codes "run t.0@0 2 4 5"
+    ∷ codes "# ends: t.0@0 8"
+    ∷ codes "# 1 job written, none left out" ∷ [])
+unfolding digits comment unit_comment
+moved_in_time = refl
+
+-- # Who was in the way
+
+-- Another thread has the processor from 1020 to 1040, while the job waits. It stands just before the last line.
+in_the_way : part_text (with_others 0) (reverse (woken 1000 ∷ comes 0 1010 ∷ preempted 0 1020 ∷ back 0 1040 ∷ sleeps 0 1050 ∷ [])) no_cut None ≡ lines (
+    codes "# part 1: jobs 1 to 1, from 0 to 10, shift 0, the last"
+    ∷ codes "# CPU 0 of a kernel trace; time 0 is 0.000001000 s"
+    ∷ codes "# time unit 0 us, speed unit 1 kHz, work unit 0 cycles"
+    ∷ codes "job t.0 0 10 10"
+    ∷ codes "ticks 1"
+    ∷ codes "run t.0 1 2 5"
+    ∷ codes "run t.0 4 5 5"
+    ∷ codes "# other other-9 2 4"
+    ∷ codes "# 1 job written, none left out" ∷ [])
+unfolding digits comment unit_comment
+in_the_way = refl
 
 -- # Behind a written part
 

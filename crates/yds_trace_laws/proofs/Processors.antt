@@ -11,12 +11,12 @@ use Rattle.yds_trace.specs.declared.reason.Reason.TheVariants as reasons
 use Rattle.yds_trace.specs.Asked.{Task, Asked, on, task_at, is_after_from}
 use Rattle.yds_trace.specs.Jobs.{Job}
 use Rattle.yds_trace.specs.Late.{last_asked, due, is_open, lateness}
-use Rattle.yds_trace.specs.Document.{Judged, is_lost, is_elsewhere, has_run_on, is_of_unknown_speed, reaches_to, is_shared_by, share_on, share_of, named, began_before, jobs_of, judged, judged_of, judged_from, put_in, in_order, all_judged, stands}
+use Rattle.yds_trace.specs.Document.{Judged, is_lost, is_elsewhere, has_run_on, is_of_unknown_speed, reaches_to, is_shared_by, share_of, named, began_before, jobs_of, judged, judged_of, judged_from, put_in, in_order, all_judged, stands}
 use Rattle.yds_trace.specs.Parts.{belongs, begin_of, begins_from, begins_before, waiting_from, ended_by, is_written, is_own, has_own_job, is_closed_by, each_before, has_job, is_quiet, is_closed, last_where, place_among, is_much, is_due, may_write, waiting, is_before_end, part_until, place_of, with_part, cut_at, cut_after, next_processor, processor_count, first_numbers, processors_of}
 use Rattle.yds_trace.specs.Others.{Span, others_from}
 use Rattle.yds_trace.proofs.Shares.{jobs_alone, share_stranger, share_begin, share_end}
 use Rattle.yds_trace.proofs.OnProcessor.{jobs_of_on, is_settled_on, may_write_on, others_from_on}
-use Rattle.yds_trace_laws.specs.Processors.{without_reason, whole_job, AreTheSame, JobsAreTheSame, HasItsShare, SharesAreTheWhole, OnlyItsOwn, NoneHasMoved, BelongsTo, EachJobBelongs, IsIdle, UnseenAreTheSame}
+use Rattle.yds_trace_laws.specs.Processors.{without_reason, whole_job, JobsAreTheSame, HasItsShare, SharesAreTheWhole, OnlyItsOwn, NoneHasMoved, BelongsTo, EachJobBelongs, IsIdle, UnseenAreTheSame}
 use Rattle.yds_trace_laws.proofs.Ordered.{filter-all, append-all, in_order-all}
 use Rattle.yds_trace_laws.proofs.Runs.{all_weaker}
 use Rattle.yds_trace_laws.proofs.Shares.{share_if, jobs_unshared, in_shares, share_has, none_elsewhere}

@@ -1,8 +1,8 @@
 -- A job as the documents of one processor have it: all of it but what it ran elsewhere.
-use Rattle.yds_model.proofs.Common.{◌≡◌, ◌∙◌, ℕ, ◌<◌, ◌==◌, ◌&&◌, ◌||◌, List, [], ◌∷◌, map, filter, get_or, Bool, true, false, not, cond, if◌then◌else◌, Option, Some, None, refl, sym, ap, ap₂, subst, arith, length-map, get_or-map, eq-eqb, All, All-from_recursion, recursion_from_All, contains_filter}
+use Rattle.yds_model.proofs.Common.{◌≡◌, ◌∙◌, ℕ, ◌==◌, ◌&&◌, List, [], ◌∷◌, map, Bool, true, false, if◌then◌else◌, refl, sym, ap, arith, length-map, get_or-map, All, All-from_recursion, recursion_from_All}
 use Rattle.std.specs.List.{AllByRecursion, Contains, list_any}
 use Rattle.yds_kernel.specs.declared.state.State.TheVariants as states
-use Rattle.yds_kernel.specs.Event.{Happening, Switch, WakeUp, Speed, Loss, Marker, Other, Event, Said, Stamped, Lost, Nothing}
+use Rattle.yds_kernel.specs.Event.{Happening, Switch, WakeUp, Speed, Loss, Marker, Other, Said, Stamped, Lost, Nothing}
 use Rattle.yds_trace.specs.declared.job.Stretch.{Stretch}
 use Rattle.yds_trace.specs.Asked.{Asked, on}
 use Rattle.yds_trace.specs.Past.{up_to}
@@ -11,7 +11,7 @@ use Rattle.yds_trace.specs.Document.{is_elsewhere, has_run_on, jobs_of, is_share
 use Rattle.yds_trace.proofs.Shares.{share_has_run_on, share_stays, share_keeps}
 use Rattle.yds_trace_laws.specs.Sharing.{EachStretch}
 use Rattle.yds_trace_laws.proofs.Ordered.{filter-all}
-use Rattle.yds_trace_laws.proofs.Holding.{IsKept, Allows, EndsAt, AllowsEach, each_job}
+use Rattle.yds_trace_laws.proofs.Holding.{IsKept, EndsAt, AllowsEach, each_job}
 use Rattle.yds_trace_laws.proofs.Sharing.{Ran}
 
 -- # What a share keeps

@@ -1,5 +1,5 @@
 -- What the code finds of a part is what the definitions say of it.
-use Rattle.yds_model.proofs.Common.{◌≡◌, ◌≤◌, ◌+◌, ℕ, List, length, Bool, false, nat_lt, nat_le, Option, Some, None, Ok, if◌then◌else◌, sym, ap, subst, ◌∙◌, arith, nat_tests, leb-true, le-leb}
+use Rattle.yds_model.proofs.Common.{◌≡◌, ◌<◌, ◌≤◌, ◌+◌, ℕ, List, length, Bool, true, false, nat_lt, nat_le, Option, Some, None, Ok, Err, if◌then◌else◌, sym, ap, subst, ◌∙◌, arith, nat_tests, leb-true, le-leb}
 use Rattle.std.specs.Prelude.{Vec}
 use Rattle.std.specs.declared.alloc.Global.{Global}
 use Rattle.yds_model.specs.declared.limits.TheConstants.{MAX_INPUT}
@@ -8,12 +8,14 @@ use Rattle.yds_kernel.specs.Parts.{or_else, capped}
 use Rattle.yds_trace.specs.declared.cut.Cut.{Cut}
 use Rattle.yds_trace.specs.Asked.{Asked}
 use Rattle.yds_trace_document.specs.declared.fault.DocumentFault.{DocumentFault}
+use Rattle.yds_trace_text.specs.declared.fault.NoText.{NoText}
+use Rattle.yds_trace_text.specs.declared.fault.NoText.TheVariants as texts
 use Rattle.yds_trace_text.specs.PartText.{part_text}
 use Rattle.yds_trace_text.specs.Writing.{WritesPart}
-use Rattle.yds_trace_parts.specs.Told.{Halt, OfText, next_number, part_processor, of_document, of_text, piece_unless, part_piece}
+use Rattle.yds_trace_parts.specs.Told.{Halt, OfText, next_number, part_processor, of_document, of_text, part_halt, piece_unless, part_piece}
 use Rattle.yds_trace_parts.specs.declared.halt.Halt.{Halt as HaltKept}
 use Rattle.yds_trace_parts.specs.declared.halt.Halt.TheVariants as kept
-use Rattle.yds_trace_parts.specs.Telling.{IsHaltFor, IsText, text_alone}
+use Rattle.yds_trace_parts.specs.Telling.{halt_of_text, IsHaltFor, IsText, text_alone}
 
 -- # A text
 
@@ -35,6 +37,22 @@ text_is asked strict past cut until text is = record {
       (short_test MAX_INPUT (length (part_text asked past cut until)) (subst (λ (one : List ℕ). length one ≤ MAX_INPUT) is.exact is.short));
   says = is.exact;
 }
+
+long_test : (a b : ℕ) → a < b → nat_lt a b ≡ true
+long_test a b long = grind (arith, nat_tests)
+
+-- One that wasn't is missing for the reason that they say.
+pub text_halts : (asked : Asked) (strict : Bool) (past : List Said) (cut : Cut) (until : Option ℕ) (fault : NoText) → WritesPart strict asked past cut until (Err fault) →
+    IsHaltFor (part_halt asked strict past cut until) (halt_of_text (part_processor asked) (next_number cut) fault)
+text_halts asked strict past cut until (texts.Limit fault) is =
+    ap (λ (found : Option DocumentFault). or_else (of_document (part_processor asked) (next_number cut) found)
+    (of_text (part_processor asked) (next_number cut) (part_text asked past cut until))) is
+text_halts asked strict past cut until texts.TooLong is =
+    ap (λ (fault : Option DocumentFault). or_else (of_document (part_processor asked) (next_number cut) fault)
+    (of_text (part_processor asked) (next_number cut) (part_text asked past cut until))) is.without_fault
+    ∙ ap (λ (long : Bool). if long then Some (OfText (part_processor asked) (next_number cut)) else None)
+    (long_test MAX_INPUT (length (part_text asked past cut until)) is.long)
+text_halts asked strict past cut until texts.Memory is = tt
 
 -- it is a piece of its own
 pub text_alone_is : (asked : Asked) (strict : Bool) (past : List Said) (cut : Cut) (until : Option ℕ) (text : List ℕ) → IsText asked strict past cut until text →

@@ -6,8 +6,8 @@ use Rattle.yds_trace.specs.declared.cut.Cut.{Cut}
 use Rattle.yds_trace.specs.declared.limits.TheConstants.{LOOK_EVERY}
 use Rattle.yds_trace.specs.Asked.{Asked}
 use Rattle.yds_trace.specs.Others.{others_from}
-use Rattle.yds_trace.specs.Document.{Judged}
-use Rattle.yds_trace.specs.Parts.{has_run_on, belongs, begin_of, begins_from, begins_before, is_written, waiting, of_part, part_until, is_before_end, is_much, is_due, has_job, is_done_by, is_closed_by, has_own_job, each_before, is_quiet, is_closed, may_write, last_where, place_among, place_of, processor_count, first_numbers, processors_of, cut_at, cut_after, no_cut}
+use Rattle.yds_trace.specs.Document.{Judged, has_run_on}
+use Rattle.yds_trace.specs.Parts.{belongs, begin_of, begins_from, begins_before, is_written, waiting, of_part, part_until, is_before_end, is_much, is_due, has_job, is_done_by, is_closed_by, has_own_job, each_before, is_quiet, is_closed, may_write, last_where, place_among, place_of, processor_count, first_numbers, processors_of, cut_at, cut_after, no_cut}
 use Rattle.yds_trace_text.specs.PartText.{part_text}
 use Rattle.yds_trace_parts.specs.Told.{Halt, Told, no_piece, both, piece_unless, piece_with, piece_at, pieces, with_piece, line_halt, part_halt, told_with, told_next, told_after}
 use Rattle.yds_trace_parts.specs.Telling.{text_alone}

@@ -4,12 +4,13 @@ use Rattle.yds_kernel.specs.Event.{Said}
 use Rattle.yds_trace.specs.declared.cut.Cut.{Cut}
 use Rattle.yds_trace.specs.declared.fault.Cause.TheVariants as causes
 use Rattle.yds_trace.specs.declared.limits.TheConstants.{PART_JOBS, PART_STRETCHES, PART_OTHERS, WAITING_JOBS, WAITING_STRETCHES, WAITING_OTHERS}
+use Rattle.yds_trace.specs.declared.kept.Kept.{Kept}
 use Rattle.yds_trace.specs.declared.pass.Pass.{Pass}
 use Rattle.yds_trace.specs.Asked.{Asked, on}
-use Rattle.yds_trace.specs.Kept.{IsAtBehind}
+use Rattle.yds_trace.specs.Kept.{IsAtBehind, IsEnough}
 use Rattle.yds_trace.specs.Document.{Judged}
 use Rattle.yds_trace.specs.Others.{Span, others_from}
-use Rattle.yds_trace.specs.Parts.{waiting, stretches_of, is_much, is_too_much, is_due, may_write, place_among, place_of, processor_count}
+use Rattle.yds_trace.specs.Parts.{waiting, waiting_from, stretches_of, is_much, is_too_much, is_due, may_write, place_among, place_of, processor_count}
 use Rattle.yds_trace_parts.specs.declared.processors.Processor.{Processor}
 use Rattle.yds_trace_parts.specs.Told.{Halt, Told, AtLine, no_piece, both, piece_at, piece_of, no_place as no_place_halt, open_longest, waiting_halt, pieces}
 use Rattle.yds_trace_parts.specs.Telling.{cut_on, told_on, IsUnseen, NoneEndsBefore, IsStill}
@@ -97,3 +98,16 @@ still_unseen asked past said time still cut later is = (
 pub behind_later : (asked : Asked) (past : List Said) (before boundary : ℕ) (pass : Pass) → before ≤ boundary → IsAtBehind asked past before pass → IsAtBehind asked past boundary pass
 behind_later asked past before boundary pass later at =
     record { same_asked = at.same_asked; lines = at.lines; counted = at.counted; within = omega (arith, at.within, later) }
+
+not_little : (b : Bool) → not b ≡ false → b ≡ true
+not_little true is = refl
+not_little false is = sym is
+
+-- So little is kept, whatever processor is asked for, that none is to be written.
+pub still_kept : (asked : Asked) (past : List Said) (boundary : ℕ) (pass : Pass) (amount : Kept) (little : Bool) → IsAtBehind asked past boundary pass →
+    ((words : Asked) (lines : List Said) (time processor : ℕ) → IsAtBehind words lines time pass → IsEnough (on processor words) lines time amount) →
+    ((words : Asked) (lines : List Said) (time : ℕ) → IsEnough words lines time amount → little ≡ true →
+    is_much (waiting_from words lines time) (others_from words lines time) ≡ false) → not little ≡ false → IsStill asked past boundary
+still_kept asked past boundary pass amount little at enough none is =
+    inr (λ time later processor.
+    none (on processor asked) past time (enough asked past time processor (behind_later asked past boundary time pass later at)) (not_little little is))

@@ -258,11 +258,7 @@ fn text_of(
 {
     match part_text(alloc, asked, strict, cut, until, part) {
         Ok(text) => Ok(text),
-        Err(fault) => Err(Halt::of_text(
-            part_processor(asked),
-            next_number(cut),
-            fault,
-        )),
+        Err(fault) => Err(Halt::of_text(part_processor(asked), next_number(cut), fault)),
     }
 }
 

@@ -187,9 +187,7 @@ fn is_little(amount: Kept) -> bool
     ensures { (asked : asking.Asked) (past : List trace.Said) (boundary : ℕ) → IsEnough asked past boundary amount → result ≡ true
         → parts.is_much (parts.waiting_from asked past boundary) (others_from asked past boundary) ≡ false }
 {
-    amount.jobs <= PART_JOBS
-        && amount.stretches <= PART_STRETCHES
-        && amount.others <= PART_OTHERS
+    amount.jobs <= PART_JOBS && amount.stretches <= PART_STRETCHES && amount.others <= PART_OTHERS
 }
 
 /// Takes what the line of this number says, behind the parts that were written.

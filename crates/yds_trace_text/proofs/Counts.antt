@@ -1,5 +1,5 @@
 -- The head lines of parts count jobs on from part to part.
-use Rattle.yds_model.proofs.Common.{◌≡◌, ℕ, ◌+◌, ◌||◌, Bool, true, false, cond, List, [], ◌∷◌, length, ◌∙◌, refl, ap, ap₂, arith, nat_le, leb-true, le-leb, Option, Some, None, is_some, is_none, codes, decimal, sum_by-cons, count_by, filter_map}
+use Rattle.yds_model.proofs.Common.{◌≡◌, ℕ, ◌+◌, ◌||◌, Bool, true, false, cond, List, [], ◌∷◌, length, ◌∙◌, refl, sym, ap, ap₂, arith, nat_le, leb-true, le-leb, Option, Some, None, is_some, is_none, codes, decimal, sum_by-cons, count_by, filter_map}
 use Rattle.std.specs.List.{cons_option}
 use Rattle.yds_kernel.specs.Event.{Said}
 use Rattle.yds_kernel.specs.Parts.{capped}
@@ -36,14 +36,20 @@ written_count units (first ∷ more) =
 capped_more : (n k : ℕ) → capped (capped n + k) ≡ capped (n + k)
 capped_more n k = grind (arith, nat_le, leb-true, le-leb)
 
+moved_on : (asked : Asked) (past : List Said) (cut : Cut) (time : ℕ) →
+    (cut_at asked past cut (Some time)).jobs ≡ capped (cut.jobs + jobs_of_part asked past cut (Some time))
+moved_on asked past cut time =
+    ap (λ (n : ℕ). capped (cut.jobs + n))
+    (sym (written_count (part_units asked past (part_until asked past cut (Some time))) (part_until asked past cut (Some time))))
+
 counted_at : (asked : Asked) (past : List Said) (cut : Cut) (number : ℕ) (place : Option ℕ) → cut.jobs ≡ capped number →
     (cut_at asked past cut place).jobs ≡ capped (jobs_of_part asked past cut place + number)
 counted_at asked past cut number None is = is ∙ ap capped (let e : number ≡ 0 + number = omega arith in e)
 counted_at asked past cut number (Some time) is =
-    ap (λ (n : ℕ). capped (n + count_by is_written (part_until asked past cut (Some time)))) is
-    ∙ capped_more number (count_by is_written (part_until asked past cut (Some time)))
-    ∙ ap capped (let e : number + count_by is_written (part_until asked past cut (Some time)) ≡ jobs_of_part asked past cut (Some time) + number =
-    omega (arith, written_count (part_units asked past (part_until asked past cut (Some time))) (part_until asked past cut (Some time))) in e)
+    moved_on asked past cut time
+    ∙ ap (λ (n : ℕ). capped (n + jobs_of_part asked past cut (Some time))) is
+    ∙ capped_more number (jobs_of_part asked past cut (Some time))
+    ∙ ap capped (let e : number + jobs_of_part asked past cut (Some time) ≡ jobs_of_part asked past cut (Some time) + number = omega arith in e)
 
 counted_after : (asked : Asked) (past : List Said) → (cut_after asked past).jobs ≡ capped (jobs_of_parts asked past)
 counted_after asked [] = refl
@@ -68,6 +74,7 @@ line_counts asked cut number last shift jobs is =
 
 pub parts_count_on : PartsCountOn
 parts_count_on asked past = record {
+  moved = moved_on asked past;
   before = counted_after asked past;
   line = λ last shift jobs. line_counts asked (cut_after asked past) (jobs_of_parts asked past) last shift jobs (counted_after asked past);
 }

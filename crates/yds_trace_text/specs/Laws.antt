@@ -5,7 +5,7 @@ use Rattle.yds_kernel.specs.Parts.{capped}
 use Rattle.yds_trace.specs.declared.cut.Cut.{Cut}
 use Rattle.yds_trace.specs.Asked.{Asked}
 use Rattle.yds_trace.specs.Document.{stands, is_left_out, all_judged, Written, written_jobs}
-use Rattle.yds_trace.specs.Parts.{place_of, cut_after}
+use Rattle.yds_trace.specs.Parts.{place_of, cut_at, cut_after}
 use Rattle.yds_trace_document.specs.Settled.{judged_by_task}
 use Rattle.yds_trace_document.specs.Part.{part_of}
 use Rattle.yds_trace_text.specs.PartText.{part_line}
@@ -38,8 +38,10 @@ jobs_of_parts asked [] = 0
 jobs_of_parts asked (said ∷ past) =
     jobs_of_part asked (said ∷ past) (cut_after asked past) (place_of asked (said ∷ past) (cut_after asked past)) + jobs_of_parts asked past
 
--- The head line of the next part counts its jobs on from this number.
+-- Behind any parts, one more moves the count on by the jobs of its document. So the head line of the next part counts on from all jobs before it.
 pub record CountsOn (asked : Asked) (past : List Said) : Type 0 where
+  pub moved : (cut : Cut) (time : ℕ) →
+      (cut_at asked past cut (Some time)).jobs ≡ capped (cut.jobs + length (part_of asked past cut (Some time)).document.jobs)
   pub before : (cut_after asked past).jobs ≡ capped (jobs_of_parts asked past)
   pub line : (last : Bool) (shift : ℕ) (jobs : List Written) → part_line asked (cut_after asked past) last shift jobs
       ≡ part_line asked (record (cut_after asked past) { jobs = jobs_of_parts asked past }) last shift jobs

@@ -133,7 +133,7 @@ fn late_kind(units: Units, judged: &Judged<'_>, runs: &[Run]) -> &'static [u8]
 
 /// Where a late job whose runs are over by its deadline ended.
 fn behind_runs(name: Name<'_>) -> &'static [u8]
-    ensures { result.now ≡ (if is_some name.part then codes "late on another processor: " else codes "late in a run within one tick: ") }
+    ensures { result.now ≡ (if is_some name.entry.part then codes "late on another processor: " else codes "late in a run within one tick: ") }
 {
     if name.part.is_some() {
         b"late on another processor: "

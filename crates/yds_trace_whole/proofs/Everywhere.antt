@@ -9,16 +9,17 @@ use Rattle.yds_trace.specs.Faults.{first_fault}
 use Rattle.yds_trace.specs.Document.{Judged, all_judged}
 use Rattle.yds_trace.specs.Parts.{belongs, place_of, cut_after, changes_parts, processor_count, first_numbers, processors_of, watched_of, changes_one, parts_fault}
 use Rattle.yds_trace.proofs.OnProcessor.{first_fault_on, changes_parts_on}
-use Rattle.yds_trace_laws.specs.Processors.{without_reason, BelongsTo}
+use Rattle.yds_trace_laws.specs.Processors.{whole_job, BelongsTo}
 use Rattle.yds_trace_laws.proofs.Ordered.{append-all, map-all}
 use Rattle.yds_trace_laws.proofs.Runs.{all_weaker, contained}
-use Rattle.yds_trace_laws.proofs.Processors.{jobs_are_the_same, each_job_belongs, part_unseen, cut_unseen}
+use Rattle.yds_trace_laws.proofs.Processors.{each_job_belongs, part_unseen, cut_unseen}
 use Rattle.yds_trace_again.proofs.Parts.{parts_are_read_again}
 use Rattle.yds_trace_whole.specs.Parts.{Part, made, made_with, made_at, parts_behind, parts_of, made_behind, written_behind, last_made, written_parts, parts_on, KeepsParts, KeepsAllParts}
 use Rattle.yds_trace_whole.specs.Laws.{PartsAreOfProcessors, AllPartsAreKept}
 use Rattle.yds_trace_whole.specs.Worth.{IsPartFeasible, IsToldLateIn, NothingLateInParts, IsReadPart}
 use Rattle.yds_trace_whole.specs.WorthLaws.{NothingIsLateAnywhere, EachPartIsRead}
 use Rattle.yds_trace_whole.proofs.Holding.{kept_for}
+use Rattle.yds_trace_whole.proofs.Shared.{one_by_one, all_both}
 use Rattle.yds_trace_whole.proofs.Worth.{IsKeptBefore, none_before, at_place, nothing_is_late_in_parts}
 
 -- # Each part that is written
@@ -265,24 +266,6 @@ all_parts_are_kept asked past keeps =
 
 -- # No late job is hidden
 
--- one of these jobs is it, but for the reason
-record IsLike (jobs : List Judged) (one : Judged) : Type 0 where
-  there : Judged
-  is_there : Contains jobs there
-  same : without_reason there ≡ without_reason one
-
-all_like : (jobs ones : List Judged) → map without_reason jobs ≡ map without_reason ones → All (IsLike jobs) ones
-all_like jobs ones same i d within =
-    let long : length jobs ≡ length ones = sym (length-map jobs without_reason) ∙ ap {B = ℕ} length same ∙ length-map ones without_reason in
-    let here : i < length jobs = omega (arith, within, long) in
-    record {
-      there = get_or jobs i d;
-      is_there = Contains-get_or jobs i d here;
-      same = sym (get_or-map without_reason jobs i d (without_reason d) here)
-          ∙ ap (λ (l : List Judged). get_or l i (without_reason d)) same
-          ∙ get_or-map without_reason ones i d (without_reason d) within;
-    }
-
 -- the law
 pub nothing_is_late_anywhere : NothingIsLateAnywhere
 nothing_is_late_anywhere asked past fit none keeps feasible i d within by late =
@@ -290,14 +273,15 @@ nothing_is_late_anywhere asked past fit none keeps feasible i d within by late =
     let home : BelongsTo asked one (processors_of asked past) = each_job_belongs asked past i d within in
     let processor : ℕ = home.processor in
     let here : Asked = on processor asked in
-    let like : IsLike (all_judged here past) one = all_like (all_judged here past) (all_judged asked past) (jobs_are_the_same asked past processor) i d within in
-    let has : belongs here like.there ≡ true = ap (belongs here) like.same ∙ home.has in
+    let both = one_by_one asked processor (all_judged asked past) (all_judged here past) (all_both asked processor past) i d within in
+    let there : Judged = get_or (all_judged here past) i d in
+    let same : whole_job there ≡ whole_job one = both.1.same in
     let kept : KeepsParts here past =
     contained (λ (p : ℕ). KeepsParts (on p asked) past) (processors_of asked past) processor home.is_there (all_parts_are_kept asked past keeps) in
     let own : NothingLateInParts here past =
     nothing_is_late_in_parts here past (asked_on asked processor fit) (first_fault_on asked processor past ∙ none) kept in
-    let told = contained (IsToldLateIn here (parts_of here past)) (filter (belongs here) (all_judged here past)) like.there
-    (contains_filter (belongs here) (all_judged here past) like.there has like.is_there)
+    let told = contained (IsToldLateIn here (parts_of here past)) (filter (belongs here) (all_judged here past)) there
+    (contains_filter (belongs here) (all_judged here past) there (both.1.has home.has) (Contains-get_or (all_judged here past) i d both.0))
     (own (contained (λ (p : ℕ). All IsPartFeasible (parts_of (on p asked) past)) (processors_of asked past) processor home.is_there feasible))
-    by (ap (λ (judged : Judged). judged.late) like.same ∙ late) in
-    (told.0, record { processor = processor; is_there = home.is_there; there = like.there; same_job = like.same; named = told.1 })
+    by (ap (λ (judged : Judged). judged.late) same ∙ late) in
+    (told.0, record { processor = processor; is_there = home.is_there; there = there; same_job = same; named = told.1 })

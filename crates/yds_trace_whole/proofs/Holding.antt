@@ -171,7 +171,7 @@ next_keeps asked counting boundary now number all event Marker is keeps = keeps
 next_keeps asked counting boundary now number all event Other is keeps = keeps
 
 -- a thread that had its processor until `to`
-abbrev staying : ℕ → ℕ → Thread → Event
+abbrev pub staying : ℕ → ℕ → Thread → Event
 staying processor to thread = record { processor = processor; time = to; happening = Switch thread states.GoesOn thread }
 
 staying_keeps : (asked : Asked) (counting : List Said) (boundary now number : ℕ) (all : List Told) (processor to : ℕ) (thread : Thread) → boundary ≤ to → to ≤ now →
@@ -185,7 +185,7 @@ staying_keeps asked counting boundary now number all processor to thread late by
 -- # Whether an event counts
 
 -- It counts; or it is after `to`, and who leaves its processor had it until then; or it doesn't count.
-by_counting : (to : Option ℕ) (event : Event) (past : List Said) (P : List Said → Type 0) →
+pub by_counting : (to : Option ℕ) (event : Event) (past : List Said) (P : List Said → Type 0) →
     ((is_loss event.happening ≡ true → is_within_to to (lost_since event.processor since.ItsLastLine past) ≡ true) →
     (is_loss event.happening ≡ false → is_before_to to event.time ≡ true) → P (Stamped event ∷ up_to to past)) →
     ((end : ℕ) (previous : Thread) (state : State) (next : Thread) → to ≡ Some end → end < event.time → event.happening ≡ Switch previous state next →

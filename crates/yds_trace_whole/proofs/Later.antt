@@ -6,7 +6,7 @@ use Rattle.yds_trace.specs.declared.job.End.TheVariants as ends
 use Rattle.yds_trace.specs.declared.job.Stretch.{Stretch}
 use Rattle.yds_trace.specs.Late.{is_open}
 use Rattle.yds_trace.specs.WrittenTime.{Units, Run, written_time, written_speed, run_of, before, runs_of, work_of_run, work_of_runs, runs_end}
-use Rattle.yds_trace.specs.Document.{Judged, stands, Written, written_end, written_runs, is_hidden, owed, with_runs, release_without_runs, without_runs, written_of}
+use Rattle.yds_trace.specs.Document.{Judged, stands, Written, written_name, written_end, written_runs, is_hidden, owed, with_runs, release_without_runs, without_runs, written_of}
 use Rattle.yds_trace.specs.Parts.{is_written}
 use Rattle.yds_trace_laws.proofs.Runs.{reverse-all}
 use Rattle.yds_trace_whole.specs.Whole.{run_later, is_at_zero, release_later, job_later, jobs_later}
@@ -137,14 +137,14 @@ module _ (units whole : Units) (shift low : ℕ) (later : AreLater units whole s
       let work : work_of_runs (written_runs whole one.job) + owed whole one ≡ work_of_runs (written_runs units one.job) + owed units one =
       ap₂ (λ (m n : ℕ). m + n) (ap work_of_runs runs_of_job ∙ work_later shift (written_runs units one.job))
       (ap (λ (b : Bool). one_if (is_some one.late && b)) hidden_later) in
-      ap₂ (λ (from due : ℕ). a_job one.name from due (work_of_runs (written_runs whole one.job) + owed whole one) (written_runs whole one.job)) release (later.times one.due timed.due)
+      ap₂ (λ (from due : ℕ). a_job (written_name one) from due (work_of_runs (written_runs whole one.job) + owed whole one) (written_runs whole one.job)) release (later.times one.due timed.due)
       ∙ ap₂ (λ (some : ℕ) (runs : List Run).
-      a_job one.name (release_later shift (is_at_zero one) (written_time units one.job.begin)) (written_time units one.due + shift) some runs) work runs_of_job
+      a_job (written_name one) (release_later shift (is_at_zero one) (written_time units one.job.begin)) (written_time units one.due + shift) some runs) work runs_of_job
 
   missed_later : stands one ≡ false → without_runs whole one ≡ job_later shift one (without_runs units one)
   missed_later stands_not =
       at one.job.begin_known
-      ∙ ap (λ (b : Bool). a_job one.name (release_later shift (not b && not one.job.begin_known) (release_without_runs units one.job))
+      ∙ ap (λ (b : Bool). a_job (written_name one) (release_later shift (not b && not one.job.begin_known) (release_without_runs units one.job))
       (max (release_without_runs units one.job + 1) (written_time units one.due) + shift) 1 []) (sym stands_not)
     where
       due_at : (shift ≡ 0) ⊎ (1 ≤ written_time units one.due) → max (0 + 1) (written_time whole one.due) ≡ max (0 + 1) (written_time units one.due) + shift
@@ -152,14 +152,14 @@ module _ (units whole : Units) (shift low : ℕ) (later : AreLater units whole s
       due_at (inr one_more) = omega (arith, later.times one.due timed.due, one_more)
 
       at : (b : Bool) →
-          a_job one.name (time_if b (written_time whole one.job.begin)) (max (time_if b (written_time whole one.job.begin) + 1) (written_time whole one.due)) 1 []
-          ≡ a_job one.name (release_later shift (not false && not b) (time_if b (written_time units one.job.begin)))
+          a_job (written_name one) (time_if b (written_time whole one.job.begin)) (max (time_if b (written_time whole one.job.begin) + 1) (written_time whole one.due)) 1 []
+          ≡ a_job (written_name one) (release_later shift (not false && not b) (time_if b (written_time units one.job.begin)))
           (max (time_if b (written_time units one.job.begin) + 1) (written_time units one.due) + shift) 1 []
       at true =
-          ap₂ (λ (from due : ℕ). a_job one.name from due 1 []) (later.times one.job.begin timed.begin)
+          ap₂ (λ (from due : ℕ). a_job (written_name one) from due 1 []) (later.times one.job.begin timed.begin)
           (let e : max (written_time whole one.job.begin + 1) (written_time whole one.due) ≡ max (written_time units one.job.begin + 1) (written_time units one.due) + shift =
           omega (arith, later.times one.job.begin timed.begin, later.times one.due timed.due) in e)
-      at false = ap (λ (due : ℕ). a_job one.name 0 due 1 []) (due_at timed.window)
+      at false = ap (λ (due : ℕ). a_job (written_name one) 0 due 1 []) (due_at timed.window)
 
   -- What is written of a job in the units of its part is what is written in those of the whole.
   pub written_later : option_map (job_later shift one) (written_of units one) ≡ written_of whole one

@@ -7,10 +7,13 @@ pub mod Parting
 pub mod Later
 pub mod Ranked
 pub mod Together
+pub mod Spans
 pub mod Worth
+pub mod Shared
 pub mod Everywhere
 pub mod Several
 mod Traces
 mod Examples
 mod LateExamples
+mod SpanExamples
 mod ProcessorExamples

@@ -83,7 +83,7 @@ option_by : (time other : ℕ) (o : Option ℕ) → unwrap_or o 0 ≤ time → o
 option_by time other None first second = second
 option_by time other (Some one) first second = first
 
-lost_by_time : (to : Option ℕ) (past : List Said) (processor time : ℕ) (reach : Since) → GoesOn to past → last_time past ≤ time → is_before_to to time ≡ true →
+pub lost_by_time : (to : Option ℕ) (past : List Said) (processor time : ℕ) (reach : Since) → GoesOn to past → last_time past ≤ time → is_before_to to time ≡ true →
     lost_since processor reach past ≤ time
 lost_by_time to past processor time since.ItsLastLine goes last before =
     option_by time (first_time 0 past) (last_time_on processor past) (on_by to past processor time goes last before)

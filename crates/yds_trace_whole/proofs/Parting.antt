@@ -12,11 +12,13 @@ use Rattle.yds_trace.specs.Asked.{Task, Asked, task_at}
 use Rattle.yds_trace.specs.Past.{last_time, up_to, speed_after}
 use Rattle.yds_trace.specs.Jobs.{Job, Known, unknown, changed_last, ran, known_after}
 use Rattle.yds_trace.specs.Late.{last_asked}
-use Rattle.yds_trace.specs.Document.{closed, jobs_of, Judged, judged, judged_of, judged_from, all_judged, began_before, stands}
-use Rattle.yds_trace.specs.Parts.{belongs, begin_of, begins_from, begins_before, last_begin, last_begin_of, is_over, is_settled, ended_by, is_done_by, each_before, has_job, is_quiet, is_closed, last_where, place_among, is_much, is_due, may_write, no_cut, waiting, is_before_end, part_until, place_of, with_part, cut_at, cut_after, part_fault}
+use Rattle.yds_trace.specs.Document.{closed, jobs_of, share_of, shares_of, Judged, judged, judged_of, judged_from, all_judged, began_before, stands}
+use Rattle.yds_trace.specs.Others.{others_from}
+use Rattle.yds_trace.specs.Parts.{belongs, begin_of, begins_from, begins_before, last_begin, last_begin_of, is_over, is_settled, ended_by, is_done_by, each_before, has_job, is_quiet, has_own_job, is_closed_by, is_closed, last_where, place_among, is_much, is_due, may_write, no_cut, waiting, is_before_end, part_until, place_of, with_part, cut_at, cut_after, part_fault}
 use Rattle.yds_trace_document.proofs.Sorting.{FromLow, Rises, rises_in_order}
 use Rattle.yds_trace_laws.proofs.Ordered.{append-all, append-all_left, append-all_right, in_order-all, in_order-all_back}
 use Rattle.yds_trace_laws.proofs.Runs.{all_weaker, reverse-all, reverse-all_back}
+use Rattle.yds_trace_laws.proofs.Shares.{share_kept}
 use Rattle.yds_trace_laws.proofs.Sharing.{GoesOn, lines_go_on}
 use Rattle.yds_trace_whole.specs.Parts.{Part, made, made_with, made_at, parts_behind, judged_in_parts, KeepsParts}
 use Rattle.yds_trace_whole.specs.Laws.{PartsAreTheWhole}
@@ -187,6 +189,16 @@ all_closed asked past Q back known all = by known.on all
     by None all = all
     by (Some standing) all = all_changed Q (ran (closing asked past standing)) (λ job is. back job (closing asked past standing) is) known.jobs all
 
+-- and of what the processor's documents have of them
+pub shares_all : (Q : Job → Type 0) (asked : Asked) → ((job : Job) → Q job → Q (share_of asked job)) → (jobs : List Job) → AllByRecursion Q jobs →
+    AllByRecursion Q (map (share_of asked) jobs)
+shares_all Q asked keeps jobs all = map_all Q (share_of asked) jobs (all_weaker Q (λ (job : Job). Q (share_of asked job)) keeps jobs all)
+
+all_shares : (Q : Job → Type 0) (asked : Asked) → ((job : Job) → Q (share_of asked job) → Q job) → (jobs : List Job) → AllByRecursion Q (map (share_of asked) jobs) →
+    AllByRecursion Q jobs
+all_shares Q asked back [] all = tt
+all_shares Q asked back (job ∷ jobs) all = (back job all.0, all_shares Q asked back jobs all.1)
+
 -- of each listed task's jobs, and of each judged job
 pub from_all : (asked : Asked) (past : List Said) (P : Judged → Type 0) (number : ℕ) (tasks : List Task) →
     ((k : ℕ) → k < number + length tasks → AllByRecursion P (judged_of asked past k)) → AllByRecursion P (judged_from asked past number tasks)
@@ -220,10 +232,11 @@ all_begun asked past cut holds =
     in_order-all P begin_of (judged_from asked past 0 asked.tasks)
     (from_all asked past P 0 asked.tasks (λ number within.
     let known : Known = counted asked past number in
-    numbered_all asked past P number (began_before (jobs_of asked past number)) Q (λ place job is. is) 0 (jobs_of asked past number)
+    numbered_all asked past P number (began_before (jobs_of asked past number)) Q (λ place job is. is) 0 (shares_of asked past number)
+    (shares_all Q asked (share_kept Q (λ processor job is. is) asked) (jobs_of asked past number)
     (reverse-all Q (closed asked past known)
     (closed_all asked past Q (λ job stretch is. is) known
-    (all_weaker (IsSound (last_asked asked past)) Q (λ job is. is.0) known.jobs (holds number (omega (arith, within))).keeps.sound)))))
+    (all_weaker (IsSound (last_asked asked past)) Q (λ job is. is.0) known.jobs (holds number (omega (arith, within))).keeps.sound))))))
 
 last_where_is : (P : ℕ → Type 0) (test : ℕ → Bool) (times : List ℕ) (time : ℕ) → AllByRecursion P times → last_where test times ≡ Some time → P time × (test time ≡ true)
 last_where_is P test [] time all is = cc is
@@ -271,11 +284,11 @@ among_is asked past cut time holds is = by (last_where (is_closed asked past job
         record { from = found.0.0; by = found.0.1; quiet = found.1 }
     by (Some other) some is =
         let found = last_where_is (IsBetween asked past cut) (is_closed asked past jobs) begins time (waiting_between asked past cut holds) (some ∙ is) in
-        record { from = found.0.0; by = found.0.1; quiet = (and_parts (is_quiet asked past jobs time) (each_before _ time jobs) found.1).0 }
+        record { from = found.0.0; by = found.0.1; quiet = (and_parts (is_quiet asked past jobs time) (has_own_job asked time jobs) (and_parts (is_quiet asked past jobs time && has_own_job asked time jobs) (each_before (is_closed_by asked time) time jobs) found.1).0).0 }
 
 pub place_is : (asked : Asked) (past : List Said) (cut : Cut) (time : ℕ) → ((number : ℕ) → number < length asked.tasks → Holds asked past cut number) →
     place_of asked past cut ≡ Some time → IsPlace asked past cut time
-place_is asked past cut time holds is = by (is_due past && may_write asked past && is_much (waiting asked past cut)) is
+place_is asked past cut time holds is = by (is_due past && may_write asked past && is_much (waiting asked past cut) (others_from asked past cut.boundary)) is
   where
     by : (b : Bool) → (if b then place_among asked past (waiting asked past cut) else None) ≡ Some time → IsPlace asked past cut time
     by true is = among_is asked past cut time holds is
@@ -329,9 +342,10 @@ jobs_settled asked past cut time number quiet within =
     let P : Judged → Type 0 = SettledJudged asked past cut.boundary time in
     all_closed asked past Q (λ job stretch is. is) (counted asked past number)
     (reverse-all_back Q (closed asked past (counted asked past number))
-    (all_numbered asked past P number (began_before (jobs_of asked past number)) Q (λ place job is. is) 0 (jobs_of asked past number)
+    (all_shares Q asked (λ job. share_kept (λ (j : Job). Q j → Q job) (λ processor j back. back) asked job (λ is. is)) (jobs_of asked past number)
+    (all_numbered asked past P number (began_before (jobs_of asked past number)) Q (λ place job is. is) 0 (shares_of asked past number)
     (all_from_tasks asked past P 0 asked.tasks (in_order-all_back P begin_of (judged_from asked past 0 asked.tasks) (judged_settled asked past cut time quiet))
-    number (omega arith) (omega (arith, within)))))
+    number (omega arith) (omega (arith, within))))))
 
 beyond_most : (to : Option ℕ) (time : ℕ) → beyond to time ≤ time
 beyond_most None time = omega arith

@@ -110,6 +110,35 @@ not_feasible is =
     let given : 0 ≡ 1 = gets (jobs_read late_document.jobs) [] 0 feasible (omega arith) in
     cc given
 
+-- # What it ran on each
+
+abbrev in_shares : Asked
+in_shares = record asked { moved_parts = true }
+
+-- Told so, each processor has the job with what it ran there. On processor 0 its runs don't show that it was late, and its work is a unit above them.
+shares_on_both : map (λ part. map (λ job. job.work) part.settled.document.jobs) (written_parts in_shares moved) ≡ (11 ∷ []) ∷ (55 ∷ []) ∷ []
+unfolding digits
+shares_on_both = refl
+
+abbrev share_document : Document
+share_document = record {
+  jobs = record { name = codes "t.0@0"; release = 0; deadline = 10; work = 11; runs = record { from = 2; to = 4; speed = 5 } ∷ [] } ∷ [];
+  runs = record { job = 0; run = record { from = 2; to = 4; speed = 5 } } ∷ [];
+}
+
+share_on_0 : (last_made in_shares moved 0).settled.document ≡ share_document
+unfolding digits
+share_on_0 = refl
+
+-- So it isn't feasible: its runs give the job one unit less.
+share_not_feasible : IsPartFeasible (last_made in_shares moved 0) → ⊥
+share_not_feasible is =
+    let feasible = subst (λ (document : Document). IsFeasible (jobs_read document.jobs) (slots_read document.runs)) share_on_0 is in
+    let given : 10 ≡ 11 = gets (jobs_read share_document.jobs) share_document.runs 0 feasible (omega arith) in
+    cc given
+
+-- # Which processors
+
 -- Of these two processors a line tells. Where events are lost on processor 3, each one up to it has documents.
 two_processors : processors_of asked moved ≡ 0 ∷ 1 ∷ []
 two_processors = refl

@@ -12,10 +12,11 @@ use Rattle.yds_trace.specs.Asked.{Task, Asked, task_at, is_after_from}
 use Rattle.yds_trace.specs.Past.{last_time, up_to, speed_after}
 use Rattle.yds_trace.specs.Jobs.{Job, Known, changed_last, ran}
 use Rattle.yds_trace.specs.Late.{last_asked, due, is_open, is_judged, late_by}
-use Rattle.yds_trace.specs.Document.{closed, is_lost, is_elsewhere, is_of_unknown_speed, reaches_to, Judged, judged_of, judged_from, in_order, all_judged}
+use Rattle.yds_trace.specs.Document.{closed, is_lost, is_elsewhere, is_of_unknown_speed, reaches_to, share_of, Judged, judged, judged_of, judged_from, in_order, all_judged}
 use Rattle.yds_trace.specs.Parts.{begins_before}
 use Rattle.yds_trace_document.proofs.Sorting.{filter_in_order}
-use Rattle.yds_trace_whole.proofs.Told.{Told, told, changed_told, OfTold, Each, each_told, judge, judged_told}
+use Rattle.yds_trace_laws.proofs.Shares.{share_kept}
+use Rattle.yds_trace_whole.proofs.Told.{Told, with_number, told, changed_told, OfTold, Each, each_told, judge, judged_told}
 use Rattle.yds_trace_whole.proofs.Going.{IsSoundEnd, IsSound, IsLeft, Keeps, standing_free}
 use Rattle.yds_trace_whole.proofs.Holding.{IsFirmEnd, ripe_from, IsFirm, counted, told_of, Holds}
 
@@ -94,14 +95,22 @@ reason_same asked past next task job decided line ripe absent (ends.Lost since) 
 
 -- # A job
 
+-- of a job, and of what it ran on the processor
+job_same : (asked : Asked) (past next : List Said) (number decided place : ℕ) (before : Bool) (job : Job) → last_asked asked past ≤ last_asked asked next →
+    IsSoundEnd (last_asked asked past) job.switch_missing job.end → IsFirm asked past decided number job →
+    judged asked next number before (with_number place job) ≡ judged asked past number before (with_number place job)
+job_same asked past next number decided place before job on sound firm =
+    let was : Judged = judged asked past number before (with_number place job) in
+    ap₂ (λ (late : Option ℕ) (reason : Option Reason). record was { late = late; reason = reason })
+    (late_same asked.from (last_asked asked past) (last_asked asked next) (due (task_at asked number) job) decided (last_time past) (ripe_from asked number job) job.switch_missing job.end on sound firm)
+    (reason_same asked past next (task_at asked number) job decided (last_time past) (ripe_from asked number job) job.switch_missing job.end on sound firm)
+
 judge_same : (asked : Asked) (past next : List Said) (number decided : ℕ) (one : Told) → last_asked asked past ≤ last_asked asked next →
     OfTold (λ job. IsSound (last_asked asked past) job × IsFirm asked past decided number job) one → judge asked next number one ≡ judge asked past number one
 judge_same asked past next number decided one on is =
-    let job : Job = one.numbered.1 in
-    let was : Judged = judge asked past number one in
-    ap₂ (λ (late : Option ℕ) (reason : Option Reason). record was { late = late; reason = reason })
-    (late_same asked.from (last_asked asked past) (last_asked asked next) (due (task_at asked number) job) decided (last_time past) (ripe_from asked number job) job.switch_missing job.end on is.0.1 is.1)
-    (reason_same asked past next (task_at asked number) job decided (last_time past) (ripe_from asked number job) job.switch_missing job.end on is.0.1 is.1)
+    let P : Job → Type 0 = λ job. IsSoundEnd (last_asked asked past) job.switch_missing job.end × IsFirm asked past decided number job in
+    let kept : P (share_of asked one.numbered.1) = share_kept P (λ processor job so. so) asked one.numbered.1 (is.0.1, is.1) in
+    job_same asked past next number decided one.numbered.0 one.before (share_of asked one.numbered.1) on kept.0 kept.1
 
 map_each : {A B : Type 0} (P : A → Type 0) (f g : A → B) (xs : List A) → ((x : A) → P x → f x ≡ g x) → AllByRecursion P xs → map f xs ≡ map g xs
 map_each P f g [] each all = refl

@@ -12,13 +12,14 @@ use Rattle.yds_trace.specs.Past.{first_time, last_time}
 use Rattle.yds_trace.specs.Jobs.{Job, Known, changed_last, ran}
 use Rattle.yds_trace.specs.Late.{last_asked}
 use Rattle.yds_trace.specs.WrittenTime.{Units, Run, written_time, run_of, before, runs_of}
-use Rattle.yds_trace.specs.Document.{closed, jobs_of, began_before, Judged, judged, judged_from, all_judged, stands, Written, written_runs, with_runs, without_runs, written_of, Placed, Document}
-use Rattle.yds_trace.specs.Parts.{has_run_on, belongs, begin_of, begins_from, begins_before, is_written, has_job, each_before, is_settled, ended_by, is_done_by, no_cut, waiting, is_before_end, part_until, place_of, cut_at, cut_after, part_fault}
+use Rattle.yds_trace.specs.Document.{closed, jobs_of, share_of, shares_of, has_run_on, began_before, Judged, judged, judged_from, all_judged, stands, Written, written_runs, with_runs, without_runs, written_of, Placed, Document}
+use Rattle.yds_trace.specs.Parts.{belongs, begin_of, begins_from, begins_before, is_written, has_job, each_before, is_settled, ended_by, is_done_by, no_cut, waiting, is_before_end, part_until, place_of, cut_at, cut_after, part_fault}
 use Rattle.yds_trace_document.specs.Part.{whole_zero, shift_of, part_units}
 use Rattle.yds_trace_document.proofs.Sorting.{FromLow, Rises}
 use Rattle.yds_trace_laws.specs.InUnits.{document_in}
 use Rattle.yds_trace_laws.proofs.Ordered.{either_all, append-all, in_order-all, filter-all, filter_map-all}
 use Rattle.yds_trace_laws.proofs.Runs.{all_weaker, reverse-all, IsForward, runs_forward}
+use Rattle.yds_trace_laws.proofs.Shares.{share_kept}
 use Rattle.yds_trace_laws.proofs.Sharing.{GoesOn, lines_go_on}
 use Rattle.yds_trace_laws.proofs.Times.{order_is_kept, ends_are_kept}
 use Rattle.yds_trace_again.proofs.Parts.{part_rises}
@@ -28,7 +29,7 @@ use Rattle.yds_trace_whole.specs.Laws.{PartsMakeTheDocument, WholeIsTheDocument}
 use Rattle.yds_trace_whole.proofs.Going.{latest, IsSpan, IsSound, AreSound, StandsBy}
 use Rattle.yds_trace_whole.proofs.Lines.{until, until_most, or_this, first_stamp, first_is, no_stamp}
 use Rattle.yds_trace_whole.proofs.Holding.{counted, Holds, now_is, goes_behind}
-use Rattle.yds_trace_whole.proofs.Parting.{closing, filter_all_of, own_before, own_nothing, next_own, last_own, numbered_all, from_all, IsPlace, place_is, DoneJudged, judged_done, Stands, at_first, part_more, line_more}
+use Rattle.yds_trace_whole.proofs.Parting.{closing, filter_all_of, own_before, own_nothing, next_own, last_own, numbered_all, shares_all, from_all, IsPlace, place_is, DoneJudged, judged_done, Stands, at_first, part_more, line_more}
 use Rattle.yds_trace_whole.proofs.Later.{AreLater, IsTimed, written_later, part_jobs_later}
 use Rattle.yds_trace_whole.proofs.Ranked.{runs_at, HaveRuns, runs_append, HaveRunsLater, later_length, runs_are_later}
 
@@ -62,6 +63,12 @@ closed_sound asked past known sound stands = by known.on stands
     by None stands = sound
     by (Some standing) stands = more standing known.jobs sound stands
 
+-- what a sound job ran on the processor
+share_sound : (asked : Asked) (now : ℕ) (job : Job) → IsSound now job → IsSound now (share_of asked job)
+share_sound asked now job sound =
+    share_kept (IsSound now)
+    (λ processor job is. (is.0, is.1, is.2, filter-all (IsSpan job.begin (latest now job.end)) (λ stretch. stretch.processor == processor) job.stretches is.3)) asked job sound
+
 all_clocked : (asked : Asked) (past : List Said) (cut : Cut) → IsAsked asked → ((number : ℕ) → number < length asked.tasks → Holds asked past cut number) →
     AllByRecursion (IsClocked asked (last_asked asked past)) (all_judged asked past)
 all_clocked asked past cut words holds =
@@ -72,8 +79,9 @@ all_clocked asked past cut words holds =
     let held : Holds asked past cut number = holds number (omega (arith, within)) in
     let enough : asked.unit ≤ (task_at asked number).deadline = words.deadlines number no_task (omega (arith, within)) in
     numbered_all asked past (IsClocked asked now) number (began_before (jobs_of asked past number)) (IsSound now) (λ place job sound. (omega (arith, enough), sound)) 0
-    (jobs_of asked past number)
-    (reverse-all (IsSound now) (closed asked past known) (closed_sound asked past known held.keeps.sound held.keeps.stands))))
+    (shares_of asked past number)
+    (shares_all (IsSound now) asked (share_sound asked now) (jobs_of asked past number)
+    (reverse-all (IsSound now) (closed asked past known) (closed_sound asked past known held.keeps.sound held.keeps.stands)))))
 
 -- # A part's units
 

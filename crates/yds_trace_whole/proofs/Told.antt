@@ -1,11 +1,13 @@
 -- The jobs of a task that begin before a boundary, as they are told: each with its number, and with whether the task's first job began before the trace.
-use Rattle.yds_model.proofs.Common.{◌≡◌, ◌∙◌, ℕ, ◌+◌, ◌<◌, ◌≤◌, List, [], ◌∷◌, ◌++◌, map, length, reverse, filter, Bool, true, false, not, nat_lt, if◌then◌else◌, refl, sym, ap, ap₂, subst, arith, lt-ltb, le-ltb, ltb-true, append-nil, map-append, filter-append, reverse-append, length-reverse, map-map}
+-- They are told whole; judged is what the processor's documents have of them.
+use Rattle.yds_model.proofs.Common.{◌≡◌, ◌∙◌, ℕ, ◌+◌, ◌<◌, ◌≤◌, List, [], ◌∷◌, ◌++◌, map, length, reverse, filter, Bool, true, false, not, cond, nat_lt, if◌then◌else◌, refl, sym, ap, ap₂, subst, arith, lt-ltb, le-ltb, ltb-true, append-nil, map-append, filter-append, reverse-append, length-reverse, length-map, map-map}
 use Rattle.std.specs.List.{enumerate_from, AllByRecursion}
 use Rattle.yds_kernel.specs.Event.{Said}
 use Rattle.yds_trace.specs.Asked.{Asked}
 use Rattle.yds_trace.specs.Jobs.{Job}
-use Rattle.yds_trace.specs.Document.{Judged, judged, began_before}
+use Rattle.yds_trace.specs.Document.{share_of, Judged, judged, began_before}
 use Rattle.yds_trace.specs.Parts.{begins_before}
+use Rattle.yds_trace.proofs.Shares.{share_begin}
 use Rattle.yds_trace_document.proofs.Lists.{enumerate_push}
 use Rattle.yds_trace_document.proofs.Sorting.{map_cond}
 use Rattle.yds_trace_laws.proofs.Ordered.{append-all, append-all_left, append-all_right}
@@ -158,8 +160,15 @@ told_each P boundary jobs all = early_each P boundary jobs (all_told P (first_be
 
 -- # What is told is judged
 
+-- as the processor's documents have it
+abbrev pub shared : Asked → ℕ × Job → ℕ × Job
+shared asked numbered = with_number numbered.0 (share_of asked numbered.1)
+
+abbrev pub judge_shared : Asked → List Said → ℕ → Bool → ℕ × Job → Judged
+judge_shared asked past number before numbered = judged asked past number before (shared asked numbered)
+
 abbrev pub judge : Asked → List Said → ℕ → Told → Judged
-judge asked past number one = judged asked past number one.before one.numbered
+judge asked past number one = judge_shared asked past number one.before one.numbered
 
 began_reverse : (jobs : List Job) → began_before (reverse jobs) ≡ first_before jobs
 began_reverse [] = refl
@@ -172,33 +181,38 @@ began_reverse (job ∷ next ∷ jobs) =
     front (first ∷ all) many = refl
 
 filter_one : (asked : Asked) (past : List Said) (number : ℕ) (before : Bool) (boundary place : ℕ) (job : Job) →
-    filter (begins_before boundary) (judged asked past number before (with_number place job) ∷ [])
-    ≡ map (judged asked past number before) (if nat_lt job.begin boundary then with_number place job ∷ [] else [])
+    filter (begins_before boundary) (judged asked past number before (with_number place (share_of asked job)) ∷ [])
+    ≡ map (judge_shared asked past number before) (if nat_lt job.begin boundary then with_number place job ∷ [] else [])
 filter_one asked past number before boundary place job =
-    sym (map_cond (judged asked past number before) (nat_lt job.begin boundary) (with_number place job ∷ []) [])
+    let one : Judged = judged asked past number before (with_number place (share_of asked job)) in
+    ap (λ (begin : ℕ). cond (nat_lt begin boundary) (one ∷ []) []) (share_begin asked job)
+    ∙ sym (map_cond (judge_shared asked past number before) (nat_lt job.begin boundary) (with_number place job ∷ []) [])
 
 filter_early : (asked : Asked) (past : List Said) (number : ℕ) (before : Bool) (boundary : ℕ) (jobs : List Job) →
-    filter (begins_before boundary) (map (judged asked past number before) (enumerate_from 0 (reverse jobs)))
-    ≡ map (judged asked past number before) (early boundary jobs)
+    filter (begins_before boundary) (map (judged asked past number before) (enumerate_from 0 (map (share_of asked) (reverse jobs))))
+    ≡ map (judge_shared asked past number before) (early boundary jobs)
 filter_early asked past number before boundary [] = refl
 filter_early asked past number before boundary (job ∷ jobs) =
     let one : ℕ × Job → Judged = judged asked past number before in
-    let front : List (ℕ × Job) = enumerate_from 0 (reverse jobs) in
-    let place : 0 + length (reverse jobs) ≡ length jobs = omega (arith, length-reverse jobs) in
-    ap (λ (l : List Job). filter (begins_before boundary) (map one (enumerate_from 0 l))) (reverse-append (job ∷ []) jobs)
-    ∙ ap (λ (l : List (ℕ × Job)). filter (begins_before boundary) (map one l)) (enumerate_push 0 (reverse jobs) job)
-    ∙ ap (λ (n : ℕ). filter (begins_before boundary) (map one (front ++ with_number n job ∷ []))) place
-    ∙ ap (filter (begins_before boundary)) (map-append one front (with_number (length jobs) job ∷ []))
-    ∙ filter-append (begins_before boundary) (map one front) (one (with_number (length jobs) job) ∷ [])
+    let shares : List Job = map (share_of asked) (reverse jobs) in
+    let front : List (ℕ × Job) = enumerate_from 0 shares in
+    let last : Job = share_of asked job in
+    let place : 0 + length shares ≡ length jobs = omega (arith, length-map (reverse jobs) (share_of asked), length-reverse jobs) in
+    ap (λ (l : List Job). filter (begins_before boundary) (map one (enumerate_from 0 (map (share_of asked) l)))) (reverse-append (job ∷ []) jobs)
+    ∙ ap (λ (l : List Job). filter (begins_before boundary) (map one (enumerate_from 0 l))) (map-append (share_of asked) (reverse jobs) (job ∷ []))
+    ∙ ap (λ (l : List (ℕ × Job)). filter (begins_before boundary) (map one l)) (enumerate_push 0 shares last)
+    ∙ ap (λ (n : ℕ). filter (begins_before boundary) (map one (front ++ with_number n last ∷ []))) place
+    ∙ ap (filter (begins_before boundary)) (map-append one front (with_number (length jobs) last ∷ []))
+    ∙ filter-append (begins_before boundary) (map one front) (one (with_number (length jobs) last) ∷ [])
     ∙ ap₂ (λ (some rest : List Judged). some ++ rest) (filter_early asked past number before boundary jobs)
     (filter_one asked past number before boundary (length jobs) job)
-    ∙ sym (map-append one (early boundary jobs) (if nat_lt job.begin boundary then with_number (length jobs) job ∷ [] else []))
+    ∙ sym (map-append (judge_shared asked past number before) (early boundary jobs) (if nat_lt job.begin boundary then with_number (length jobs) job ∷ [] else []))
 
 -- Of a task's judged jobs those that begin before the boundary are those that are told.
 pub judged_told : (asked : Asked) (past : List Said) (number boundary : ℕ) (jobs : List Job) →
-    filter (begins_before boundary) (map (judged asked past number (began_before (reverse jobs))) (enumerate_from 0 (reverse jobs)))
+    filter (begins_before boundary) (map (judged asked past number (began_before (reverse jobs))) (enumerate_from 0 (map (share_of asked) (reverse jobs))))
     ≡ map (judge asked past number) (told boundary jobs)
 judged_told asked past number boundary jobs =
     filter_early asked past number (began_before (reverse jobs)) boundary jobs
-    ∙ ap (λ (b : Bool). map (judged asked past number b) (early boundary jobs)) (began_reverse jobs)
+    ∙ ap (λ (b : Bool). map (judge_shared asked past number b) (early boundary jobs)) (began_reverse jobs)
     ∙ sym (map-map (judge asked past number) (told_by (first_before jobs)) (early boundary jobs))

@@ -34,4 +34,6 @@ asked_of tasks = record {
   cut_losses = true;
   in_parts = true;
   everywhere = false;
+  moved_parts = false;
+  others = None;
 }

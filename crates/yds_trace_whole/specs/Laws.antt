@@ -7,7 +7,7 @@ use Rattle.yds_trace.specs.Faults.{first_fault}
 use Rattle.yds_trace.specs.Document.{all_judged, document_of}
 use Rattle.yds_trace.specs.Parts.{belongs, processors_of}
 use Rattle.yds_trace_whole.specs.Parts.{KeepsParts, KeepsAllParts, parts_of, written_parts, parts_on, judged_in_parts}
-use Rattle.yds_trace_whole.specs.Whole.{whole_document, put_together}
+use Rattle.yds_trace_whole.specs.Whole.{whole_document, put_together, HasItsSpans}
 
 -- # One processor
 
@@ -27,6 +27,10 @@ PartsMakeTheDocument = (asked : Asked) (past : List Said) → IsAsked asked → 
 abbrev pub WholeIsTheDocument : Type 0
 WholeIsTheDocument = (asked : Asked) (past : List Said) (from : ℕ) → asked.everywhere ≡ false → asked.from ≡ Some from →
     whole_document asked past ≡ document_of asked past
+
+-- Then each part tells of other threads just what the whole trace tells of its time.
+abbrev pub SpansAreTheWhole : Type 0
+SpansAreTheWhole = (asked : Asked) (past : List Said) → first_fault asked past ≡ None → KeepsParts asked past → All (HasItsSpans asked past) (parts_of asked past)
 
 -- # All processors
 

@@ -16,6 +16,8 @@ pub record Part : Type 0 where
   pub processor : ℕ
   -- what was written before it
   pub cut : Cut
+  -- where it ends; the last one goes on to the trace's end
+  pub until : Option ℕ
   -- so many units are taken off each of its times
   pub shift : ℕ
   pub settled : Settled
@@ -26,6 +28,7 @@ abbrev pub made : Asked → List Said → Cut → Option ℕ → Part
 made asked past cut until = record {
   processor = asked.processor;
   cut = cut;
+  until = until;
   shift = shift_of asked past (part_until asked past cut until);
   settled = part_of asked past cut until;
   text = part_text asked past cut until;

@@ -1,10 +1,11 @@
 -- The parts put together: one document, in the times of the whole trace.
-use Rattle.std.specs.Prelude.{ℕ, ◌+◌, List, [], ◌∷◌, ◌++◌, map, filter, length, Bool, not, ◌&&◌, if◌then◌else◌}
+use Rattle.std.specs.Prelude.{◌≡◌, ℕ, ◌+◌, List, [], ◌∷◌, ◌++◌, map, filter, length, max, Bool, not, ◌&&◌, if◌then◌else◌}
 use Rattle.std.specs.List.{flat_map}
 use Rattle.yds_kernel.specs.Event.{Said}
 use Rattle.yds_trace.specs.Asked.{Asked}
 use Rattle.yds_trace.specs.WrittenTime.{Units, Run}
 use Rattle.yds_trace.specs.Document.{Judged, all_judged, stands, Written, Placed, Document}
+use Rattle.yds_trace.specs.Others.{spans_within, others_of}
 use Rattle.yds_trace.specs.Parts.{belongs, is_written}
 use Rattle.yds_trace_laws.specs.InUnits.{document_in}
 use Rattle.yds_trace_document.specs.Part.{whole_zero}
@@ -66,3 +67,13 @@ runs_of_parts before (part ∷ parts) =
 -- The jobs of one part after another, and their runs, each in the times of the whole.
 abbrev pub put_together : List Part → Document
 put_together parts = record { jobs = flat_map jobs_of_part parts; runs = runs_of_parts 0 parts }
+
+-- # Who else had the processor
+
+-- From its time 0 on, but not before the parts in front of it.
+abbrev pub begin_of_part : Part → ℕ
+begin_of_part part = max part.cut.boundary part.settled.units.zero
+
+-- What the part tells is what the whole trace tells of the time between its begin and its end.
+pub record HasItsSpans (asked : Asked) (past : List Said) (part : Part) : Type 0 where
+  pub are : part.settled.others ≡ spans_within (begin_of_part part) part.until (others_of asked past)

@@ -1,9 +1,9 @@
-use Rattle.yds_model.proofs.Common.{◌≡◌, ◌∙◌, ℕ, List, map, filter, ap, sym}
+use Rattle.yds_model.proofs.Common.{◌≡◌, ◌∙◌, List, map, filter, ap, sym}
 use Rattle.std.specs.Prelude.{Vec}
 use Rattle.std.specs.declared.alloc.Global.{Global}
 use Rattle.yds_trace.specs.declared.others.Span.{Span as SpanKept}
 use Rattle.yds_trace.specs.Asked.{Asked}
-use Rattle.yds_trace.specs.Others.{Span, goes_behind, others_from}
+use Rattle.yds_trace.specs.Others.{goes_behind, others_from}
 use Rattle.yds_trace.specs.Views.{asked_read, span_read}
 use Rattle.yds_trace_document.specs.Part.{waiting_by_task}
 use Rattle.yds_trace_document.specs.declared.judged.Judged.{Judged as JudgedKept}

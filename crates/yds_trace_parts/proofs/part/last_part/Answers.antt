@@ -13,6 +13,12 @@ returns-in_err-part-clause-halts c =
     let p = err_from_is_err_and c.from_residual-in_err-part.result c.from_residual-in_err-part.ensures.1 in
     λ past shown. rw p.1 (memory_halts _ _ p.2)
 
+pub returns-in_err-text-clause-halts : goal.returns-in_err-text-clause-halts
+returns-in_err-text-clause-halts c past shown =
+    let told = err_from_is_err_and c.from_residual-in_err-text.result c.from_residual-in_err-text.ensures.1 in
+    let is = c.in_ok-part.ensures past c.args.cut shown.first (c.in_ok-waiting.ensures past c.args.cut refl shown) in
+    rw (told.1, told.2) (c.in_err-text.ensures.halts past is)
+
 pub returns-clause-made : goal.returns-clause-made
 returns-clause-made c past shown =
     let is = c.in_ok-part.ensures past c.args.cut shown.first (c.in_ok-waiting.ensures past c.args.cut refl shown) in

@@ -3,8 +3,10 @@ use Rattle.yds_trace.specs.Asked.{Asked}
 use Rattle.yds_trace.specs.Past.{up_to}
 use Rattle.yds_trace.specs.Document.{share_of}
 use Rattle.yds_trace.specs.Ended.{in_order_of_begin}
+use Rattle.yds_trace.specs.Following.{spans_at}
 use Rattle.yds_trace.specs.Kept.{IsFollowed}
 use Rattle.yds_trace.proofs.Ending.{jobs_are}
+use Rattle.yds_trace.proofs.Spans.{others_ended}
 use Rattle.yds_trace.proofs.pass.Pass.end.Goals as goal
 
 pub returns-clause-ended : goal.returns-clause-ended
@@ -23,7 +25,10 @@ returns-clause-ended c = λ asked past at. record {
       let Q : ℕ → Type 0 = λ boundary. IsFollowed asked (up_to asked.to past) boundary n (get_or kept k d) in
       subst Q none (subst P same (at.counted.tasks k d within)))
       (c.in_ok-jobs.ensures asked.start (up_to asked.to past) at.counted.times);
-  others = ?;
+  others = c.in_ok-others.ensures
+      ∙ ap (λ (known : Asked). spans_at known.others c.last_asked-until.result c.args.self.counted.others) at.same_asked
+      ∙ others_ended asked past c.args.self.counted.boundary c.last_asked-until.result c.args.self.counted.others at.within
+      (c.last_asked-until.ensures asked past (ap (λ (read : Asked). read.to) (sym at.same_asked)) at.lines.times.last) at.counted.others;
   first = c.unwrap_or.ensures ∙ sym (at.lines.times.first 0);
   last = sym at.lines.times.last;
 }

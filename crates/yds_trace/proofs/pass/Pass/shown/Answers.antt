@@ -1,7 +1,10 @@
-use Rattle.yds_model.proofs.Common.{◌∙◌, ◌<◌, length, sym, ap, arith}
+use Rattle.yds_model.proofs.Common.{◌∙◌, ◌<◌, filter, length, sym, ap, arith}
 use Rattle.yds_trace.specs.Asked.{Asked}
 use Rattle.yds_trace.specs.Past.{up_to}
+use Rattle.yds_trace.specs.Others.{goes_behind}
+use Rattle.yds_trace.specs.Following.{spans_at}
 use Rattle.yds_trace.proofs.Showing.{task_shown, some_item}
+use Rattle.yds_trace.proofs.Spans.{others_shown}
 use Rattle.yds_trace.proofs.pass.Pass.shown.Goals as goal
 
 pub returns : goal.returns
@@ -21,7 +24,10 @@ returns c = λ asked past boundary at. record {
       (c.last_asked-until.ensures asked past (ap (λ (read : Asked). read.to) (sym at.same_asked)) at.lines.times.last)
       (rw c.deref.ensures.value at (c.in_ok-tasks.ensures.each asked.start (up_to asked.to past) at.counted.times number default kept
       (omega (arith, ap length c.deref.ensures.value, inside)))));
-  others = ?;
+  others = ap (filter (goes_behind boundary))
+      (c.in_ok-others.ensures ∙ ap (λ (known : Asked). spans_at known.others c.last_asked-until.result c.args.self.now.counted.others) at.same_asked)
+      ∙ others_shown asked past c.args.self.now.counted.boundary boundary c.last_asked-until.result c.args.self.now.counted.others at.within
+      (c.last_asked-until.ensures asked past (ap (λ (read : Asked). read.to) (sym at.same_asked)) at.lines.times.last) at.counted.others;
   first = c.unwrap_or.ensures ∙ sym (at.lines.times.first 0);
   last = sym at.lines.times.last;
 }
