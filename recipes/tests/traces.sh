@@ -135,10 +135,12 @@ who_else_ran() {
 
 # A job that moved has a share in the documents of both processors, and each tool reads it as a job.
 shares_of_a_job() {
-	from migrated-late.txt trace --tasks t5:15.5 --cpu all --start 2000000 --moved parts >"$work/parts"
-	says "traces: shares of a job that moved" 0 "t5.3@1
-t5.3@2" eval "sed -n 's/^job \\(t5\\.3@[0-9]*\\) .*/\\1/p' '$work/parts'"
-	from migrated-late.txt trace --tasks t5:15.5 --cpu 1 --start 2000000 --moved parts >"$work/document"
-	misses "$work/document" >"$work/missed"
-	if [ "$(grep -c 't5.3@1' "$work/missed")" = 1 ]; then pass; else fail "misses: a share"; cat "$work/missed"; fi
+	from moved.txt trace --tasks render:1.5 --cpu 1 --moved parts >"$work/document"
+	says "traces: a share of a job that moved" 0 "job render.0@1 0 150 10001
+# late on another processor: render.0@1, 0.500000 ms after its deadline" cat "$work/document"
+	says "misses: a share" 1 "work render.0@1 given 10000 wanted 10001, 0.500000 ms after its deadline # due at 100.002500 s
+1 missed deadline" misses "$work/document"
+	from moved.txt trace --tasks render:1.5 --cpu 0 --moved parts >"$work/document"
+	says "misses: the share in which it ended" 1 "late slot 1 render.0@0 200 deadline 150, by 50 # due at 100.002500 s
+1 missed deadline" misses "$work/document"
 }
