@@ -1,4 +1,4 @@
-# Completion for bash of yds_cli, and of the recipes' commands (yds-trace, yds-plot, ..): words, options, and files.
+# Completion for bash of yds_cli, and of the commands around it (yds-jobs, yds-plot, ..): words, options, and files.
 _yds_cli() {
 	local word=${COMP_WORDS[COMP_CWORD]} words=
 	case $COMP_CWORD:${COMP_WORDS[1]} in
@@ -10,8 +10,8 @@ _yds_cli() {
 	esac
 	COMPREPLY=($(compgen -W "$words" -- "$word"))
 }
-# The recipe tells its words itself. A word that ends with = waits for its value, which may be a file.
-_yds_recipe() {
+# A command tells its words itself. A word that ends with = waits for its value, which may be a file.
+_yds_command() {
 	local word=${COMP_WORDS[COMP_CWORD]}
 	COMPREPLY=()
 	[[ $word == = || ${COMP_WORDS[COMP_CWORD - 1]} == = ]] && return
@@ -19,15 +19,14 @@ _yds_recipe() {
 	[[ ${COMPREPLY[0]} != *= ]] || compopt -o nospace
 }
 complete -o default -F _yds_cli yds_cli
-# The recipes' commands are those on the PATH that lead to the recipes: links to command.sh, or the files of
-# recipes/bin; and those that lead to the start of the Python package's commands.
-_yds_complete_recipes() {
+# The commands are those on the PATH that lead to recipes/bin, or to the start of the Python package's commands.
+_yds_complete_commands() {
 	local command
 	for command in $(compgen -c yds- | sort -u); do
 		case $(readlink -f "$(type -P "$command")") in
-		*/recipes/command.sh | */recipes/bin/"$command" | */yds/commands/_start.py) complete -o default -F _yds_recipe "$command" ;;
+		*/recipes/bin/"$command" | */yds/commands/_start.py) complete -o default -F _yds_command "$command" ;;
 		esac
 	done
 }
-_yds_complete_recipes
-unset -f _yds_complete_recipes
+_yds_complete_commands
+unset -f _yds_complete_commands

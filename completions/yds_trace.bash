@@ -10,9 +10,11 @@ _yds_trace() {
 	--khz) words="1000 10000 100000" ;;
 	--begin) words=run ;;
 	--lost) words=cut ;;
+	--moved) words=parts ;;
+	--others) words=spans ;;
 	--tasks | --start | --from | --to) ;;
 	--help | --version) ;;
-	*) words="--tasks --cpu --us --khz --start --from --to --begin --lost --parts --strict --help --version" ;;
+	*) words="--tasks --cpu --us --khz --start --from --to --begin --lost --moved --others --parts --strict --help --version" ;;
 	esac
 	COMPREPLY=($(compgen -W "$words" -- "$word"))
 }

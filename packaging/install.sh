@@ -5,7 +5,7 @@
 #   sh packaging/install.sh remove PART ..    removes just these files, and the folders that are the project's own and empty
 #
 #   programs    each program with its manual page and completion, and the examples of documents
-#   tools       the commands yds-..: the Python package, the recipes with their samples, manual pages and completion
+#   tools       the commands yds-..: the Python package, the samples, manual pages and completion
 #   library     the shared object
 #   headers     what a compiler needs beside it: the headers, the static library and the file for pkg-config
 #   pages       the manual, the format, what is proved and the other pages for readers, with their pictures
@@ -61,42 +61,21 @@ programs() {
 	gone share/yds_cli
 }
 
-# is_python COMMAND: whether it is a command of the Python package, by its file in recipes/bin.
-is_python() { grep -q _start.py "recipes/bin/$1"; }
-
-# pages_of_commands: the manual page of each command in $own, from its own table or head.
-pages_of_commands() {
-	python=
-	for name in $commands; do
-		if is_python "$name"; then
-			python="$python $name"
-		else
-			sh recipes/command.sh "$name" --man | sed "1s/ 1 \"\" \"yds_cli\"/ 1 \"$date\" \"yds_cli $version\"/" >"$own/$name.1"
-		fi
-	done
-	# shellcheck disable=SC2086
-	python3 packaging/man.py "$own" $python || die "the manual pages couldn't be made"
-}
-
 tools() {
-	date=$(sed -n 's/^DATE = "\(.*\)"$/\1/p' python/yds/_version.py)
-	[ $mode = remove ] || pages_of_commands
+	# The manual page of each command, from its own table.
+	# shellcheck disable=SC2086
+	[ $mode = remove ] || python3 packaging/man.py "$own" $commands || die "the manual pages couldn't be made"
 	for name in $(cd python/yds && find . -name '*.py' -o -name py.typed | sort); do
 		file "python/yds/$name" "$PREFIX/lib/python3/dist-packages/yds/${name#./}"
 	done
 	[ $mode = remove ] || chmod 755 "$DESTDIR$PREFIX/$start"
-	for name in $(cd recipes && ls ./*.awk ./*.sh ./*.jq 2>/dev/null | grep -v '/test\.sh$'); do
-		file "recipes/$name" "$PREFIX/share/yds_cli/recipes/${name#./}"
-	done
-	[ $mode = remove ] || chmod 755 "$DESTDIR$PREFIX/share/yds_cli/recipes"/*.sh
 	for name in $(cd recipes/samples && find . -path ./bad -prune -o -type f -print | sort); do
 		file "recipes/samples/$name" "$PREFIX/share/yds_cli/recipes/samples/${name#./}"
 	done
 	[ $mode = remove ] || chmod 755 "$DESTDIR$PREFIX/share/yds_cli/recipes/samples"/*.sh
 	file completions/yds_cli.bash "$PREFIX/share/bash-completion/completions/yds_tools"
 	for name in $commands; do
-		if is_python "$name"; then target=../$start; else target=../share/yds_cli/recipes/command.sh; fi
-		link "$target" "$PREFIX/bin/$name"
+		link ../$start "$PREFIX/bin/$name"
 		link yds_tools "$PREFIX/share/bash-completion/completions/$name"
 		file "$own/$name.1" "$PREFIX/share/man/man1/$name.1"
 	done

@@ -35,12 +35,6 @@ Description-Content-Type: text/markdown
 
 {description}"""
 
-# The recipe that isn't in Python: pip makes no command of it, so it comes as a script.
-RECIPE = """\
-#!/bin/sh
-exec sh "$(dirname "$(readlink -f "$0")")/../share/yds_cli/recipes/command.sh" {name} "$@"
-"""
-
 WHEEL = """\
 Wheel-Version: 1.0
 Generator: yds_cli packaging/wheel.py
@@ -83,15 +77,13 @@ def metadata(version: str) -> bytes:
 
 
 def installed(stage: Path, version: str) -> Dict[str, bytes]:
-    """What isn't of the module, by its name: the programs and a recipe as scripts, and what they share."""
+    """What isn't of the module, by its name: the programs as scripts, and what they share."""
     data = f"yds-{version}.data"
     files = {f"{data}/data/{path.relative_to(stage).as_posix()}": path.read_bytes() for path in shared_files(stage)}
     files[f"{data}/data/share/doc/yds-doc/copyright"] = Path("debian/copyright").read_bytes()
     for path in (stage / "bin").iterdir():
         if not path.is_symlink():
             files[f"{data}/scripts/{path.name}"] = path.read_bytes()
-        elif f"\n{path.name} = " not in entry_points():
-            files[f"{data}/scripts/{path.name}"] = RECIPE.format(name=path.name).encode()
     return files
 
 

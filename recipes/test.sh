@@ -1,5 +1,5 @@
 #!/bin/sh
-# test.sh: runs each recipe on its sample and compares what it writes, byte for byte, with what is stored.
+# test.sh: runs each command on its sample and compares what it writes, byte for byte, with what is stored.
 #
 #   sh recipes/test.sh [PART ..]      parts: trace points comma energy rtapp folder page manual readme,
 #                               and the files of tests/; all without one
@@ -92,60 +92,26 @@ answers() {
 }
 # from FILE COMMAND ..: with FILE as standard input.
 from() { input=$1; shift; "$@" <"$input"; }
-recipe() { program=$1; shift; $AWK -f "$here/$program" "$@"; }
 # tool NAME ..: a command of the package yds, as yds-NAME.
 tool() { command=$1; shift; "$PYTHON" "$here/../python/yds/commands/_start.py" "yds-$command" "$@"; }
 
-trace() { recipe trace.awk "$@"; }
+trace() { "$YDS_TRACE" "$@"; }
 points() { tool points "$@"; }
 
+# Each document below is one that yds_trace writes. The stored traces of examples/traces have what it refuses.
 test_trace() {
-	t=tasks=decode:16.667,audio:10
-	same "trace: trace-cmd report" 0 trace.txt trace -v $t trace-report.txt
-	same "trace: raw report" 0 trace.txt trace -v $t trace-raw.txt
-	same "trace: the kernel's file" 0 trace-file.txt trace -v $t trace-file.txt
-	same "trace: perf script" 0 trace-perf.txt trace -v $t -v cpu=3 -v start=2000000 trace-perf.txt
-	same "trace: others" 0 trace-others.txt trace -v $t -v others=10 trace-report.txt
-	same "trace: exact speeds" 0 trace-exact-speeds.txt trace -v $t -v khz=24000 trace-report.txt
-	same "trace: a late job" 0 trace-late.txt trace -v $t trace-late.txt
-	same "trace: events lost" 0 trace-lost.txt trace -v $t -v lost=cut trace-lost.txt
-	same "trace: jobs of a file" 0 trace-frames.txt trace -v from=5123.400623456 -v tasks=decode,audio -v jobs=frames.txt -v us=1000 -v khz=1000 -v ticks=1000 trace-report.txt
-	refuses "trace: events lost, refused" 1 failed "trace.awk: line 37: events were lost; record with a larger buffer (-b), or give lost=cut" \
-		trace -v $t trace-lost.txt
-	refuses "trace: no tasks" 2 failed "trace.awk: no tasks= given" trace trace-report.txt
-	refuses "trace: a deadline that is no number" 2 failed "trace.awk: tasks=.. decode:x isn't NAME:MILLISECONDS" trace -v tasks=decode:x trace-report.txt
-	refuses "trace: ticks without jobs" 2 failed "trace.awk: ticks=1000 needs jobs=FILE: only with ticks=1 is the work of each run whole" \
-		trace -v $t -v ticks=1000 trace-report.txt
-	refuses "trace: an empty trace" 1 failed "trace.awk: no line of a trace was read; the input is the text of trace-cmd report, perf script or the trace file" \
-		trace -v $t /dev/null
-	refuses "trace: no such file" 1 failed "trace.awk: it's nowhere can't be read" trace -v $t "it's nowhere"
-	refuses "trace: a folder" 1 failed "trace.awk: bad can't be read" trace -v $t bad
-	refuses "trace: no such task" 1 failed "trace.awk: no listed task runs or wakes up in this trace; those that do are audio, Web Content, decode, kworker/0:1; tasks=? lists them" \
-		trace -v tasks=encode:10 trace-report.txt
-	refuses "trace: one of two tasks isn't there" 1 failed \
-		"trace.awk: no task audoi runs or wakes up in this trace; those that do are audio, Web Content, decode, kworker/0:1; tasks=? lists them" \
-		trace -v tasks=decode:16.667,audoi:10 trace-report.txt
-	same "trace: a space after the comma" 0 trace.txt trace -v "tasks=decode:16.667, audio:10" trace-report.txt
-	refuses "trace: no frequency" 1 failed "trace.awk: no whole job: 5 are left out, 4 (frequency not known), 1 (not ended); give start=KHZ" \
-		trace -v tasks=decode:10 -v cpu=3 trace-perf.txt
-	refuses "trace: runs on another CPU" 1 failed "trace.awk: no whole job: all 6 are left out (ran on CPU 1); give cpu=1" \
-		trace -v "tasks=Web Content:10" -v cpu=0 trace-report.txt
-	sed '20,$s/ 5123/ 5122/' trace-report.txt >"$work/back"
-	refuses "trace: time goes back" 1 failed "trace.awk: line 21: the time goes back; sort the trace by time, or give one recording" trace -v $t "$work/back"
-	sed '13s/ ==>.*//' trace-report.txt >"$work/cut"
-	refuses "trace: a line cut short" 1 failed "trace.awk: line 13: a switch in an unknown form, or cut short" trace -v $t "$work/cut"
-	sed 13d trace-report.txt >"$work/missing"
-	refuses "trace: a switch is missing" 1 failed "trace.awk: line 13: a switch is missing: kworker/0:1 leaves CPU 0, and the last to come was decode; record again, perhaps with trace-cmd" \
-		trace -v $t "$work/missing"
-	sed '26,32s/decode:1201/decode:1299/; 26,32s/comm=decode pid=1201/comm=decode pid=1299/' trace-report.txt >"$work/two"
-	refuses "trace: two threads of one name" 1 failed "trace.awk: line 26: two threads are named decode, 1201 and 1299; give the one that is meant, as tasks=1299=decode:.." \
-		trace -v $t "$work/two"
-	refuses "trace: too much work" 1 failed "trace.awk: decode.0 has a work of 1049984, above 1000000; give a coarser us= or khz= (or does the task never sleep?)" \
-		trace -v $t -v us=2 -v khz=3000 trace-report.txt
-	refuses "trace: a deadline within a unit" 1 failed "trace.awk: decode.0 has its deadline within one unit of time; give a finer us=" \
-		trace -v tasks=decode:0.5 -v us=1000 trace-report.txt
-	same "trace: only what is within" 0 trace-within.txt trace -v $t -v from=5123.410 -v to=5123.430 trace-report.txt
-	same "trace: named by its thread" 0 trace-thread.txt trace -v tasks=1202=sound:10 trace-report.txt
+	t="--tasks decode:16.667,audio:10"
+	# shellcheck disable=SC2086
+	same "trace: in time" 0 document.txt from trace-report.txt trace $t
+	# shellcheck disable=SC2086
+	same "trace: a late job" 0 document-late.txt from trace-late.txt trace $t
+	# shellcheck disable=SC2086
+	same "trace: events lost" 0 document-lost.txt from trace-lost.txt trace $t --lost cut
+	same "trace: starving" 0 document-starving.txt from starving.txt trace --tasks audio:5,render:16
+	same "trace: late on another processor" 0 document-elsewhere.txt from elsewhere.txt trace --tasks render:16
+	same "trace: late in a short run" 0 document-short-late.txt from short-late.txt trace --tasks audio:5
+	same "trace: ends in short runs" 0 document-tick.txt from tick.txt trace --tasks render:9
+	same "trace: the stored document" 0 document.txt cat governor.txt
 	answers "trace: feasible" 0 feasible from "$expected/document.txt" "$YDS" audit
 	cat "$expected/points.txt" "$expected/document.txt" >"$work/both"
 	answers "trace: feasible on the points" 0 feasible from "$work/both" "$YDS" audit --points
@@ -231,14 +197,12 @@ test_rtapp() {
 	if cmp -s "$work/expanded" "$work/jobs" && [ -s "$work/jobs" ]; then pass; else fail "rtapp: -j and expand give the same jobs"; fi
 }
 
-# Where the machine has a locale with a decimal comma, and awk heeds it: no recipe reckons with it.
+# Where the machine has a locale with a decimal comma: no command reckons with it.
 test_comma() {
 	comma=$(locale -a 2>/dev/null | grep -iE '^(de|es|fr|it|nl|pl)_.*utf-?8$' | head -n 1)
 	[ -n "$comma" ] || return
-	LC_ALL=$comma $AWK 'BEGIN { exit "1.5" * 2 == 3 }' || return
-	text="this awk has a decimal comma in this locale; say export LC_ALL=C first"
-	refuses "comma: trace" 1 failed "trace.awk: $text" env LC_ALL="$comma" $AWK -f "$here/trace.awk" -v tasks=decode:16.667,audio:10 trace-report.txt
 	same "comma: misses has its own locale" 1 misses.txt from /dev/null env LC_ALL="$comma" "$here/bin/yds-misses" late-twice.txt
+	same "comma: trace" 0 document.txt from trace-report.txt env LC_ALL="$comma" "$YDS_TRACE" --tasks decode:16.667,audio:10
 }
 
 energy() { tool energy "$@"; }
@@ -308,7 +272,7 @@ test_folder() {
 	cat "$expected/compare-a.txt" "$expected/energy.txt" >"$work/more.txt"
 	same "collect: no answer, and another side" 0 more.tsv tool collect "$work/empty.txt" "$work/more.txt"
 	cat "$expected/energy.txt" "$expected/energy.txt" >"$work/twice.txt"
-	refuses "collect: a side twice" 1 "" "yds-collect: twice.txt, line 11, column 1: the side governor stands twice; write its lines into a new file" from /dev/null tool_in "$work" collect twice.txt
+	refuses "collect: a side twice" 1 "" "yds-collect: twice.txt, line 9, column 1: the side governor stands twice; write its lines into a new file" from /dev/null tool_in "$work" collect twice.txt
 	refuses "collect: another file" 1 "" "yds-collect: points.txt, line 2: \"point 0 0\" is no line of compare or yds-energy" from /dev/null tool_in "$expected" collect points.txt
 	tool_in "$expected" reports report-a.json report-refused.json >"$work/reports.tsv" 2>&1
 	same "report: a table" 0 reports.tsv cat "$work/reports.tsv"
@@ -323,7 +287,6 @@ test_folder() {
 	same "folder: through parallel" 0 folder.tsv tool collect "$work"/para/*.txt
 }
 tool_in() { (cd "$1" && shift && tool "$@"); }
-recipe_in() { (cd "$1" && shift && recipe "$@"); }
 
 test_page() {
 	if want mandoc; then

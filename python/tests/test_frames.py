@@ -35,7 +35,7 @@ class Frames(unittest.TestCase):
 class ByHand(Frames):
     def test_a_stored_trace(self) -> None:
         """In units of 10 us the runs are those of the stored document, which has ticks of 1 us, to a hundredth of them."""
-        stored = (EXPECTED / "frames.txt").read_text().splitlines()
+        stored = (EXPECTED / "document-frames.txt").read_text().splitlines()
         trace = (EXPECTED / "document.txt").read_text().replace("10000 kHz", "1000 kHz")
         told = self.told((SAMPLES / "frames.txt").read_text(), trace, "--us", "1000", "--khz=1000")
         self.assertEqual(told[:10], stored[:10])

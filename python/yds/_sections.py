@@ -264,8 +264,10 @@ def _of_others(facts: Facts) -> List[Markup]:
     ran = sum((span.length for span in facts.given.others.all), Fraction(0))
     if not ran:
         return []
-    told = ["Other threads had the processor for ", facts.scale.time(ran), f" {facts.scale.time_unit} while a job waited. "]
-    return [element("p", *told, "The least is that of these jobs on a processor that has nothing else to do.", class_="told")]
+    waited = f" {facts.scale.time_unit} while a job waited. "
+    least = "The least is that of these jobs on a processor that has nothing else to do."
+    told = ["Other threads had the processor for ", facts.scale.time(ran), waited, least]
+    return [element("p", *told, class_="told")]
 
 
 def speeds(facts: Facts) -> Markup:

@@ -287,9 +287,9 @@ trace time 10 2
 # trace misses 2 deadlines, the first b" energy "$work/starved"
 	# What the trace's comments tell: jobs that ran elsewhere, and one late by less than a unit, as yds-misses counts them.
 	for sample in elsewhere short-late starving lost; do
-		printf 'point 0 1\npoint 100 20\npoint 200 90\n' | cat - "$expected/trace-$sample.txt" >"$work/told"
+		printf 'point 0 1\npoint 100 20\npoint 200 90\n' | cat - "$expected/document-$sample.txt" >"$work/told"
 		told=$(energy "$work/told" | sed -n 's/^# trace misses \([0-9]*\) .*/\1/p')
-		counted=$(tool misses "$expected/trace-$sample.txt" | sed -n 's/^\([0-9]*\) missed deadlines*$/\1/p')
+		counted=$(tool misses "$expected/document-$sample.txt" | sed -n 's/^\([0-9]*\) missed deadlines*$/\1/p')
 		if [ "$told" = "$counted" ]; then pass; else fail "energy: $sample misses $told, yds-misses says $counted"; fi
 	done
 	energy "$work/told" >"$work/lost"
@@ -301,14 +301,10 @@ trace time 10 2
 	printf 'plan energy 100\nplan time 0 10\n' | cat - "$work/priced" >"$work/sides"
 	text "battery: a side that misses" 0 "side	milliwatts	hours	of plan (%)
 plan	0.100	6600.0	100.0
-governor	misses 1	-	-
-# other tasks ran for 0.422 ms of 53.697 ms: what they spent is in no line, and no plan makes room for them
-# 6 of 6 changes of frequency were made on another CPU: what runs there sets these speeds, too" tool battery --mah 220 --volts 3 --uw 10 --period 10 "$work/sides"
+governor	misses 1	-	-" tool battery --mah 220 --volts 3 --uw 10 --period 10 "$work/sides"
 	text "collect: a side that misses" 0 "document	plan	avr	oa	governor	rounded	answer
 sides	100.000000	-	-	-	-	ok
-# sides: governor misses 1 deadline, the first decode.2
-# sides: other tasks ran for 0.422 ms of 53.697 ms: what they spent is in no line, and no plan makes room for them
-# sides: 6 of 6 changes of frequency were made on another CPU: what runs there sets these speeds, too" tool collect "$work/sides"
+# sides: governor misses 1 deadline, the first decode.2" tool collect "$work/sides"
 }
 
 means() {

@@ -8,7 +8,7 @@ test_install() {
 	if grep -q "^## $version\$" "$here/../CHANGELOG.md"; then pass; else fail "install: CHANGELOG.md has nothing of version $version"; fi
 	answers "install: debian/changelog has this version" 0 "yds-cli ($version) unstable; urgency=medium" head -n 1 "$here/../debian/changelog"
 	answers "install: the installed program" 0 accepted from /dev/null sh -c '"$1" trial 0 9 | tail -n 1' sh "$work/stage/usr/bin/yds_cli"
-	for file in share/bash-completion/completions/yds_cli share/bash-completion/completions/yds_trace share/yds_cli/recipes/trace.awk share/yds_cli/recipes/samples/folder/a.txt share/yds_cli/examples/three-jobs.txt; do
+	for file in share/bash-completion/completions/yds_cli share/bash-completion/completions/yds_trace share/yds_cli/recipes/samples/folder/a.txt share/yds_cli/examples/three-jobs.txt; do
 		[ -f "$work/stage/usr/$file" ] || { fail "install: $file isn't there"; return; }
 	done
 	for link in "$work"/stage/usr/bin/yds-*; do

@@ -233,7 +233,7 @@ test_parts_drawn() {
 # Half a minute of a simulated trace: its jobs, the verdict, and what its governor spends, by parts, at once and by the simulator's account.
 test_parts_trace() {
 	$AWK -v seed=2 -v minutes=0.5 -v truth="$work/truth" -f simulate-long.awk >"$work/trace"
-	recipe trace.awk -v long=1 -v tasks=decode:50,audio:20 "$work/trace" >"$work/document"
+	from "$work/trace" trace --tasks decode:50,audio:20 >"$work/document"
 	cat "$expected/points.txt" "$work/document" >"$work/long"
 	parts --folder "$work/half" --jobs 200 "$work/long"
 	if [ "$(ls "$work/half" | wc -l)" -gt 4 ]; then pass; else fail "parts: the parts of a trace"; fi

@@ -30,7 +30,7 @@ jobs_without_work() {
 	<idle>-0 [000] 100.011000000: sched_switch: swapper/0:0 [120] R ==> audio:12 [120]
 	audio-12 [000] 100.012004000: sched_switch: audio:12 [120] S ==> swapper/0:0 [120]
 	END
-	trace -v tasks=audio:5 "$work/trace" >"$work/document"
+	from "$work/trace" trace --tasks audio:5 >"$work/document"
 	one="# 1 job has no work: it needs nothing and is in time, the first audio.0"
 	tells "told: a job without work, by yds-misses" 0 "$one" found "$work/document"
 	answers "told: and its last line is the verdict" 0 feasible eval "found '$work/document' | tail -n 1"

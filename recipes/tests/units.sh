@@ -13,20 +13,20 @@ test_units() {
 
 texts_together() {
 	cat "$expected/points.txt" "$expected/document.txt" >"$work/both"
-	same "join: points and a trace" 0 trace.txt eval "tool join '$expected/points.txt' '$expected/document.txt' | tail -n +$(($(wc -l <"$expected/points.txt") + 1))"
+	same "join: points and a trace" 0 document.txt eval "tool join '$expected/points.txt' '$expected/document.txt' | tail -n +$(($(wc -l <"$expected/points.txt") + 1))"
 	join "$expected/points.txt" "$expected/document.txt" >"$work/joined"
 	if cmp -s "$work/both" "$work/joined"; then pass; else fail "join: the texts one after the other"; fi
 	if [ -n "$("$YDS" audit --points <"$work/joined" | grep feasible)" ]; then pass; else fail "join: the program reads it"; fi
 	sed 's/speed unit 10000 kHz/speed unit 1000 kHz/' "$expected/points.txt" >"$work/points"
 	answers "join: a speed in two units" 1 failed eval "(tool join '$work/points' '$expected/document.txt' | tail -n 1; exit 1)"
-	faulty "join: a speed in two units, the message" "yds-join: trace.txt, line 2: a unit of speed of 10000 kHz here, and 1000 kHz in points; give both the same --khz" points "$expected/document.txt"
+	faulty "join: a speed in two units, the message" "yds-join: document.txt, line 2: a unit of speed of 10000 kHz here, and 1000 kHz in points; give both the same --khz" points "$expected/document.txt"
 	answers "join: what is refused isn't read" 3 "refused 36 1 UnknownKind" eval "(tool join '$work/points' '$expected/document.txt' 2>/dev/null | '$YDS' audit | sed 's/ [0-9]* / 36 /'; exit 3)"
 	sed 's/time unit 10 us/time unit 100 us/' "$expected/document.txt" >"$work/trace"
-	faulty "join: a time in two units" "yds-join: trace, line 2: a unit of time of 100 us here, and 10 us in trace.txt; give both the same --us" "$expected/document.txt" trace
+	faulty "join: a time in two units" "yds-join: trace, line 2: a unit of time of 100 us here, and 10 us in document.txt; give both the same --us" "$expected/document.txt" trace
 	faulty "join: points twice" "yds-join: points-tree.txt has points, and points.txt too; give the points of one device" "$expected/points.txt" "$expected/points-tree.txt"
 	sed 's/power unit 1000 uW/power unit 100 uW/' "$expected/points.txt" >"$work/points"
 	faulty "join: a power in two units" "yds-join: points.txt, line 1: a unit of power of 1000 uW here, and 100 uW in points; give the points of one --uw" points "$expected/points.txt"
-	faulty "join: two traces" "yds-join: trace-starving.txt, line 1: time 0 at 100.000000000 s here, and 5123.400623456 s in trace.txt; give one trace" \
+	faulty "join: two traces" "yds-join: document-starving.txt, line 1: time 0 at 100.000000000 s here, and 5123.400623456 s in document.txt; give one trace" \
 		"$expected/document.txt" "$expected/document-starving.txt"
 	printf '# period 10\njob a 0 10 1\n' >"$work/ten"
 	printf '# period 20\njob b 0 10 1\n' >"$work/twenty"

@@ -15,7 +15,7 @@ COMMAND = Command(
     "yds-frames",
     "the document of a trace with the job lines of an application in the place of its own",
     """
-    yds_trace --us 1 --khz 1000 --from 5123.400623456 --tasks decode:16.667,audio:10 < report.txt > trace.txt
+    yds_trace --khz 1000 --from 5123.400623456 --tasks decode:16.667,audio:10 < report.txt > trace.txt
     yds-frames --jobs frames.txt --us 1000 --khz 1000 trace.txt > document.txt
 
 An application may know its frames: when each is released, when it is due, and how much work it has. FILE has a line
