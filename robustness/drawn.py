@@ -369,6 +369,8 @@ def sharing(it: Drawing) -> None:
     if is_short:
         it.options.pop("--begin", None)
     it.unbound()
+    if it.draw.random() < 0.4:
+        it.options["--cpu"] = "all"
     if it.draw.random() < 0.9:
         it.options["--moved"] = "parts"
 
