@@ -1,5 +1,5 @@
 -- From what was told in parts to what was written.
-use Rattle.yds_model.proofs.Common.{◌≡◌, ◌≢◌, ℕ, ◌<◌, ◌≤◌, ◌⊎◌, inl, inr, List, [], ◌++◌, append-nil, Bool, true, Option, Some, None, Ok, Err, refl, sym, ap, subst, ◌∙◌, arith, cases_lt}
+use Rattle.yds_model.proofs.Common.{◌≡◌, ◌≢◌, ℕ, ◌<◌, ◌≤◌, ◌⊎◌, inl, inr, List, [], ◌++◌, append_assoc, append-nil, Bool, true, Option, Some, None, Ok, Err, refl, sym, ap, subst, ◌∙◌, arith, cases_lt}
 use Rattle.std.specs.Prelude.{IfSome}
 use Rattle.std.specs.Io.KnownBytes.{Appends}
 use Rattle.std.proofs.KnownBytes.{Appends-trans}
@@ -14,7 +14,6 @@ use Rattle.yds_trace_parts.specs.declared.halt.Halt.{Halt as HaltKept}
 use Rattle.yds_trace_parts.specs.declared.halt.Halt.TheVariants as halts
 use Rattle.yds_trace_parts.specs.Told.{Halt, InForm, AtLine, OfDocument, OfText, NoPlace, told_after, told_of}
 use Rattle.yds_trace_parts.specs.Driving.{WritesSome, Writes as WritesParts}
-use Rattle.yds_trace_parts.proofs.Driven.{front_after, front_longer}
 use Rattle.yds_trace_words.specs.Request.{ReadTrace}
 use Rattle.yds_trace_run.specs.FaultText.{halt_text, too_long_text, memory_text, read_fault_text}
 use Rattle.yds_trace_run.specs.Answer.{IsTold, IsUncounted, WasWritten, EndsWith}
@@ -22,6 +21,24 @@ use Rattle.yds_trace_run.specs.Endings.{Outcome, Writes, IsDelivered, IsEnded, L
 use Rattle.yds_trace_run.proofs.Left.{leaves_read_out, leaves_failed}
 
 -- # One text behind another
+
+-- what is appended behind a text that was appended whole
+front_after : (front back : List ℕ) (a b c : Option (List ℕ)) → Appends a b front → AppendsFront back b c → AppendsFront (front ++ back) a c
+front_after front back a b c first rest = record {
+  front = front ++ rest.front;
+  rest = rest.rest;
+  is_front = ap (λ (text : List ℕ). front ++ text) rest.is_front ∙ sym (append_assoc front rest.front rest.rest);
+  appended = Appends-trans a b c front rest.front first rest.appended;
+}
+
+-- a front of a text is one of a longer text
+front_longer : (front back : List ℕ) (a b : Option (List ℕ)) → AppendsFront front a b → AppendsFront (front ++ back) a b
+front_longer front back a b is = record {
+  front = is.front;
+  rest = is.rest ++ back;
+  is_front = ap (λ (text : List ℕ). text ++ back) is.is_front ∙ append_assoc is.front is.rest back;
+  appended = is.appended;
+}
 
 pub outcome_more : (ended : Status) (first text : List ℕ) (status : Status) (old mid new : Option (List ℕ)) (flushed : Option ℕ) → Appends old mid first → Outcome ended text status mid new flushed
     → Outcome ended (first ++ text) status old new flushed

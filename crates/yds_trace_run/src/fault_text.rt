@@ -225,7 +225,7 @@ pub(crate) fn long_part_line(processor: Option<u64>, part: u64) -> ArrayString<L
     line
 }
 
-/// The begin of a comment on the part of this number.
+/// The begin of a comment on the part of this number, of this processor where each has documents of its own.
 fn part_front(processor: Option<u64>, part: u64) -> ArrayString<LINE_BYTES>
     ensures text { result.bytes ≡ codes "# " ++ (codes "part " ++ decimal part ++ spec.on_processor processor ++ codes ": ") }
     ensures short { array_string_len result ≤ 70 }
@@ -233,21 +233,12 @@ fn part_front(processor: Option<u64>, part: u64) -> ArrayString<LINE_BYTES>
     let mut line = ArrayString::new();
     line.push_str("# part ");
     line.push_str(Buffer::new().format(part));
-    push_processor(processor, &mut line);
-    line.push_str(": ");
-    line
-}
-
-/// Whose part it is, where each processor has documents of its own.
-fn push_processor(processor: Option<u64>, line: &mut ArrayString<LINE_BYTES>)
-    requires { array_string_len line.old ≤ 30 }
-    ensures text { line.new.bytes ≡ line.old.bytes ++ spec.on_processor processor }
-    ensures short { array_string_len line.new ≤ array_string_len line.old + 38 }
-{
     if let Some(processor) = processor {
         line.push_str(" of processor ");
         line.push_str(Buffer::new().format(processor));
     }
+    line.push_str(": ");
+    line
 }
 
 /// The text where too much waits and there is no place to cut: the job that has been open longest, or else the first that waits,
