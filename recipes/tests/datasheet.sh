@@ -437,7 +437,7 @@ speeds_of_slots() {
 linear_programs() {
 	has glpsol || return
 	for document in a b c; do
-		$AWK -f least-energy.awk "folder/$document.txt" >"$work/data"
+		"$PYTHON" "$here/tests/least_energy.py" "folder/$document.txt" >"$work/data"
 		glpsol -m least-energy.mod -d "$work/data" -y "$work/lines" >/dev/null
 		grep '^point' "folder/$document.txt" | cat - "$work/lines" >"$work/printed"
 		slots --most 0.000001 "$work/printed" >"$work/near"
