@@ -104,6 +104,8 @@ test_trace() {
 	# shellcheck disable=SC2086
 	same "trace: in time" 0 document.txt from trace-report.txt trace $t
 	# shellcheck disable=SC2086
+	same "trace: in microseconds" 0 document-microseconds.txt from trace-report.txt trace $t --us 1 --khz 100000
+	# shellcheck disable=SC2086
 	same "trace: a late job" 0 document-late.txt from trace-late.txt trace $t
 	# shellcheck disable=SC2086
 	same "trace: events lost" 0 document-lost.txt from trace-lost.txt trace $t --lost cut

@@ -34,18 +34,17 @@ class Frames(unittest.TestCase):
 
 class ByHand(Frames):
     def test_a_stored_trace(self) -> None:
-        """In units of 10 us the runs are those of the stored document, which has ticks of 1 us, to a hundredth of them."""
-        stored = (EXPECTED / "document-frames.txt").read_text().splitlines()
+        """In units of 10 us the runs are those that yds_trace writes in units of 1 us, to a tenth of these times."""
+        fine = (EXPECTED / "document-microseconds.txt").read_text().splitlines()
         trace = (EXPECTED / "document.txt").read_text().replace("10000 kHz", "1000 kHz")
-        told = self.told((SAMPLES / "frames.txt").read_text(), trace, "--us", "1000", "--khz=1000")
-        self.assertEqual(told[:10], stored[:10])
-        self.assertEqual(told[10], "ticks 100")
-        self.assertEqual([line for line in told if line[0] == "#"][2:], ["# 8 jobs written, none left out"])
-        for line, wanted in zip(told[11:30], stored[11:30]):
-            kind, name, start, end, _ = line.split()
-            self.assertEqual(
-                [kind, name, start, end], [*wanted.split()[:2], *(x[:-1] or "0" for x in wanted.split()[2:4])]
-            )
+        lines = (SAMPLES / "frames.txt").read_text()
+        told = self.told(lines, trace, "--us", "1000", "--khz=1000")
+        units = "# time unit 1000 us, speed unit 1000 kHz, work unit 1000 cycles"
+        self.assertEqual(told[:11], [fine[0], units, *lines.splitlines(), "ticks 100"])
+        self.assertEqual(told[-1], "# 8 jobs written, none left out")
+        runs = [line.split()[1:4] for line in fine if line[:4] == "run "]
+        rounded = [[name, start[:-1] or "0", end[:-1]] for name, start, end in runs]
+        self.assertEqual([line.split()[1:4] for line in told[11:-1]], rounded)
 
     def test_what_is_late_is_told_anew(self) -> None:
         """The trace's deadlines were 16 ms after the begins; the application's are its own."""
