@@ -5,7 +5,8 @@
 The traces are those of drawn.py, TRACES of them (1,000), and each third has a line that is broken. The second reading is
 below, from docs/definitions.md. It takes the lines apart by lines.py, keeps the whole trace, and shares no code with the
 crates. PROGRAM is a built yds_trace; it runs with the words `--tasks ?`. The last lines tell what was in the traces, and
-whether the readings agree. The status is 1 where one differs, or where something was in less than one trace in fifty.
+whether the readings agree. The status is 1 where one differs, and also where of 1,000 traces or more something was in
+less than one in fifty.
 """
 
 import random
@@ -211,7 +212,7 @@ def main(words: List[str]) -> int:
             sys.stdout.flush()
             sys.stdout.buffer.write(b"\n".join([trace, b"-- the program", done.stdout, b"-- the second reading", text.encode(), b"--\n"]))
     print(", ".join(f"{count} {word}" for word, count in sorted(found.items())))
-    few = [word for word in WANTED if found[word] * 50 < many]
+    few = [word for word in WANTED if found[word] * 50 < many] if many >= 1000 else []
     if few:
         print("too few: " + ", ".join(few))
     print(f"{many} traces of seed {seed}: {'the readings differ' if differ else 'the readings agree'}")
