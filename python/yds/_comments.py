@@ -50,8 +50,8 @@ class Note(NamedTuple):
 def note_of(text: str) -> Optional[Note]:
     """The note of a comment; None where it is none.
 
-    >>> note_of("# late, without its runs: a.1 (ran on CPU 2), at least 3.2 ms after its deadline; window -4 9")[1:7]
-    ('a.1', 'ran on CPU 2', '3.2', True, False, (-4, 9))
+    >>> note_of("# late, without its runs: a.1 (events lost), at least 3.2 ms after its deadline; window -4 9")[1:7]
+    ('a.1', 'events lost', '3.2', True, False, (-4, 9))
     """
     found = _NOTE(text)
     if found is None:

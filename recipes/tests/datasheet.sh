@@ -581,15 +581,15 @@ tables() {
 	text "answer: misses of a trace" 0 '{"verdicts":[{"verdict":"late","slot":6,"job":"audio.1","to":1294,"to_exact":"1294","deadline":1200,"late":94,"late_exact":"94","due":5123.412623},{"verdict":"late","slot":19,"job":"decode.2","to":5319,"to_exact":"5319","deadline":5150,"late":169,"late_exact":"169","due":5123.452123}],"missed":[{"missed":2}]}' \
 		answer "$expected/misses.txt"
 	text "answer: misses whose end isn't known" 0 "verdict,job,given,given_exact,wanted,not_ended_ms,due
-work,render.0,20000,20000,20001,13.000,100.017000
-work,audio.1,0,0,1,15.000,100.015000" answer --csv verdicts "$expected/misses-starving.txt"
+work,render.0,20000,20000,20001,13.000000,100.017000
+work,audio.1,0,0,1,15.000000,100.015000" answer --csv verdicts "$expected/misses-starving.txt"
 	text "answer: a job that wasn't done even then" 0 '{"verdicts":[{"verdict":"late","slot":3,"job":"b","to":6,"to_exact":"6","deadline":5,"late_at_least":1.5,"late_at_least_exact":"1+1/2","given":4,"given_exact":"4","wanted":5}]}' \
 		eval "echo 'late slot 3 b 6 deadline 5, by at least 1+1/2: given 4 wanted 5' | tool answer"
 	refuses "answer: a miss in another form" 1 "" 'yds-answer: line 1: "late slot 2 a b deadline c, by 3" is no line of an answer' eval "echo 'late slot 2 a b deadline c, by 3' | tool answer"
 	text "answer: misses of jobs that are there without their runs" 0 "verdict,job,reason,due
-\"late, without its runs\",render.1,\"render.1 (ran on CPU 1), 25.000 ms after its deadline; window 5000 6600\",200.066000" answer --csv verdicts "$expected/misses-elsewhere.txt"
+\"late, without its runs\",render.1,\"render.1 (ran on another processor), 25.000000 ms after its deadline; window 5000 6600\",200.066000" answer --csv verdicts "$expected/misses-elsewhere.txt"
 	text "answer: misses of jobs that were left out" 0 "verdict,job,reason,due
-left out,render.1,\"render.1 (ran on CPU 1), 25.000 ms after its deadline; window 5000 6600\",200.066000" \
+left out,render.1,\"render.1 (ran on another processor), 25.000000 ms after its deadline; window 5000 6600\",200.066000" \
 		eval "sed 's/late, without its runs/left out/' '$expected/misses-elsewhere.txt' | tool answer --csv verdicts"
 	text "answer: a miss that a comment alone tells" 0 '{"verdicts":[{"verdict":"late in a run within one tick","job":"render.0","reason":"render.0, 1.001 ms after its deadline","due":200.002000}]}' \
 		eval "echo 'late in a run within one tick: render.0, 1.001 ms after its deadline # due at 200.002000 s' | tool answer"

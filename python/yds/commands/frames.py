@@ -28,7 +28,7 @@ trace, of which those of a task's k-th job from time 0 on, counted from 0, are N
 NAME.k; and comments. The deadlines that yds_trace was given count no more: what its comments tell of ends is told anew,
 by FILE's deadlines. A time by which a job is late is then a least one, since the trace's times are rounded.
 
-  # left out: decode.7 (ran on CPU 1); window 117 134       its runs aren't here
+  # left out: decode.7 (events lost); window 117 134        its runs aren't here
   # left out: 3 jobs of audio (not in frames.txt), ..       these neither: FILE has no line for them
   # 2 jobs of frames.txt have no run here, ..               unless their work is 0, `audit` says so
   # 1 job begins outside of its window, ..                  the runs may be another's: look at time 0
