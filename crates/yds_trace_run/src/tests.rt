@@ -162,10 +162,10 @@ fn a_job_that_moved_is_shared_out(rt: HostRuntime) -> Result<(), Fail> {
 }
 
 /// A line for each of these jobs, which has its processor for ten microseconds: two threads take turns.
-fn turns(alloc: Global, jobs: u64) -> Result<Vec<u8>, AllocError> {
+fn turns(alloc: Global, jobs: u16) -> Result<Vec<u8>, AllocError> {
     let mut text = Vec::new(alloc);
     for number in 0..jobs {
-        let time = 100_000 + 10 * number;
+        let time = 100_000 + 10 * u64::from(number);
         let (from, to) = if number % 2 == 0 {
             ("b prev_pid=8", "a next_pid=7")
         } else {

@@ -1,5 +1,6 @@
 //! The whole text.
 ghost use Rattle.std.specs.Prelude.{◌≡◌, ◌≤◌, ◌<◌, ◌++◌, List, OnOk, IfOk, IfErr, length, map};
+ghost use Rattle.std.specs.List.{flat_map};
 ghost use Rattle.yds_model.specs.declared.limits.TheConstants.{MAX_INPUT};
 ghost use Rattle.yds_kernel.specs.Event.{Said};
 ghost use Rattle.yds_trace.specs.Asked as words;
@@ -116,11 +117,58 @@ fn put_comments(
 ) -> Result<(), Memory>
     ensures { OnOk result (text.new.items ≡ text.old.items ++ spec.comments_text (map task_read tasks.now) (settled_read settled.now)) }
 {
+    put_job_comments(alloc, tasks, settled, text)?;
+    put_more_comments(alloc, tasks, settled, text)
+}
+
+/// The first ones, on jobs: on late ones, on begins and ends that no run shows, and on those that are left out.
+fn put_job_comments(
+    alloc: Global,
+    tasks: &[Task],
+    settled: &Settled<'_>,
+    text: &mut Vec<u8>,
+) -> Result<(), Memory>
+    ensures { OnOk result (text.new.items ≡ text.old.items
+        ++ flat_map (spec.late_comment (settled_read settled.now).units) (settled_read settled.now).judged
+        ++ flat_map (spec.shown_comments (settled_read settled.now).units) (settled_read settled.now).judged
+        ++ spec.left_out_comments (map task_read tasks.now) (settled_read settled.now).by_task (settled_read settled.now).judged) }
+{
     put_all_late(alloc, settled.units, &settled.judged, text)?;
     put_all_shown(alloc, settled.units, &settled.judged, text)?;
-    put_left_out(alloc, tasks, &settled.by_task, &settled.judged, text)?;
+    put_left_out(alloc, tasks, &settled.by_task, &settled.judged, text)
+}
+
+/// The others, on all jobs together, on units that may be wrong and on who else had the processor; and the line that counts.
+fn put_more_comments(
+    alloc: Global,
+    tasks: &[Task],
+    settled: &Settled<'_>,
+    text: &mut Vec<u8>,
+) -> Result<(), Memory>
+    ensures { OnOk result (text.new.items ≡ text.old.items
+        ++ spec.short_comment (spec.short_stretches (settled_read settled.now).units (settled_read settled.now).judged)
+        ++ spec.wake_up_comment (settled_read settled.now).judged
+        ++ spec.all_unit_comments (map task_read tasks.now) (settled_read settled.now).by_task
+        ++ flat_map (spec.other_comment (settled_read settled.now).units) (settled_read settled.now).others
+        ++ spec.last_line (settled_read settled.now)) }
+{
     put_short_stretches(alloc, settled.units, &settled.judged, text)?;
     put_wake_ups(alloc, &settled.judged, text)?;
+    put_last_comments(alloc, tasks, settled, text)
+}
+
+/// The last ones: on units that may be wrong, on who else had the processor, and how many jobs there are.
+fn put_last_comments(
+    alloc: Global,
+    tasks: &[Task],
+    settled: &Settled<'_>,
+    text: &mut Vec<u8>,
+) -> Result<(), Memory>
+    ensures { OnOk result (text.new.items ≡ text.old.items
+        ++ spec.all_unit_comments (map task_read tasks.now) (settled_read settled.now).by_task
+        ++ flat_map (spec.other_comment (settled_read settled.now).units) (settled_read settled.now).others
+        ++ spec.last_line (settled_read settled.now)) }
+{
     put_all_wrong_units(alloc, tasks, &settled.by_task, text)?;
     put_all_others(alloc, settled.units, &settled.others, text)?;
     put_last(alloc, settled, text)
