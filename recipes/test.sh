@@ -301,7 +301,7 @@ test_page() {
 				COMP_CWORD=$((${#COMP_WORDS[@]} - 1)); _yds_cli; echo "${COMPREPLY[*]}"' bash "$here/../completions/yds_cli.bash" "$asked")
 			if [ "$got" = "${try#*@}" ]; then pass; else fail "completion of '$asked': $got"; fi
 		done
-		for try in "--t@--tasks --to" "--begin @run" "--tasks a:1 --l@--lost" "--lost = c@cut" "--tasks @" "--cpu 3 --h@--help"; do
+		for try in "--t@--tasks --to" "--begin @run" "--tasks a:1 --l@--lost" "--lost = c@cut" "--moved @parts" "--others = s@spans" "--tasks @" "--cpu 3 --h@--help"; do
 			asked=${try%@*}
 			got=$(bash -c 'source "$1"; COMP_WORDS=(yds_trace $2); case $2 in *" ") COMP_WORDS+=("") ;; esac
 				COMP_CWORD=$((${#COMP_WORDS[@]} - 1)); _yds_trace; echo "${COMPREPLY[*]}"' bash "$here/../completions/yds_trace.bash" "$asked")
