@@ -1,4 +1,5 @@
 # The least energy of jobs on operating points as a linear program, for GNU MathProg (glpsol -m least-energy.mod -d DATA).
+# recipes/tests/least_energy.py of the repository writes the DATA of a document.
 # x[j,s,p] is the time for which job j runs in stretch s at point p.
 set J;
 set S;
