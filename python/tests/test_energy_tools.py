@@ -48,6 +48,15 @@ class EnergyTest(unittest.TestCase):
         for words, name in [(("--name", "governor"), "energy.txt"), (("--at", "142"), "energy-at.txt")]:
             self.assertEqual(call("energy", *words, given=both), (0, (EXPECTED / name).read_text(), ""))
 
+    def test_who_else_had_the_processor(self) -> None:
+        """For how long others had it while a job waited is told beside the energy, since what they spent is in no line."""
+        text = "point 0 0\npoint 10 10\njob a 0 40 100\nticks 1\nrun a 10 20 10\n"
+        told = " while a job waited: what they spent is in no line, and no plan makes room for them\n"
+        for spans, ticks in [("# other hog-7 0 6\n# other hog-8 6 10\n", "10 ticks"), ("# other hog-7 9 10\n", "1 tick")]:
+            called = call("energy", "--name", "x", given=(text + spans).encode())
+            self.assertIn(f"\n# other threads had the processor for {ticks}{told}", called.out)
+        self.assertNotIn("other threads", call("energy", "--name", "x", given=text.encode()).out)
+
     def test_drawn_slots(self) -> None:
         """Energies, times and misses of 2,000 documents are those of a second reading."""
         points = [(int(speed), int(power)) for _, speed, power in (line.split() for line in POINTS.splitlines())]

@@ -206,12 +206,15 @@ def moved_by(job: str, units: int) -> str:
 
 PARTIAL = r"not due by [0-9]+: |[0-9]+ jobs? (?:was|were) |the work of [0-9]+ jobs? isn't known, since "
 """How a text begins that says of energies that some is in no line, or that work isn't known."""
-BESIDE = PARTIAL + r"|with [0-9]+ deadlines? moved "
+OTHERS = "other threads had the processor for "
+"""How the text begins that tells for how long, beside energies."""
+BESIDE = PARTIAL + rf"|with [0-9]+ deadlines? moved |{OTHERS}[0-9]+ ticks? "
 """How one begins that is told beside energies, wherever they are shown."""
 
 _NOT_DUE = re.compile(r"# not due by [0-9]+: ").match
 _WRITTEN = re.compile(r"# [0-9]+ jobs? written, ([0-9]+) left out").match
 IN_NO_LINE = ": this energy is in no line"
+NO_ROOM = "what they spent is in no line, and no plan makes room for them"
 
 
 class Missing:
@@ -224,6 +227,8 @@ class Missing:
         self.unknown: List[str] = []
         self.moved: Set[str] = set()
         """The jobs whose deadlines were moved to their ends."""
+        self.others = 0
+        """For how many ticks other threads had the processor while a job waited."""
 
     def take(self, text: str) -> None:
         """Reads a comment."""
@@ -236,8 +241,9 @@ class Missing:
             self.without_runs += text.startswith(f"# {WITHOUT_RUNS}: ")
             self.unknown.append(text.split(": ", 1)[1].split(" ")[0].rstrip(","))
         else:
-            moved = moved_of(text)
+            moved, span = moved_of(text), other_span(text)
             self.moved |= {moved[0]} if moved is not None else set()
+            self.others += span.end - span.start if span is not None else 0
 
     def told(self) -> List[str]:
         """Comments that say it, of the whole document."""
@@ -250,6 +256,8 @@ class Missing:
             lines.append("# " + unknown_works(len(self.unknown), self.unknown[0]))
         if self.moved:
             lines.append(with_moved(len(self.moved)))
+        if self.others:
+            lines.append(f"# {OTHERS}{counted(self.others, 'tick', 'ticks')} while a job waited: {NO_ROOM}")
         return lines
 
 

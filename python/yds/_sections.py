@@ -8,7 +8,7 @@ from typing import List, NamedTuple, Optional, Sequence, Tuple
 
 from yds._beside_least import LEAST, RAN, Bar, Energies
 from yds._by_task import TaskRow
-from yds._comments import Missing, unknown_works, workless
+from yds._comments import OTHERS, Missing, unknown_works, workless
 from yds._facts import Facts, Missed
 from yds._least import judged
 from yds._markup import LINE_FEED, NONE, Markup, Scale, element, exactly, join, number, of_bytes, percent, shown, table
@@ -176,7 +176,8 @@ def energies(facts: Facts) -> Markup:
         return element("p", text)
     scale = facts.scale
     parts = [*_sentence(facts, told), _bars(told, scale), _times(facts, told)]
-    parts += [element("p", of_bytes(text), class_="told") for text in told.told]
+    beside = [text for text in told.told if not text.startswith(OTHERS)]
+    parts += [element("p", of_bytes(text), class_="told") for text in beside]
     return join([*parts, *_of_others(facts)])
 
 
