@@ -25,6 +25,3 @@ pub use limits::{MAX_LINE, MAX_NUMBER, MAX_U64};
 pub use loss::Since;
 pub use read::{last_line, line};
 pub use state::State;
-
-#[cfg(test)]
-mod tests;

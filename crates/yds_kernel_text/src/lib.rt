@@ -13,6 +13,3 @@ mod reader;
 pub use advance::Advance;
 pub use limits::ROOM;
 pub use reader::TraceReader;
-
-#[cfg(test)]
-mod tests;

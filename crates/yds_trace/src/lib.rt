@@ -46,6 +46,3 @@ pub use reason::Reason;
 pub use refused::Refused;
 pub use share::has_run_on;
 pub use shown::{Shown, ShownTask};
-
-#[cfg(test)]
-mod tests;

@@ -21,6 +21,3 @@ pub use laws::{
     few_lines_are_one_part, halts_stay, halts_write_nothing, parts_end, parts_follow, told_grows,
 };
 pub use limits::MOST_LINES;
-
-#[cfg(test)]
-mod tests;

@@ -11,6 +11,3 @@ mod fault_text;
 mod running;
 
 pub use running::run;
-
-#[cfg(test)]
-mod tests;

@@ -26,6 +26,3 @@ pub use fault::{NoText, TextFault};
 pub use laws::{every_job_has_its_place, parts_count_on};
 pub use part::part_text;
 pub use writing::{document_text, text};
-
-#[cfg(test)]
-mod tests;

@@ -20,6 +20,3 @@ mod threads;
 pub use driver::tell_threads;
 pub use halt::Halt;
 pub use limits::{MOST_COUNTED, MOST_NAME, MOST_THREADS};
-
-#[cfg(test)]
-mod tests;

@@ -18,6 +18,3 @@ pub use fault::{NoRequest, Reason, WordFault};
 pub use limits::{MAX_LABEL, MAX_TASKS, MAX_UNIT};
 pub use request::{Request, read_words};
 pub use texts::{HELP, LINE_BYTES, VERSION, fault_line, push_shown};
-
-#[cfg(test)]
-mod tests;

@@ -1,10 +1,10 @@
 //! What no clause says: that a reader over a source in memory gives these lines, whatever the pieces.
 ghost use Rattle.std.specs.Prelude.{◌≤◌};
 
-use crate::{Advance, TraceReader};
 use std::alloc::{AllocError, Global};
 use std::test::Fail;
 use yds_kernel::{LineFault, Reason, Said};
+use yds_kernel_text::{Advance, TraceReader};
 use yds_port::MemorySource;
 
 const SWITCH: &[u8] =

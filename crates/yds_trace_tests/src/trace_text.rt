@@ -1,9 +1,9 @@
 //! What no clause says: that the text of some jobs is the one that was written by hand, and that each allocation may fail.
-use crate::{NoText, document_text, part_text};
 use std::alloc::{AllocError, Global};
 use std::test::Fail;
 use yds_trace::{Asked, Cut, End, Ended, Job, Shown, ShownTask, Span, Stretch, Task, Which};
 use yds_trace_document::{DocumentFault, is_plain, is_plain_shown, judge_waiting, settle_part};
+use yds_trace_text::{NoText, document_text, part_text};
 
 /// The begin of the first job, in nanoseconds.
 const BEGIN: u64 = 5_123_400_623_456;

@@ -1,12 +1,12 @@
 //! What no clause says: that a pass over small traces ends, and what its jobs and faults then are.
 
-use crate::{
-    Asked, Cause, Cut, End, Ended, Kept, MAX_TOUCHES, NO_CUT, Pass, Refused, Stretch, Task, Which,
-    has_run_on,
-};
 use std::alloc::{AllocError, Global};
 use std::test::Fail;
 use yds_kernel::{Event, Happening, Said, Since, State, Thread};
+use yds_trace::{
+    Asked, Cause, Cut, End, Ended, Kept, MAX_TOUCHES, NO_CUT, Pass, Refused, Stretch, Task, Which,
+    has_run_on,
+};
 
 fn thread(name: &[u8], pid: u64) -> Thread<'_> {
     Thread { name, pid }

@@ -1,8 +1,10 @@
 //! Real lines of the formats, and what they say.
 ghost use Rattle.std.specs.Prelude.{◌≡◌};
 
-use crate::{Event, Happening, LineFault, Reason, Said, Since, State, Thread, last_line, line};
 use std::test::Fail;
+use yds_kernel::{
+    Event, Happening, LineFault, Reason, Said, Since, State, Thread, last_line, line,
+};
 
 fn thread(name: &[u8], pid: u64) -> Thread<'_>
     ensures { result.pid ≡ pid }

@@ -3,11 +3,11 @@ ghost use Rattle.std.specs.Prelude.{IfOk};
 ghost use Rattle.yds_trace.specs.Views.{asked_read};
 ghost use Rattle.yds_trace_parts.specs.Plain.{IsGranted};
 
-use crate::{Halt, tell_parts};
 use std::alloc::{AllocError, Global};
 use std::test::Fail;
 use yds_port::{MemorySink, MemorySource};
 use yds_trace::{Asked, Task, Which};
+use yds_trace_parts::{Halt, tell_parts};
 
 /// How many jobs are in the trace: behind the last line of them, line 4,096, it is looked for a part, and more than 2,000 wait.
 const JOBS: u64 = 2_048;

@@ -1,8 +1,8 @@
 //! What no clause says: that words are taken with their values, and what is written of those that can't be.
-use crate::{NoRequest, Request, fault_line, read_words};
 use std::alloc::Global;
 use std::test::Fail;
 use yds_model::Memory;
+use yds_trace_words::{NoRequest, Request, fault_line, read_words};
 
 /// These words, each up to a blank.
 fn words(alloc: Global, line: &str) -> Result<Vec<String>, Memory> {

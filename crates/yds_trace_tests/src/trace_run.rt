@@ -1,10 +1,10 @@
 //! What no clause says: that a small trace is told, and what is written where one isn't.
-use crate::run;
 use std::alloc::{AllocError, Global};
 use std::hash::RandomState;
 use std::test::Fail;
 use yds_model::{Memory, Status};
 use yds_port::{MemorySink, MemorySource};
+use yds_trace_run::run;
 
 const TRACE: &[u8] = b"\
   <idle>-0 [000] d..2. 5.000000: cpu_frequency: state=1000000 cpu_id=0

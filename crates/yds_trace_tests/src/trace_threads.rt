@@ -1,10 +1,10 @@
 //! What no clause says: the table of recorded lines and of made ones, and that nothing of it is written behind a fault.
 
-use crate::{Halt, tell_threads};
 use std::hash::RandomState;
 use std::test::Fail;
 use yds_port::{MemorySink, MemorySource};
 use yds_trace::Cause;
+use yds_trace_threads::{Halt, tell_threads};
 
 /// Lines of trace-cmd's report: two processors, the second of them still in use at the end.
 const RECORDED: &[u8] = b"\
