@@ -403,7 +403,8 @@ def main(words: List[str]) -> int:
     if words not in ([], ["--check"]):
         print("usage: docs/edits.py [--check]")
         return 2
-    crates = {it.name: crate_at(it) for it in sorted((ROOT / "crates").iterdir()) if (it / "src").is_dir()}
+    folders = [it for it in sorted((ROOT / "crates").iterdir()) if (it / "src").is_dir() and not it.name.endswith("_tests")]
+    crates = {it.name: crate_at(it) for it in folders}
     if words:
         return check(crates)
     PAGE.write_text(page(crates), encoding="utf-8")

@@ -5,9 +5,9 @@
     python3 docs/uncalled.py --check    says whether the page has this list, and then ends with 1 if it hasn't
 
 The list is found in the sources, crates/*/src, and nothing is run. Called is what can be reached: from `main` of a
-program, from what a static library gives to C, and from the public functions of a crate on which no other crate stands.
-Tests call nothing, nor does a contract. A law, which has no parameters and no body, isn't told here, nor are a trait's
-own methods.
+program, from what a static library gives to C, and from the public functions of a crate on which no other crate stands,
+or only one of tests, whose name ends with `_tests`. Tests call nothing, nor does a contract. A law, which has no
+parameters and no body, isn't told here, nor are a trait's own methods.
 
 Which function a name means is found by its module and its imports, and a method by the types that the value before its
 dot may have. Where none of them has such a method, every method of that name counts as called. So what is listed isn't
@@ -50,8 +50,8 @@ def given_out(program: Program) -> Set[Name]:
 
 
 def on_top(program: Program) -> Set[Name]:
-    """The public functions of the crates on which no other crate stands."""
-    below = {other for others in program.crates.values() for other in others}
+    """The public functions of the crates on which no other crate stands, but for crates of tests."""
+    below = {other for crate, others in program.crates.items() if not crate.endswith("_tests") for other in others}
     named = (name for name in program.functions if name.crate not in below)
     return {name for name in named if any(is_public(program, it) for it in program.functions[name])}
 
