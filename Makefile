@@ -99,7 +99,7 @@ all: $(BINARY) $(TRACER) build/proved
 help:
 	@sed -n '/^#/!q; s/^# \{0,1\}//p' $(firstword $(MAKEFILE_LIST))
 
-HAS_TOOL = command -v rt >/dev/null 2>&1 || { echo "make: the command 'rt' of the Rattle toolchain is not on the PATH; install the kit that README.md names." >&2; exit 1; }
+HAS_TOOL = command -v rt >/dev/null 2>&1 || { echo "make: the command 'rt' of the Rattle toolchain is not on the PATH; install the kit that README.md names, or take the packages of a release, which need none." >&2; exit 1; }
 
 tool:
 	@$(HAS_TOOL)
