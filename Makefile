@@ -1,48 +1,74 @@
 # Builds, tries, tests and installs yds_cli. `make help` writes these lines.
 #
-#   make            proves every crate and builds build/yds_cli and build/yds_trace
-#   make trace      proves what the reader of kernel traces is made of, and builds build/yds_trace
-#   make try        runs the program on DOCUMENT with the words of COMMAND, unproved, after a minute or two
-#   make run        plans the document EXAMPLE with the program unproved, says so, proves what it is made of, builds it, and plans it again
-#   make test       the gate: every proof, test, refused edit and stored run, and the checks that checks/gate.py lists
-#   make built      fills build with the programs and the library, over what `rt ci` has proved here, within some minutes
-#   make tools-check    the tests of the commands that need Python's own library alone; the gate has them, too
-#   make tools-test     their other tests, which need matplotlib, mypy, pytest and others: what isn't there is left out, and named
-#   make check      the built programs answer every example and stored row byte for byte, within seconds
-#   make recipes    every recipe on its sample, with the built program
-#   make faults     refuses the built programs memory, reads and writes in turn, and random bytes, and breaks their streams
-#   make fuzz       draws DOCUMENTS documents near the grammar from SEED, and holds the built program's answers against what they promise;
-#                   and breaks TRACES drawn traces: of none yds_trace may say a yes that it doesn't say of the unbroken one
-#   make traces     draws TRACES traces from SEED, and LONG long ones in parts, and holds the whole text of the built yds_trace against a
-#                   second reading of each
-#   make planted    plants mistakes in yds_trace, one at a time, unproved, and says which the drawn traces find; some twenty minutes of a processor
-#   make record     records some seconds of this machine's kernel, and holds yds_trace against the second reading; needs root and a tracefs,
-#                   and ends with status 77 where the machine doesn't allow it
-#   make costly     times the built program on the documents that cost most
-#   make bench      times it as documents grow, and beside a plain program of the textbook's method
+#   make                proves every crate and builds build/yds_cli and build/yds_trace
+#   make trace          proves what the reader of kernel traces is made of, and builds
+#                       build/yds_trace
+#   make try            runs the program on DOCUMENT with the words of COMMAND, unproved, after a
+#                       minute or two
+#   make run            plans the document EXAMPLE with the program unproved, says so, proves what
+#                       it is made of, builds it, and plans it again
+#   make test           the gate: every proof, test, refused edit and stored run, and the checks
+#                       that checks/gate.py lists
+#   make built          fills build with the programs and the library, over what `rt ci` has proved
+#                       here, within some minutes
+#   make tools-check    the tests of the commands that need Python's own library alone; the gate has
+#                       them, too
+#   make tools-test     their other tests, which need matplotlib, mypy, pytest and others: what
+#                       isn't there is left out, and named
+#   make check          the built programs answer every example and stored row byte for byte, within
+#                       seconds
+#   make recipes        every recipe on its sample, with the built program
+#   make faults         refuses the built programs memory, reads and writes in turn, and random
+#                       bytes, and breaks their streams
+#   make fuzz           draws DOCUMENTS documents near the grammar from SEED, and holds the built
+#                       program's answers against what they promise; and breaks TRACES drawn traces:
+#                       of none yds_trace may say a yes that it doesn't say of the unbroken one
+#   make traces         draws TRACES traces from SEED, and LONG long ones in parts, and holds the
+#                       whole text of the built yds_trace against a second reading of each
+#   make planted        plants mistakes in yds_trace, one at a time, unproved, and says which the
+#                       drawn traces find; some twenty minutes of a processor
+#   make record         records some seconds of this machine's kernel, and holds yds_trace against
+#                       the second reading; needs root and a tracefs, and ends with status 77 where
+#                       the machine doesn't allow it
+#   make costly         times the built program on the documents that cost most
+#   make bench          times it as documents grow, and beside a plain program of the textbook's
+#                       method
 #   make bench-trace    times yds_trace as traces grow, beside grep, from files and from pipes
-#   make bench-library  how often a second the library answers from C and from Python, beside processes of the program
-#   make library    builds the C library, build/libyds.a and build/libyds.so
-#   make library-test   the library answers every stored row, and DOCUMENTS drawn documents (20,000), as the program does; refused memory, threads, examples;
-#                       the Python package does so too, and as a wheel; and the commands of docs/library.md write what stands there
-#   make wheel      a wheel with the Python package, the shared object, the programs and the commands, in build/dist
-#   make sdist      the sources of the Python package alone, in build/dist
-#   make install    copies to PREFIX (/usr/local): the programs and the commands yds-.. to bin, manual pages, completion, recipes, examples and
-#                   pages to share, the Python package to lib/python3/dist-packages, and the library, where it was built
-#   make install-program, install-tools, install-pages, install-library   one of them alone
-#   make uninstall  removes just these; so do uninstall-program, uninstall-tools, uninstall-pages and uninstall-library
-#   make map        draws docs/pictures/crates.svg from crates.txt
-#   make deb        Debian packages of what is built, in build/dist: by debhelper where it is there (Debian: debhelper, dh-python)
-#   make dist       the sources and a static program as archives, with their sums, in build/dist
-#   make check-build    whether the programs that were built here are the released ones, by their sums
+#   make bench-library  how often a second the library answers from C and from Python, beside
+#                       processes of the program
+#   make library        builds the C library, build/libyds.a and build/libyds.so
+#   make library-test   the library answers every stored row, and DOCUMENTS drawn documents
+#                       (20,000), as the program does; refused memory, threads, examples; the Python
+#                       package does so too, and as a wheel; and the commands of docs/library.md
+#                       write what stands there
+#   make wheel          a wheel with the Python package, the shared object, the programs and the
+#                       commands, in build/dist
+#   make sdist          the sources of the Python package alone, in build/dist
+#   make install        copies to PREFIX (/usr/local): the programs and the commands yds-.. to bin,
+#                       manual pages, completion, recipes, examples and pages to share, the Python
+#                       package to lib/python3/dist-packages, and the library, where it was built
+#   make install-program, install-tools, install-pages, install-library
+#                       one of them alone
+#   make uninstall      removes just these; so do uninstall-program, uninstall-tools,
+#                       uninstall-pages and uninstall-library
+#   make map            draws docs/pictures/crates.svg from crates.txt
+#   make deb            Debian packages of what is built, in build/dist: by debhelper where it is
+#                       there (Debian: debhelper, dh-python)
+#   make dist           the sources and the static programs as archives, the wheel where the library
+#                       was built, and the sums of all, in build/dist
+#   make check-build    whether the programs that were built here are the released ones, by their
+#                       sums
 #   make record-build   writes these sums into packaging/released, before a release
-#   make packages-test  tries the packages in Debian 12 and 13, from the first page to a page to send on, and the static program in an empty root;
-#                       needs root and debootstrap
-#   make clean      removes what was built
+#   make packages-test  tries the packages in Debian 12 and 13, from the first page to a page to
+#                       send on, and the static program in an empty root; needs root and debootstrap
+#   make clean          removes what was built
 #
-# faults, fuzz, costly, library and bench-library need a C compiler (Debian: gcc and libc6-dev), bench and library-test also one for C++ (g++), and
-# library-test pkg-config and python3-venv.
-# JOBS crates are proved side by side, each in up to 2 GB of memory. With LINK=dynamic the program is the toolchain's own, which needs glibc.
+# faults, fuzz, costly, library and bench-library need a C compiler (Debian: gcc and libc6-dev),
+# bench and library-test also one for C++ (g++), and library-test pkg-config and python3-venv.
+#
+# JOBS crates are proved side by side, each in up to 2 GB of memory. With LINK=dynamic the program
+# is the toolchain's own, which needs glibc. EXAMPLE, DOCUMENT and COMMAND are what `make run` and
+# `make try` take, as in: make try DOCUMENT=jobs.txt COMMAND=report
 
 SHELL := /bin/bash
 PROGRAM := yds_cli
@@ -73,7 +99,7 @@ all: $(BINARY) $(TRACER) build/proved
 help:
 	@sed -n '/^#/!q; s/^# \{0,1\}//p' $(firstword $(MAKEFILE_LIST))
 
-HAS_TOOL = command -v rt >/dev/null 2>&1 || { echo "make: the command 'rt' of the Rattle toolchain is not on the PATH; install the kit that README.md names." >&2; exit 1; }
+HAS_TOOL = command -v rt >/dev/null 2>&1 || { echo "make: the command 'rt' of the Rattle toolchain is not on the PATH; install the kit that README.md names, or take the packages of a release, which need none." >&2; exit 1; }
 
 tool:
 	@$(HAS_TOOL)

@@ -69,6 +69,9 @@ compare() {
 
 sources=$(sources_sum)
 if [ "$1" = --record ]; then
+	for page in README.md docs/proved.md; do
+		grep -qF "$(toolchain)" "$page" || die "$page doesn't name $(toolchain), the toolchain that built the programs"
+	done
 	{
 		grep -v "^$version " packaging/released
 		for name in $programs; do

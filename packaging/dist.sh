@@ -26,11 +26,9 @@ DESTDIR=$PWD/$folder PREFIX='' sh packaging/install.sh put programs tools && pyt
 python3 docs/check.py "$folder" >build/dist.log || { cat build/dist.log; die "a page of the archive has a link that leads nowhere"; }
 cp LICENSE-MIT LICENSE-APACHE VERSION "$folder"
 {
-	for each in $programs; do
-		echo "This program, bin/$each, is one file that needs no library. It runs on any Linux, on a processor of x86-64-v2 or later."
-	done
-	echo "It has the object file that was proved and compiled by the toolchain. It is linked by gcc and Debian's"
-	echo "C library in place of the toolchain's linker:"
+	echo "The programs bin/$(echo "$programs" | paste -s -d , | sed 's|,| and bin/|g') are one file each that needs no library. They run on any"
+	echo "Linux, on a processor of x86-64-v2 or later. Each has the object file that was proved and compiled by the"
+	echo "toolchain. They are linked by gcc and Debian's C library in place of the toolchain's linker:"
 	echo
 	"${CC:-cc}" --version | head -n 1
 	echo "C library: $(printf '#include <gnu/libc-version.h>\n__GLIBC__.__GLIBC_MINOR__\n' | "${CC:-cc}" -E -P - | tail -n 1 | tr -d ' ')"

@@ -45,12 +45,14 @@ passed=0
 failed=0
 pass() { passed=$((passed + 1)); echo "passed: $1"; }
 fail() { failed=$((failed + 1)); echo "FAILED: $1"; }
-# try NAME COMMAND ..: its last line of output is told.
+# try NAME COMMAND ..: its seconds and its last line of output are told.
 try() {
 	tried=$1
 	shift
+	began=$(date +%s)
 	"$@" >"$work/log" 2>&1
 	got=$?
+	tried="$tried ($(($(date +%s) - began)) s)"
 	if [ $got = 0 ]; then pass "$tried: $(tail -n 1 "$work/log")"; else fail "$tried"; tail -n 25 "$work/log"; fi
 	{ echo "== $tried"; cat "$work/log"; } >>"$logs/${suite:-all}.log"
 	return $got
