@@ -1,9 +1,10 @@
-"""test_everywhere.py: tries the second reading of a trace of several processors on cases whose texts are written by hand.
+"""test_everywhere.py: tries the second reading of a trace of several processors on cases that are written by hand.
 
     python3 checks/test_everywhere.py
 
-It is that of `yds_trace --cpu all`, `--moved parts` and `--others spans` in robustness/second.py and parted.py. In the cases
-of cuts, a part is looked for behind each 8th line, and two jobs or three spans are much. The last line is 'N passed, M failed'.
+It is that of `yds_trace --cpu all`, `--moved parts`, `--others spans` and of lines out of order in robustness/second.py and
+parted.py. In the cases of cuts, a part is looked for behind each 8th line, and two jobs or three spans are much. The last
+line is 'N passed, M failed'.
 """
 
 import sys
@@ -16,7 +17,7 @@ sys.path.insert(0, str(ROOT / "robustness"))
 
 import parted  # noqa: E402
 import trace as whole  # noqa: E402
-from second import asked_by  # noqa: E402
+from second import asked_by, ordered  # noqa: E402
 
 SMALL = parted.Limits(8, 1, 100, 2, 3, 100, 6)
 """Less is looked at than the program does, so that a case can be read."""
@@ -64,6 +65,51 @@ def cut_small(lines: Sequence[str], *more: str) -> List[str]:
 def alone(lines: Sequence[str], *more: str) -> List[str]:
     """The lines that are written of one processor, as one document."""
     return whole.told([*WORDS, *more], ("\n".join(lines) + "\n").encode()).text.splitlines()
+
+
+def order_of(*lines: "int | str") -> List[int]:
+    """The numbers of the lines in order of time. A number stands for an event at so many nanoseconds."""
+    texts = [line if isinstance(line, str) else f" who-5 [001] d..2. 7.{line:09d}: irq_handler_entry: irq=1" for line in lines]
+    return [one.number for one in ordered(("\n".join(texts) + "\n").encode()).placed]
+
+
+class InOrderOfTime(unittest.TestCase):
+    """Where a line is put."""
+
+    LATER = 5_000_000
+
+    def test_a_line_is_put_before_each_that_is_later(self) -> None:
+        self.assertEqual(order_of(1, 4, 3, 2, 5), [1, 4, 3, 2, 5])
+
+    def test_lines_of_one_time_are_in_the_order_of_the_text(self) -> None:
+        self.assertEqual(order_of(9, 4, 4, 9, 4), [2, 3, 5, 1, 4])
+
+    def test_a_millisecond_is_passed_and_a_nanosecond_more_is_not(self) -> None:
+        self.assertEqual(order_of(self.LATER, self.LATER - 1_000_000), [2, 1])
+        self.assertEqual(order_of(self.LATER, self.LATER - 1_000_001), [1, 2])
+
+    def test_64_lines_are_passed_and_65_are_not(self) -> None:
+        self.assertEqual(order_of(*[self.LATER] * 64, 4_500_000), [65, *range(1, 65)])
+        self.assertEqual(order_of(*[self.LATER] * 65, 4_500_000), [*range(1, 67)])
+
+    def test_nothing_is_put_before_a_line_that_stays(self) -> None:
+        self.assertEqual(order_of(self.LATER, 1, 4_500_000, 4_400_000), [1, 2, 4, 3])
+
+    def test_nothing_is_put_before_lost_events(self) -> None:
+        self.assertEqual(order_of(5, "CPU:1 [LOST 3 EVENTS]", 4, 3), [1, 2, 4, 3])
+
+    def test_lost_events_with_a_stamp_have_their_time(self) -> None:
+        self.assertEqual(order_of(5, " who 5 [001] 7.000000004: PERF_RECORD_LOST lost 7", 3), [3, 2, 1])
+
+    def test_a_line_that_says_nothing_has_no_place(self) -> None:
+        self.assertEqual(order_of("# tracer: nop", 5, "#", 4), [4, 2])
+
+    def test_lines_behind_one_whose_form_is_refused_are_not_read(self) -> None:
+        self.assertEqual(order_of(5, " who-5 [001] d..2. 7.000000006: cpu_frequency: x", 4), [1])
+
+    def test_the_number_of_the_text_is_told(self) -> None:
+        self.assertEqual(told(["# tracer: nop", wake(0, 100, "a"), switch(0, 300, "a", "Q", "swapper"), switch(0, 200, "swapper", "R", "a")])[-2:],
+                         ["# line 3: a task leaves in a state that the kernel doesn't have; write the trace anew", "failed"])
 
 
 class Belonging(unittest.TestCase):

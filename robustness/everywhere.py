@@ -6,7 +6,8 @@
     python3 robustness/everywhere.py one SEED NUMBER [--short]     writes the trace of this number, and its words to standard error
 
 It draws TRACES traces (50) of some 9,000 to 30,000 lines: periodic threads at home on one to four processors, of which
-some move. Half of them ask for shares of jobs that moved. Each trace shows one thing more, which goes round by its number (SHOWN): threads that starve or hang, a
+some move. Half of them ask for shares of jobs that moved. In half of them events stand some lines behind their places in
+order of time. Each trace shows one thing more, which goes round by its number (SHOWN): threads that starve or hang, a
 processor that comes late or has no listed thread, losses and threads that reach back behind a part of another
 processor, faults of lines and documents in a later part, `--from` and `--to`. What is held of each:
 
@@ -238,7 +239,7 @@ def drawn(seed: int, number: int, scale: int = 1) -> Drawn:
     it = Drawing(random.Random(f"everywhere {seed} {number}"), scale)
     show_it = SHOWN[number % len(SHOWN)]
     show_it(it)
-    trace = it.trace()
+    trace = it.trace(random.Random(f"strewn {seed} {number}"))
     return Drawn(show_it.__name__, it.words(), trace)
 
 
@@ -252,7 +253,7 @@ WANTED = [
     "line behind a part", "part document: work", "part document: no job", "part document: no job, behind a part", "part document: strict",
     "whole: unwoken", "line: unwoken", "whole: a task unseen", "a late job in a part", "a late job without its runs", "a job left out",
     "option --from", "option --to", "option --begin", "option --us", "option --parts", "option APART", "a whole trace in parts",
-    "option --moved", "a share, in time", "a share, late",
+    "option --moved", "a share, in time", "a share, late", "lines out of order", "lines out of order at the end of a part",
 ]
 LEAST, OF = 4, 400
 HEAD = re.compile(r"^# part (\d+): jobs (\d+) to (\d+), from \d+ to \d+, shift \d+, cpu (\d+)(, windows open)?(, the last)?$", re.M)
@@ -301,7 +302,7 @@ def in_fault(said: Told, parts: Parts, trace: bytes) -> Iterator[str]:
     if said.kind == "part document: no job" and said.parts:
         yield "part document: no job, behind a part"
     if said.kind == "line: part written":
-        line = trace.split(b"\n")[parts.number]
+        line = trace.split(b"\n")[parts.in_text - 1]
         mark = re.search(rb"CPU[: ]([0-9]+)|\[([0-9]{3,})\] d", line)
         if mark and parts.cut_of(int(mark[1] or mark[2])).parts == 0:
             yield "line: part written, of another processor"
@@ -312,7 +313,7 @@ def in_order_of_lines(trace: bytes, parts: Parts) -> Iterator[str]:
     lines = trace.split(b"\n")
     if parts.behind:
         before = greatest_of(lines[: parts.behind[0]])
-        if greatest_of(lines[: parts.number]) > before:
+        if greatest_of(lines[: parts.in_text]) > before:
             yield "a processor that comes behind a part"
 
 
@@ -388,7 +389,7 @@ def tell(counts: "Counter[str]", many: int, passed: int, failed: int) -> int:
 def counted(it: Drawn, said: Told, parts: Parts) -> Set[str]:
     """What is in a trace, and what is said of it."""
     return {f"status {said.status}", *in_parts(said, parts, it.words), *in_fault(said, parts, it.trace), *in_jobs(said),
-            *long.in_documents(said), *in_order_of_lines(it.trace, parts)}
+            *long.in_documents(said), *in_order_of_lines(it.trace, parts), *long.out_of_order(it.trace, parts)}
 
 
 def alone(seed: int, many: int) -> int:

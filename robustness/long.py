@@ -8,7 +8,7 @@ periods, equal or longer, jobs that are preempted, overrun, wait, sleep within a
 thing more, which goes round by its number (SHOWN): a thread that hangs or starves, losses and threads that reach back
 behind a part that was written, faults of lines and of documents in a later part, thousands of stretches, thousands of
 spans of other threads, `--from` and `--to`. Half of them ask for shares of jobs that moved, and half for who else had the
-processor. What is held of each:
+processor. In half of them events stand some lines behind their places in order of time. What is held of each:
 
 - the text and the status of yds_trace are those of the second reading, byte for byte;
 - the jobs and runs of the parts, their shifts added, are those that the whole trace shows at its end;
@@ -29,9 +29,10 @@ from collections import Counter
 from pathlib import Path
 from typing import Callable, Dict, Iterator, List, NamedTuple, Optional, Tuple
 
+from exchanged import strewn
 from machine import KHZ, Machine, STRANGERS, Task
 from parted import FULL, Parts, SMALL, told_in_parts
-from second import Document, Told, as_bytes, asked_by, judge_jobs
+from second import Document, Told, as_bytes, asked_by, judge_jobs, ordered
 
 class Drawing:
     """A machine with its words, and how long its trace is: `scale` times shorter than the program's limits need it."""
@@ -103,12 +104,13 @@ class Drawing:
         mark = re.search(rb" ([0-9]+)\.([0-9]{9}): ", line)
         return int(mark[1] + mark[2]) if mark else 0
 
-    def trace(self) -> bytes:
-        """The trace's text."""
+    def trace(self, strews: random.Random) -> bytes:
+        """The trace's text. Of each second one some lines are out of order."""
         self.it.run(self.size)
         for edit in self.edits:
             edit(self.it.lines)
-        return b"\n".join(self.it.lines) + b"\n"
+        lines = strewn(strews, self.it.lines) if strews.random() < 0.5 else self.it.lines
+        return b"\n".join(lines) + b"\n"
 
 
 # # What a trace shows
@@ -394,7 +396,7 @@ def drawn(seed: int, number: int, scale: int = 1) -> Drawn:
     it = Drawing(random.Random(f"long {seed} {number}"), scale)
     show = SHOWN[number % len(SHOWN)]
     show(it)
-    trace = it.trace()
+    trace = it.trace(random.Random(f"strewn {seed} {number}"))
     return Drawn(show.__name__, it.words(), trace)
 
 
@@ -406,7 +408,7 @@ WANTED = [
     "part document: strict", "whole: unwoken", "line: unwoken", "whole: a task unseen", "a late job in a part", "a late job without its runs", "a job left out",
     "option --from", "option --to", "option --begin", "option --us", "option APART", "more than 25000 stretches", "a whole trace in parts",
     "option --moved", "option --others", "a share, in time", "a share, late", "another thread in a part", "another thread up to the end of a part",
-    "more than 12500 spans",
+    "more than 12500 spans", "lines out of order", "lines out of order at the end of a part",
 ]
 LEAST, OF = 4, 400
 
@@ -453,6 +455,16 @@ def in_documents(said: Told) -> Iterator[str]:
             yield "more than 12500 spans"
         if sum(len(one.job.ran) for one in document.judged) > 25_000:
             yield "more than 25000 stretches"
+
+
+def out_of_order(trace: bytes, parts: Parts) -> Iterator[str]:
+    """Whether events stand behind their places in order of time, and over the end of a part."""
+    numbers = [one.number for one in ordered(trace).placed]
+    if numbers != sorted(numbers):
+        yield "lines out of order"
+    ends = [numbers.index(number) + 1 for number in parts.behind]
+    if any(max(numbers[:end]) > min(numbers[end:]) for end in ends if end < len(numbers)):
+        yield "lines out of order at the end of a part"
 
 
 def between_parts(said: Told) -> Iterator[str]:
@@ -562,7 +574,8 @@ def main(words: List[str]) -> int:
         it = drawn(seed, number)
         counts[f"shows {it.shows}"] += 1
         said, parts = told_in_parts(it.trace, asked_by(it.words))
-        counts.update({f"status {said.status}", *in_parts(said, it.words), *in_fault(said), *in_documents(said), *between_parts(said)})
+        counts.update({f"status {said.status}", *in_parts(said, it.words), *in_fault(said), *in_documents(said), *between_parts(said),
+                       *out_of_order(it.trace, parts)})
         faults = list(faults_of(programs, it, said, parts))
         passed, failed = passed + int(not faults), failed + int(bool(faults))
         for fault in faults:

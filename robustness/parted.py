@@ -9,10 +9,9 @@ that both say the same shows on the small traces of trace.py, where a trace in o
 from dataclasses import dataclass, field, replace
 from typing import Dict, List, NamedTuple, Optional, Set, Tuple
 
-from lines import reading
 from second import (
-    Asked, Document, FORMS, Follower, Job, Judged, Line, MOST_PROCESSOR, MOST_TEXT, MOST_TIME, Shown, Span, Stretch, Thread, Told, Watch, Wrong, as_bytes,
-    in_order, is_loss, is_stamped, judge_jobs, line_fault, line_of, milliseconds, share_of, shown_by, within,
+    Asked, Document, Follower, Job, Judged, Line, MOST_PROCESSOR, MOST_TEXT, MOST_TIME, Shown, Span, Stretch, Thread, Told, Watch, Wrong, as_bytes,
+    in_order, is_loss, is_stamped, judge_jobs, line_fault, milliseconds, ordered, share_of, shown_by, within,
 )
 
 
@@ -115,6 +114,8 @@ class Piece(NamedTuple):
 class Parts:
     """A trace in parts, as far as it is read: the parts that are written, behind which lines they were, and which processors were cut there.
 
+    Lines are taken in order of time. `number` counts them, and `in_text` is the number in the text of the last one that was taken, or that is.
+
     Of several processors each has a cut of its own. All on which no task has run, but for 0, are cut as one (`idle`): those of
     which no line has told yet, too. So one that comes late is cut as if it had been there from the begin on.
     """
@@ -122,6 +123,7 @@ class Parts:
     asked: Asked
     limits: Limits = FULL
     number: int = 0
+    in_text: int = 0
     greatest: int = 0
     is_torn: bool = False
     is_woken: bool = False
@@ -232,11 +234,12 @@ class Parts:
             return None
         return "part written" if any(self.counted.whole_since(line.time) < cut.boundary for cut in cuts) else None
 
-    def take(self, line: Line) -> None:
-        """The next line."""
+    def take(self, line: Line, in_text: int) -> None:
+        """The next line, which has this number in the text."""
+        self.in_text = in_text
         cause = self.line_cause(line) or self.part_cause(line)
         if cause is not None:
-            raise line_fault(self.number + 1, cause)
+            raise line_fault(in_text, cause)
         counted = self.counts(line)
         self.is_torn = not is_stamped(line) and (self.is_torn or self.is_lost_within(line))
         tasks = [self.asked.task_of(thread) for thread in line.threads]
@@ -343,12 +346,12 @@ class Parts:
             found[IDLE] = idle or self.piece(IDLE, self.idle, False)
         for processor, piece in found.items():
             if piece.cut is not self.cut_of(processor):
-                self.moved.setdefault(self.number, set()).add(processor)
+                self.moved.setdefault(self.in_text, set()).add(processor)
             self.put(piece)
         self.idle = found.pop(IDLE).cut if self.asked.everywhere else self.idle
         self.cuts = {processor: piece.cut for processor, piece in found.items()}
         if any(piece.document is not None for piece in found.values()):
-            self.behind.append(self.number)
+            self.behind.append(self.in_text)
 
     def put(self, piece: Piece) -> None:
         """Writes a part."""
@@ -370,7 +373,7 @@ class Parts:
                 return self.part(processor, cut, mine, place)
         if is_told and self.limits.is_too_much(waiting):
             if not may_write:
-                raise line_fault(self.number, "unwoken")
+                raise line_fault(self.in_text, "unwoken")
             raise self.no_place(in_order(self.waiting(processor, cut)))
         return Piece(cut)
 
@@ -436,8 +439,8 @@ class Parts:
 
     # The whole
 
-    def check_whole(self) -> None:
-        """What the whole trace is refused for."""
+    def check_whole(self, lines: int) -> None:
+        """What the whole trace of so many lines is refused for."""
         cause: Optional[str] = None
         unseen = [number for number in range(len(self.asked.tasks)) if number not in self.seen]
         if self.lines.first is None:
@@ -449,24 +452,19 @@ class Parts:
         elif not self.asked.at_run and not self.is_woken:
             cause = "unwoken"
         if cause is not None:
-            raise line_fault(self.number, cause, "whole")
+            raise line_fault(self.in_text or lines, cause, "whole")
 
 
 def read_all(parts: Parts, trace: bytes) -> None:
-    """All lines, and the last part."""
-    texts = trace.split(b"\n")
-    is_ended = texts[-1] == b""
-    if is_ended:
-        texts.pop()
-    for number, text in enumerate(texts, 1):
-        said = reading(text[:-1] if text.endswith(b"\r") else text, is_ended or number < len(texts))
-        if said.startswith(b"fault"):
-            _, column, reason = said.decode().split(" ")
-            raise Wrong(f"line {number}, column {column}: {FORMS[reason]}", 3, f"form: {reason}")
-        parts.take(line_of(said))
+    """All lines in order of time, and the last part."""
+    order = ordered(trace)
+    for one in order.placed:
+        parts.take(one.line, one.number)
         if parts.number % parts.limits.look == 0:
             parts.look()
-    parts.check_whole()
+    if order.refused is not None:
+        raise order.refused
+    parts.check_whole(order.lines)
     parts.end()
 
 

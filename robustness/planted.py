@@ -130,6 +130,15 @@ MISTAKES = [
         ("        own: !has_own(asked, waiting),\n", "        own: has_own(asked, waiting) || !has_own(asked, waiting),\n"),), "all"),
     Mistake("a_closed_place_behind_jobs_of_others_alone", "yds_trace_parts/src/place.rt", (
         ("            own: self.own || own,\n", "            own: self.own || is_written(judged),\n"),), "all"),
+    # Lines out of order.
+    Mistake("lines_of_one_time_exchanged", "yds_kernel_order/src/slot.rt", (
+        ("        self.time <= time || self.stays\n", "        self.time < time || self.stays\n"),)),
+    Mistake("the_64th_line_not_passed", "yds_kernel_order/src/ring.rt", (
+        ("        if count == MAX_PASSED || ", "        if count + 1 == MAX_PASSED || "),)),
+    Mistake("a_line_later_by_a_millisecond_not_passed", "yds_kernel_order/src/slot.rt", (
+        ("self.time - time > MAX_STEP_BACK", "self.time - time >= MAX_STEP_BACK"),)),
+    Mistake("the_last_line_read_told_for_the_one_given", "yds_kernel_order/src/reader.rt", (
+        ("            Some(slot) => slot.number(),\n", "            Some(_) => self.lines,\n"),)),
     # Shares of jobs that moved.
     Mistake("a_share_of_what_ran_elsewhere_alone", "yds_trace/src/share.rt", (
         ("    has_run_on(processor, job) && any_elsewhere(processor, &job.stretches)\n", "    any_elsewhere(processor, &job.stretches)\n"),)),

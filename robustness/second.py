@@ -7,6 +7,7 @@ crates; the texts of `--help` and `--version` alone it takes from their source.
 
 import re
 from dataclasses import dataclass, field, replace
+from itertools import islice, takewhile
 from pathlib import Path
 from typing import Dict, Iterator, List, NamedTuple, Optional, Tuple
 
@@ -18,6 +19,7 @@ MOST_NUMBER = 4_294_967_295
 MOST_WORK, MOST_SPEED, MOST_UNITS = 1_000_000, 1_000_000, 1_000_000_000
 MOST_JOBS, MOST_RUNS, MOST_TEXT = 4_000, 100_000, 8_388_608
 MOST_NAME, MOST_OTHER_NAME = 64, 64
+MOST_PASSED, MOST_STEP_BACK = 64, 1_000_000
 
 # # What the words ask for
 
@@ -342,7 +344,7 @@ FORMS = {
 CAUSES = {
     "processor": "the number of the processor is above 8191; leave the line out",
     "time": "the time is above 9223372036.854775807 seconds; leave the line out",
-    "back": "its time is before that of an earlier line; sort the lines by their times",
+    "back": "its time is before that of an earlier line, by more than a millisecond or behind more than 64 lines; sort the lines by their times",
     "lost": "events were lost before it; record with a larger buffer, choose --from and --to around it, or go on by --lost cut",
     "state": "a task leaves in a state that the kernel doesn't have; write the trace anew",
     "threads": "a task's name is that of another thread before; give its number by PID=NAME:DEADLINE",
@@ -357,6 +359,65 @@ def line_fault(number: int, cause: str, where: str = "line") -> Wrong:
     """That a line can't stand behind those before it, or the whole trace at its last line."""
     kind = cause if cause in CAUSES else "a task unseen"
     return Wrong(f"line {number}: {CAUSES.get(cause, cause)}", 3, f"{where}: {kind}")
+
+
+# # The lines in order of time
+
+
+class Placed(NamedTuple):
+    """A line that says something, with its number in the text. Where it stays, no line behind it is put before it."""
+
+    number: int
+    line: Line
+    stays: bool
+
+
+def later_before(line: Line, past: List[Placed]) -> List[Placed]:
+    """The events at the end of these lines that are later than this one, the last one first: all, or one more than may be."""
+    own = takewhile(lambda before: is_stamped(line) and not before.stays and line.time < before.line.time, reversed(past))
+    return list(islice(own, MOST_PASSED + 1))
+
+
+def may_pass(line: Line, later: List[Placed]) -> bool:
+    """Whether a line is put before these, which are later."""
+    return len(later) <= MOST_PASSED and all(before.line.time - line.time <= MOST_STEP_BACK for before in later)
+
+
+def put(number: int, line: Line, past: List[Placed]) -> None:
+    """Puts a line before each event that is later, if it may. Else it stays where it is. A loss without a stamp has no time and stays, too."""
+    later = later_before(line, past)
+    well = may_pass(line, later)
+    past.insert(len(past) - len(later) if well else len(past), Placed(number, line, not well or not is_stamped(line)))
+
+
+class Ordered(NamedTuple):
+    """What a trace's lines say in order of time; how many lines were read; and the first one whose form is refused, if there is one."""
+
+    placed: List[Placed]
+    lines: int
+    refused: Optional[Wrong]
+
+    def number_at(self, place: int) -> int:
+        """The number in the text of the line at this place, counted from 1; of the last line of the text, where there is none."""
+        return self.placed[place - 1].number if 0 < place <= len(self.placed) else self.lines
+
+
+def ordered(trace: bytes) -> Ordered:
+    """The lines of a trace in order of time, up to the first whose form is refused."""
+    texts = trace.split(b"\n")
+    ended = texts[-1] == b""
+    if ended:
+        texts.pop()
+    placed: List[Placed] = []
+    for number, text in enumerate(texts, 1):
+        said = reading(text[:-1] if text.endswith(b"\r") else text, ended or number < len(texts))
+        if said.startswith(b"fault"):
+            _, column, reason = said.decode().split(" ")
+            return Ordered(placed, number - 1, Wrong(f"line {number}, column {column}: {FORMS[reason]}", 3, f"form: {reason}"))
+        line = line_of(said)
+        if line.kind != "nothing":
+            put(number, line, placed)
+    return Ordered(placed, len(texts), None)
 
 
 # # Looking back. Each takes the lines before some place.
@@ -516,33 +577,33 @@ def cause_of(line: Line, lines: List[Line], asked: Asked) -> Optional[str]:
 
 
 def read_lines(trace: bytes, asked: Asked) -> List[Line]:
-    """What the lines say."""
-    texts = trace.split(b"\n")
-    ended = texts[-1] == b""
-    if ended:
-        texts.pop()
+    """What the lines say, in order of time."""
+    order = ordered(trace)
     lines: List[Line] = []
-    for number, text in enumerate(texts, 1):
-        said = reading(text[:-1] if text.endswith(b"\r") else text, ended or number < len(texts))
-        if said.startswith(b"fault"):
-            _, column, reason = said.decode().split(" ")
-            raise Wrong(f"line {number}, column {column}: {FORMS[reason]}", 3, f"form: {reason}")
-        cause = cause_of(line_of(said), lines, asked)
+    for one in order.placed:
+        cause = cause_of(one.line, lines, asked)
         if cause is not None:
-            raise line_fault(number, cause)
-        lines.append(line_of(said))
+            raise line_fault(one.number, cause)
+        lines.append(one.line)
+    if order.refused is not None:
+        raise order.refused
+    cause = whole_cause(lines, asked)
+    if cause is not None:
+        raise line_fault(order.number_at(len(lines)), cause, "whole")
+    return lines
+
+
+def whole_cause(lines: List[Line], asked: Asked) -> Optional[str]:
+    """What the whole trace is refused for."""
     if not any(is_stamped(line) for line in lines):
-        raise line_fault(len(lines), "none", "whole")
+        return "none"
     if not asked.cut and just_lost(lines, asked):
-        raise line_fault(len(lines), "lost", "whole")
+        return "lost"
     for number in range(len(asked.tasks)):
         if pid_of(number, lines, asked) is None:
-            cause = f"no line names task {number + 1} of --tasks; write its name as the trace has it"
-            raise line_fault(len(lines), cause, "whole")
+            return f"no line names task {number + 1} of --tasks; write its name as the trace has it"
     woken = any(line.kind == "wake" and asked.task_of(line.threads[0]) is not None for line in lines)
-    if not asked.at_run and not woken:
-        raise line_fault(len(lines), "unwoken", "whole")
-    return lines
+    return "unwoken" if not asked.at_run and not woken else None
 
 
 # # The jobs of a task

@@ -16,13 +16,12 @@ from collections import Counter
 from typing import Dict, List, NamedTuple, Optional, Tuple
 
 from drawn import drawn
-from lines import reading
-from second import FORMS, MOST_PROCESSOR, MOST_TIME, Line, Thread, Wrong, is_stamped, line_fault, line_of
+from second import MOST_PROCESSOR, MOST_TIME, Line, Thread, Wrong, is_stamped, line_fault, ordered
 
 MOST_ROWS = 32_768
 MOST_NAME = 64
 WANTED = ["a table", "a switch is missing", "events lost", "two wake-ups in one", "a name that changes", "still there at the end",
-          "equal times", "a line is refused", "a time goes back", "no thread at all", "a task on two processors"]
+          "equal times", "a line is refused", "a time goes back", "lines out of order", "no thread at all", "a task on two processors"]
 
 
 class Row:
@@ -132,24 +131,19 @@ def cause_of(line: Line, last: int) -> Optional[str]:
 
 def table_of(trace: bytes, found: "Counter[str]") -> str:
     """The table of a trace's threads, by its lines."""
-    texts = trace.split(b"\n")
-    ended = texts[-1] == b""
-    if ended:
-        texts.pop()
-    table, stamped = Table(), False
-    for number, text in enumerate(texts, 1):
-        said = reading(text[:-1] if text.endswith(b"\r") else text, ended or number < len(texts))
-        if said.startswith(b"fault"):
-            _, column, reason = said.decode().split(" ")
-            raise Wrong(f"line {number}, column {column}: {FORMS[reason]}", 3, "a line is refused")
-        line = line_of(said)
-        cause = cause_of(line, table.last)
+    table, stamped, order = Table(), False, ordered(trace)
+    for one in order.placed:
+        cause = cause_of(one.line, table.last)
         if cause is not None:
-            raise line_fault(number, cause)
-        stamped = stamped or is_stamped(line)
-        table.take(line)
+            raise line_fault(one.number, cause)
+        stamped = stamped or is_stamped(one.line)
+        table.take(one.line)
+    if order.refused is not None:
+        raise order.refused
     if not stamped:
-        raise line_fault(len(texts), "none", "whole")
+        raise line_fault(order.number_at(len(order.placed)), "none", "whole")
+    numbers = [one.number for one in order.placed]
+    found["lines out of order"] += numbers != sorted(numbers)
     table.end()
     text = table.text()
     found.update(name for name, count in table.found.items() if count)

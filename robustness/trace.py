@@ -3,7 +3,8 @@
     python3 robustness/trace.py [SEED] [TRACES] [PROGRAM]
     python3 robustness/trace.py one SEED NUMBER [PROGRAM]     the trace of this number alone, with both texts
 
-It draws TRACES traces (1,000) by drawn.py, each with words, and with words that have a mistake: five formats; threads
+It draws TRACES traces (1,000) by drawn.py, each with words, with words that have a mistake, and with lines that are taken
+out of the order of their times (exchanged.py): five formats; threads
 that sleep, are preempted, wait, starve and move among processors, with odd names; changes of speed at the stamp of a
 switch; fronts that are cut off, lost events, missing switches, each fault of a line, of its form, of a whole trace and
 of a document; `--from` and `--to`; deadlines that are missed by a nanosecond; and one in eight in parts, and one in
@@ -27,9 +28,11 @@ from pathlib import Path
 from typing import Dict, Iterator, List, NamedTuple, Set, Tuple
 
 from drawn import drawn, every_processor, mistaken
+from exchanged import exchanged
 from parted import SMALL, told_in_parts
 from second import (
-    Asks, CAUSES, Document, FLAGS, FORMS, HELPS, Judged, MOST_OTHER_NAME, MOST_TEXT, Told, VALUES, Wrong, as_bytes, asked_by, whole_document,
+    Asked, Asks, CAUSES, Document, FLAGS, FORMS, HELPS, Judged, MOST_OTHER_NAME, MOST_PASSED, MOST_STEP_BACK, MOST_TEXT, Placed, Told, VALUES, Wrong, as_bytes,
+    asked_by, is_stamped, later_before, ordered, whole_document,
 )
 
 
@@ -73,6 +76,10 @@ WANTED = [
     "a name with a byte that isn't shown", "a name that is cut short", "another thread within one unit of time", "another thread at time 0",
     "comment late", "comment late, without its runs", "comment late in a run", "comment late by less", "comment late on another processor", "comment not ended", "comment begins", "comment ends",
     "comment left out", "comment stretch", "comment wake", "comment the deadline of", "comment APART of", "comment part", "comment other",
+    "out of order: neighbours of two processors", "out of order: 2 to 63 places", "out of order: 64 places", "out of order: 65 places",
+    "out of order: a millisecond", "out of order: a nanosecond more", "out of order: behind one of its stamp", "out of order: over a loss",
+    "out of order: beside a loss", "out of order: over --from", "out of order: over --to", "out of order: too far, behind --to",
+    "out of order: in parts", "out of order: before another fault", "out of order: the number of the text",
 ]
 LEAST, OF = 200, 10_000
 
@@ -165,6 +172,54 @@ def in_others(document: Document) -> Iterator[str]:
         yield "a share whose runs don't show that it is late"
 
 
+def in_step_back(one: Placed, later: List[Placed], before: List[Placed], asked: Asked) -> Iterator[str]:
+    """What an event shows that stands behind these, which are later, and those before them."""
+    back = max(each.line.time for each in later) - one.line.time
+    stays = one.stays
+    signs = {
+        "neighbours of two processors": not stays and len(later) == 1 and later[0].line.processor != one.line.processor,
+        "2 to 63 places": not stays and 1 < len(later) < MOST_PASSED,
+        "64 places": not stays and len(later) == MOST_PASSED,
+        "65 places": len(later) > MOST_PASSED and back <= MOST_STEP_BACK,
+        "a millisecond": not stays and back == MOST_STEP_BACK,
+        "a nanosecond more": back == MOST_STEP_BACK + 1,
+        "behind one of its stamp": not stays and bool(before) and before[-1].line.time == one.line.time,
+        "beside a loss": not stays and bool(before) and not is_stamped(before[-1].line),
+        "over --from": not stays and asked.begin is not None and one.line.time < asked.begin <= later[0].line.time,
+        "over --to": not stays and asked.end is not None and one.line.time <= asked.end < later[0].line.time,
+        "too far, behind --to": stays and asked.end is not None and asked.end < one.line.time,
+        "in parts": not stays and asked.in_parts,
+    }
+    yield from (name for name, holds in signs.items() if holds)
+
+
+def out_of_order(words: List[str], trace: bytes, said: Told) -> Set[str]:
+    """What a trace's lines out of order show."""
+    try:
+        asked = asked_by(words)
+    except (Asks, Wrong):
+        return set()
+    past: List[Placed] = []
+    found: Set[str] = set()
+    order = ordered(trace).placed
+    numbers = [one.number for one in order]
+    # In the order of the text: what is put before a line comes later.
+    for one in sorted(order, key=lambda each: each.number):
+        later = later_before(one.line, past)
+        place = len(past) - len(later)
+        if later:
+            found.update(in_step_back(one, later, past[:place], asked))
+        elif is_stamped(one.line) and past and not is_stamped(past[-1].line) and any(one.line.time < each.line.time for each in past):
+            found.add("over a loss")
+        past.insert(len(past) if one.stays else place, one)
+    if numbers != sorted(numbers) and said.kind.startswith(("form", "line")) and said.kind != "line: back":
+        found.add("before another fault")
+        told_at = re.search(r"^# line ([0-9]+): ", said.text, re.M)
+        if told_at is not None and numbers[int(told_at[1]) - 1 : int(told_at[1])] != [int(told_at[1])]:
+            found.add("the number of the text")
+    return {f"out of order: {name}" for name in found}
+
+
 def things(words: List[str], trace: bytes, said: Told) -> Set[str]:
     """What is in a trace, its words and what is said of it."""
     found = {f"status {said.status}", *in_words(words), *in_trace(trace)}
@@ -248,7 +303,7 @@ def case_of(words: List[str], trace: bytes) -> Case:
 
 
 def drawn_cases(seed: int, number: int, counts: "Counter[str]") -> List[Case]:
-    """The trace of this number with its words, and with words that have a mistake. What is in it is counted."""
+    """The trace of this number with its words, with words that have a mistake, and with lines out of order. What is in it is counted."""
     it = drawn(seed, number)
     said = told(it.words, it.trace)
     wrong = mistaken(seed, number, it.words)
@@ -256,8 +311,11 @@ def drawn_cases(seed: int, number: int, counts: "Counter[str]") -> List[Case]:
     found = things(it.words, it.trace, said) | {f"format {it.form}"}
     if wrong_said.status == 2 or wrong_said.kind:
         found |= {*in_words(wrong), *([wrong_said.kind] if wrong_said.status in (0, 2) else [])}
-    counts.update(found)
-    return [Case(it.words, it.trace, said.text, said.status), Case(wrong, it.trace, wrong_said.text, wrong_said.status)]
+    other = exchanged(seed, number, it)
+    other_said = told(other.words, other.trace)
+    counts.update(found | out_of_order(other.words, other.trace, other_said))
+    return [Case(it.words, it.trace, said.text, said.status), Case(wrong, it.trace, wrong_said.text, wrong_said.status),
+            Case(other.words, other.trace, other_said.text, other_said.status)]
 
 
 def lay_out(top: Path) -> Path:
