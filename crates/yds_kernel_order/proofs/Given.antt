@@ -173,7 +173,7 @@ past_in_order trace = reverse-reverse (said_in (placed_of trace))
 
 -- as much is said as lines are placed
 pub length-said_in : (placed : List Placed) → length (said_in placed) ≡ length placed
-length-said_in placed = length-map (λ line. line.said) placed
+length-said_in placed = length-map placed (λ line. line.said)
 
 pub said_behind : (behind given : List Placed) → said_in (behind ++ given) ≡ said_in behind ++ said_in given
 said_behind behind given = map-append (λ line. line.said) behind given

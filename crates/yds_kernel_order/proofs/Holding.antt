@@ -1,14 +1,14 @@
 -- What a ring holds after a line was put into it.
-use Rattle.yds_model.proofs.Common.{◌≡◌, ◌≢◌, ℕ, zero, suc, ◌+◌, ◌<◌, ◌≤◌, List, [], ◌∷◌, ◌++◌, length, set, get_or, Bool, true, false, not, ◌||◌, or-true, Option, Some, None, option_map, unwrap_or, refl, sym, ap, ◌∙◌, arith, subst, append-nil, append_assoc, get_or-set_same, get_or-set_other, ◌⊎◌, inl, inr}
+use Rattle.yds_model.proofs.Common.{◌≡◌, ◌≢◌, ℕ, zero, suc, ◌+◌, ◌-◌, ◌<◌, ◌≤◌, List, [], ◌∷◌, ◌++◌, length, set, get_or, Bool, true, false, not, ◌||◌, or-true, Option, Some, None, option_map, unwrap_or, refl, sym, ap, ◌∙◌, arith, subst, append-nil, append_assoc, get_or-set_same, get_or-set_other, ◌⊎◌, inl, inr}
 use Rattle.std.proofs.lemmas.Option.{none-some, same_Some}
 use Rattle.yds_kernel.specs.declared.loss.Since.{Since}
 use Rattle.yds_kernel.specs.Event.{Event, Said, Stamped, Lost}
 use Rattle.yds_kernel_order.specs.declared.limits.TheConstants.{MAX_PASSED}
 use Rattle.yds_kernel_order.specs.declared.ring.TheConstants.{SLOTS}
 use Rattle.yds_kernel_order.specs.Order.{Placed, put, with_line, next_placed, is_behind, is_before_by}
-use Rattle.yds_kernel_order.specs.Ring.{Held, no_line, wrapped, slot_at, held_from, given_at, passed_in, IsMovedDown, IsBehind, Places}
+use Rattle.yds_kernel_order.specs.Ring.{Held, no_line, wrapped, slot_at, held_from, given_at, passed_in, IsMovedDown, IsBehind, Places, GivesFirst}
 use Rattle.yds_kernel_order.proofs.Placing.{inserted, put_passed, passed_in_front, inserted_front, passed_at_most, IsAtMost}
-use Rattle.yds_kernel_order.proofs.Places.{length-held_from, held_join, held_set, held_moved, wrapped_within, wrapped_apart}
+use Rattle.yds_kernel_order.proofs.Places.{length-held_from, at_place, held_join, held_set, held_moved, held_wrapped, wrapped_low, wrapped_within, wrapped_apart}
 
 -- # One more line
 
@@ -68,7 +68,7 @@ event_held slots new first held number event (Some count) before low fits len is
 pub loss_placed : (number processor : ℕ) (since : Since) (past : List Placed) →
     next_placed number (Lost processor since) past ≡ record { number = number; said = Lost processor since; stays = true } ∷ past
 loss_placed number processor since [] = refl
-loss_placed number processor since (last ∷ past) = refl
+loss_placed number processor since (last ∷ past) = rw (or-true last.stays) refl
 
 -- # The ring
 
@@ -84,14 +84,16 @@ IsApart held before = (before ≡ []) ⊎ (MAX_PASSED < held)
 one_given : (slots : List Placed) (first waiting : ℕ) (line : Placed) (before : List Placed) → slot_at slots first ≡ line →
     held_from slots first (1 + waiting) ++ before ≡ held_from slots (first + 1) waiting ++ line ∷ before
 one_given slots first waiting line before given =
-    let here : slot_at slots (first + 0) ≡ line = ap (slot_at slots) (omega arith) ∙ given in
+    let here : slot_at slots (first + 0) ≡ line = at_place slots (first + 0) first (omega arith) ∙ given in
     ap (λ (lines : List Placed). lines ++ before) (held_join slots first 1 waiting)
     ∙ append_assoc (held_from slots (first + 1) waiting) (held_from slots first 1) before
     ∙ ap (λ (first_line : Placed). held_from slots (first + 1) waiting ++ first_line ∷ before) here
 
 no_given : (slots : List Placed) (first waiting : ℕ) → held_from slots first (0 + waiting) ≡ held_from slots (first + 0) waiting
 no_given slots first waiting =
-    ap (λ (n : ℕ). held_from slots n (0 + waiting)) (omega arith) ∙ ap (held_from slots (first + 0)) (omega arith)
+    let from : first ≡ first + 0 = omega arith in
+    let count : 0 + waiting ≡ waiting = omega arith in
+    ap (λ (n : ℕ). held_from slots n (0 + waiting)) from ∙ ap (held_from slots (first + 0)) count
 
 -- The ring whose slots became these, where the lines that are held became those.
 pub ring_places : (slots new : List Placed) (first given waiting number : ℕ) (said : Said) → given ≤ 1 →
@@ -100,7 +102,6 @@ pub ring_places : (slots new : List Placed) (first given waiting number : ℕ) (
         held_from new first (suc (given + waiting)) ++ before ≡ next_placed number said (held_from slots first (given + waiting) ++ before)) →
     Places number said (ring_of slots first given waiting) (ring_of new first given (waiting + 1))
 ring_places slots new first zero waiting number said few stays placed = record {
-  room = omega (arith, length-held_from slots (first + 0) waiting, length-held_from new (first + 0) (waiting + 1));
   behind = kept;
   placed = put;
 } where
@@ -116,7 +117,6 @@ ring_places slots new first zero waiting number said few stays placed = record {
       ∙ ap (λ (lines : List Placed). next_placed number said (lines ++ [])) (no_given slots first waiting)
   put (line ∷ before) behind = absurd (none-some line behind.0)
 ring_places slots new first (suc zero) waiting number said few stays placed = record {
-  room = omega (arith, length-held_from slots (first + 1) waiting, length-held_from new (first + 1) (waiting + 1));
   behind = kept;
   placed = put;
 } where
@@ -157,8 +157,9 @@ event_stays : (slots new : List Placed) (first held number : ℕ) (event : Event
 event_stays slots new first held number event None low fits enough most put =
     ap (λ (items : List Placed). slot_at items first) put ∙ other_stays slots (event_line number event true) first held low (omega arith) fits
 event_stays slots new first held number event (Some count) low fits enough most put =
-    let same : slot_at new (first + 0) ≡ slot_at (set slots (wrapped (first + held)) (event_line number event false)) (first + 0) = put.1.below 0 (omega (arith, most)) in
-    ap (slot_at new) (omega arith) ∙ same ∙ ap (slot_at (set slots (wrapped (first + held)) (event_line number event false))) (omega arith)
+    let written_slots : List Placed = set slots (wrapped (first + held)) (event_line number event false) in
+    let small : count ≤ MAX_PASSED = most in
+    at_place new first (first + 0) (omega arith) ∙ put.1.below 0 (omega (arith, small)) ∙ at_place written_slots (first + 0) first (omega arith)
     ∙ other_stays slots (event_line number event false) first held low (omega arith) fits
 
 -- The ring after an event: its slots became these.
@@ -196,3 +197,20 @@ loss_places slots first given waiting number processor since low few room len =
     (Lost processor since) few
     (λ more. other_stays slots (record { number = number; said = Lost processor since; stays = true }) first (given + waiting) low (omega arith) fits)
     (λ before apart. loss_held slots first (given + waiting) number processor since before low fits len)
+
+-- # The first line that waits
+
+-- The ring after the first line that waits was given.
+pub first_given : (slots : List Placed) (first given waiting : ℕ) → first < SLOTS → given ≤ 1 → waiting < SLOTS → 0 < waiting →
+    GivesFirst (ring_of slots first given waiting) (ring_of slots (wrapped (first + given)) 1 (waiting - 1))
+first_given slots first given waiting low few room some =
+    let all : waiting ≡ 1 + (waiting - 1) = omega arith in
+    let here : slot_at slots (first + given + 0) ≡ slot_at slots (first + given) = at_place slots (first + given + 0) (first + given) (omega arith) in record {
+      line = slot_at slots (first + given);
+      first =
+          ap (held_from slots (first + given)) all
+          ∙ held_join slots (first + given) 1 (waiting - 1)
+          ∙ ap (λ (line : Placed). held_from slots (first + given + 1) (waiting - 1) ++ line ∷ []) here
+          ∙ ap (λ (lines : List Placed). lines ++ slot_at slots (first + given) ∷ []) (sym (held_wrapped slots (first + given) 1 (waiting - 1) (omega arith)));
+      given = ap Some (ap (λ (n : ℕ). get_or slots n no_line) (wrapped_low (wrapped (first + given)) (wrapped_within (first + given) (omega arith))));
+    }

@@ -72,7 +72,7 @@ inserted_front (suc count) line [] rest within = absurd (omega arith)
 inserted_front (suc count) line (last ∷ front) rest within = ap (λ (lines : List Placed). last ∷ lines) (inserted_front count line front rest (omega arith))
 
 -- as many as are passed are there, and are not more than may be
-pub IsAtMost : ℕ → Option ℕ → Type 0
+abbrev pub IsAtMost : ℕ → Option ℕ → Type 0
 IsAtMost most None = Unit {0}
 IsAtMost most (Some count) = count ≤ most
 
