@@ -1,8 +1,16 @@
 -- How many lines an event is put before, counted one after another.
-use Rattle.yds_model.proofs.Common.{◌≡◌, ◌≢◌, ℕ, zero, suc, ◌+◌, ◌-◌, ◌<◌, ◌≤◌, List, [], ◌∷◌, length, Bool, true, false, if◌then◌else◌, Option, Some, None, option_map, refl, sym, ap, ◌∙◌, arith, subst}
+use Rattle.yds_model.proofs.Common.{◌≡◌, ◌≢◌, ℕ, zero, suc, ◌+◌, ◌-◌, ◌<◌, ◌≤◌, List, [], ◌∷◌, length, Bool, true, false, if◌then◌else◌, Option, Some, None, option_map, get_or, get_or_read, refl, sym, ap, ◌∙◌, arith}
+use Rattle.yds_kernel_order.specs.declared.ring.TheConstants.{SLOTS}
 use Rattle.yds_kernel_order.specs.declared.limits.TheConstants.{MAX_PASSED, MAX_STEP_BACK}
 use Rattle.yds_kernel_order.specs.Order.{Placed}
-use Rattle.yds_kernel_order.specs.Ring.{slot_at, held_from, is_later_by, stands_before, passed_in}
+use Rattle.yds_kernel_order.proofs.Places.{wrapped_within}
+use Rattle.yds_kernel_order.specs.Ring.{no_line, wrapped, slot_at, held_from, is_later_by, stands_before, passed_in}
+
+-- what stands in a place
+pub slot_read : (slots : List Placed) (read place : ℕ) (line : Placed) → line ≡ get_or slots read line → read ≡ wrapped place → place < SLOTS + SLOTS →
+    length slots ≡ SLOTS → line ≡ slot_at slots place
+slot_read slots read place line is same within len =
+    get_or_read slots read line (omega (arith, same, len, wrapped_within place within)) is no_line ∙ ap (λ (n : ℕ). get_or slots n no_line) same
 
 -- so many more
 abbrev pub plus : ℕ → Option ℕ → Option ℕ

@@ -1,7 +1,7 @@
 -- What the steps of a reader make of the order for which it stands.
-use Rattle.yds_model.proofs.Common.{◌≡◌, ℕ, zero, suc, ◌+◌, ◌-◌, ◌^◌, ◌<◌, ◌≤◌, List, [], ◌∷◌, ◌++◌, length, Bool, true, false, nat_le, Option, Some, None, Result, Ok, Err, refl, sym, ap, ◌∙◌, arith, subst, append_assoc, length-append, eq-eqb, leb-false, leb-true, false≢true, Fault, Spot}
+use Rattle.yds_model.proofs.Common.{◌≡◌, ℕ, zero, suc, ◌+◌, ◌-◌, ◌^◌, ◌<◌, ◌≤◌, List, [], ◌∷◌, ◌++◌, length, Bool, true, false, nat_le, Option, Some, None, Result, Ok, Err, refl, sym, ap, ◌∙◌, arith, subst, append_assoc, length-append, eq-eqb, leb-false, leb-true, false≢true, true≢false, OnOk, Fault, Spot}
 use Rattle.std.specs.Io.KnownBytes.{IsAtEnd, prepend_known}
-use Rattle.std.proofs.lemmas.Option.{none-some}
+use Rattle.std.specs.Result.{is_err}
 use Rattle.yds_port.specs.Count.{Rose}
 use Rattle.yds_kernel.specs.declared.fault.Reason.{Reason}
 use Rattle.yds_kernel.specs.declared.fault.LineFault.{LineFault}
@@ -11,6 +11,7 @@ use Rattle.yds_kernel_text.specs.Reading.{Reading, said_by, unread}
 use Rattle.yds_kernel_text.specs.Advancing.{Gives, Counts, GivesLine as ReadsLine, IsOver as IsReadOut}
 use Rattle.yds_kernel_order.specs.declared.limits.TheConstants.{MAX_PASSED}
 use Rattle.yds_kernel_order.specs.Order.{Placed, next_placed, placed_from, placed_of, number_at}
+use Rattle.yds_kernel_order.specs.Ring.{Held, IsBehind, Places}
 use Rattle.yds_kernel_order.specs.Ordering.{Order, Ordering, Stop, AtEnd, AtFault, IsGiven, IsOrderOf, HoldsEnough, StandsFor, IsCounted, IsReadTo, order_behind, order_at, whole_order, number_now}
 use Rattle.yds_kernel_order.specs.declared.step.Step.{Step}
 use Rattle.yds_kernel_order.specs.declared.step.Step.TheVariants as steps
@@ -357,3 +358,47 @@ pub counts_given : (step : Step) (old new : Ordering) (before now : Option (List
     Counts before now taken new.reader.taken
 counts_given step old new before now taken gives counts =
     subst (λ (r : Reading). Counts before now taken r.taken) (sym (given_reader step old new gives)) counts
+
+-- # A line among those that wait
+
+-- the lines that wait, and the one that was given last
+abbrev pub held_by : Ordering → Held
+held_by ordering = record { waiting = ordering.waiting; given = ordering.given }
+
+behind_given : (ordering : Ordering) (given : List Placed) → ordering.stop ≡ None → IsGiven ordering given → IsBehind (held_by ordering) given
+behind_given ordering [] none is_given = is_given
+behind_given ordering (line ∷ before) none is_given = (is_given.0, subst (λ (s : Option Stop). HoldsEnough s ordering.waiting) none is_given.1)
+
+given_behind : (ordering : Ordering) (given : List Placed) → ordering.stop ≡ None → IsBehind (held_by ordering) given → IsGiven ordering given
+given_behind ordering [] none behind = behind
+given_behind ordering (line ∷ before) none behind = (behind.0, subst (λ (s : Option Stop). HoldsEnough s ordering.waiting) (sym none) behind.1)
+
+-- what was said was put among the lines that wait
+pub puts_said : (old new : Ordering) (said : Said) → needs_more old ≡ true → new.reader ≡ old.reader → old.reader.number < 2 ^ 64 → new.stop ≡ old.stop →
+    new.lines ≡ old.reader.number → said_by old.reader ≡ Ok said → Places old.reader.number said (held_by old) (held_by new) → PutsLine old new
+puts_said old new said more reader fits stop lines is places =
+    let none : old.stop ≡ None = (goes_on old more).0 in record {
+      reader = reader;
+      counted = fits;
+      said = subst (λ (r : Result Said (Spot Reason)). PutsSaid r old new) (sym is) (
+        stop,
+        lines,
+        (λ given is_given. given_behind new given (stop ∙ none) (places.behind given (behind_given old given none is_given))),
+        (λ given is_given. places.placed given (behind_given old given none is_given)),
+      );
+    }
+
+-- the reading stopped at a line
+pub puts_fault : (old new : Ordering) (spot : Spot Reason) → new.reader ≡ old.reader → old.reader.number < 2 ^ 64 →
+    new.stop ≡ Some (AtFault (record { line = old.reader.number; column = spot.column; reason = spot.reason })) → new.lines ≡ old.lines →
+    new.waiting ≡ old.waiting → new.given ≡ old.given → said_by old.reader ≡ Err spot → PutsLine old new
+puts_fault old new spot reader fits stop lines waiting given is = record {
+  reader = reader;
+  counted = fits;
+  said = subst (λ (r : Result Said (Spot Reason)). PutsSaid r old new) (sym is) (stop, lines, waiting, given);
+}
+
+-- what is ensured where nothing failed
+pub unless_failed : {E P : Type 0} (result : Result (Unit {0}) E) → is_err result ≡ false → OnOk result P → P
+unless_failed (Ok done) sound ensures = ensures
+unless_failed (Err error) sound ensures = absurd (true≢false sound)

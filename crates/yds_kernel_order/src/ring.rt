@@ -114,9 +114,7 @@ impl Ring {
         let found = passed(&self.slots, self.first, held, event.time);
         let slot = &mut self.slots[place];
         slot.set_event(number, event, found.is_none())?;
-        if let Some(count) = found {
-            move_down(&mut self.slots, self.first, held, count);
-        }
+        move_down(&mut self.slots, self.first, held, found.unwrap_or(0));
         self.waiting += 1;
         Ok(())
     }
