@@ -102,11 +102,11 @@ order_behind_given : (ordering : Ordering) (given : List Placed) (bytes : List �
 order_behind_given ordering [] bytes is_given = none_behind (order_at ordering.stop ordering.lines (ordering.waiting ++ []) bytes).placed
 order_behind_given ordering (line ∷ before) bytes is_given =
     stopped ordering.stop ordering.lines ordering.waiting (line ∷ before) bytes is_given.1 where
-  stopped : (stop : Option Stop) (lines : ℕ) (waiting given : List Placed) (bytes : List ℕ) → HoldsEnough stop waiting →
-      Behind 0 (order_at stop lines (waiting ++ given) bytes).placed given
-  stopped None lines waiting given bytes enough = fewer (placed_from_behind (lines + 1) (trace_from (lines + 1) bytes).said waiting given enough)
-  stopped (Some AtEnd) lines waiting given bytes enough = record { behind = waiting; parts = refl; enough = omega arith }
-  stopped (Some (AtFault fault)) lines waiting given bytes enough = record { behind = waiting; parts = refl; enough = omega arith }
+      stopped : (stop : Option Stop) (lines : ℕ) (waiting given : List Placed) (bytes : List ℕ) → HoldsEnough stop waiting →
+          Behind 0 (order_at stop lines (waiting ++ given) bytes).placed given
+      stopped None lines waiting given bytes enough = fewer (placed_from_behind (lines + 1) (trace_from (lines + 1) bytes).said waiting given enough)
+      stopped (Some AtEnd) lines waiting given bytes enough = record { behind = waiting; parts = refl; enough = omega arith }
+      stopped (Some (AtFault fault)) lines waiting given bytes enough = record { behind = waiting; parts = refl; enough = omega arith }
 
 -- All lines are those that were given, with others behind them.
 pub given_front : (input : List ℕ) (ordering : Ordering) (given : List Placed) (left : Option (List ℕ)) → IsGiven ordering given → IsOrderOf input ordering given left →

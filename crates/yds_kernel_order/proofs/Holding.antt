@@ -111,7 +111,7 @@ no_given slots first waiting =
 pub ring_places : (slots new : List Placed) (first given waiting number : ℕ) (said : Said) → given ≤ 1 →
     (MAX_PASSED < given + waiting → slot_at new first ≡ slot_at slots first) →
     ((before : List Placed) → IsApart (given + waiting) before →
-        held_from new first (suc (given + waiting)) ++ before ≡ next_placed number said (held_from slots first (given + waiting) ++ before)) →
+    held_from new first (suc (given + waiting)) ++ before ≡ next_placed number said (held_from slots first (given + waiting) ++ before)) →
     Places number said (ring_of slots first given waiting) (ring_of new first given (waiting + 1))
 ring_places slots new first zero waiting number said few stays placed = record {
   behind = kept;
@@ -120,6 +120,7 @@ ring_places slots new first zero waiting number said few stays placed = record {
   kept : (lines : List Placed) → IsBehind (ring_of slots first 0 waiting) lines → IsBehind (ring_of new first 0 (waiting + 1)) lines
   kept [] behind = refl
   kept (line ∷ before) behind = absurd (none-some line behind.0)
+
   put : (lines : List Placed) → IsBehind (ring_of slots first 0 waiting) lines →
       held_from new (first + 0) (waiting + 1) ++ lines ≡ next_placed number said (held_from slots (first + 0) waiting ++ lines)
   put [] behind =
@@ -138,6 +139,7 @@ ring_places slots new first (suc zero) waiting number said few stays placed = re
     ap Some (stays (omega (arith, behind.1, length-held_from slots (first + 1) waiting))) ∙ behind.0,
     omega (arith, behind.1, length-held_from slots (first + 1) waiting, length-held_from new (first + 1) (waiting + 1)),
   )
+
   put : (lines : List Placed) → IsBehind (ring_of slots first 1 waiting) lines →
       held_from new (first + 1) (waiting + 1) ++ lines ≡ next_placed number said (held_from slots (first + 1) waiting ++ lines)
   put [] behind = absurd (none-some (slot_at slots first) (sym behind))
@@ -187,7 +189,7 @@ event_places slots new first given waiting number event found low few room len i
     ring_places slots new first given waiting number (Stamped event) few
     (λ more. event_stays slots new first (given + waiting) number event found low fits more most put)
     (λ before apart. event_held slots new first (given + waiting) number event found before low fits len is_found
-      (apart_front event.time (given + waiting) (held_from slots first (given + waiting)) before (length-held_from slots first (given + waiting)) apart) put)
+    (apart_front event.time (given + waiting) (held_from slots first (given + waiting)) before (length-held_from slots first (given + waiting)) apart) put)
 
 -- # A line that tells of lost events
 

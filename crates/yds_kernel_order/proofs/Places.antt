@@ -99,8 +99,8 @@ held_moved old new first low count moved =
     let suc_count : suc (low + count) ≡ suc low + count = omega arith in
     let upper : held_from new (first + suc low) count ≡ held_from old (first + low) count =
     held_same old new (first + low) (first + suc low) count (λ place below. (
-      at_place new (first + suc low + place) (first + (low + place) + 1) (omega arith) ∙ moved.above (low + place) (omega arith) (omega arith)
-      ∙ at_place old (first + (low + place)) (first + low + place) (omega arith))) in
+    at_place new (first + suc low + place) (first + (low + place) + 1) (omega arith) ∙ moved.above (low + place) (omega arith) (omega arith)
+    ∙ at_place old (first + (low + place)) (first + low + place) (omega arith))) in
     let line : slot_at new (first + low) ≡ slot_at old (first + (low + count)) = moved.moved low refl in
     let lower : held_from new first low ≡ held_from old first low = held_same old new first first low (λ place below. moved.below place (omega arith)) in
     ap (held_from new first) suc_count ∙ held_join new first (suc low) count

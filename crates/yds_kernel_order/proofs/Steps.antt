@@ -64,8 +64,8 @@ unread_order input old given left before number trace none next says stands =
     let here : old.lines + 1 ≡ number = omega (arith, counted, next) in (
       here,
       stands.order
-      ∙ ap (λ (stop : Option Stop). order_at stop old.lines (old.waiting ++ given) (old.reader.left ++ before)) none
-      ∙ ap (order_by old.lines (old.waiting ++ given)) (ap (λ (n : ℕ). trace_from n (old.reader.left ++ before)) here ∙ says),
+          ∙ ap (λ (stop : Option Stop). order_at stop old.lines (old.waiting ++ given) (old.reader.left ++ before)) none
+          ∙ ap (order_by old.lines (old.waiting ++ given)) (ap (λ (n : ℕ). trace_from n (old.reader.left ++ before)) here ∙ says),
     )
 
 -- What the line says was put into its place, or the reading stopped at it.
