@@ -23,7 +23,7 @@ use Rattle.yds_trace.specs.Faults.{first_fault, numbered, said_fault, whole_faul
 use Rattle.yds_trace.specs.Kept.{IsAt}
 use Rattle.yds_trace_reading.specs.declared.stopped.Stopped.{Stopped}
 use Rattle.yds_trace_reading.specs.declared.stopped.Stopped.TheVariants as stops
-use Rattle.yds_trace_reading.specs.LineFault.{LineFault, InForm, AtLine, at_line, in_form, past_of, in_text, line_fault, line_fault_of, line_fault_after}
+use Rattle.yds_trace_reading.specs.LineFault.{InForm, AtLine, at_line, in_form, past_of, in_text, line_fault, line_fault_of, line_fault_after}
 use Rattle.yds_trace_reading.specs.Taken.{IsTaken, IsNotTaken, IsKnown, IsNotKnown}
 use Rattle.yds_trace_reading.specs.Reading.{IsEndOfSome, IsRead, IsTooLong, IsStopped}
 use Rattle.yds_trace_reading.proofs.Giving.{AreGiven, AreFirst, AreAll, counts_on, taken_bytes, none_given, one_given, first_given, past_behind, number_of_last, all_given, number_at_end, told_in_text, number_given, said_given}

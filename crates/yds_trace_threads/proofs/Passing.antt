@@ -17,7 +17,7 @@ use Rattle.yds_kernel_order.specs.Advancing.{GivesLine, IsOver, IsRefused}
 use Rattle.yds_kernel_order.proofs.Given.{given_within, length-said_in}
 use Rattle.yds_trace.specs.declared.fault.Cause.{Cause}
 use Rattle.yds_trace.specs.Faults.{numbered}
-use Rattle.yds_trace_reading.specs.LineFault.{LineFault, InForm, AtLine, at_line, in_form, past_of, in_text}
+use Rattle.yds_trace_reading.specs.LineFault.{InForm, AtLine, at_line, in_form, past_of, in_text}
 use Rattle.yds_trace_reading.specs.Reading.{IsTooLong}
 use Rattle.yds_trace_reading.proofs.Giving.{AreGiven, AreFirst, AreAll, counts_on, taken_bytes, none_given, one_given, number_given, said_given, first_given, past_behind, number_of_last, all_given, number_at_end, told_in_text}
 use Rattle.yds_trace_threads.specs.declared.halt.Halt.{Halt}
