@@ -1,5 +1,5 @@
 -- What the lines that were given so far, in order of time, show of the whole trace.
-use Rattle.yds_model.proofs.Common.{◌≡◌, ℕ, ◌+◌, ◌≤◌, List, [], ◌∷◌, ◌++◌, length, Option, Some, None, true, Result, Ok, Err, refl, sym, ap, subst, ◌∙◌, arith, zero-add}
+use Rattle.yds_model.proofs.Common.{◌≡◌, ℕ, ◌+◌, ◌≤◌, List, [], ◌∷◌, ◌++◌, length, Option, Some, None, true, Result, Ok, Err, refl, sym, ap, subst, ◌∙◌, arith}
 use Rattle.std.specs.Prelude.{IfSome, OnOk}
 use Rattle.yds_model.specs.Fields.{Fault}
 use Rattle.yds_kernel.specs.declared.fault.Reason.{Reason}
@@ -10,7 +10,7 @@ use Rattle.yds_kernel_text.specs.Advancing.{Counts}
 use Rattle.yds_kernel_order.specs.Order.{Placed, placed_of, said_in, order_of, number_at, line_at}
 use Rattle.yds_kernel_order.specs.Ordering.{Order, Ordering, IsGiven, IsOrderOf, whole_order, number_now, said_now}
 use Rattle.yds_kernel_order.specs.Advancing.{GivesLine, IsOver}
-use Rattle.yds_kernel_order.proofs.Given.{Behind, given_front, number_of_next, past_in_order, said_behind}
+use Rattle.yds_kernel_order.proofs.Given.{Behind, first_order, given_front, number_of_next, past_in_order, said_behind}
 use Rattle.yds_trace.specs.declared.fault.Cause.{Cause}
 use Rattle.yds_trace_reading.specs.LineFault.{LineFault, AtLine, at_line, past_of, in_text}
 
@@ -43,15 +43,7 @@ before_all = record {
 
 first_of_all : (left : Option (List ℕ)) → AreGiven left before_all left []
 first_of_all None = record { last = refl; in_order = tt; counts = tt }
-first_of_all (Some bytes) = record {
-  last = refl;
-  in_order = record {
-    order = ap (λ (lines : ℕ). record { placed = placed_of (trace_of bytes); lines = lines; fault = (trace_of bytes).fault }) (sym (zero-add (length (trace_of bytes).said)));
-    read_to = tt;
-    counted = refl;
-  };
-  counts = refl;
-}
+first_of_all (Some bytes) = record { last = refl; in_order = first_order bytes before_all refl refl refl refl refl; counts = refl }
 
 pub none_given : (left : Option (List ℕ)) (ordering : Ordering) → ordering ≡ before_all → AreGiven left ordering left []
 none_given left ordering is = subst (λ (begin : Ordering). AreGiven left begin left []) (sym is) (first_of_all left)
