@@ -32,7 +32,8 @@ taken_bytes bytes (Some rest) taken counts = omega (arith, counts)
 
 -- # Before the first line, and with a line more
 
-abbrev before_all : Ordering
+-- what a new reader holds
+abbrev pub before_all : Ordering
 before_all = record {
   reader = record { left = []; text = []; ended = true; number = 0; taken = 0 };
   lines = 0;
