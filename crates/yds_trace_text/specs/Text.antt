@@ -14,6 +14,7 @@ use Rattle.yds_trace.specs.Late.{is_open}
 use Rattle.yds_trace.specs.Others.{Span}
 use Rattle.yds_trace.specs.WrittenTime.{Units, Run, written_time, is_short, runs_end}
 use Rattle.yds_trace.specs.Document.{Judged, stands, Written, Placed, in_order, written_end, written_name, written_runs, is_left_out}
+use Rattle.yds_trace_document.specs.LeftOut.{is_for}
 use Rattle.yds_trace_document.specs.Settled.{Settled, settled_of}
 
 -- # Numbers
@@ -189,21 +190,6 @@ shown_comments units judged = if stands judged then begins_comment units judged 
 -- in the order in which equal counts are told
 abbrev pub every_reason : List Reason
 every_reason = reasons.NotEnded ∷ reasons.EventsLost ∷ reasons.SwitchMissing ∷ reasons.BeginUnseen ∷ reasons.Moved ∷ reasons.SpeedUnknown ∷ []
-
--- Each reason has a number.
-abbrev pub reason_number : Reason → ℕ
-reason_number reasons.BeforeFrom = 0
-reason_number reasons.AfterTo = 1
-reason_number reasons.NotEnded = 2
-reason_number reasons.EventsLost = 3
-reason_number reasons.SwitchMissing = 4
-reason_number reasons.BeginUnseen = 5
-reason_number reasons.Moved = 6
-reason_number reasons.SpeedUnknown = 7
-
-abbrev pub is_for : Reason → Option Reason → Bool
-is_for reason None = false
-is_for reason (Some other) = reason_number other == reason_number reason
 
 abbrev pub is_left_out_for : Reason → Judged → Bool
 is_left_out_for reason judged = is_left_out judged && is_for reason judged.reason
