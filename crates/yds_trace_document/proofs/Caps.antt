@@ -1,5 +1,5 @@
 -- Works that are capped at 64 bits are refused as those that are whole, and what isn't refused isn't capped.
-use Rattle.yds_model.proofs.Common.{◌≡◌, ℕ, suc, ◌+◌, ◌≤◌, ◌==◌, ◌&&◌, ◌||◌, Bool, true, false, not, cond, List, [], ◌∷◌, map, length, ◌∙◌, refl, ap, ap₂, arith, nat_lt, nat_le, eqb-true, leb-true, le-leb, ltb-false, Option, Some, None, option_map, slice_index_or, position, prefix_len, length-map, if◌then◌else◌}
+use Rattle.yds_model.proofs.Common.{◌≡◌, ℕ, zero, suc, ◌+◌, ◌≤◌, ◌==◌, ◌&&◌, ◌||◌, Bool, true, false, not, cond, List, [], ◌∷◌, map, length, ◌∙◌, refl, sym, ap, ap₂, arith, nat_lt, nat_le, eqb-true, leb-true, le-leb, ltb-false, Option, Some, None, option_map, max, get_or, position, prefix_len, length-map, if◌then◌else◌}
 use Rattle.yds_model.specs.declared.limits.TheConstants.{MAX_JOBS, MAX_SLOTS, MAX_WORK}
 use Rattle.yds_kernel.specs.Parts.{capped, or_else}
 use Rattle.yds_trace.specs.Document.{Written}
@@ -30,13 +30,31 @@ position_same p q each xs =
 capped_twice : (work : ℕ) → capped (capped work) ≡ capped work
 capped_twice work = grind (arith, nat_le, leb-true, le-leb)
 
-works_same : (jobs : List Written) → works_of (map with_capped_work jobs) ≡ works_of jobs
-works_same [] = refl
-works_same (job ∷ jobs) = ap₂ (λ (work : ℕ) (works : List ℕ). work ∷ works) (capped_twice job.work) (works_same jobs)
+capped_max : (one other : ℕ) → capped (max (capped one) (capped other)) ≡ capped (max one other)
+capped_max one other = grind (arith, nat_le, leb-true, le-leb)
 
--- with these works the fault of the job at this place
-abbrev fault_among : Units → List ℕ → ℕ → DocumentFault
-fault_among units works place = faults.WorkTooGreat place (slice_index_or works place 0) (unit_for units (greatest works))
+capped_greater : (one first second : ℕ) → capped first ≡ capped second → capped (max (capped one) first) ≡ capped (max one second)
+capped_greater one first second same =
+    sym (capped_max (capped one) first) ∙ ap₂ (λ (m n : ℕ). capped (max m n)) (capped_twice one) same ∙ capped_max one second
+
+greatest_same : (jobs : List Written) → capped (greatest (works_of (map with_capped_work jobs))) ≡ capped (greatest (works_of jobs))
+greatest_same [] = refl
+greatest_same (job ∷ jobs) =
+    capped_greater job.work (greatest (works_of (map with_capped_work jobs))) (greatest (works_of jobs)) (greatest_same jobs)
+
+work_same : (jobs : List Written) (place : ℕ) → capped (get_or (works_of (map with_capped_work jobs)) place 0) ≡ capped (get_or (works_of jobs) place 0)
+work_same [] place = refl
+work_same (job ∷ jobs) zero = capped_twice job.work
+work_same (job ∷ jobs) (suc place) = work_same jobs place
+
+work_fault_same : (units : Units) (jobs : List Written) (place : ℕ) → work_fault units (map with_capped_work jobs) place ≡ work_fault units jobs place
+work_fault_same units jobs place =
+    ap₂ (λ (work most : ℕ). let fault : DocumentFault = faults.WorkTooGreat place work (unit_for units most) in fault) (work_same jobs place) (greatest_same jobs)
+
+heavy_fault_same : (units : Units) (jobs : List Written) (place : Option ℕ) →
+    option_map (work_fault units (map with_capped_work jobs)) place ≡ option_map (work_fault units jobs) place
+heavy_fault_same units jobs None = refl
+heavy_fault_same units jobs (Some place) = ap (λ (fault : DocumentFault). let some : Option DocumentFault = Some fault in some) (work_fault_same units jobs place)
 
 job_fault_same : (units : Units) (jobs : List Written) → job_fault units (map with_capped_work jobs) ≡ job_fault units jobs
 job_fault_same units jobs =
@@ -47,7 +65,7 @@ job_fault_same units jobs =
     ∙ position_same (λ job. is_heavy (with_capped_work job)) is_heavy (λ job. heavy_same job.work) jobs in
     ap₂ (λ (first : Option ℕ) (rest : Option DocumentFault). or_else (option_map (λ place. faults.NameTooLong place) first) rest) long
     (ap₂ (λ (first : Option ℕ) (second : Option DocumentFault). or_else (option_map (λ place. faults.TimeTooGreat place) first) second) beyond
-    (ap₂ (λ (works : List ℕ) (place : Option ℕ). option_map (fault_among units works) place) (works_same jobs) heavy))
+    (heavy_fault_same units jobs (position is_heavy (map with_capped_work jobs)) ∙ ap (option_map (work_fault units jobs)) heavy))
 
 abbrev shaped : Bool → Settled → ℕ → Option DocumentFault → Option DocumentFault
 shaped strict settled count job =

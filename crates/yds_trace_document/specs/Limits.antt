@@ -1,6 +1,6 @@
 -- For which a document isn't written: the limits of the format, speeds that are too coarse, and jobs that had to be left out.
-use Rattle.std.specs.Prelude.{ℕ, ◌+◌, ◌-◌, ◌*◌, ◌/◌, List, [], ◌∷◌, map, length, max, not, Bool, true, false, ◌==◌, ◌&&◌, ◌||◌, nat_lt, if◌then◌else◌, Option, Some, None, is_some, option_map, position, unwrap_or}
-use Rattle.std.specs.List.{list_any, slice_index_or}
+use Rattle.std.specs.Prelude.{ℕ, ◌+◌, ◌-◌, ◌*◌, ◌/◌, List, [], ◌∷◌, map, get_or, length, max, not, Bool, true, false, ◌==◌, ◌&&◌, ◌||◌, nat_lt, if◌then◌else◌, Option, Some, None, is_some, option_map, position, unwrap_or}
+use Rattle.std.specs.List.{list_any}
 use Rattle.yds_model.specs.declared.limits.TheConstants.{MAX_JOBS, MAX_SLOTS, MAX_TIME, MAX_WORK, MAX_RUN_SPEED, MAX_NAME}
 use Rattle.yds_kernel.specs.Parts.{capped, or_else}
 use Rattle.yds_trace.specs.declared.job.Stretch.{Stretch}
@@ -34,9 +34,8 @@ is_heavy job = nat_lt MAX_WORK job.work
 
 -- # Units for a work that is too great
 
--- what these jobs' works are, as far as 64 bits tell
 abbrev pub works_of : List Written → List ℕ
-works_of jobs = map (λ job. capped job.work) jobs
+works_of jobs = map (λ job. job.work) jobs
 
 abbrev pub greatest : List ℕ → ℕ
 greatest [] = 0
@@ -46,9 +45,12 @@ greatest (number ∷ numbers) = max number (greatest numbers)
 abbrev pub unit_for : Units → ℕ → ℕ
 unit_for units work = capped (units.time / 1000 * ((work - 1) / MAX_WORK + 1))
 
--- That the job at this place has too much work: how much, and a unit that serves for each job.
+-- That the job at a place has so much work, and a unit that serves for the greatest work of all. Works are told as far as 64 bits tell them.
+abbrev pub too_heavy : Units → ℕ → ℕ → ℕ → DocumentFault
+too_heavy units place work most = faults.WorkTooGreat place (capped work) (unit_for units (capped most))
+
 abbrev pub work_fault : Units → List Written → ℕ → DocumentFault
-work_fault units jobs place = faults.WorkTooGreat place (slice_index_or (works_of jobs) place 0) (unit_for units (greatest (works_of jobs)))
+work_fault units jobs place = too_heavy units place (get_or (works_of jobs) place 0) (greatest (works_of jobs))
 
 -- # Speeds
 

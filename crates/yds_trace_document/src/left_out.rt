@@ -1,8 +1,8 @@
 //! Why most jobs aren't written, where none is.
-ghost use Rattle.std.specs.Prelude.{◌≡◌, nat_le};
+ghost use Rattle.std.specs.Prelude.{◌≡◌, count_by, nat_le};
 ghost use Rattle.std.specs.List.{list_all};
 ghost use Rattle.yds_trace_document.specs.LeftOut as spec;
-ghost use Rattle.yds_trace_document.specs.Views.{judged_list, count_in};
+ghost use Rattle.yds_trace_document.specs.Views.{judged_read, judged_list, count_in};
 
 use crate::fault::LeftOut;
 use crate::judged::Judged;
@@ -69,15 +69,18 @@ impl Counts {
     }
 }
 
-/// How many of these jobs have this reason.
-#[tactic(auto, using(crate::proofs::Lists::count_by_map))]
-fn count_for(judged: &[Judged<'_>], reason: Reason) -> usize
-    ensures { result ≡ spec.count_for (judged_list judged.now) reason }
+/// Whether a job has this reason.
+fn is_for(reason: Reason, judged: &Judged<'_>) -> bool
+    ensures { result ≡ spec.is_for reason (judged_read judged.now).reason }
 {
-    judged
-        .iter()
-        .filter(|one| one.reason == Some(reason))
-        .count()
+    judged.reason == Some(reason)
+}
+
+/// How many of these jobs have this reason.
+fn count_for(judged: &[Judged<'_>], reason: Reason) -> usize
+    ensures { result ≡ count_by (λ one. spec.is_for reason (judged_read one).reason) judged.now }
+{
+    judged.iter().filter(|one| is_for(reason, one)).count()
 }
 
 /// Of the most frequent reasons that of the first of these jobs that has one.

@@ -1,6 +1,6 @@
 //! The limits of a document.
-ghost use Rattle.std.specs.Prelude.{◌≡◌, ◌||◌, nat_lt, position};
-ghost use Rattle.std.specs.List.{list_any, slice_index_or};
+ghost use Rattle.std.specs.Prelude.{◌≡◌, ◌||◌, get_or, nat_lt, position};
+ghost use Rattle.std.specs.List.{list_any};
 ghost use Rattle.yds_trace.specs.Document as document;
 ghost use Rattle.yds_trace.specs.Views.{asked_read};
 ghost use Rattle.yds_trace_document.specs.Limits as spec;
@@ -92,16 +92,23 @@ fn job_fault(units: Units, jobs: &[Written<'_>]) -> Option<DocumentFault>
 fn work_fault(units: Units, jobs: &[Written<'_>], place: usize) -> DocumentFault
     ensures { result ≡ spec.work_fault (units_read units) (written_list jobs.now) place }
 {
+    too_heavy(units, place, work_at(jobs, place), greatest_work(jobs))
+}
+
+/// That the job at this place has so much work, and a unit that serves for the greatest work of all.
+fn too_heavy(units: Units, place: usize, work: u64, greatest: u64) -> DocumentFault
+    ensures { result ≡ spec.too_heavy (units_read units) place work greatest }
+{
     DocumentFault::WorkTooGreat {
         place,
-        work: work_at(jobs, place),
-        us: unit_for(units, greatest_work(jobs)),
+        work,
+        us: unit_for(units, greatest),
     }
 }
 
 /// The work of the job at this place.
 fn work_at(jobs: &[Written<'_>], place: usize) -> u64
-    ensures { result ≡ slice_index_or (spec.works_of (written_list jobs.now)) place 0 }
+    ensures { result ≡ get_or (spec.works_of (written_list jobs.now)) place 0 }
 {
     match jobs.get(place) {
         Some(job) => job.work,

@@ -1,9 +1,9 @@
-use Rattle.yds_model.proofs.Common.{◌≡◌, ◌∙◌, ℕ, List, length, sym, ap, Option, Some, option_map}
+use Rattle.yds_model.proofs.Common.{◌∙◌, ℕ, List, length-map, sym, ap, ap₂, Option, Some, option_map}
 use Rattle.yds_trace.specs.declared.reason.Reason.{Reason}
 use Rattle.yds_trace.specs.Document.{Judged}
 use Rattle.yds_trace_document.specs.declared.fault.LeftOut.{LeftOut}
 use Rattle.yds_trace_document.specs.LeftOut.{first_frequent, left_out_for}
-use Rattle.yds_trace_document.specs.Views.{judged_list, count_in}
+use Rattle.yds_trace_document.specs.Views.{judged_read, judged_list, count_in}
 use Rattle.yds_trace_document.proofs.left_out.most_left_out.Goals as goal
 
 -- what is told of these jobs by these counts
@@ -12,7 +12,8 @@ told_by judged counts = option_map (left_out_for judged counts) (first_frequent 
 
 pub returns-in-Some : goal.returns-in-Some
 returns-in-Some c =
-    ap (λ (count : ℕ). let one : LeftOut = record { reason = c.in-Some.reason; count = count; all = length c.args.judged.now } in Some one) c.of.ensures
+    ap₂ (λ (count all : ℕ). let one : LeftOut = record { reason = c.in-Some.reason; count = count; all = all } in Some one) c.of.ensures
+    (sym (length-map c.args.judged.now judged_read))
     ∙ ap (option_map (left_out_for (judged_list c.args.judged.now) (count_in c.new-counts.result))) (sym c.in-Some.is ∙ c.first_frequent.ensures)
     ∙ ap (told_by (judged_list c.args.judged.now)) c.new-counts.ensures
 
