@@ -55,11 +55,14 @@ written_job place text = codes "written job " ++ decimal (place + 1) ++ text
 abbrev pub found_job : ℕ → List ℕ → List ℕ
 found_job place text = codes "found job " ++ decimal (place + 1) ++ text
 
--- How much greater the units have to be. The job's place stays the same.
+-- The job's place stays the same.
+abbrev pub us_text : ℕ → List ℕ
+us_text us = codes "give --us " ++ decimal us ++ codes " and keep --khz, here and for yds-points: then it is the job line of that number"
+
+-- how much greater the units have to be
 abbrev pub units_text : ℕ → List ℕ
 units_text us =
-    if nat_lt MAX_UNIT us then codes "choose greater units by --us and --khz, and the points in the same --khz"
-    else codes "give --us " ++ decimal us ++ codes " and keep --khz, here and for yds-points: then it is the job line of that number"
+    if nat_lt MAX_UNIT us then codes "choose greater units by --us and --khz, and the points in the same --khz" else us_text us
 
 abbrev pub work_text : ℕ → ℕ → ℕ → List ℕ
 work_text place work us = written_job place (codes ": its work is " ++ decimal work ++ codes ", above 1000000; " ++ units_text us)
@@ -75,12 +78,16 @@ remedy lefts.BeginUnseen = codes "record sched_waking, and longer, or give --beg
 remedy lefts.Moved = codes "choose another processor by --cpu, or give --moved parts"
 remedy lefts.SpeedUnknown = codes "give the speed by --start"
 
+abbrev pub counts_text : LeftOut → List ℕ
+counts_text left = codes "no job can be written: " ++ decimal left.count ++ codes " of " ++ decimal left.all
+
 -- The reason is told in the words of the comments on jobs that are left out.
+abbrev pub why_text : Left → List ℕ
+why_text reason = codes " left out (" ++ reason_text (Some reason) ++ codes "); " ++ remedy reason
+
 abbrev pub no_job_text : Option LeftOut → List ℕ
 no_job_text None = codes "no job of the tasks is found; choose a later --to, or record longer"
-no_job_text (Some left) =
-    codes "no job can be written: " ++ decimal left.count ++ codes " of " ++ decimal left.all ++ codes " left out ("
-    ++ reason_text (Some left.reason) ++ codes "); " ++ remedy left.reason
+no_job_text (Some left) = counts_text left ++ why_text left.reason
 
 abbrev pub document_text : DocumentFault → List ℕ
 document_text faults.TooManyJobs = codes "more than 4000 jobs; choose a shorter time by --from and --to"

@@ -219,12 +219,21 @@ fn push_units(us: u64, line: &mut ArrayString<LINE_BYTES>)
     if us > MAX_UNIT {
         line.push_str("choose greater units by --us and --khz, and the points in the same --khz");
     } else {
-        line.push_str("give --us ");
-        line.push_str(Buffer::new().format(us));
-        line.push_str(
-            " and keep --khz, here and for yds-points: then it is the job line of that number",
-        );
+        push_us(us, line);
     }
+}
+
+/// A unit of time in microseconds that serves for the job, and where it stands then.
+fn push_us(us: u64, line: &mut ArrayString<LINE_BYTES>)
+    requires { array_string_len line.old ≤ 181 }
+    ensures text { line.new.bytes ≡ line.old.bytes ++ spec.us_text us }
+    ensures short { array_string_len line.new ≤ array_string_len line.old + 110 }
+{
+    line.push_str("give --us ");
+    line.push_str(Buffer::new().format(us));
+    line.push_str(
+        " and keep --khz, here and for yds-points: then it is the job line of that number",
+    );
 }
 
 /// Why no job can be written, and what to do.
@@ -247,14 +256,32 @@ fn push_left_out(left: LeftOut, line: &mut ArrayString<LINE_BYTES>)
     ensures text { line.new.bytes ≡ line.old.bytes ++ spec.no_job_text (Some left) }
     ensures short { array_string_len line.new ≤ 285 }
 {
+    push_counts(left, line);
+    push_why(left.reason, line);
+}
+
+/// How many jobs are left out for one reason, and how many there are.
+fn push_counts(left: LeftOut, line: &mut ArrayString<LINE_BYTES>)
+    requires { array_string_len line.old ≤ 70 }
+    ensures text { line.new.bytes ≡ line.old.bytes ++ spec.counts_text left }
+    ensures short { array_string_len line.new ≤ 140 }
+{
     line.push_str("no job can be written: ");
     line.push_str(Buffer::new().format(left.count as u64));
     line.push_str(" of ");
     line.push_str(Buffer::new().format(left.all as u64));
+}
+
+/// For which reason, and what to do.
+fn push_why(reason: LeftReason, line: &mut ArrayString<LINE_BYTES>)
+    requires { array_string_len line.old ≤ 140 }
+    ensures text { line.new.bytes ≡ line.old.bytes ++ spec.why_text reason }
+    ensures short { array_string_len line.new ≤ 285 }
+{
     line.push_str(" left out (");
-    line.push_str(reason_words(left.reason));
+    line.push_str(reason_words(reason));
     line.push_str("); ");
-    line.push_str(remedy(left.reason));
+    line.push_str(remedy(reason));
 }
 
 /// What to do where most jobs are left out for this reason.
