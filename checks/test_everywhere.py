@@ -378,8 +378,7 @@ class Faults(unittest.TestCase):
             switch(0, 300, "swapper", "R", "a"), switch(0, 400, "a", "S", "swapper"),
         ]
         last = [wake(0, 2000, "b"), other(0, 2100), other(0, 2200)]
-        why = ("no job can be written, and a document without jobs is feasible; choose another processor by --cpu,"
-               " or a longer time by --from and --to")
+        why = "no job can be written of any processor; choose one of them by --cpu, and the reason is told"
         found = cut_small([*moves, *last])
         self.assertEqual([line for line in found if line.startswith("# part ")], [
             "# part 1: jobs 1 to 0, from 0 to 0, shift 0, cpu 0",

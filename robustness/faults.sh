@@ -351,7 +351,7 @@ test_trace_streams() {
 "
 	short=$("$YDS_TRACE" --tasks decode:20,audio:10 <"$work/short")"
 "
-	no_line="# line 1: no line of a kernel's trace; write the trace as text, by trace-cmd report or perf script
+	no_line="# line 1: no line of a kernel's trace; write it as text, by trace-cmd report or perf script with cpu and time among its fields: a line has a processor as [001] and a time with a point as 12.345678: before its event's name
 failed
 "
 	not_text="# a word isn't text; write the words in UTF-8

@@ -11,7 +11,7 @@ from typing import Dict, List, NamedTuple, Optional, Set, Tuple
 
 from second import (
     Asked, Document, Follower, Job, Judged, Line, MOST_PROCESSOR, MOST_TEXT, MOST_TIME, Shown, Span, Stretch, Thread, Told, Watch, Wrong, as_bytes,
-    in_order, is_loss, is_stamped, judge_jobs, line_fault, milliseconds, ordered, share_of, shown_by, within,
+    in_order, is_loss, is_stamped, judge_jobs, line_fault, milliseconds, ordered, share_of, shown_by, unseen_task, within,
 )
 
 
@@ -428,7 +428,7 @@ class Parts:
         found = [self.last_part(processor, self.cut_of(processor)) for processor in self.processors()]
         documents = [*self.written, *(piece.document for piece in found if piece.document is not None)]
         if self.asked.everywhere and not any(document.rows for document in documents):
-            self.check(documents[0], "part 1", False)
+            raise Wrong("part 1: no job can be written of any processor; choose one of them by --cpu, and the reason is told", 3, "part document: no job")
         for piece in found:
             self.put(piece)
 
@@ -448,7 +448,7 @@ class Parts:
         elif not self.asked.cut and self.is_torn:
             cause = "lost"
         elif unseen:
-            cause = f"no line names task {unseen[0] + 1} of --tasks; write its name as the trace has it"
+            cause = unseen_task(unseen[0])
         elif not self.asked.at_run and not self.is_woken:
             cause = "unwoken"
         if cause is not None:

@@ -6,6 +6,7 @@ crates; the texts of `--help` and `--version` alone it takes from their source.
 """
 
 import re
+from collections import Counter
 from dataclasses import dataclass, field, replace
 from itertools import islice, takewhile
 from pathlib import Path
@@ -20,6 +21,18 @@ MOST_WORK, MOST_SPEED, MOST_UNITS = 1_000_000, 1_000_000, 1_000_000_000
 MOST_JOBS, MOST_RUNS, MOST_TEXT = 4_000, 100_000, 8_388_608
 MOST_NAME, MOST_OTHER_NAME = 64, 64
 MOST_PASSED, MOST_STEP_BACK = 64, 1_000_000
+MOST_MICROSECONDS, MOST_COUNT = 1_000_000_000, 2**64 - 1
+REMEDIES = {
+    "before from": "choose an earlier --from",
+    "after to": "choose a later --to",
+    "not ended": "record longer",
+    "events lost": "record with a larger buffer, or choose --from and --to around the loss",
+    "a switch is missing": "record the switches of all threads, without a filter",
+    "its begin isn't in the trace": "record sched_waking, and longer, or give --begin run",
+    "ran on another processor": "choose another processor by --cpu, or give --moved parts",
+    "frequency not known": "give the speed by --start",
+}
+"""What to do about each reason for which jobs are left out."""
 
 # # What the words ask for
 
@@ -347,12 +360,18 @@ CAUSES = {
     "back": "its time is before that of an earlier line, by more than a millisecond or behind more than 64 lines; sort the lines by their times",
     "lost": "events were lost before it; record with a larger buffer, choose --from and --to around it, or go on by --lost cut",
     "state": "a task leaves in a state that the kernel doesn't have; write the trace anew",
-    "threads": "a task's name is that of another thread before; give its number by PID=NAME:DEADLINE",
+    "threads": "a task's name is that of another thread before; threads are renamed at their start, too: give the number, which stays, by PID=NAME:DEADLINE",
     "tasks": "one thread is two tasks, by its number and by its name; leave one out",
-    "none": "no line of a kernel's trace; write the trace as text, by trace-cmd report or perf script",
+    "none": ("no line of a kernel's trace; write it as text, by trace-cmd report or perf script with cpu and time among its fields: a line "
+             "has a processor as [001] and a time with a point as 12.345678: before its event's name"),
     "unwoken": "no wake-up of a task; record sched_waking too, or let jobs begin at their first run by --begin run",
     "part written": "it changes jobs of a part that was written; choose --from and --to around it",
 }
+
+
+def unseen_task(number: int) -> str:
+    """That no line names the thread of this task."""
+    return f"no line names task {number + 1} of --tasks; write its name as the trace has it, a * isn't taken; --tasks '?' lists the threads of the trace"
 
 
 def line_fault(number: int, cause: str, where: str = "line") -> Wrong:
@@ -601,7 +620,7 @@ def whole_cause(lines: List[Line], asked: Asked) -> Optional[str]:
         return "lost"
     for number in range(len(asked.tasks)):
         if pid_of(number, lines, asked) is None:
-            return f"no line names task {number + 1} of --tasks; write its name as the trace has it"
+            return unseen_task(number)
     woken = any(line.kind == "wake" and asked.task_of(line.threads[0]) is not None for line in lines)
     return "unwoken" if not asked.at_run and not woken else None
 
@@ -1026,9 +1045,25 @@ class Document:
         self.check_size()
         self.check_rows()
         if not self.rows:
-            raise Wrong("no job can be written, and a document without jobs is feasible; choose another processor by --cpu,"
-                        " or a longer time by --from and --to", 3, "document: no job")
+            raise Wrong(self.why_no_job(), 3, "document: no job")
         self.check_missed()
+
+    def why_no_job(self) -> str:
+        """The reason that most jobs have, and of several that of the job that began first."""
+        counts = Counter(one.reason for one in self.judged)
+        if not counts:
+            return "no job of the tasks is found; choose a later --to, or record longer"
+        reason = max(counts, key=lambda it: counts[it])
+        return f"no job can be written: {counts[reason]} of {len(self.judged)} left out ({reason}); {REMEDIES[reason]}"
+
+    def heavy(self, place: int, work: int) -> str:
+        """That a job's work is too great, and units that serve for the greatest work of all."""
+        greatest = min(MOST_COUNT, max(row[3] for row in self.rows))
+        us = min(MOST_COUNT, self.asked.unit // 1000 * ((greatest - 1) // MOST_WORK + 1))
+        units = f"give --us {us} and keep --khz, here and for yds-points: then it is the job line of that number"
+        if us > MOST_MICROSECONDS:
+            units = "choose greater units by --us and --khz, and the points in the same --khz"
+        return f"written job {place}: its work is {min(MOST_COUNT, work)}, above 1000000; {units}"
 
     def check_rows(self) -> None:
         """The first job or run that passes a limit."""
@@ -1041,7 +1076,7 @@ class Document:
                 raise Wrong(f"written job {place}: its times are above 1000000000 units; choose a greater unit by --us, or a later --from", 3, "document: times")
         for place, (one, _, _, work) in enumerate(self.rows, 1):
             if work > MOST_WORK:
-                raise Wrong(f"written job {place}: its work is above 1000000; choose greater units by --us and --khz", 3, "document: work")
+                raise Wrong(self.heavy(place, work), 3, "document: work")
         for place, one in enumerate(self.judged, 1):
             if not one.reason and any(self.is_coarse(ran) for ran in one.job.ran):
                 raise Wrong(f"found job {place}: it ran at a speed that is 0, or off by more than a twentieth in its unit;"

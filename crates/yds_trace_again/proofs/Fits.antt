@@ -18,7 +18,7 @@ use Rattle.yds_trace_laws.proofs.Begins.{or_none}
 use Rattle.yds_trace_document.specs.declared.fault.DocumentFault.{DocumentFault}
 use Rattle.yds_trace_document.specs.declared.fault.DocumentFault.TheVariants as faults
 use Rattle.yds_trace_document.specs.Settled.{Settled}
-use Rattle.yds_trace_document.specs.Limits.{fault_if, is_long_name, ends_late, is_beyond, is_heavy, job_fault, limit_fault}
+use Rattle.yds_trace_document.specs.Limits.{fault_if, is_long_name, ends_late, is_beyond, is_heavy, work_fault, job_fault, limit_fault}
 use Rattle.yds_trace_text.specs.Text.{name_of}
 use Rattle.yds_trace_again.specs.Again.{document_read}
 use Rattle.yds_trace_again.specs.Laws.{AreLabelled}
@@ -73,12 +73,12 @@ passes_limits strict settled none =
     let jobs : List Written = settled.document.jobs in
     let one = or_none (fault_if (nat_lt MAX_JOBS (length jobs)) faults.TooManyJobs) _ none in
     let two = or_none (fault_if (nat_lt MAX_SLOTS (length settled.document.runs)) faults.TooManyRuns) _ one.1 in
-    let three = or_none (job_fault jobs) _ two.1 in
+    let three = or_none (job_fault settled.units jobs) _ two.1 in
     let long = or_none (option_map (λ place. faults.NameTooLong place) (position is_long_name jobs)) _ three.0 in
     let beyond = or_none (option_map (λ place. faults.TimeTooGreat place) (position is_beyond jobs)) _ long.1 in
     let names = none_passes is_long_name jobs (no_place (λ place. faults.NameTooLong place) (position is_long_name jobs) long.0) in
     let times = none_passes is_beyond jobs (no_place (λ place. faults.TimeTooGreat place) (position is_beyond jobs) beyond.0) in
-    let works = none_passes is_heavy jobs (no_place (λ place. faults.WorkTooGreat place) (position is_heavy jobs) beyond.1) in
+    let works = none_passes is_heavy jobs (no_place (work_fault settled.units jobs) (position is_heavy jobs) beyond.1) in
     record {
       few_jobs = ltb-false MAX_JOBS (length jobs) (no_fault_if (nat_lt MAX_JOBS (length jobs)) faults.TooManyJobs one.0);
       few_runs = ltb-false MAX_SLOTS (length settled.document.runs) (no_fault_if (nat_lt MAX_SLOTS (length settled.document.runs)) faults.TooManyRuns two.0);

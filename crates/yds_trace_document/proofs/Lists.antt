@@ -1,5 +1,5 @@
 -- Lists as they are kept and as they are read.
-use Rattle.yds_model.proofs.Common.{◌≡◌, ℕ, suc, ◌+◌, ◌||◌, Bool, not, cond, List, [], ◌∷◌, ◌++◌, map, reverse, length, ◌∙◌, refl, sym, ap, ap₂, arith, nat_lt, Some, None, list_any, position, prefix_len, enumerate_from, length-map, map-append, reverse-append}
+use Rattle.yds_model.proofs.Common.{◌≡◌, ℕ, suc, ◌+◌, ◌||◌, Bool, not, cond, List, [], ◌∷◌, ◌++◌, map, reverse, length, ◌∙◌, refl, sym, ap, ap₂, arith, nat_lt, Some, None, list_any, sum_by, sum_by-cons, count_by, position, prefix_len, enumerate_from, length-map, map-append, reverse-append}
 
 pub map_reverse : {A B : Type 0} (f : A → B) (xs : List A) → map f (reverse xs) ≡ reverse (map f xs)
 map_reverse f [] = refl
@@ -12,6 +12,13 @@ map_reverse {A} {B} f (x ∷ xs) =
 pub list_any_map : {A B : Type 0} (p : B → Bool) (f : A → B) (xs : List A) → list_any p (map f xs) ≡ list_any (λ x. p (f x)) xs
 list_any_map p f [] = refl
 list_any_map p f (x ∷ xs) = ap (λ (b : Bool). p (f x) || b) (list_any_map p f xs)
+
+pub sum_by_map : {A B : Type 0} (g : B → ℕ) (f : A → B) (xs : List A) → sum_by g (map f xs) ≡ sum_by (λ x. g (f x)) xs
+sum_by_map g f [] = refl
+sum_by_map g f (x ∷ xs) = simp sum_by-cons (omega (arith, sum_by_map g f xs))
+
+pub count_by_map : {A B : Type 0} (p : B → Bool) (f : A → B) (xs : List A) → count_by p (map f xs) ≡ count_by (λ x. p (f x)) xs
+count_by_map p f xs = sum_by_map (λ y. cond (p y) 1 0) f xs
 
 prefix_len_map : {A B : Type 0} (p : B → Bool) (f : A → B) (xs : List A) → prefix_len p (map f xs) ≡ prefix_len (λ x. p (f x)) xs
 prefix_len_map p f [] = refl

@@ -5,6 +5,9 @@ use Rattle.yds_trace.specs.WrittenTime.{Units, Run}
 use Rattle.yds_trace.specs.Views.{job_read}
 use Rattle.yds_trace.specs.Others.{Span}
 use Rattle.yds_trace.specs.Document.{named, name_in_parts, Judged, Written, Placed}
+use Rattle.yds_trace.specs.declared.reason.Reason.{Reason}
+use Rattle.yds_trace.specs.declared.reason.Reason.TheVariants as reasons
+use Rattle.yds_trace_document.specs.declared.left_out.Counts.{Counts}
 use Rattle.yds_trace_document.specs.declared.units.Units.{Units as UnitsKept}
 use Rattle.yds_trace_document.specs.declared.run.Run.{Run as RunKept}
 use Rattle.yds_trace_document.specs.declared.name.Name.{Name as NameKept}
@@ -92,3 +95,14 @@ settled_read settled = record {
   document = record { jobs = written_list settled.jobs.items; runs = placed_list settled.runs.items };
   others = map other_read settled.others.items;
 }
+
+-- how many jobs have this reason, of those that were counted
+abbrev pub count_in : Counts → Reason → ℕ
+count_in counts reasons.BeforeFrom = counts.before_from
+count_in counts reasons.AfterTo = counts.after_to
+count_in counts reasons.NotEnded = counts.not_ended
+count_in counts reasons.EventsLost = counts.events_lost
+count_in counts reasons.SwitchMissing = counts.switch_missing
+count_in counts reasons.BeginUnseen = counts.begin_unseen
+count_in counts reasons.Moved = counts.moved
+count_in counts reasons.SpeedUnknown = counts.speed_unknown

@@ -9,6 +9,7 @@
 mod fault;
 mod judge;
 mod judged;
+mod left_out;
 mod limits;
 mod membership;
 mod name;
@@ -22,7 +23,7 @@ mod settlement;
 mod units;
 mod written;
 
-pub use fault::DocumentFault;
+pub use fault::{DocumentFault, LeftOut};
 pub use judged::Judged;
 pub use limits::{limit_fault, part_limit_fault};
 pub use membership::belongs;

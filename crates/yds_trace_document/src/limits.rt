@@ -1,5 +1,5 @@
 //! The limits of a document.
-ghost use Rattle.std.specs.Prelude.{◌≡◌, ◌||◌, nat_lt, position};
+ghost use Rattle.std.specs.Prelude.{◌≡◌, ◌||◌, get_or, nat_lt, position};
 ghost use Rattle.std.specs.List.{list_any};
 ghost use Rattle.yds_trace.specs.Document as document;
 ghost use Rattle.yds_trace.specs.Views.{asked_read};
@@ -9,6 +9,7 @@ ghost use Rattle.yds_trace_document.specs.Views.{units_read, run_read, judged_re
 
 use crate::fault::DocumentFault;
 use crate::judged::Judged;
+use crate::left_out::most_left_out;
 use crate::run::Run;
 use crate::settlement::Settled;
 use crate::units::Units;
@@ -27,14 +28,14 @@ pub fn limit_fault(strict: bool, settled: &Settled<'_>) -> Option<DocumentFault>
     if settled.runs.len() > MAX_SLOTS {
         return Some(DocumentFault::TooManyRuns);
     }
-    if let Some(fault) = job_fault(&settled.jobs) {
+    if let Some(fault) = job_fault(settled.units, &settled.jobs) {
         return Some(fault);
     }
     if let Some(fault) = speed_fault(settled.units, &settled.judged) {
         return Some(fault);
     }
     if settled.jobs.is_empty() {
-        return Some(DocumentFault::NoJob);
+        return Some(DocumentFault::NoJob(most_left_out(&settled.judged)));
     }
     if strict {
         missed_fault(&settled.judged)
@@ -72,8 +73,8 @@ fn may_be_empty(asked: &Asked, cut: Cut) -> bool
 
 /// The first name, time or work of a job that is above its limit.
 #[tactic(auto, using(crate::proofs::Lists::position_map))]
-fn job_fault(jobs: &[Written<'_>]) -> Option<DocumentFault>
-    ensures { result ≡ spec.job_fault (written_list jobs.now) }
+fn job_fault(units: Units, jobs: &[Written<'_>]) -> Option<DocumentFault>
+    ensures { result ≡ spec.job_fault (units_read units) (written_list jobs.now) }
 {
     if let Some(place) = first_long(jobs) {
         return Some(DocumentFault::NameTooLong(place));
@@ -82,9 +83,56 @@ fn job_fault(jobs: &[Written<'_>]) -> Option<DocumentFault>
         return Some(DocumentFault::TimeTooGreat(place));
     }
     match first_heavy(jobs) {
-        Some(place) => Some(DocumentFault::WorkTooGreat(place)),
+        Some(place) => Some(work_fault(units, jobs, place)),
         None => None,
     }
+}
+
+/// That the job at this place has too much work.
+fn work_fault(units: Units, jobs: &[Written<'_>], place: usize) -> DocumentFault
+    ensures { result ≡ spec.work_fault (units_read units) (written_list jobs.now) place }
+{
+    too_heavy(units, place, work_at(jobs, place), greatest_work(jobs))
+}
+
+/// That the job at this place has so much work, and a unit that serves for the greatest work of all.
+fn too_heavy(units: Units, place: usize, work: u64, greatest: u64) -> DocumentFault
+    ensures { result ≡ spec.too_heavy (units_read units) place work greatest }
+{
+    DocumentFault::WorkTooGreat {
+        place,
+        work,
+        us: unit_for(units, greatest),
+    }
+}
+
+/// The work of the job at this place.
+fn work_at(jobs: &[Written<'_>], place: usize) -> u64
+    ensures { result ≡ get_or (spec.works_of (written_list jobs.now)) place 0 }
+{
+    match jobs.get(place) {
+        Some(job) => job.work,
+        None => 0,
+    }
+}
+
+/// The greatest of their works.
+fn greatest_work(jobs: &[Written<'_>]) -> u64
+    ensures { result ≡ spec.greatest (spec.works_of (written_list jobs.now)) }
+{
+    let mut greatest = 0;
+    for job in jobs {
+        greatest = greatest.max(job.work);
+    }
+    greatest
+}
+
+/// The least multiple of the unit of time in which so much work is no more than a job may have, in microseconds.
+fn unit_for(units: Units, work: u64) -> u64
+    ensures { result ≡ spec.unit_for (units_read units) work }
+{
+    let times = work.saturating_sub(1) / u64::from(MAX_WORK) + 1;
+    (units.time / 1_000).saturating_mul(times)
 }
 
 /// The first job whose name is too long.

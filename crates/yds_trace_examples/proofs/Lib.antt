@@ -4,6 +4,7 @@ mod LateExamples
 mod DocumentExamples
 mod MovedExamples
 mod OthersExamples
+mod LimitExamples
 mod FaultExamples
 mod PartExamples
 mod ToldExamples

@@ -140,7 +140,7 @@ unfolding digits comment unit_comment
 told_of_each = refl
 
 -- Near miss: the only job began before what is asked for. A part without a job is no fault, but no document at all would have one.
-none_of_each : told (record (of_each 0) { from = Some 1100 }) false (woken 1000 ∷ comes 0 1020 ∷ sleeps 0 1040 ∷ []) ≡ record { text = []; halt = Some (OfDocument None 1 faults.NoJob) }
+none_of_each : told (record (of_each 0) { from = Some 1100 }) false (woken 1000 ∷ comes 0 1020 ∷ sleeps 0 1040 ∷ []) ≡ record { text = []; halt = Some (OfDocument None 1 faults.NoJobAnywhere) }
 unfolding digits comment unit_comment
 none_of_each = refl
 

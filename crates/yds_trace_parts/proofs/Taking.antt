@@ -197,9 +197,9 @@ everywhere_is asked past (Some cut) unseen = sym unseen.0
 -- what the last parts halt for, beside their own reasons
 job_halt : (asked : Asked) (strict : Bool) (past : List Said) (telling : Telling) (last : Last) → IsTelling asked strict past telling →
     AreLast asked telling.strict past telling.processors.items last →
-    no_job_halt asked past (processors_of asked past) ≡ (if is_some telling.unseen && not last.has_job then Some (OfDocument None 1 faults.NoJob) else None)
+    no_job_halt asked past (processors_of asked past) ≡ (if is_some telling.unseen && not last.has_job then Some (OfDocument None 1 faults.NoJobAnywhere) else None)
 job_halt asked strict past telling last is are =
-    ap₂ (λ (everywhere has : Bool). if everywhere && not has then Some (OfDocument None 1 faults.NoJob) else None)
+    ap₂ (λ (everywhere has : Bool). if everywhere && not has then Some (OfDocument None 1 faults.NoJobAnywhere) else None)
     (sym (everywhere_is asked past telling.unseen is.is_written.unseen_is))
     (sym (are.some ∙ ap (one_has_written asked past) is.is_written.processors_are ∙ any_written asked past (processors_of asked past)))
 
@@ -212,10 +212,10 @@ last_written asked strict past telling is =
 last_is : (asked : Asked) (strict : Bool) (past : List Said) (telling : Telling) (last : Last) (b : Bool) → IsTelling asked strict past telling →
     AreLast asked telling.strict past telling.processors.items last → (is_some telling.unseen && not last.has_job) ≡ b →
     last_piece asked strict past (processors_of asked past)
-    ≡ both (text_alone last.text.items) (piece_unless (if b then Some (OfDocument None 1 faults.NoJob) else None) [])
+    ≡ both (text_alone last.text.items) (piece_unless (if b then Some (OfDocument None 1 faults.NoJobAnywhere) else None) [])
 last_is asked strict past telling last b is are no_job =
     ap₂ (λ (first : Told) (halt : Option Halt). both first (piece_unless halt [])) (sym (last_written asked strict past telling is) ∙ are.written)
-    (job_halt asked strict past telling last is are ∙ ap (λ (one : Bool). if one then Some (OfDocument None 1 faults.NoJob) else None) no_job)
+    (job_halt asked strict past telling last is are ∙ ap (λ (one : Bool). if one then Some (OfDocument None 1 faults.NoJobAnywhere) else None) no_job)
 
 pub last_told : (asked : Asked) (strict : Bool) (past : List Said) (telling : Telling) (last : Last) → IsTelling asked strict past telling →
     AreLast asked telling.strict past telling.processors.items last → (is_some telling.unseen && not last.has_job) ≡ false → IsEnd asked strict past last.text.items
@@ -224,7 +224,7 @@ last_told asked strict past telling last is are no_job =
 
 pub last_no_job : (asked : Asked) (strict : Bool) (past : List Said) (telling : Telling) (last : Last) → IsTelling asked strict past telling →
     AreLast asked telling.strict past telling.processors.items last → (is_some telling.unseen && not last.has_job) ≡ true →
-    (last_piece asked strict past (processors_of asked past)).halt ≡ Some (OfDocument None 1 faults.NoJob)
+    (last_piece asked strict past (processors_of asked past)).halt ≡ Some (OfDocument None 1 faults.NoJobAnywhere)
 last_no_job asked strict past telling last is are no_job = ap (λ (told : Told). told.halt) (last_is asked strict past telling last true is are no_job)
 
 first_halts : (text : List ℕ) (halt : Option Halt) (second : Told) (found : Halt) → halt ≡ Some found → (both (record { text = text; halt = halt }) second).halt ≡ Some found

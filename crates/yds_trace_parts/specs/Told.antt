@@ -178,7 +178,7 @@ has_written asked past cut = nat_lt 0 cut.jobs || nat_lt 0 (length (part_of aske
 abbrev pub no_job_halt : Asked → List Said → List ℕ → Option Halt
 no_job_halt asked past processors =
     if asked.everywhere && not (list_any (λ processor. has_written (on processor asked) past (cut_after (on processor asked) past)) processors)
-    then Some (OfDocument None 1 faults.NoJob) else None
+    then Some (OfDocument None 1 faults.NoJobAnywhere) else None
 
 abbrev pub in_form : Option (Fault Reason) → Option Halt
 in_form None = None

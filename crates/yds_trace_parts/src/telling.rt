@@ -159,7 +159,7 @@ impl Telling {
             return Err(Halt::Limit {
                 processor: None,
                 part: 1,
-                fault: DocumentFault::NoJob,
+                fault: DocumentFault::NoJobAnywhere,
             });
         }
         Ok(last.text)

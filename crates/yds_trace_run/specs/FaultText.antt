@@ -1,14 +1,18 @@
 -- The texts of a run that tells no document: one comment with the place, the cause and what to do, and a line that no reader of documents takes.
-use Rattle.std.specs.Prelude.{ℕ, ◌+◌, List, [], ◌++◌, codes, decimal, Option, Some, None}
+use Rattle.std.specs.Prelude.{ℕ, ◌+◌, List, [], ◌++◌, codes, decimal, nat_lt, if◌then◌else◌, Option, Some, None}
 use Rattle.yds_kernel.specs.declared.fault.Reason.{Reason}
 use Rattle.yds_kernel.specs.declared.fault.Reason.TheVariants as reasons
 use Rattle.yds_trace.specs.declared.fault.Cause.{Cause}
 use Rattle.yds_trace.specs.declared.fault.Cause.TheVariants as causes
+use Rattle.yds_trace.specs.declared.reason.Reason.{Reason as Left}
+use Rattle.yds_trace.specs.declared.reason.Reason.TheVariants as lefts
+use Rattle.yds_trace_document.specs.declared.fault.LeftOut.{LeftOut}
 use Rattle.yds_trace_document.specs.declared.fault.DocumentFault.{DocumentFault}
 use Rattle.yds_trace_document.specs.declared.fault.DocumentFault.TheVariants as faults
 use Rattle.yds_trace_reading.specs.LineFault.{LineFault, InForm, AtLine}
-use Rattle.yds_trace_text.specs.Text.{in_seconds, in_milliseconds}
+use Rattle.yds_trace_text.specs.Text.{in_seconds, in_milliseconds, reason_text}
 use Rattle.yds_trace_parts.specs.Told as told
+use Rattle.yds_trace_words.specs.declared.limits.TheConstants.{MAX_UNIT}
 use Rattle.yds_trace_words.specs.Texts.{shown_word}
 use Rattle.yds_trace_run.specs.Fault.{TraceFault, OfLine, OfDocument, OfText}
 
@@ -34,11 +38,11 @@ cause_text causes.TimeTooGreat = codes "the time is above 9223372036.854775807 s
 cause_text causes.TimeGoesBack = codes "its time is before that of an earlier line; sort the lines by their times"
 cause_text causes.EventsLost = codes "events were lost before it; record with a larger buffer, choose --from and --to around it, or go on by --lost cut"
 cause_text causes.UnknownState = codes "a task leaves in a state that the kernel doesn't have; write the trace anew"
-cause_text causes.TwoThreads = codes "a task's name is that of another thread before; give its number by PID=NAME:DEADLINE"
+cause_text causes.TwoThreads = codes "a task's name is that of another thread before; threads are renamed at their start, too: give the number, which stays, by PID=NAME:DEADLINE"
 cause_text causes.TwoTasks = codes "one thread is two tasks, by its number and by its name; leave one out"
 cause_text causes.TooLong = codes "more than 250000 lines tell of the tasks; choose a shorter time by --from and --to, or fewer tasks"
-cause_text causes.NoLine = codes "no line of a kernel's trace; write the trace as text, by trace-cmd report or perf script"
-cause_text (causes.Unseen number) = codes "no line names task " ++ decimal (number + 1) ++ codes " of --tasks; write its name as the trace has it"
+cause_text causes.NoLine = codes "no line of a kernel's trace; write it as text, by trace-cmd report or perf script with cpu and time among its fields: a line has a processor as [001] and a time with a point as 12.345678: before its event's name"
+cause_text (causes.Unseen number) = codes "no line names task " ++ decimal (number + 1) ++ codes " of --tasks; write its name as the trace has it, a * isn't taken; --tasks '?' lists the threads of the trace"
 cause_text causes.NoWakeUp = codes "no wake-up of a task; record sched_waking too, or let jobs begin at their first run by --begin run"
 cause_text causes.PartWritten = codes "it changes jobs of a part that was written; choose --from and --to around it"
 
@@ -51,15 +55,50 @@ written_job place text = codes "written job " ++ decimal (place + 1) ++ text
 abbrev pub found_job : ℕ → List ℕ → List ℕ
 found_job place text = codes "found job " ++ decimal (place + 1) ++ text
 
+-- The job's place stays the same.
+abbrev pub us_text : ℕ → List ℕ
+us_text us = codes "give --us " ++ decimal us ++ codes " and keep --khz, here and for yds-points: then it is the job line of that number"
+
+-- how much greater the units have to be
+abbrev pub units_text : ℕ → List ℕ
+units_text us =
+    if nat_lt MAX_UNIT us then codes "choose greater units by --us and --khz, and the points in the same --khz" else us_text us
+
+abbrev pub work_text : ℕ → ℕ → ℕ → List ℕ
+work_text place work us = written_job place (codes ": its work is " ++ decimal work ++ codes ", above 1000000; " ++ units_text us)
+
+-- what to do where most jobs are left out for this reason
+abbrev pub remedy : Left → List ℕ
+remedy lefts.BeforeFrom = codes "choose an earlier --from"
+remedy lefts.AfterTo = codes "choose a later --to"
+remedy lefts.NotEnded = codes "record longer"
+remedy lefts.EventsLost = codes "record with a larger buffer, or choose --from and --to around the loss"
+remedy lefts.SwitchMissing = codes "record the switches of all threads, without a filter"
+remedy lefts.BeginUnseen = codes "record sched_waking, and longer, or give --begin run"
+remedy lefts.Moved = codes "choose another processor by --cpu, or give --moved parts"
+remedy lefts.SpeedUnknown = codes "give the speed by --start"
+
+abbrev pub counts_text : LeftOut → List ℕ
+counts_text left = codes "no job can be written: " ++ decimal left.count ++ codes " of " ++ decimal left.all
+
+-- The reason is told in the words of the comments on jobs that are left out.
+abbrev pub why_text : Left → List ℕ
+why_text reason = codes " left out (" ++ reason_text (Some reason) ++ codes "); " ++ remedy reason
+
+abbrev pub no_job_text : Option LeftOut → List ℕ
+no_job_text None = codes "no job of the tasks is found; choose a later --to, or record longer"
+no_job_text (Some left) = counts_text left ++ why_text left.reason
+
 abbrev pub document_text : DocumentFault → List ℕ
 document_text faults.TooManyJobs = codes "more than 4000 jobs; choose a shorter time by --from and --to"
 document_text faults.TooManyRuns = codes "more than 100000 runs; choose a shorter time by --from and --to, or a greater unit by --us"
 document_text (faults.NameTooLong place) = written_job place (codes ": its name is longer than 64 bytes; choose a shorter time by --from and --to")
 document_text (faults.TimeTooGreat place) = written_job place (codes ": its times are above 1000000000 units; choose a greater unit by --us, or a later --from")
-document_text (faults.WorkTooGreat place) = written_job place (codes ": its work is above 1000000; choose greater units by --us and --khz")
+document_text (faults.WorkTooGreat place work us) = work_text place work us
 document_text (faults.SpeedTooCoarse place) = found_job place (codes ": it ran at a speed that is 0, or off by more than a twentieth in its unit; choose a smaller unit by --khz")
 document_text (faults.SpeedTooGreat place) = found_job place (codes ": it ran at a speed above 1000000 units; choose a greater unit by --khz")
-document_text faults.NoJob = codes "no job can be written, and a document without jobs is feasible; choose another processor by --cpu, or a longer time by --from and --to"
+document_text (faults.NoJob left) = no_job_text left
+document_text faults.NoJobAnywhere = codes "no job can be written of any processor; choose one of them by --cpu, and the reason is told"
 document_text (faults.Missed place) = found_job place (codes ": it doesn't stand as it is, and --strict is given; leave that out, or choose --from and --to around the job")
 
 abbrev pub line_text : LineFault → List ℕ

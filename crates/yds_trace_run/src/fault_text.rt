@@ -9,9 +9,10 @@ ghost use Rattle.yds_trace_run.specs.FaultText as spec;
 use arrayvec::ArrayString;
 use itoa::Buffer;
 use yds_kernel::{LineFault, Reason};
-use yds_trace::Cause;
-use yds_trace_document::DocumentFault;
-use yds_trace_words::{LINE_BYTES, push_shown};
+use yds_trace::{Cause, Reason as LeftReason};
+use yds_trace_document::{DocumentFault, LeftOut};
+use yds_trace_text::reason_words;
+use yds_trace_words::{LINE_BYTES, MAX_UNIT, push_shown};
 
 /// The text for want of memory. It takes none.
 pub(crate) const MEMORY: &[u8] =
@@ -94,7 +95,7 @@ fn push_cause(cause: Cause, line: &mut ArrayString<LINE_BYTES>)
         Cause::Unseen(number) => push_placed(
             "no line names task ",
             number,
-            " of --tasks; write its name as the trace has it",
+            " of --tasks; write its name as the trace has it, a * isn't taken; --tasks '?' lists the threads of the trace",
             line,
         ),
         Cause::ProcessorTooGreat => line.push_str(
@@ -113,7 +114,7 @@ fn push_cause(cause: Cause, line: &mut ArrayString<LINE_BYTES>)
             "a task leaves in a state that the kernel doesn't have; write the trace anew",
         ),
         Cause::TwoThreads => line.push_str(
-            "a task's name is that of another thread before; give its number by PID=NAME:DEADLINE",
+            "a task's name is that of another thread before; threads are renamed at their start, too: give the number, which stays, by PID=NAME:DEADLINE",
         ),
         Cause::TwoTasks => line.push_str(
             "one thread is two tasks, by its number and by its name; leave one out",
@@ -122,7 +123,7 @@ fn push_cause(cause: Cause, line: &mut ArrayString<LINE_BYTES>)
             "more than 250000 lines tell of the tasks; choose a shorter time by --from and --to, or fewer tasks",
         ),
         Cause::NoLine => line.push_str(
-            "no line of a kernel's trace; write the trace as text, by trace-cmd report or perf script",
+            "no line of a kernel's trace; write it as text, by trace-cmd report or perf script with cpu and time among its fields: a line has a processor as [001] and a time with a point as 12.345678: before its event's name",
         ),
         Cause::NoWakeUp => line.push_str(
             "no wake-up of a task; record sched_waking too, or let jobs begin at their first run by --begin run",
@@ -148,7 +149,7 @@ pub(crate) fn document_line(fault: DocumentFault) -> ArrayString<LINE_BYTES>
 fn push_document(fault: DocumentFault, line: &mut ArrayString<LINE_BYTES>)
     requires { array_string_len line.old ≤ 70 }
     ensures text { line.new.bytes ≡ line.old.bytes ++ spec.document_text fault }
-    ensures short { array_string_len line.new ≤ 270 }
+    ensures short { array_string_len line.new ≤ 285 }
 {
     match fault {
         DocumentFault::TooManyJobs => {
@@ -169,12 +170,7 @@ fn push_document(fault: DocumentFault, line: &mut ArrayString<LINE_BYTES>)
             ": its times are above 1000000000 units; choose a greater unit by --us, or a later --from",
             line,
         ),
-        DocumentFault::WorkTooGreat(place) => push_placed(
-            "written job ",
-            place,
-            ": its work is above 1000000; choose greater units by --us and --khz",
-            line,
-        ),
+        DocumentFault::WorkTooGreat { place, work, us } => push_work(place, work, us, line),
         DocumentFault::SpeedTooCoarse(place) => push_placed(
             "found job ",
             place,
@@ -187,8 +183,9 @@ fn push_document(fault: DocumentFault, line: &mut ArrayString<LINE_BYTES>)
             ": it ran at a speed above 1000000 units; choose a greater unit by --khz",
             line,
         ),
-        DocumentFault::NoJob => line.push_str(
-            "no job can be written, and a document without jobs is feasible; choose another processor by --cpu, or a longer time by --from and --to",
+        DocumentFault::NoJob(left) => push_no_job(left, line),
+        DocumentFault::NoJobAnywhere => line.push_str(
+            "no job can be written of any processor; choose one of them by --cpu, and the reason is told",
         ),
         DocumentFault::Missed(place) => push_placed(
             "found job ",
@@ -196,6 +193,113 @@ fn push_document(fault: DocumentFault, line: &mut ArrayString<LINE_BYTES>)
             ": it doesn't stand as it is, and --strict is given; leave that out, or choose --from and --to around the job",
             line,
         ),
+    }
+}
+
+/// That the work of the job at a place is too great, and a unit of time in microseconds that serves for it.
+fn push_work(place: usize, work: u64, us: u64, line: &mut ArrayString<LINE_BYTES>)
+    requires { array_string_len line.old ≤ 70 }
+    ensures text { line.new.bytes ≡ line.old.bytes ++ spec.work_text place work us }
+    ensures short { array_string_len line.new ≤ 285 }
+{
+    line.push_str("written job ");
+    push_place(place, line);
+    line.push_str(": its work is ");
+    line.push_str(Buffer::new().format(work));
+    line.push_str(", above 1000000; ");
+    push_units(us, line);
+}
+
+/// How much greater the units have to be.
+fn push_units(us: u64, line: &mut ArrayString<LINE_BYTES>)
+    requires { array_string_len line.old ≤ 181 }
+    ensures text { line.new.bytes ≡ line.old.bytes ++ spec.units_text us }
+    ensures short { array_string_len line.new ≤ array_string_len line.old + 110 }
+{
+    if us > MAX_UNIT {
+        line.push_str("choose greater units by --us and --khz, and the points in the same --khz");
+    } else {
+        push_us(us, line);
+    }
+}
+
+/// A unit of time in microseconds that serves for the job, and where it stands then.
+fn push_us(us: u64, line: &mut ArrayString<LINE_BYTES>)
+    requires { array_string_len line.old ≤ 181 }
+    ensures text { line.new.bytes ≡ line.old.bytes ++ spec.us_text us }
+    ensures short { array_string_len line.new ≤ array_string_len line.old + 110 }
+{
+    line.push_str("give --us ");
+    line.push_str(Buffer::new().format(us));
+    line.push_str(
+        " and keep --khz, here and for yds-points: then it is the job line of that number",
+    );
+}
+
+/// Why no job can be written, and what to do.
+fn push_no_job(left: Option<LeftOut>, line: &mut ArrayString<LINE_BYTES>)
+    requires { array_string_len line.old ≤ 70 }
+    ensures text { line.new.bytes ≡ line.old.bytes ++ spec.no_job_text left }
+    ensures short { array_string_len line.new ≤ 285 }
+{
+    match left {
+        None => line.push_str(
+            "no job of the tasks is found; choose a later --to, or record longer",
+        ),
+        Some(left) => push_left_out(left, line),
+    }
+}
+
+/// The reason for which most jobs are left out.
+fn push_left_out(left: LeftOut, line: &mut ArrayString<LINE_BYTES>)
+    requires { array_string_len line.old ≤ 70 }
+    ensures text { line.new.bytes ≡ line.old.bytes ++ spec.no_job_text (Some left) }
+    ensures short { array_string_len line.new ≤ 285 }
+{
+    push_counts(left, line);
+    push_why(left.reason, line);
+}
+
+/// How many jobs are left out for one reason, and how many there are.
+fn push_counts(left: LeftOut, line: &mut ArrayString<LINE_BYTES>)
+    requires { array_string_len line.old ≤ 70 }
+    ensures text { line.new.bytes ≡ line.old.bytes ++ spec.counts_text left }
+    ensures short { array_string_len line.new ≤ 140 }
+{
+    line.push_str("no job can be written: ");
+    line.push_str(Buffer::new().format(left.count as u64));
+    line.push_str(" of ");
+    line.push_str(Buffer::new().format(left.all as u64));
+}
+
+/// For which reason, and what to do.
+fn push_why(reason: LeftReason, line: &mut ArrayString<LINE_BYTES>)
+    requires { array_string_len line.old ≤ 140 }
+    ensures text { line.new.bytes ≡ line.old.bytes ++ spec.why_text reason }
+    ensures short { array_string_len line.new ≤ 285 }
+{
+    line.push_str(" left out (");
+    line.push_str(reason_words(reason));
+    line.push_str("); ");
+    line.push_str(remedy(reason));
+}
+
+/// What to do where most jobs are left out for this reason.
+fn remedy(reason: LeftReason) -> &'static str
+    ensures text { result.now ≡ spec.remedy reason }
+    ensures short { length result.now ≤ 80 }
+{
+    match reason {
+        LeftReason::BeforeFrom => "choose an earlier --from",
+        LeftReason::AfterTo => "choose a later --to",
+        LeftReason::NotEnded => "record longer",
+        LeftReason::EventsLost => {
+            "record with a larger buffer, or choose --from and --to around the loss"
+        }
+        LeftReason::SwitchMissing => "record the switches of all threads, without a filter",
+        LeftReason::BeginUnseen => "record sched_waking, and longer, or give --begin run",
+        LeftReason::Moved => "choose another processor by --cpu, or give --moved parts",
+        LeftReason::SpeedUnknown => "give the speed by --start",
     }
 }
 

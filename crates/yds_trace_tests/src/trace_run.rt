@@ -95,7 +95,7 @@ fn a_trace_is_told_or_refused(rt: HostRuntime) -> Result<(), Fail> {
             "--tasks u:10",
             0,
             Status::Refused,
-            b"# line 4: no line names task 1 of --tasks; write its name as the trace has it\nfailed\n".as_slice(),
+            b"# line 4: no line names task 1 of --tasks; write its name as the trace has it, a * isn't taken; --tasks '?' lists the threads of the trace\nfailed\n".as_slice(),
         ),
         (
             "--tasks t:10",
@@ -122,7 +122,7 @@ fn a_trace_is_told_in_parts_or_refused(rt: HostRuntime) -> Result<(), Fail> {
             "--parts --tasks u:10",
             0,
             Status::Refused,
-            b"# line 4: no line names task 1 of --tasks; write its name as the trace has it\nfailed\n".as_slice(),
+            b"# line 4: no line names task 1 of --tasks; write its name as the trace has it, a * isn't taken; --tasks '?' lists the threads of the trace\nfailed\n".as_slice(),
         ),
         (
             "--parts --tasks t:10",

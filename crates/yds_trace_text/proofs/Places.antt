@@ -9,7 +9,8 @@ use Rattle.yds_trace.specs.Asked.{Task, Asked}
 use Rattle.yds_trace.specs.WrittenTime.{Units}
 use Rattle.yds_trace.specs.Document.{Judged, stands, is_left_out, judged_of, judged_from, put_in, in_order, all_judged, units_of, Written, with_runs, without_runs, written_of, written_jobs}
 use Rattle.yds_trace_document.specs.Settled.{judged_by_task}
-use Rattle.yds_trace_text.specs.Text.{Group, is_for, is_left_out_for, groups_of_task, has_jobs, all_groups, is_cut_off, is_without_runs}
+use Rattle.yds_trace_document.specs.LeftOut.{is_for}
+use Rattle.yds_trace_text.specs.Text.{Group, is_left_out_for, groups_of_task, has_jobs, all_groups, is_cut_off, is_without_runs}
 use Rattle.yds_trace_text.specs.Laws.{count_of, EveryJobHasItsPlace}
 
 -- # Written or left out

@@ -1,5 +1,5 @@
 -- Lists as they are kept and as they are read.
-use Rattle.yds_model.proofs.Common.{◌≡◌, ℕ, zero, suc, ◌+◌, ◌-◌, ◌<◌, ◌≤◌, Bool, cond, List, [], ◌∷◌, ◌++◌, map, reverse, filter, length, get_or, take, ◌∙◌, refl, sym, ap, ap₂, arith, count_by, sum_by, sum_by-cons, map_more, filter-append, append-nil, append_assoc, flat_map, min, zip}
+use Rattle.yds_model.proofs.Common.{◌≡◌, ℕ, zero, suc, ◌+◌, ◌-◌, ◌<◌, ◌≤◌, Bool, List, [], ◌∷◌, ◌++◌, map, reverse, filter, length, get_or, take, ◌∙◌, refl, sym, ap, ap₂, arith, map_more, filter-append, append-nil, append_assoc, flat_map, min, zip}
 use Rattle.std.proofs.lemmas.List.{reverse-reverse}
 use Rattle.yds_trace.specs.declared.job.Stretch.{Stretch}
 use Rattle.yds_trace_document.specs.declared.judged.Judged.{Judged as JudgedKept}
@@ -14,13 +14,6 @@ use Rattle.yds_trace_text.specs.Text.{last_name, last_of}
 
 pub read_back : (stretches : List Stretch) → reverse (reverse stretches) ≡ stretches
 read_back stretches = reverse-reverse stretches
-
-pub sum_by_map : {A B : Type 0} (g : B → ℕ) (f : A → B) (xs : List A) → sum_by g (map f xs) ≡ sum_by (λ x. g (f x)) xs
-sum_by_map g f [] = refl
-sum_by_map g f (x ∷ xs) = simp sum_by-cons (omega (arith, sum_by_map g f xs))
-
-pub count_by_map : {A B : Type 0} (p : B → Bool) (f : A → B) (xs : List A) → count_by p (map f xs) ≡ count_by (λ x. p (f x)) xs
-count_by_map p f xs = sum_by_map (λ y. cond (p y) 1 0) f xs
 
 pub last_name_is : (jobs : List JudgedKept) (d : JudgedKept) → 0 < length jobs →
     last_name (judged_list jobs) ≡ name_read (get_or jobs (length jobs - 1) d).name

@@ -1,5 +1,5 @@
 -- The text of a trace's document: jobs, runs, and comments that tell what the document hasn't. Lines, fields and numbers are those of documents.
-use Rattle.std.specs.Prelude.{ℕ, ◌+◌, ◌-◌, ◌*◌, ◌/◌, ◌%◌, List, [], ◌∷◌, ◌++◌, length, drop, map, filter, reverse, codes, decimal, sum_by, count_by, Bool, true, false, not, ◌==◌, ◌&&◌, ◌||◌, nat_lt, nat_le, if◌then◌else◌, Option, Some, None, is_some}
+use Rattle.std.specs.Prelude.{ℕ, ◌+◌, ◌-◌, ◌*◌, ◌/◌, ◌%◌, List, [], ◌∷◌, ◌++◌, length, drop, map, filter, reverse, codes, decimal, sum_by, count_by, Bool, true, not, ◌==◌, ◌&&◌, ◌||◌, nat_lt, nat_le, if◌then◌else◌, Option, Some, None, is_some}
 use Rattle.std.specs.List.{flat_map, slice_index_or, zip}
 use Rattle.yds_model.specs.Text.{line}
 use Rattle.yds_kernel.specs.declared.limits.TheConstants.{MAX_U64}
@@ -14,6 +14,7 @@ use Rattle.yds_trace.specs.Late.{is_open}
 use Rattle.yds_trace.specs.Others.{Span}
 use Rattle.yds_trace.specs.WrittenTime.{Units, Run, written_time, is_short, runs_end}
 use Rattle.yds_trace.specs.Document.{Judged, stands, Written, Placed, in_order, written_end, written_name, written_runs, is_left_out}
+use Rattle.yds_trace_document.specs.LeftOut.{is_for}
 use Rattle.yds_trace_document.specs.Settled.{Settled, settled_of}
 
 -- # Numbers
@@ -189,21 +190,6 @@ shown_comments units judged = if stands judged then begins_comment units judged 
 -- in the order in which equal counts are told
 abbrev pub every_reason : List Reason
 every_reason = reasons.NotEnded ∷ reasons.EventsLost ∷ reasons.SwitchMissing ∷ reasons.BeginUnseen ∷ reasons.Moved ∷ reasons.SpeedUnknown ∷ []
-
--- Each reason has a number.
-abbrev pub reason_number : Reason → ℕ
-reason_number reasons.BeforeFrom = 0
-reason_number reasons.AfterTo = 1
-reason_number reasons.NotEnded = 2
-reason_number reasons.EventsLost = 3
-reason_number reasons.SwitchMissing = 4
-reason_number reasons.BeginUnseen = 5
-reason_number reasons.Moved = 6
-reason_number reasons.SpeedUnknown = 7
-
-abbrev pub is_for : Reason → Option Reason → Bool
-is_for reason None = false
-is_for reason (Some other) = reason_number other == reason_number reason
 
 abbrev pub is_left_out_for : Reason → Judged → Bool
 is_left_out_for reason judged = is_left_out judged && is_for reason judged.reason

@@ -87,7 +87,7 @@ fn its_or_their(number: u64) -> &'static [u8]
 }
 
 /// How many jobs are written, how many are left out, and how many are without their runs.
-#[tactic(auto, using(crate::proofs::Read::count_by_map))]
+#[tactic(auto, using(yds_trace_document::proofs::Lists::count_by_map))]
 pub(crate) fn put_last(
     alloc: Global,
     settled: &Settled<'_>,

@@ -1,5 +1,5 @@
 //! Comments on late jobs: just one for each.
-ghost use Rattle.std.specs.Prelude.{◌≡◌, ◌++◌, OnOk, IfOk, Some, codes, is_some, if◌then◌else◌};
+ghost use Rattle.std.specs.Prelude.{◌≡◌, ◌≤◌, ◌++◌, length, OnOk, IfOk, Some, codes, is_some, if◌then◌else◌};
 ghost use Rattle.std.specs.List.{flat_map};
 ghost use Rattle.yds_trace.specs.Views.{job_read};
 ghost use Rattle.yds_trace.specs.Document as document;
@@ -13,20 +13,30 @@ use yds_model::Memory;
 use yds_trace::{Job, Reason};
 use yds_trace_document::{Judged, Name, Run, Units, is_open, runs_end, written_end, written_runs};
 
-/// Why a job doesn't stand as it is.
+/// Why a job doesn't stand as it is, in words.
+pub fn reason_words(reason: Reason) -> &'static str
+    ensures text { result.now ≡ spec.reason_text (Some reason) }
+    ensures short { length result.now ≤ 28 }
+{
+    match reason {
+        Reason::BeforeFrom => "before from",
+        Reason::AfterTo => "after to",
+        Reason::NotEnded => "not ended",
+        Reason::EventsLost => "events lost",
+        Reason::SwitchMissing => "a switch is missing",
+        Reason::BeginUnseen => "its begin isn't in the trace",
+        Reason::Moved => "ran on another processor",
+        Reason::SpeedUnknown => "frequency not known",
+    }
+}
+
+/// Why a job doesn't stand as it is, if it doesn't.
 pub(crate) fn reason_text(reason: Option<Reason>) -> &'static [u8]
     ensures { result.now ≡ spec.reason_text reason }
 {
     match reason {
         None => b"",
-        Some(Reason::BeforeFrom) => b"before from",
-        Some(Reason::AfterTo) => b"after to",
-        Some(Reason::NotEnded) => b"not ended",
-        Some(Reason::EventsLost) => b"events lost",
-        Some(Reason::SwitchMissing) => b"a switch is missing",
-        Some(Reason::BeginUnseen) => b"its begin isn't in the trace",
-        Some(Reason::Moved) => b"ran on another processor",
-        Some(Reason::SpeedUnknown) => b"frequency not known",
+        Some(reason) => reason_words(reason).as_bytes(),
     }
 }
 

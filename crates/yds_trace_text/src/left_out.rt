@@ -264,7 +264,7 @@ fn put_cut_off(alloc: Global, number: u64, text: &mut Vec<u8>) -> Result<(), Mem
 }
 
 /// The comments on all jobs that are left out.
-#[tactic(auto, using(crate::proofs::Read::count_by_map))]
+#[tactic(auto, using(yds_trace_document::proofs::Lists::count_by_map))]
 pub(crate) fn put_left_out(
     alloc: Global,
     tasks: &[Task],

@@ -23,6 +23,7 @@ mod writing;
 mod wrong_unit;
 
 pub use fault::{NoText, TextFault};
+pub use late::reason_words;
 pub use laws::{every_job_has_its_place, parts_count_on};
 pub use part::part_text;
 pub use writing::{document_text, text};

@@ -16,7 +16,7 @@ pub returns-in-TimeTooGreat-clause-text : goal.returns-in-TimeTooGreat-clause-te
 returns-in-TimeTooGreat-clause-text c = c.push_placed-in-TimeTooGreat.ensures.text ∙ ap (λ (fault : DocumentFault). c.args.line.now.bytes ++ document_text fault) (sym c.in-TimeTooGreat.is)
 
 pub returns-in-WorkTooGreat-clause-text : goal.returns-in-WorkTooGreat-clause-text
-returns-in-WorkTooGreat-clause-text c = c.push_placed-in-WorkTooGreat.ensures.text ∙ ap (λ (fault : DocumentFault). c.args.line.now.bytes ++ document_text fault) (sym c.in-WorkTooGreat.is)
+returns-in-WorkTooGreat-clause-text c = c.push_work.ensures.text ∙ ap (λ (fault : DocumentFault). c.args.line.now.bytes ++ document_text fault) (sym c.in-WorkTooGreat.is)
 
 pub returns-in-SpeedTooCoarse-clause-text : goal.returns-in-SpeedTooCoarse-clause-text
 returns-in-SpeedTooCoarse-clause-text c = c.push_placed-in-SpeedTooCoarse.ensures.text ∙ ap (λ (fault : DocumentFault). c.args.line.now.bytes ++ document_text fault) (sym c.in-SpeedTooCoarse.is)
@@ -25,7 +25,10 @@ pub returns-in-SpeedTooGreat-clause-text : goal.returns-in-SpeedTooGreat-clause-
 returns-in-SpeedTooGreat-clause-text c = c.push_placed-in-SpeedTooGreat.ensures.text ∙ ap (λ (fault : DocumentFault). c.args.line.now.bytes ++ document_text fault) (sym c.in-SpeedTooGreat.is)
 
 pub returns-in-NoJob-clause-text : goal.returns-in-NoJob-clause-text
-returns-in-NoJob-clause-text c = c.push_str-in-NoJob.ensures.bytes ∙ ap (λ (fault : DocumentFault). c.args.line.now.bytes ++ document_text fault) (sym c.in-NoJob.is)
+returns-in-NoJob-clause-text c = c.push_no_job.ensures.text ∙ ap (λ (fault : DocumentFault). c.args.line.now.bytes ++ document_text fault) (sym c.in-NoJob.is)
+
+pub returns-in-NoJobAnywhere-clause-text : goal.returns-in-NoJobAnywhere-clause-text
+returns-in-NoJobAnywhere-clause-text c = c.push_str-in-NoJobAnywhere.ensures.bytes ∙ ap (λ (fault : DocumentFault). c.args.line.now.bytes ++ document_text fault) (sym c.in-NoJobAnywhere.is)
 
 pub returns-in-Missed-clause-text : goal.returns-in-Missed-clause-text
 returns-in-Missed-clause-text c = c.push_placed-in-Missed.ensures.text ∙ ap (λ (fault : DocumentFault). c.args.line.now.bytes ++ document_text fault) (sym c.in-Missed.is)

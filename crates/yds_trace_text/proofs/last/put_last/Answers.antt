@@ -3,7 +3,8 @@ use Rattle.yds_trace.specs.Document.{is_left_out}
 use Rattle.yds_trace_document.specs.declared.judged.Judged.{Judged as JudgedKept}
 use Rattle.yds_trace_document.specs.Views.{judged_read, written_read, written_list}
 use Rattle.yds_trace_text.specs.Text.{comment, counted, left_out_text, without_runs_text, is_without_runs}
-use Rattle.yds_trace_text.proofs.Read.{next_same, count_by_map}
+use Rattle.yds_trace_document.proofs.Lists.{count_by_map}
+use Rattle.yds_trace_text.proofs.Read.{next_same}
 use Rattle.yds_trace_text.proofs.last.put_last.Goals as goal
 
 pub returns : goal.returns
