@@ -48,7 +48,7 @@ impl Counted {
         ensures boundary { IfOk result (λ counted. counted.boundary ≡ 0) }
     {
         Ok(Counted {
-            past: Past::new(alloc, asked.start),
+            past: Past::new(alloc, &asked.start)?,
             tasks: follow(alloc, asked.tasks.len())?,
             touched: 0,
             boundary: 0,

@@ -1,7 +1,7 @@
 //! What no clause says: that a pass over small traces ends, and what its jobs and faults then are.
 
 use crate::{
-    Asked, Cause, Cut, End, Ended, Kept, MAX_TOUCHES, NO_CUT, Pass, Refused, Stretch, Task, Which,
+    Asked, Cause, Cut, End, Ended, Kept, MAX_TOUCHES, NO_CUT, Pass, Refused, Start, Stretch, Task, Which,
     has_run_on,
 };
 use std::alloc::{AllocError, Global};
@@ -66,7 +66,7 @@ fn asked(alloc: Global) -> Result<Asked, AllocError> {
         processor: 0,
         unit: 10_000,
         khz: 10_000,
-        start: Some(600_000),
+        start: Start::Same(600_000),
         from: None,
         to: None,
         begin_at_run: false,
