@@ -1,8 +1,8 @@
 //! What no clause says: that a pass over small traces ends, and what its jobs and faults then are.
 
 use crate::{
-    Asked, Cause, Cut, End, Ended, Kept, MAX_TOUCHES, NO_CUT, Pass, Refused, Start, Stretch, Task, Which,
-    has_run_on,
+    Asked, Cause, Cut, End, Ended, Kept, MAX_TOUCHES, NO_CUT, Pass, Refused, Start, Stretch, Task,
+    Which, has_run_on,
 };
 use std::alloc::{AllocError, Global};
 use std::test::Fail;

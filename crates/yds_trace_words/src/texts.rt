@@ -134,7 +134,8 @@ fn reason_text(reason: Reason) -> &'static str
         Reason::SpeedForm => {
             "no colon behind the processor; write CPU:KHZ, with the speed in kilohertz, or one speed for all processors"
         }
-        Reason::TooManySpeeds => "more than 1000 speeds; list fewer, or give one for all processors",
+        Reason::TooManySpeeds =>
+            "more than 1000 speeds; list fewer, or give one for all processors",
         Reason::ProcessorTwice => "another speed is of the same processor; give it once",
         Reason::Time => {
             "no time of the trace's clock; write seconds to 9223372036.854775807, with at most nine digits behind the point"
