@@ -220,16 +220,16 @@ def tasks_in(text: str, unit: int) -> List[Task]:
 
 def speeds_in(text: str) -> Dict[int, int]:
     """The speeds before the first change, of each processor that is listed."""
-    pieces = text.split(",")
+    pieces = parted(text, ",")
     if len(pieces) > 1000:
         raise word_fault("--start", "many speeds")
     found: List[Tuple[int, int]] = []
     for place, piece in enumerate(pieces, 1):
-        processor, colon, khz = piece.partition(":")
-        if not colon:
+        processor, khz = once(piece, ":")
+        if khz is None:
             raise word_fault("--start", "speed form", place)
-        number = whole("--start", processor, 0, MOST_PROCESSOR, "speed processor", place)
-        found.append((number, whole("--start", khz, 1, MOST_NUMBER, "--start", place)))
+        number = whole("--start", plain(processor), 0, MOST_PROCESSOR, "speed processor", place)
+        found.append((number, whole("--start", plain(khz), 1, MOST_NUMBER, "--start", place)))
     for place, (processor_of_one, _) in enumerate(found, 1):
         if processor_of_one in [other for other, _ in found[place:]]:
             raise word_fault("--start", "same processor", place)
@@ -283,7 +283,7 @@ def asked_by(words: List[str]) -> Asked:
         asked.processor = whole("--cpu", given.get("--cpu", "0"), 0, MOST_PROCESSOR)
     asked.unit = 1000 * whole("--us", given.get("--us", "10"), 1, 10**9)
     asked.khz = whole("--khz", given.get("--khz", "10000"), 1, MOST_NUMBER)
-    if "," in given.get("--start", "") or ":" in given.get("--start", ""):
+    if any(len(parted(given.get("--start", ""), sign)) > 1 for sign in ",:"):
         asked.starts = speeds_in(given["--start"])
     elif "--start" in given:
         asked.start = whole("--start", given["--start"], 1, MOST_NUMBER)
