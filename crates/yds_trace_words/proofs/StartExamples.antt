@@ -1,8 +1,8 @@
 -- Speeds before the first change, by the word `--start`, and near misses.
-use Rattle.yds_model.proofs.Common.{◌≡◌, List, [], ◌∷◌, codes, Option, Some, None, Result, Ok, Err, refl}
-use Rattle.yds_trace.specs.Asked.{Start, Same, Listed}
+use Rattle.yds_model.proofs.Common.{◌≡◌, [], ◌∷◌, codes, Some, None, Ok, refl}
+use Rattle.yds_trace.specs.Asked.{Same, Listed}
 use Rattle.yds_trace_words.specs.declared.fault.Reason.TheVariants as reasons
-use Rattle.yds_trace_words.specs.Words.{WordFault, refuse}
+use Rattle.yds_trace_words.specs.Words.{refuse}
 use Rattle.yds_trace_words.specs.Start.{start_asked, refuse_speed}
 
 -- one for all processors
