@@ -1,6 +1,6 @@
 //! What is known when a trace has ended.
 
-ghost use Rattle.std.specs.Prelude.{◌≡◌, ℕ, List, Option, map, IfOk, OnOk};
+ghost use Rattle.std.specs.Prelude.{◌≡◌, ℕ, List, map, IfOk, OnOk};
 ghost use Rattle.yds_kernel.specs.Event.{Said};
 ghost use Rattle.yds_trace.specs.Asked.{Start};
 ghost use Rattle.yds_trace.specs.declared.followed.Followed.{Followed};

@@ -1,5 +1,5 @@
 //! What is known of the tasks behind some lines, of the jobs that aren't forgotten.
-ghost use Rattle.std.specs.Prelude.{◌≡◌, ℕ, ◌<◌, List, Option, unwrap_or, length, slice_index_or, vec_len, IfOk};
+ghost use Rattle.std.specs.Prelude.{◌≡◌, ℕ, ◌<◌, List, unwrap_or, length, slice_index_or, vec_len, IfOk};
 ghost use Rattle.yds_kernel.specs.Event.{Said};
 ghost use Rattle.yds_trace.specs.Asked.{Start};
 ghost use Rattle.yds_trace.specs.declared.followed.Followed.{Followed};
