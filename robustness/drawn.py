@@ -176,12 +176,20 @@ class Drawing:
         else:
             self.switch(processor)
 
+    def start(self) -> str:
+        """The speeds before the first change: one for all processors, or one for each, now and then for all but one."""
+        if self.draw.random() < 0.7:
+            return "1000000"
+        listed = [f"{processor}:{self.draw.choice([600_000, 1_000_000, 2_000_000])}" for processor in range(self.processors)]
+        self.draw.shuffle(listed)
+        return ",".join(listed[: -1 if len(listed) > 1 and self.draw.random() < 0.2 else None])
+
     def run(self, least: int = 15) -> None:
         """The machine runs for a while. Where a trace is calm, each listed thread is woken and runs."""
         for processor in range(self.processors if self.told_first and (self.calm or self.draw.random() < 0.8) else 0):
             self.speed(processor)
         if self.calm:
-            self.options["--start"] = "1000000"
+            self.options["--start"] = self.start()
             for name in self.listed:
                 self.state[name] = "ready"
                 self.wake(name, 0)
@@ -295,7 +303,7 @@ def anything(it: Drawing) -> None:
     it.run()
     it.ask()
     if draw.random() < 0.4:
-        it.options["--start"] = "1000000"
+        it.options["--start"] = it.start()
     it.lines = it.lines[draw.choice([0, 0, 0, 1, 3, 9]) :] or it.lines
     if draw.random() < 0.15:
         del it.lines[draw.randrange(len(it.lines))]
@@ -413,7 +421,10 @@ def no_speed(it: Drawing) -> None:
     it.told_first = False
     usual(it, it.draw.choice([0.0, 0.8]))
     it.unbound()
-    it.options.pop("--start")
+    if it.draw.random() < 0.3:
+        it.options["--start"] = "7:1000000"
+    else:
+        it.options.pop("--start")
     if it.draw.random() < 0.5:
         it.lines = [line for line in it.lines if b"cpu_frequency:" not in line]
 
@@ -872,7 +883,11 @@ MISTAKES: List[object] = [
     [["--cpu=x"], ["--cpu", "8192"], ["--cpu", "01"], ["--cpu", "-1"], ["--cpu="], ["--cpu", "ALL"], ["--cpu=all,0"], ["--cpu", "al"]],
     [["--us", "0"], ["--us=1000000001"], ["--us=1.5"]],
     [["--khz=01"], ["--khz", "0"], ["--khz", "4294967296"]],
-    [["--start", "0"], ["--start=4294967296"], ["--start", "1e6"]],
+    [["--start", "0"], ["--start=4294967296"], ["--start", "1e6"], ["--start", "0:1,1:0"], ["--start=0:1:1"], ["--start", "2:"]],
+    [["--start=8192:1"], ["--start", "0:1,x:1"], ["--start=:1"], ["--start=0:1,00:1"]],
+    [["--start=0:1,1"], ["--start", "600000,700000"], ["--start", "0:1,"], ["--start=,"]],
+    [["--start=0:1,2:1,0:1"], ["--start", "3:1,3:2"]],
+    [["--start", ",".join(f"{number}:9" for number in range(1_001))]],
     [["--from=1.1234567890"], ["--to", "9223372036.854775808"], ["--from", "+2"], ["--to=1."], ["--from=.5"]],
     [["--from=5", "--to=5"], ["--from", "2.000000001", "--to", "2"]],
     [["--begin=wake"], ["--begin", "Run"], ["--begin="]],

@@ -60,7 +60,7 @@ class Kept:
 
     def speed(self, processor: int) -> Optional[int]:
         """A processor's speed."""
-        return self.speeds.get(processor, None if self.torn else self.asked.start)
+        return self.speeds.get(processor, None if self.torn else self.asked.starts.get(processor, self.asked.start))
 
     def has_switched(self, processor: int) -> bool:
         """Whether a processor has switched since the last loss."""

@@ -55,6 +55,8 @@ MISTAKES = [
         ("Happening::Speed { processor, .. } => Step::Speed {", "Happening::Speed { processor, khz } => Step::Speed {"),
         ("                khz: self.speed(processor),\n", "                khz: Some(khz),\n"))),
     Mistake("apart_with_its_end", "yds_trace/src/jobs.rt", (("Some(end) => time < end,", "Some(end) => time <= end,"),)),
+    Mistake("a_listed_speed_for_all_processors", "yds_trace/src/past.rt", (
+        ("Ok(Past::begun(alloc, None, first_told", "Ok(Past::begun(alloc, speeds.first().map(|speed| speed.khz), first_told"),)),
     Mistake("a_first_switch_forgotten", "yds_trace/src/past.rt", (
         ("let told = Told {\n                    switched: true,", "let told = Told {\n                    switched: false,"),)),
     Mistake("to_without_its_own_time", "yds_trace/src/lines.rt", (("Some(to) => time <= to,", "Some(to) => time < to,"),)),

@@ -67,6 +67,7 @@ class Asked:
     unit: int = 10_000
     khz: int = 10_000
     start: Optional[int] = None
+    starts: Dict[int, int] = field(default_factory=dict)
     begin: Optional[int] = None
     end: Optional[int] = None
     at_run: bool = False
@@ -116,6 +117,10 @@ HELPS = {
     "--us": "no unit of time; write whole microseconds from 1 to 1000000000",
     "--khz": "no speed; write whole kilohertz from 1 to 4294967295",
     "--start": "no speed; write whole kilohertz from 1 to 4294967295",
+    "speed processor": "no number of a processor before the colon; write a whole number from 0 to 8191",
+    "speed form": "no colon behind the processor; write CPU:KHZ, with the speed in kilohertz, or one speed for all processors",
+    "many speeds": "more than 1000 speeds; list fewer, or give one for all processors",
+    "same processor": "another speed is of the same processor; give it once",
     "time": "no time of the trace's clock; write seconds to 9223372036.854775807, with at most nine digits behind the point",
     "order": "not before --to; give an earlier time, or a later one there",
     "--begin": "no way in which jobs begin; write run, or leave it out for jobs that begin at wake-ups",
@@ -141,13 +146,14 @@ FLAGS = ("--parts", "--strict", "--help", "--version")
 def word_fault(word: str, reason: str, place: Optional[int] = None) -> Wrong:
     """That a word can't be taken."""
     shown = "".join(byte if " " <= byte <= "~" else "?" for byte in word[:64])
-    return Wrong(f"{shown}{'' if place is None else f', task {place}'}: {HELPS[reason]}", 2, f"word: {reason}")
+    there = "" if place is None else f", {'speed' if word == '--start' else 'task'} {place}"
+    return Wrong(f"{shown}{there}: {HELPS[reason]}", 2, f"word: {reason}")
 
 
-def whole(word: str, text: str, least: int, most: int) -> int:
-    """The whole number that a word is set to."""
+def whole(word: str, text: str, least: int, most: int, reason: str = "", place: Optional[int] = None) -> int:
+    """The whole number that a word is set to, or that stands at a place of its list."""
     if not re.fullmatch("0|[1-9][0-9]*", text) or not least <= int(text) <= most:
-        raise word_fault(word, word)
+        raise word_fault(word, reason or word, place)
     return int(text)
 
 
@@ -227,6 +233,24 @@ def tasks_in(text: str, unit: int) -> List[Task]:
     return tasks
 
 
+def speeds_in(text: str) -> Dict[int, int]:
+    """The speeds before the first change, of each processor that is listed."""
+    pieces = parted(text, ",")
+    if len(pieces) > 1000:
+        raise word_fault("--start", "many speeds")
+    found: List[Tuple[int, int]] = []
+    for place, piece in enumerate(pieces, 1):
+        processor, khz = once(piece, ":")
+        if khz is None:
+            raise word_fault("--start", "speed form", place)
+        number = whole("--start", plain(processor), 0, MOST_PROCESSOR, "speed processor", place)
+        found.append((number, whole("--start", plain(khz), 1, MOST_NUMBER, "--start", place)))
+    for place, (processor_of_one, _) in enumerate(found, 1):
+        if processor_of_one in [other for other, _ in found[place:]]:
+            raise word_fault("--start", "same processor", place)
+    return dict(found)
+
+
 def settings(words: List[str]) -> List[Tuple[str, str]]:
     """What is set, in the order of the words."""
     found: List[Tuple[str, str]] = []
@@ -274,7 +298,9 @@ def asked_by(words: List[str]) -> Asked:
         asked.processor = whole("--cpu", given.get("--cpu", "0"), 0, MOST_PROCESSOR)
     asked.unit = 1000 * whole("--us", given.get("--us", "10"), 1, 10**9)
     asked.khz = whole("--khz", given.get("--khz", "10000"), 1, MOST_NUMBER)
-    if "--start" in given:
+    if any(len(parted(given.get("--start", ""), sign)) > 1 for sign in ",:"):
+        asked.starts = speeds_in(given["--start"])
+    elif "--start" in given:
         asked.start = whole("--start", given["--start"], 1, MOST_NUMBER)
     for word in ("--from", "--to"):
         time = decimal(given[word], 9, MOST_TIME) if word in given else None
@@ -483,7 +509,8 @@ def speed_of(processor: int, past: List[Line], asked: Asked) -> Optional[int]:
     """A processor's speed behind these lines."""
     whole_part = since_loss(past)
     told = [line.khz for line in whole_part if line.kind == "speed" and line.of == processor]
-    return told[-1] if told else asked.start if len(whole_part) == len(past) else None
+    before_all = asked.starts.get(processor, asked.start)
+    return told[-1] if told else before_all if len(whole_part) == len(past) else None
 
 
 class Past:

@@ -61,7 +61,7 @@ def told(words: List[str], trace: bytes) -> Told:
 REASONS = ["before from", "events lost", "a switch is missing", "its begin isn't in the trace", "ran on another processor", "frequency not known"]
 WANTED = [
     *(f"format {form}" for form in ("kernel", "short", "raw", "perf", "perfetto")),
-    *(f"option {word}" for word in VALUES + FLAGS), "option --cpu all", "option APART", "a task by its number", "a value behind an equals sign",
+    *(f"option {word}" for word in VALUES + FLAGS), "option --cpu all", "option --start of processors", "option APART", "a task by its number", "a value behind an equals sign",
     *(f"form: {reason}" for reason in FORMS),
     *(f"line: {cause}" for cause in CAUSES if cause not in ("none", "unwoken", "part written")),
     *(f"whole: {cause}" for cause in ("none", "lost", "a task unseen", "unwoken")),
@@ -94,7 +94,10 @@ def in_words(words: List[str]) -> Iterator[str]:
             yield "a value behind an equals sign"
     if every_processor(words):
         yield "option --cpu all"
-    listed = next((word for word in words if re.search(r":[0-9.]+(,|$)", word)), "")
+    pairs = [word for word in words if re.fullmatch(r"(--start=)?([0-9]+:[0-9]+,)*[0-9]+:[0-9]+", word)]
+    if pairs:
+        yield "option --start of processors"
+    listed = next((word for word in words if word not in pairs and re.search(r":[0-9.]+(,|$)", word)), "")
     if re.search(r":[0-9.]+:[0-9.]+(,|$)", listed):
         yield "option APART"
     if re.search(r"(^|[,=])[0-9]+=", listed):

@@ -9,7 +9,7 @@ use Rattle.yds_trace.specs.declared.job.Standing.{Standing}
 use Rattle.yds_trace.specs.declared.job.Stretch.{Stretch}
 use Rattle.yds_trace.specs.declared.kept.Kept.{Kept as Amount}
 use Rattle.yds_trace.specs.declared.others.Others.{Others as OthersKept}
-use Rattle.yds_trace.specs.Asked.{Task, Asked}
+use Rattle.yds_trace.specs.Asked.{Task, Start, Asked}
 use Rattle.yds_trace.specs.Past.{up_to}
 use Rattle.yds_trace.specs.Jobs.{Job, changed_last, ran}
 use Rattle.yds_trace.specs.Late.{last_asked}
@@ -91,7 +91,7 @@ changed_sum : (g : Job → ℕ) (more : ℕ) (stretch : Stretch) (jobs : List Jo
 changed_sum g more stretch [] each = omega arith
 changed_sum g more stretch (job ∷ jobs) each = omega (arith, sum_by-cons g (ran stretch job) jobs, sum_by-cons g job jobs, each job)
 
-closed_sum : (g : Job → ℕ) (more until : ℕ) (start : Option ℕ) (counting : List Said) (on : Option Standing) (jobs : List Job) (woken : Bool) →
+closed_sum : (g : Job → ℕ) (more until : ℕ) (start : Start) (counting : List Said) (on : Option Standing) (jobs : List Job) (woken : Bool) →
     ((stretch : Stretch) (job : Job) → g (ran stretch job) ≤ g job + more) →
     sum_by g (closed_at until start counting (record { jobs = jobs; on = on; woken = woken })) ≤ sum_by g jobs + (if is_some on then more else 0)
 closed_sum g more until start counting None jobs woken each = omega arith

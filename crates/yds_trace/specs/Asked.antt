@@ -1,5 +1,5 @@
 -- What is asked of a trace: whose jobs, on which processor, in which units, from when to when. All times are nanoseconds.
-use Rattle.std.specs.Prelude.{ℕ, ◌≤◌, List, [], Bool, true, false, ◌==◌, nat_le, nat_lt, Option, Some, None, position}
+use Rattle.std.specs.Prelude.{ℕ, ◌≤◌, List, [], ◌∷◌, Bool, true, false, ◌==◌, if◌then◌else◌, nat_le, nat_lt, Option, Some, None, position}
 use Rattle.std.specs.List.{slice_index_or, All}
 use Rattle.std.specs.Str.{bytes_eq}
 use Rattle.yds_trace.specs.declared.limits.TheConstants.{MAX_DEADLINE}
@@ -24,6 +24,27 @@ pub record Task : Type 0 where
 abbrev pub no_task : Task
 no_task = record { label = []; thread = Numbered 0; deadline = 0; apart = 0 }
 
+-- a processor's speed before its first change, in kilohertz
+pub record StartSpeed : Type 0 where
+  pub processor : ℕ
+  pub khz : ℕ
+
+-- the speeds before the first change
+pub data Start : Type 0 where
+  -- each processor has this one
+  Same : (khz : ℕ) → Start
+  -- these have theirs, and of no other it is known
+  Listed : (speeds : List StartSpeed) → Start
+
+abbrev pub start_in : List StartSpeed → ℕ → Option ℕ
+start_in [] processor = None
+start_in (speed ∷ speeds) processor = if speed.processor == processor then Some speed.khz else start_in speeds processor
+
+-- The speed of a processor before its first change, where it is known.
+abbrev pub start_of : Start → ℕ → Option ℕ
+start_of (Same khz) processor = Some khz
+start_of (Listed speeds) processor = start_in speeds processor
+
 pub record Asked : Type 0 where
   pub tasks : List Task
   pub processor : ℕ
@@ -31,8 +52,8 @@ pub record Asked : Type 0 where
   pub unit : ℕ
   -- so many kilohertz are a unit of speed
   pub khz : ℕ
-  -- the speed before its first change, in kilohertz
-  pub start : Option ℕ
+  -- the speeds before the first change
+  pub start : Start
   pub from : Option ℕ
   pub to : Option ℕ
   -- jobs begin at their first run, and wake-ups aren't read

@@ -14,7 +14,7 @@ use Rattle.yds_trace.specs.declared.step.Place.TheVariants as places
 use Rattle.yds_trace.specs.declared.step.Step.{Step}
 use Rattle.yds_trace.specs.declared.step.Step.TheVariants as steps
 use Rattle.yds_trace.specs.declared.step.Whose.{Whose}
-use Rattle.yds_trace.specs.Asked.{Asked, no_task}
+use Rattle.yds_trace.specs.Asked.{Start, Asked, no_task}
 use Rattle.yds_trace.specs.Jobs.{unknown, loses, stands_on}
 use Rattle.yds_trace.specs.Document.{share_of, began_before}
 use Rattle.yds_trace.specs.Others.{Span, Spans, is_waiting, ended_at}
@@ -82,7 +82,7 @@ pub record Forgets (boundary : ℕ) (was now : Followed) : Type 0 where
 -- # What is shown
 
 -- It is what is kept of the task, closed at the end of what is shown.
-pub record Shows (until : ℕ) (start : Option ℕ) (counting : List Said) (followed : Followed) (shown : ShownTask) : Type 0 where
+pub record Shows (until : ℕ) (start : Start) (counting : List Said) (followed : Followed) (shown : ShownTask) : Type 0 where
   pub jobs : jobs_listed shown.jobs.items ≡ closed_at until start counting (known_read followed.known)
   pub forgotten : shown.forgotten ≡ followed.forgotten
   pub before : shown.before ≡ first_before followed

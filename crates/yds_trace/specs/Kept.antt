@@ -1,5 +1,5 @@
 -- What a pass keeps of the lines so far, and when that stands for them.
-use Rattle.std.specs.Prelude.{◌≡◌, ℕ, ◌<◌, ◌≤◌, List, [], ◌∷◌, ◌++◌, map, length, reverse, Bool, false, Option, Some, None, option_map, unwrap_or, is_some, vec_len}
+use Rattle.std.specs.Prelude.{◌≡◌, ℕ, ◌<◌, ◌≤◌, List, [], ◌∷◌, ◌++◌, map, length, reverse, Bool, false, Some, None, option_map, unwrap_or, is_some, vec_len}
 use Rattle.std.specs.List.{slice_index_or, All}
 use Rattle.yds_kernel.specs.Event.{Said}
 use Rattle.yds_kernel.specs.Parts.{capped}
@@ -12,7 +12,7 @@ use Rattle.yds_trace.specs.declared.counted.Counted.{Counted}
 use Rattle.yds_trace.specs.declared.lines.Lines.{Lines}
 use Rattle.yds_trace.specs.declared.others.Others.{Others as OthersKept}
 use Rattle.yds_trace.specs.declared.pass.Pass.{Pass}
-use Rattle.yds_trace.specs.Asked.{Asked}
+use Rattle.yds_trace.specs.Asked.{StartSpeed, Start, start_in, Asked}
 use Rattle.yds_trace.specs.Past.{first_time, last_time, last_time_on, whole_since, has_switched, up_to, speed_after}
 use Rattle.yds_trace.specs.Jobs.{Job, Known, known_after}
 use Rattle.yds_trace.specs.Document.{began_before}
@@ -26,8 +26,13 @@ use Rattle.yds_trace.specs.Views.{jobs_listed, known_read, asked_read, another_r
 abbrev pub told_on : PastKept → ℕ → Told
 told_on kept processor = slice_index_or kept.told.items processor (record { switched = false; khz = kept.untold })
 
--- What is kept stands for these lines, where the speed before each processor's first change is `start`.
-pub record IsPast (start : Option ℕ) (past : List Said) (kept : PastKept) : Type 0 where
+-- What is told of each processor before the first line is its speed among these.
+abbrev pub TellsSpeeds : List StartSpeed → List Told → Type 0
+TellsSpeeds speeds told = (processor : ℕ) → slice_index_or told processor (record { switched = false; khz = None })
+    ≡ record { switched = false; khz = start_in speeds processor }
+
+-- What is kept stands for these lines, where the speeds before the first change are those of `start`.
+pub record IsPast (start : Start) (past : List Said) (kept : PastKept) : Type 0 where
   pub stamp : is_some kept.first ≡ has_stamp past
   pub first : (here : ℕ) → first_time here past ≡ unwrap_or kept.first here
   pub last : last_time past ≡ kept.last

@@ -5,6 +5,7 @@ use Rattle.yds_trace.specs.declared.fault.Cause.{Cause}
 use Rattle.yds_trace.specs.declared.job.Standing.{Standing}
 use Rattle.yds_trace.specs.declared.refused.Refused.{Refused}
 use Rattle.yds_trace.specs.declared.refused.Refused.TheVariants as refusals
+use Rattle.yds_trace.specs.Asked.{Start}
 use Rattle.yds_trace.specs.Past.{speed_after}
 use Rattle.yds_trace.specs.Jobs.{Job, Known, changed_last, ran}
 
@@ -19,7 +20,7 @@ fault_in (Ok passed) = None
 fault_in (Err cause) = Some cause
 
 -- the jobs of a thread of which this is known: what still has its processor has had it until this time
-abbrev pub closed_at : ℕ → Option ℕ → List Said → Known → List Job
+abbrev pub closed_at : ℕ → Start → List Said → Known → List Job
 closed_at until start counting known = elim known.on [
   | None ↦ known.jobs
   | Some standing ↦ changed_last (ran (record {

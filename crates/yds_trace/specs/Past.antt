@@ -3,6 +3,7 @@ use Rattle.std.specs.Prelude.{ℕ, List, [], ◌∷◌, Bool, true, false, not, 
 use Rattle.yds_kernel.specs.declared.state.State.TheVariants as states
 use Rattle.yds_kernel.specs.declared.loss.Since.{Since}
 use Rattle.yds_kernel.specs.declared.loss.Since.TheVariants as since
+use Rattle.yds_trace.specs.Asked.{Start, start_of}
 use Rattle.yds_kernel.specs.Event.{Happening, Switch, Speed, Loss, Said, Stamped, Lost, Nothing, Event}
 
 -- # Times
@@ -94,15 +95,15 @@ up_to (Some to) past = up_to_time to past
 
 -- # Speeds
 
--- A processor's speed after these lines, in kilohertz: that of its last change. Before its first change it is `start`; after lost events it
--- isn't known, as a change may be among them.
-abbrev pub speed_told : Option ℕ → ℕ → Happening → Option ℕ → Option ℕ
+-- A processor's speed after these lines, in kilohertz: that of its last change. Before its first change it is that of `start`; after lost
+-- events it isn't known, as a change may be among them.
+abbrev pub speed_told : Start → ℕ → Happening → Option ℕ → Option ℕ
 speed_told start processor (Speed other khz) before = if other == processor then Some khz else before
 speed_told start processor Loss before = None
 speed_told start processor _ before = before
 
-abbrev pub speed_after : Option ℕ → ℕ → List Said → Option ℕ
-speed_after start processor [] = start
+abbrev pub speed_after : Start → ℕ → List Said → Option ℕ
+speed_after start processor [] = start_of start processor
 speed_after start processor (Stamped event ∷ past) = speed_told start processor event.happening (speed_after start processor past)
 speed_after start processor (Lost other reach ∷ past) = None
 speed_after start processor (Nothing ∷ past) = speed_after start processor past

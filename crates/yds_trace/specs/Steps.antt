@@ -6,11 +6,11 @@ use Rattle.yds_trace.specs.declared.job.Leaving.{Leaving}
 use Rattle.yds_trace.specs.declared.step.Step.{Step}
 use Rattle.yds_trace.specs.declared.step.Step.TheVariants as steps
 use Rattle.yds_trace.specs.declared.step.Whose.{Whose}
-use Rattle.yds_trace.specs.Asked.{Task, task_of, is_number}
+use Rattle.yds_trace.specs.Asked.{Task, Start, task_of, is_number}
 use Rattle.yds_trace.specs.Past.{lost_since, whole_since, has_switched, speed_after}
 use Rattle.yds_trace.specs.Jobs.{Known, after_switch, wakes_up, speeds, loses}
 
-abbrev pub leaving_after : Option ℕ → List Said → Event → Leaving
+abbrev pub leaving_after : Start → List Said → Event → Leaving
 leaving_after start past event = record {
   processor = event.processor;
   time = event.time;
@@ -19,7 +19,7 @@ leaving_after start past event = record {
   whole_since = whole_since event.time past;
 }
 
-abbrev pub step_in : Option ℕ → List Said → Event → Happening → Step
+abbrev pub step_in : Start → List Said → Event → Happening → Step
 step_in start past event (Switch previous state next) = steps.Switch state (leaving_after start past event)
 step_in start past event (WakeUp thread) = steps.WakeUp event.time
 step_in start past event (Speed processor khz) = steps.Speed processor event.time (speed_after start processor past)
@@ -27,7 +27,7 @@ step_in start past event Loss = steps.Loss (lost_since event.processor since.Its
 step_in start past event Marker = steps.Nothing
 step_in start past event Other = steps.Nothing
 
-abbrev pub step_of : Option ℕ → List Said → Event → Step
+abbrev pub step_of : Start → List Said → Event → Step
 step_of start past event = step_in start past event event.happening
 
 -- what is known of a thread after it, where it is the one that leaves or is woken, or the one that comes

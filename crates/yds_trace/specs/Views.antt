@@ -3,6 +3,9 @@ use Rattle.std.specs.Prelude.{List, map, reverse}
 use Rattle.yds_trace.specs.declared.asked.Which.{Which as WhichKept}
 use Rattle.yds_trace.specs.declared.asked.Which.TheVariants as whiches
 use Rattle.yds_trace.specs.declared.asked.Task.{Task as TaskKept}
+use Rattle.yds_trace.specs.declared.asked.StartSpeed.{StartSpeed as StartSpeedKept}
+use Rattle.yds_trace.specs.declared.asked.Start.{Start as StartKept}
+use Rattle.yds_trace.specs.declared.asked.Start.TheVariants as starts
 use Rattle.yds_trace.specs.declared.asked.Asked.{Asked as AskedKept}
 use Rattle.yds_trace.specs.declared.job.Job.{Job as JobKept}
 use Rattle.yds_trace.specs.declared.known.Known.{Known as KnownKept}
@@ -10,7 +13,7 @@ use Rattle.yds_trace.specs.declared.others.Another.{Another as AnotherKept}
 use Rattle.yds_trace.specs.declared.others.Going.{Going as GoingKept}
 use Rattle.yds_trace.specs.declared.others.Span.{Span as SpanKept}
 use Rattle.yds_kernel.specs.Event.{Thread}
-use Rattle.yds_trace.specs.Asked.{Which, Named, Numbered, Task, Asked}
+use Rattle.yds_trace.specs.Asked.{Which, Named, Numbered, Task, StartSpeed, Start, Same, Listed, Asked}
 use Rattle.yds_trace.specs.Jobs.{Job, Known}
 use Rattle.yds_trace.specs.Others.{Span, Going}
 
@@ -40,13 +43,20 @@ which_read (whiches.Numbered pid) = Numbered pid
 abbrev pub task_read : TaskKept → Task
 task_read task = record { label = task.label.items; thread = which_read task.thread; deadline = task.deadline; apart = task.apart }
 
+abbrev pub speed_read : StartSpeedKept → StartSpeed
+speed_read speed = record { processor = speed.processor; khz = speed.khz }
+
+abbrev pub start_read : StartKept → Start
+start_read (starts.Same khz) = Same khz
+start_read (starts.Listed speeds) = Listed (map speed_read speeds.items)
+
 abbrev pub asked_read : AskedKept → Asked
 asked_read asked = record {
   tasks = map task_read asked.tasks.items;
   processor = asked.processor;
   unit = asked.unit;
   khz = asked.khz;
-  start = asked.start;
+  start = start_read asked.start;
   from = asked.from;
   to = asked.to;
   begin_at_run = asked.begin_at_run;

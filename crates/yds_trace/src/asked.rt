@@ -22,6 +22,24 @@ pub struct Task {
     pub apart: u64,
 }
 
+/// A processor's speed before its first change.
+#[derive(Clone, Copy, Debug, PartialEq, Eq)]
+pub struct StartSpeed {
+    /// Which processor it is.
+    pub processor: u32,
+    /// Its speed in kilohertz.
+    pub khz: u64,
+}
+
+/// The speeds before the first change.
+#[derive(Debug, Drop)]
+pub enum Start {
+    /// Each processor has this one, in kilohertz.
+    Same(u64),
+    /// These have theirs, and of no other it is known. Of a processor that stands there twice the first counts.
+    Listed(Vec<StartSpeed>),
+}
+
 /// What is asked of a trace.
 #[derive(Debug, Drop)]
 pub struct Asked {
@@ -33,8 +51,8 @@ pub struct Asked {
     pub unit: u64,
     /// So many kilohertz are a unit of speed.
     pub khz: u64,
-    /// The speed of each processor before its first change, in kilohertz.
-    pub start: Option<u64>,
+    /// The speeds before the first change.
+    pub start: Start,
     /// From when on jobs are asked for.
     pub from: Option<u64>,
     /// Up to when jobs are asked for.

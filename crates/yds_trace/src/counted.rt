@@ -48,7 +48,7 @@ impl Counted {
         ensures boundary { IfOk result (λ counted. counted.boundary ≡ 0) }
     {
         Ok(Counted {
-            past: Past::new(alloc, asked.start),
+            past: Past::new(alloc, &asked.start)?,
             tasks: follow(alloc, asked.tasks.len())?,
             touched: 0,
             boundary: 0,
@@ -107,7 +107,7 @@ impl Counted {
     fn touched_by(&self, asked: &Asked, first: Whose, second: Whose, step: Step) -> u64
         ensures counted { (counting : List trace.Said) (event : trace.Event) → IsCounted (asked_read asked.now) counting self.now
             → first ≡ first_in (asked_read asked.now).tasks event.happening → second ≡ second_in (asked_read asked.now).tasks event.happening
-            → step ≡ step_of asked.now.start counting event → asked.now.in_parts ≡ false
+            → step ≡ step_of (asked_read asked.now).start counting event → asked.now.in_parts ≡ false
             → result ≡ spec.touched (asked_read asked.now) (trace.Stamped event ∷ counting) }
         ensures not_counted { asked.now.in_parts ≡ true → result ≡ self.now.touched }
     {

@@ -1,7 +1,8 @@
 //! What is known when a trace has ended.
 
-ghost use Rattle.std.specs.Prelude.{◌≡◌, ℕ, List, Option, map, IfOk, OnOk};
+ghost use Rattle.std.specs.Prelude.{◌≡◌, ℕ, List, map, IfOk, OnOk};
 ghost use Rattle.yds_kernel.specs.Event.{Said};
+ghost use Rattle.yds_trace.specs.Asked.{Start};
 ghost use Rattle.yds_trace.specs.declared.followed.Followed.{Followed};
 ghost use Rattle.yds_trace.specs.Kept.{IsPast};
 ghost use Rattle.yds_trace.specs.Passing.{closed_at, standing_on};
@@ -41,7 +42,7 @@ pub(crate) fn close(
     past: &Past,
     until: u64,
 ) -> Result<(), Memory>
-    ensures { (start : Option ℕ) (counting : List Said) → IsPast start counting past.now
+    ensures { (start : Start) (counting : List Said) → IsPast start counting past.now
         → OnOk result (jobs_listed jobs.new.items ≡ closed_at until start counting (standing_on on (jobs_listed jobs.old.items))) }
 {
     if let Some(standing) = on {
@@ -58,7 +59,7 @@ pub(crate) fn close(
 
 /// The jobs of a task: what still has its processor has had it until this time.
 fn closed(known: Known, past: &Past, until: u64) -> Result<Vec<Job>, Memory>
-    ensures { (start : Option ℕ) (counting : List Said) → IsPast start counting past.now
+    ensures { (start : Start) (counting : List Said) → IsPast start counting past.now
         → IfOk result (λ jobs. jobs_listed jobs.items ≡ closed_at until start counting (known_read known)) }
 {
     let mut jobs = known.jobs;
@@ -73,7 +74,7 @@ pub(crate) fn close_each(
     past: &Past,
     until: u64,
 ) -> Result<Vec<Vec<Job>>, Memory>
-    ensures { (start : Option ℕ) (counting : List Said) → IsPast start counting past.now
+    ensures { (start : Start) (counting : List Said) → IsPast start counting past.now
         → IfOk result (λ all. map (λ jobs. jobs_listed jobs.items) all.items
         ≡ map (λ followed. closed_at until start counting (known_read followed.known)) tasks.items) }
 {

@@ -29,7 +29,7 @@ mod share;
 mod shown;
 mod step;
 
-pub use asked::{Asked, Task, Which};
+pub use asked::{Asked, Start, StartSpeed, Task, Which};
 pub use cut::{Cut, NO_CUT};
 pub use ended::Ended;
 pub use fault::Cause;

@@ -33,7 +33,7 @@ impl Lines {
         ensures { IfOk result (λ lines. IsLines (asked_read asked.now) [] lines) }
     {
         Ok(Lines {
-            past: Past::new(alloc, asked.start),
+            past: Past::new(alloc, &asked.start)?,
             lost: false,
             woken: false,
             seen: vec![in alloc; false; asked.tasks.len()]?,

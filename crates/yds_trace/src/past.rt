@@ -1,12 +1,15 @@
 //! What is kept of the lines so far. Times are nanoseconds.
-ghost use Rattle.std.specs.Prelude.{◌≡◌, ℕ, ◌&&◌, nat_lt, not, List, [], ◌∷◌, false, Option, None, OnOk};
+ghost use Rattle.std.specs.Prelude.{◌≡◌, ℕ, ◌&&◌, nat_lt, not, List, [], ◌∷◌, map, slice_index_or, false, None, IfOk, OnOk};
 ghost use Rattle.yds_kernel.specs.Event.{Said, Stamped, Lost};
 ghost use Rattle.yds_kernel.specs.Views.{event_read};
+ghost use Rattle.yds_trace.specs.Asked as asking;
 ghost use Rattle.yds_trace.specs.Faults.{processors_fault};
 ghost use Rattle.yds_trace.specs.Past as spec;
-ghost use Rattle.yds_trace.specs.Kept.{IsPast, told_on};
+ghost use Rattle.yds_trace.specs.Kept.{IsPast, TellsSpeeds, told_on};
 ghost use Rattle.yds_trace.specs.Steps.{leaving_after, step_of};
+ghost use Rattle.yds_trace.specs.Views.{start_read, speed_read};
 
+use crate::asked::{Start, StartSpeed};
 use crate::job::Leaving;
 use crate::places::{at, put_at};
 use crate::step::Step;
@@ -35,6 +38,26 @@ impl Told {
     }
 }
 
+/// What is told of these processors before the first line.
+fn first_told(alloc: Global, speeds: &[StartSpeed]) -> Result<Vec<Told>, Memory>
+    ensures { IfOk result (λ told. TellsSpeeds (map speed_read speeds.now) told.items) }
+{
+    let mut told = Vec::new(alloc);
+    for place in (0..speeds.len()).rev() {
+        put_speed(&mut told, speeds[place])?;
+    }
+    Ok(told)
+}
+
+/// Puts a speed before those that are told already.
+fn put_speed(told: &mut Vec<Told>, speed: StartSpeed) -> Result<(), Memory>
+    ensures { (speeds : List asking.StartSpeed) → TellsSpeeds speeds told.old.items
+        → OnOk result (TellsSpeeds (speed_read speed ∷ speeds) told.new.items) }
+{
+    let begun = Told::nothing(Some(speed.khz));
+    put_at(told, u64::from(speed.processor), begun, Told::nothing(None))
+}
+
 /// What is kept of the lines so far.
 #[derive(Debug, Drop)]
 pub(crate) struct Past {
@@ -53,17 +76,28 @@ pub(crate) struct Past {
 }
 
 impl Past {
-    /// Before the first line, with the speed of each processor before its first change.
-    pub(crate) fn new(alloc: Global, start: Option<u64>) -> Past
-        ensures { IsPast start [] result }
+    /// Before the first line, with these speeds before the first change.
+    pub(crate) fn new(alloc: Global, start: &Start) -> Result<Past, Memory>
+        ensures { IfOk result (IsPast (start_read start.now) []) }
+    {
+        match start {
+            Start::Same(khz) => Ok(Past::begun(alloc, Some(*khz), Vec::new(alloc))),
+            Start::Listed(speeds) => Ok(Past::begun(alloc, None, first_told(alloc, speeds)?)),
+        }
+    }
+
+    /// Before the first line, with what is told of some processors, and this speed of the others.
+    fn begun(alloc: Global, untold: Option<u64>, told: Vec<Told>) -> Past
+        ensures { (start : asking.Start) → ((processor : ℕ) → slice_index_or told.items processor (record { switched = false; khz = untold })
+            ≡ record { switched = false; khz = asking.start_of start processor }) → IsPast start [] result }
     {
         Past {
             first: None,
             last: 0,
             whole_since: None,
-            untold: start,
+            untold,
             lines: Vec::new(alloc),
-            told: Vec::new(alloc),
+            told,
         }
     }
 
@@ -77,7 +111,7 @@ impl Past {
     /// Takes an event.
     pub(crate) fn take(&mut self, event: &Event<'_>) -> Result<(), Memory>
         requires { processors_fault (event_read event.now) ≡ None }
-        ensures { (start : Option ℕ) (past : List Said) → IsPast start past self.old
+        ensures { (start : asking.Start) (past : List Said) → IsPast start past self.old
             → OnOk result (IsPast start (Stamped (event_read event.now) ∷ past) self.new) }
     {
         put_at(&mut self.lines, event.processor, Some(event.time), None)?;
@@ -114,7 +148,7 @@ impl Past {
 
     /// Takes a line without a stamp which says that events were lost.
     pub(crate) fn lose(&mut self)
-        ensures { (start : Option ℕ) (past : List Said) (processor : ℕ) (since : Since) → IsPast start past self.old
+        ensures { (start : asking.Start) (past : List Said) (processor : ℕ) (since : Since) → IsPast start past self.old
             → IsPast start (Lost processor since ∷ past) self.new }
     {
         self.forget();
@@ -136,7 +170,7 @@ impl Past {
 
     /// Since when events of a processor were lost, where the next line says so.
     pub(crate) fn lost_since(&self, processor: u64, since: Since) -> u64
-        ensures { (start : Option ℕ) (past : List Said) → IsPast start past self.now → result ≡ spec.lost_since processor since past }
+        ensures { (start : asking.Start) (past : List Said) → IsPast start past self.now → result ≡ spec.lost_since processor since past }
     {
         let begin = self.first.unwrap_or(0);
         match since {
@@ -147,14 +181,14 @@ impl Past {
 
     /// Whether a processor has switched since the last loss.
     pub(crate) fn has_switched(&self, processor: u64) -> bool
-        ensures { (start : Option ℕ) (past : List Said) → IsPast start past self.now → result ≡ spec.has_switched processor past }
+        ensures { (start : asking.Start) (past : List Said) → IsPast start past self.now → result ≡ spec.has_switched processor past }
     {
         self.told_on(processor).switched
     }
 
     /// Whether a processor hasn't switched since a time before this boundary, by an event of this time.
     pub(crate) fn is_new(&self, processor: u64, time: u64, boundary: u64) -> bool
-        ensures { (start : Option ℕ) (past : List Said) → IsPast start past self.now
+        ensures { (start : asking.Start) (past : List Said) → IsPast start past self.now
             → result ≡ (not (spec.has_switched processor past) && nat_lt (spec.whole_since time past) boundary) }
     {
         !self.has_switched(processor) && self.whole_since.unwrap_or(time) < boundary
@@ -162,14 +196,14 @@ impl Past {
 
     /// The speed of a processor in kilohertz, where it is known.
     pub(crate) fn speed(&self, processor: u64) -> Option<u64>
-        ensures { (start : Option ℕ) (past : List Said) → IsPast start past self.now → result ≡ spec.speed_after start processor past }
+        ensures { (start : asking.Start) (past : List Said) → IsPast start past self.now → result ≡ spec.speed_after start processor past }
     {
         self.told_on(processor).khz
     }
 
     /// What an event behind these lines is to a task.
     pub(crate) fn step(&self, event: &Event<'_>) -> Step
-        ensures { (start : Option ℕ) (past : List Said) → IsPast start past self.now → result ≡ step_of start past (event_read event.now) }
+        ensures { (start : asking.Start) (past : List Said) → IsPast start past self.now → result ≡ step_of start past (event_read event.now) }
     {
         match event.happening {
             Happening::Switch { state, .. } => Step::Switch {
@@ -191,7 +225,7 @@ impl Past {
 
     /// Where and how a thread leaves a processor by a switch.
     fn leaving(&self, event: &Event<'_>) -> Leaving
-        ensures { (start : Option ℕ) (past : List Said) → IsPast start past self.now → result ≡ leaving_after start past (event_read event.now) }
+        ensures { (start : asking.Start) (past : List Said) → IsPast start past self.now → result ≡ leaving_after start past (event_read event.now) }
     {
         let told = self.told_on(event.processor);
         Leaving {

@@ -1,6 +1,7 @@
 //! What is known of the tasks behind some lines, of the jobs that aren't forgotten.
-ghost use Rattle.std.specs.Prelude.{◌≡◌, ℕ, ◌<◌, List, Option, unwrap_or, length, slice_index_or, vec_len, IfOk};
+ghost use Rattle.std.specs.Prelude.{◌≡◌, ℕ, ◌<◌, List, unwrap_or, length, slice_index_or, vec_len, IfOk};
 ghost use Rattle.yds_kernel.specs.Event.{Said};
+ghost use Rattle.yds_trace.specs.Asked.{Start};
 ghost use Rattle.yds_trace.specs.declared.followed.Followed.{Followed};
 ghost use Rattle.yds_trace.specs.declared.shown.ShownTask.{ShownTask};
 ghost use Rattle.yds_trace.specs.Following.{Shares, Shows};
@@ -96,7 +97,7 @@ fn share_tasks(alloc: Global, asked: &Asked, tasks: &[ShownTask]) -> Result<Vec<
 
 /// What is known of a task: what still has its processor has had it until this time.
 fn show(alloc: Global, followed: &Followed, past: &Past, until: u64) -> Result<ShownTask, Memory>
-    ensures { (start : Option ℕ) (counting : List Said) → IsPast start counting past.now → IfOk result (Shows until start counting followed.now) }
+    ensures { (start : Start) (counting : List Said) → IsPast start counting past.now → IfOk result (Shows until start counting followed.now) }
 {
     let mut jobs = copied(alloc, &followed.known.jobs)?;
     close(&mut jobs, followed.known.on, past, until)?;
@@ -116,7 +117,7 @@ pub(crate) fn show_each(
     until: u64,
 ) -> Result<Vec<ShownTask>, Memory>
     ensures many { IfOk result (λ shown. vec_len shown ≡ length tasks.now) }
-    ensures each { (start : Option ℕ) (counting : List Said) → IsPast start counting past.now
+    ensures each { (start : Start) (counting : List Said) → IsPast start counting past.now
         → IfOk result (λ shown. (number : ℕ) (default : ShownTask) (kept : Followed) → number < length tasks.now
         → Shows until start counting (slice_index_or tasks.now number kept) (slice_index_or shown.items number default)) }
 {

@@ -3,7 +3,7 @@ use Rattle.yds_model.proofs.Common.{◌≡◌, ℕ, true, false, List, [], ◌�
 use Rattle.yds_model.specs.declared.reason.Reason.TheVariants as reasons
 use Rattle.yds_kernel.specs.declared.state.State.TheVariants as states
 use Rattle.yds_kernel.specs.Event.{Thread, Happening, Switch, WakeUp, Said, Stamped}
-use Rattle.yds_trace.specs.Asked.{Asked, Named}
+use Rattle.yds_trace.specs.Asked.{Asked, Named, Same}
 use Rattle.yds_trace.specs.declared.job.Stretch.{Stretch}
 use Rattle.yds_trace.specs.WrittenTime.{Units, Run, written_time}
 use Rattle.yds_trace.specs.Document.{named, name_in_parts, Written, Placed, document_of}
@@ -39,7 +39,7 @@ asked = record {
   processor = 0;
   unit = 10;
   khz = 1;
-  start = Some 5;
+  start = Same 5;
   from = None;
   to = None;
   begin_at_run = false;

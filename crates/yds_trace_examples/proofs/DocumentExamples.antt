@@ -5,7 +5,7 @@ use Rattle.yds_kernel.specs.Event.{Said}
 use Rattle.yds_trace.specs.declared.reason.Reason.{Reason}
 use Rattle.yds_trace.specs.declared.reason.Reason.TheVariants as reasons
 use Rattle.yds_trace.specs.declared.limits.TheConstants.{MAX_DEADLINE}
-use Rattle.yds_trace.specs.Asked.{Task, Asked, IsAsked, IsWithin, no_task}
+use Rattle.yds_trace.specs.Asked.{Task, Listed, Asked, IsAsked, IsWithin, no_task}
 use Rattle.yds_trace.specs.WrittenTime.{Run}
 use Rattle.yds_trace.specs.Document.{Written, Document, document_of, all_judged, Judged}
 use Rattle.yds_trace_examples.proofs.Lines.{woken, comes, sleeps, preempted, back, other_leaves, marker, lost, task, of_task, asked, up_to, from}
@@ -19,6 +19,10 @@ told judged = (judged.late, judged.reason)
 
 abbrev judgements : Asked → List Said → List (Option ℕ × Option Reason)
 judgements asked lines = map told (all_judged asked (reverse lines))
+
+-- with these processors' speeds before the first change
+abbrev begun : List (ℕ × ℕ) → Asked
+begun speeds = record asked { start = Listed (map (λ (speed : ℕ × ℕ). record { processor = speed.0; khz = speed.1 }) speeds) }
 
 abbrev run : ℕ → ℕ → Run
 run from to = record { from = from; to = to; speed = 5 }
@@ -119,9 +123,22 @@ missing_and_late : document asked (woken 1000 ∷ other_leaves 0 1010 ∷ sleeps
 unfolding digits
 missing_and_late = refl
 
--- Its speed isn't known.
-unknown_speed : judgements (record asked { start = None }) (woken 1000 ∷ comes 0 1020 ∷ sleeps 0 1040 ∷ []) ≡ (None, Some reasons.SpeedUnknown) ∷ []
+-- Its processor is one of those whose speed before the first change is given.
+listed_speed : document (begun ((1, 7) ∷ (0, 5) ∷ [])) (woken 1000 ∷ comes 0 1020 ∷ sleeps 0 1040 ∷ []) ≡
+    record { jobs = written (codes "t.0") 0 10 10 (run 2 4 ∷ []) ∷ []; runs = record { job = 0; run = run 2 4 } ∷ [] }
+unfolding digits
+listed_speed = refl
+
+-- Near misses: no speed is given, or that of another processor alone. It isn't known.
+unknown_speed : judgements (begun []) (woken 1000 ∷ comes 0 1020 ∷ sleeps 0 1040 ∷ []) ≡ (None, Some reasons.SpeedUnknown) ∷ []
 unknown_speed = refl
+
+speed_of_another : judgements (begun ((1, 5) ∷ [])) (woken 1000 ∷ comes 0 1020 ∷ sleeps 0 1040 ∷ []) ≡ (None, Some reasons.SpeedUnknown) ∷ []
+speed_of_another = refl
+
+-- Nor is it after lost events, as a change may be among them.
+speed_lost : judgements (begun ((0, 5) ∷ [])) (lost 0 ∷ woken 1000 ∷ comes 0 1020 ∷ sleeps 0 1040 ∷ []) ≡ (None, Some reasons.SpeedUnknown) ∷ []
+speed_lost = refl
 
 -- Up to a time at which it runs, before its deadline.
 cut_off : judgements (up_to 1030) (woken 1000 ∷ comes 0 1020 ∷ sleeps 0 1040 ∷ []) ≡ (None, Some reasons.AfterTo) ∷ []

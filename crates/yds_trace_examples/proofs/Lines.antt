@@ -5,7 +5,7 @@ use Rattle.yds_kernel.specs.declared.loss.Since.TheVariants as since
 use Rattle.yds_kernel.specs.Event.{Thread, Happening, Switch, WakeUp, Speed, Marker, Said, Stamped, Lost}
 use Rattle.yds_trace.specs.declared.job.End.{End}
 use Rattle.yds_trace.specs.declared.job.Stretch.{Stretch}
-use Rattle.yds_trace.specs.Asked.{Named, Task, Asked}
+use Rattle.yds_trace.specs.Asked.{Named, Task, Same, Asked}
 use Rattle.yds_trace.specs.Jobs.{Job}
 
 -- # Threads
@@ -72,7 +72,7 @@ abbrev pub task : Task
 task = record { label = codes "t"; thread = Named (codes "t"); deadline = 100; apart = 0 }
 
 abbrev pub of_task : Task → Asked
-of_task task = record { tasks = task ∷ []; processor = 0; unit = 10; khz = 1; start = Some 5; from = None; to = None; begin_at_run = false; cut_losses = false; in_parts = false; everywhere = false; moved_parts = false; others = None }
+of_task task = record { tasks = task ∷ []; processor = 0; unit = 10; khz = 1; start = Same 5; from = None; to = None; begin_at_run = false; cut_losses = false; in_parts = false; everywhere = false; moved_parts = false; others = None }
 
 abbrev pub asked : Asked
 asked = of_task task

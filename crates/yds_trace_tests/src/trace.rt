@@ -4,8 +4,8 @@ use std::alloc::{AllocError, Global};
 use std::test::Fail;
 use yds_kernel::{Event, Happening, Said, Since, State, Thread};
 use yds_trace::{
-    Asked, Cause, Cut, End, Ended, Kept, MAX_TOUCHES, NO_CUT, Pass, Refused, Stretch, Task, Which,
-    has_run_on,
+    Asked, Cause, Cut, End, Ended, Kept, MAX_TOUCHES, NO_CUT, Pass, Refused, Start, Stretch, Task,
+    Which, has_run_on,
 };
 
 fn thread(name: &[u8], pid: u64) -> Thread<'_> {
@@ -66,7 +66,7 @@ fn asked(alloc: Global) -> Result<Asked, AllocError> {
         processor: 0,
         unit: 10_000,
         khz: 10_000,
-        start: Some(600_000),
+        start: Start::Same(600_000),
         from: None,
         to: None,
         begin_at_run: false,

@@ -6,7 +6,7 @@ ghost use Rattle.yds_trace_parts.specs.Plain.{IsGranted};
 use std::alloc::{AllocError, Global};
 use std::test::Fail;
 use yds_port::{MemorySink, MemorySource};
-use yds_trace::{Asked, Task, Which};
+use yds_trace::{Asked, Start, Task, Which};
 use yds_trace_parts::{Halt, tell_parts};
 
 /// How many jobs are in the trace: behind the last line of them, line 4,096, it is looked for a part, and more than 2,000 wait.
@@ -42,7 +42,7 @@ fn asked(alloc: Global, everywhere: bool) -> Result<Asked, AllocError>
         processor: 0,
         unit: 1_000,
         khz: 1_000,
-        start: Some(1_000_000),
+        start: Start::Same(1_000_000),
         from: None,
         to: None,
         begin_at_run: true,

@@ -1,7 +1,7 @@
 //! What no clause says: that the text of some jobs is the one that was written by hand, and that each allocation may fail.
 use std::alloc::{AllocError, Global};
 use std::test::Fail;
-use yds_trace::{Asked, Cut, End, Ended, Job, Shown, ShownTask, Span, Stretch, Task, Which};
+use yds_trace::{Asked, Cut, End, Ended, Job, Shown, ShownTask, Span, Start, Stretch, Task, Which};
 use yds_trace_document::{DocumentFault, is_plain, is_plain_shown, judge_waiting, settle_part};
 use yds_trace_text::{NoText, document_text, part_text};
 
@@ -113,7 +113,7 @@ fn asked(alloc: Global) -> Result<Asked, AllocError> {
         processor: 0,
         unit: 10_000,
         khz: 10_000,
-        start: None,
+        start: Start::Listed(Vec::new(alloc)),
         from: None,
         to: None,
         begin_at_run: false,

@@ -35,19 +35,23 @@ fn words_ask(rt: HostRuntime) -> Result<(), Fail> {
         ("--cpu 1 --version", "version"),
         (
             "--tasks a:16.667:2 --cpu=3 --strict --from 1.5 --to 9223372036.854775807 --start 600000 --begin run --lost=cut --us 1 --khz 7 --parts",
-            "Asked { tasks: [Task { label: [97], thread: Named([97]), deadline: 16667000, apart: 2000000 }], processor: 3, unit: 1000, khz: 7, start: Some(600000), from: Some(1500000000), to: Some(9223372036854775807), begin_at_run: true, cut_losses: true, in_parts: true, everywhere: false, moved_parts: false, others: None } true",
+            "Asked { tasks: [Task { label: [97], thread: Named([97]), deadline: 16667000, apart: 2000000 }], processor: 3, unit: 1000, khz: 7, start: Same(600000), from: Some(1500000000), to: Some(9223372036854775807), begin_at_run: true, cut_losses: true, in_parts: true, everywhere: false, moved_parts: false, others: None } true",
         ),
         (
             "--tasks 7=a\\,b:1,c\\:\\d:0.01",
-            "Asked { tasks: [Task { label: [97, 44, 98], thread: Numbered(7), deadline: 1000000, apart: 0 }, Task { label: [99, 58, 92, 100], thread: Named([99, 58, 92, 100]), deadline: 10000, apart: 0 }], processor: 0, unit: 10000, khz: 10000, start: None, from: None, to: None, begin_at_run: false, cut_losses: false, in_parts: false, everywhere: false, moved_parts: false, others: None } false",
+            "Asked { tasks: [Task { label: [97, 44, 98], thread: Numbered(7), deadline: 1000000, apart: 0 }, Task { label: [99, 58, 92, 100], thread: Named([99, 58, 92, 100]), deadline: 10000, apart: 0 }], processor: 0, unit: 10000, khz: 10000, start: Listed([]), from: None, to: None, begin_at_run: false, cut_losses: false, in_parts: false, everywhere: false, moved_parts: false, others: None } false",
         ),
         (
             "--cpu all --tasks a:1",
-            "Asked { tasks: [Task { label: [97], thread: Named([97]), deadline: 1000000, apart: 0 }], processor: 0, unit: 10000, khz: 10000, start: None, from: None, to: None, begin_at_run: false, cut_losses: false, in_parts: true, everywhere: true, moved_parts: false, others: None } false",
+            "Asked { tasks: [Task { label: [97], thread: Named([97]), deadline: 1000000, apart: 0 }], processor: 0, unit: 10000, khz: 10000, start: Listed([]), from: None, to: None, begin_at_run: false, cut_losses: false, in_parts: true, everywhere: true, moved_parts: false, others: None } false",
         ),
         (
             "--others=spans --tasks a:1 --moved parts --cpu 5",
-            "Asked { tasks: [Task { label: [97], thread: Named([97]), deadline: 1000000, apart: 0 }], processor: 5, unit: 10000, khz: 10000, start: None, from: None, to: None, begin_at_run: false, cut_losses: false, in_parts: false, everywhere: false, moved_parts: true, others: Some(5) } false",
+            "Asked { tasks: [Task { label: [97], thread: Named([97]), deadline: 1000000, apart: 0 }], processor: 5, unit: 10000, khz: 10000, start: Listed([]), from: None, to: None, begin_at_run: false, cut_losses: false, in_parts: false, everywhere: false, moved_parts: true, others: Some(5) } false",
+        ),
+        (
+            "--start 0:600000,8191:4294967295,4:1 --tasks a:1",
+            "Asked { tasks: [Task { label: [97], thread: Named([97]), deadline: 1000000, apart: 0 }], processor: 0, unit: 10000, khz: 10000, start: Listed([StartSpeed { processor: 0, khz: 600000 }, StartSpeed { processor: 8191, khz: 4294967295 }, StartSpeed { processor: 4, khz: 1 }]), from: None, to: None, begin_at_run: false, cut_losses: false, in_parts: false, everywhere: false, moved_parts: false, others: None } false",
         ),
         ("--tasks ?", "threads"),
     ];
@@ -99,6 +103,34 @@ fn words_are_refused_by_name(rt: HostRuntime) -> Result<(), Fail> {
         (
             "--cpu 8192",
             "# --cpu: no number of a processor; write a whole number from 0 to 8191, or all\nfailed\n",
+        ),
+        (
+            "--tasks a:1 --start 0",
+            "# --start: no speed; write whole kilohertz from 1 to 4294967295\nfailed\n",
+        ),
+        (
+            "--tasks a:1 --start 0:600000,4:0",
+            "# --start, speed 2: no speed; write whole kilohertz from 1 to 4294967295\nfailed\n",
+        ),
+        (
+            "--tasks a:1 --start 0:600000,8192:600000",
+            "# --start, speed 2: no number of a processor before the colon; write a whole number from 0 to 8191\nfailed\n",
+        ),
+        (
+            "--tasks a:1 --start 1:5,0:6,4:7,0:6",
+            "# --start, speed 2: another speed is of the same processor; give it once\nfailed\n",
+        ),
+        (
+            "--tasks a:1 --start 0:600000,700000",
+            "# --start, speed 2: no colon behind the processor; write CPU:KHZ, with the speed in kilohertz, or one speed for all processors\nfailed\n",
+        ),
+        (
+            "--tasks a:1 --start 0:600000,",
+            "# --start, speed 2: no colon behind the processor; write CPU:KHZ, with the speed in kilohertz, or one speed for all processors\nfailed\n",
+        ),
+        (
+            "--tasks a:1 --start 0:6:5",
+            "# --start, speed 1: no speed; write whole kilohertz from 1 to 4294967295\nfailed\n",
         ),
         (
             "--tasks ? --from 1",

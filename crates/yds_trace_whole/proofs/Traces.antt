@@ -1,7 +1,7 @@
 -- What the small traces of the examples are made of. A unit of time is 10 nanoseconds.
 use Rattle.yds_model.proofs.Common.{ℕ, List, codes, true, false, Some, None}
 use Rattle.yds_kernel.specs.Event.{Thread, Happening, Said, Stamped}
-use Rattle.yds_trace.specs.Asked.{Named, Task, Asked}
+use Rattle.yds_trace.specs.Asked.{Named, Task, Same, Asked}
 
 abbrev pub thread : List ℕ → ℕ → Thread
 thread name pid = record { name = name; pid = pid }
@@ -27,7 +27,7 @@ asked_of tasks = record {
   processor = 0;
   unit = 10;
   khz = 1;
-  start = Some 5;
+  start = Same 5;
   from = None;
   to = None;
   begin_at_run = false;

@@ -10,17 +10,19 @@ use Rattle.yds_model.specs.declared.number_fault.NumberFault.TheVariants.{BadNum
 use Rattle.yds_kernel.specs.Parts.{◌>>=◌ as ◌>>?◌}
 use Rattle.yds_kernel.specs.declared.limits.TheConstants.{MAX_NUMBER}
 use Rattle.yds_trace.specs.declared.limits.TheConstants.{MAX_TIME, MAX_DEADLINE}
-use Rattle.yds_trace.specs.Asked.{Task, Asked, Numbered, Named}
+use Rattle.yds_trace.specs.Asked.{Task, Start, Asked, Numbered, Named}
 use Rattle.yds_trace_words.specs.declared.limits.TheConstants.{MAX_UNIT, MAX_TASKS}
 use Rattle.yds_trace_words.specs.declared.fault.Reason.{Reason}
 use Rattle.yds_trace_words.specs.declared.fault.Reason.TheVariants as reasons
+use Rattle.yds_trace_words.specs.declared.fault.Place.TheVariants as places
 use Rattle.yds_trace_words.specs.declared.letter.Letter.{Letter}
 use Rattle.yds_trace_words.specs.declared.letter.Sign.TheVariants as signs
-use Rattle.yds_trace_words.specs.Words.{WordFault, refuse, ◌>>=◌, Setting, settings_of, value_of, is_given, other_than, given_twice}
+use Rattle.yds_trace_words.specs.Words.{WordFault, refuse, ◌>>=◌, before, and_behind, Setting, settings_of, value_of, is_given, other_than, given_twice}
 use Rattle.yds_trace_words.specs.Decimal.{decimal_at, at_most, fraction_at, behind_point, is_point}
 use Rattle.yds_trace_words.specs.Letters.{letters_of, is_at, text_of}
-use Rattle.yds_trace_words.specs.Tasks.{known, is_label, refuse_task, label_at, Called, pid_at, numbered_at, named_at, called_at, milliseconds_at, deadline_at, Times, apart_at, alone_at, times_at, task_of_parts, task_at, tasks_behind, before_tasks, tasks_from, tasks_of, tasks_asked, is_same_label, is_same_thread, again_in, different_from, unless}
-use Rattle.yds_trace_words.specs.Request.{Request, ShowHelp, ShowVersion, ReadTrace, ListThreads, whole_or_refused, whole_or, start_of, time_or_refused, time_of, ordered, only, processor_of, others_asked, asked_by, read_trace, threads_alone, threads_or_trace, is_question, asked_once, request_by, request_of, IsFit, IsFitRequest}
+use Rattle.yds_trace_words.specs.Tasks.{known, is_label, refuse_task, label_at, Called, pid_at, numbered_at, named_at, called_at, milliseconds_at, deadline_at, Times, apart_at, alone_at, times_at, task_of_parts, task_at, tasks_from, tasks_of, tasks_asked, is_same_label, is_same_thread, again_in, different_from, unless}
+use Rattle.yds_trace_words.specs.Start.{start_asked}
+use Rattle.yds_trace_words.specs.Request.{Request, ShowHelp, ShowVersion, ReadTrace, ListThreads, whole_or_refused, whole_or, time_or_refused, time_of, ordered, only, processor_of, others_asked, asked_by, read_trace, threads_alone, threads_or_trace, is_question, asked_once, request_by, request_of, IsFit, IsFitRequest}
 
 -- # Steps
 
@@ -176,7 +178,7 @@ tasks_fit unit place (letters ∷ more) tasks is =
     first (task_at unit place letters) refl (tasks_from unit (place + 1) more) (tasks_fit unit (place + 1) more) is
   where
     second : (task : Task) → IsFine unit task → (rest : Result (List Task) WordFault) → ((others : List Task) → rest ≡ Ok others → AreFine unit (length more) others)
-        → before_tasks task rest ≡ Ok tasks → AreFine unit (length (letters ∷ more)) tasks
+        → before task rest ≡ Ok tasks → AreFine unit (length (letters ∷ more)) tasks
     second task fine (Err fault) others same = absurd cc
     second task fine (Ok found) others same =
         let even : task ∷ found ≡ tasks = cc in
@@ -186,7 +188,7 @@ tasks_fit unit place (letters ∷ more) tasks is =
 
     first : (one : Result Task WordFault) → task_at unit place letters ≡ one → (rest : Result (List Task) WordFault)
         → ((others : List Task) → rest ≡ Ok others → AreFine unit (length more) others)
-        → tasks_behind one rest ≡ Ok tasks → AreFine unit (length (letters ∷ more)) tasks
+        → and_behind one rest ≡ Ok tasks → AreFine unit (length (letters ∷ more)) tasks
     first (Err fault) was rest others same = absurd cc
     first (Ok task) was rest others same = second task (task_fits unit place letters task was) rest others same
 
@@ -261,7 +263,7 @@ labels_differ place (task ∷ tasks) none = by (again_in task tasks) refl none (
   where
     by : (again : Option Reason) → again_in task tasks ≡ again
         → (elim again as (λ _. Option WordFault) [
-          | Some reason ↦ Some (record { word = codes "--tasks"; task = Some place; reason = reason })
+          | Some reason ↦ Some (record { word = codes "--tasks"; place = Some (places.Task place); reason = reason })
           | None ↦ different_from (place + 1) tasks
         ]) ≡ None
         → (different_from (place + 1) tasks ≡ None → AllPairs (λ task other. task.label ≢ other.label) tasks) → AllPairs (λ task other. task.label ≢ other.label) (task ∷ tasks)
@@ -298,7 +300,7 @@ record AskedParts (unit khz : ℕ) (to : Option ℕ) (found : Result (List Task)
   pub to_is : to ≡ asked.to
   pub tasks_is : found ≡ Ok asked.tasks
 
-last_parts : (order begin lost moved : Result Bool WordFault) (others : Result (Option ℕ) WordFault) (parts every : Bool) (found : Result (List Task) WordFault) (cpu unit khz : ℕ) (start from to : Option ℕ) (asked : Asked)
+last_parts : (order begin lost moved : Result Bool WordFault) (others : Result (Option ℕ) WordFault) (parts every : Bool) (found : Result (List Task) WordFault) (cpu unit khz : ℕ) (start : Start) (from to : Option ℕ) (asked : Asked)
     → (order >>= (λ o. begin >>= (λ b. lost >>= (λ l. moved >>= (λ m. others >>= (λ w. found >>= (λ t. Ok (record {
       tasks = t;
       processor = cpu;
@@ -332,7 +334,7 @@ record AllParts (us khz : Result ℕ WordFault) (to : Result (Option ℕ) WordFa
   pub end_is : to ≡ Ok end
   pub rest : AskedParts (number * 1000) speed end (tasks (number * 1000)) asked
 
-all_parts : (cpu : Result (Option ℕ) WordFault) (us khz : Result ℕ WordFault) (start from to : Result (Option ℕ) WordFault) (order : Option ℕ → Option ℕ → Result Bool WordFault) (begin lost moved : Result Bool WordFault) (others : Option ℕ → Result (Option ℕ) WordFault) (parts : Bool)
+all_parts : (cpu : Result (Option ℕ) WordFault) (us khz : Result ℕ WordFault) (start : Result Start WordFault) (from to : Result (Option ℕ) WordFault) (order : Option ℕ → Option ℕ → Result Bool WordFault) (begin lost moved : Result Bool WordFault) (others : Option ℕ → Result (Option ℕ) WordFault) (parts : Bool)
     (tasks : ℕ → Result (List Task) WordFault) (asked : Asked)
     → (cpu >>= (λ c. us >>= (λ u. khz >>= (λ k. start >>= (λ s. from >>= (λ f. to >>= (λ e. order f e >>= (λ o. begin >>= (λ b. lost >>= (λ l. moved >>= (λ m. others c >>= (λ w. tasks (u * 1000) >>= (λ t. Ok (record {
       tasks = t;
@@ -376,7 +378,7 @@ asked_fits : (given : List Setting) (asked : Asked) → asked_by given ≡ Ok as
 asked_fits given asked is =
     let value = λ (name : List ℕ). value_of name given in
     let parts = all_parts (processor_of (value (codes "--cpu"))) (whole_or 10 1 MAX_UNIT (codes "--us") reasons.Unit (value (codes "--us")))
-    (whole_or 10000 1 MAX_NUMBER (codes "--khz") reasons.Speed (value (codes "--khz"))) (start_of (value (codes "--start"))) (time_of (codes "--from") (value (codes "--from")))
+    (whole_or 10000 1 MAX_NUMBER (codes "--khz") reasons.Speed (value (codes "--khz"))) (start_asked (value (codes "--start"))) (time_of (codes "--from") (value (codes "--from")))
     (time_of (codes "--to") (value (codes "--to"))) ordered (only (codes "--begin") (codes "run") reasons.Begin (value (codes "--begin")))
     (only (codes "--lost") (codes "cut") reasons.Lost (value (codes "--lost"))) (only (codes "--moved") (codes "parts") reasons.Moved (value (codes "--moved")))
     (λ (cpu : Option ℕ). others_asked cpu (value (codes "--others"))) (is_given (codes "--parts") given) (λ (unit : ℕ). tasks_asked unit (value (codes "--tasks"))) asked is in

@@ -1,3 +1,5 @@
+pub mod Ahead
+pub mod StartExamples
 pub mod Settings
 pub mod Listed
 pub mod Fit

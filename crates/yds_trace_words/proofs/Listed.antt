@@ -1,27 +1,29 @@
--- The tasks of a list, one after another.
+-- The tasks and the speeds of a list, one after another.
 use Rattle.yds_model.proofs.Common.{◌≡◌, ℕ, ◌+◌, ◌<◌, ◌≤◌, List, [], ◌∷◌, ◌++◌, length, All, Bool, true, false, not, ◌||◌, cond, Result, Ok, Err, refl, sym, ap, ◌∙◌, append_assoc, arith, false≢true, length-drop, take_all, All-cons, All-nil}
 use Rattle.std.specs.List.{list_any, slice_split, before_first, after_first, position_or_len}
 use Rattle.std.proofs.lemmas.List.Splits.{slice_split_none, slice_split_first}
-use Rattle.yds_trace.specs.Asked.{Task}
-use Rattle.yds_trace_words.specs.Words.{WordFault}
-use Rattle.yds_trace_words.specs.Tasks.{task_at, tasks_from, tasks_behind, before_tasks}
+use Rattle.yds_trace.specs.Asked.{Task, StartSpeed}
+pub use Rattle.yds_trace_words.proofs.Ahead.{ahead, ahead_more}
+use Rattle.yds_trace_words.specs.Words.{WordFault, before, and_behind}
+use Rattle.yds_trace_words.specs.Tasks.{task_at, tasks_from}
+use Rattle.yds_trace_words.specs.Start.{speed_at, speeds_from}
 use Rattle.yds_trace_words.specs.declared.letter.Letter.{Letter}
 
-abbrev pub ahead : List Task → Result (List Task) WordFault → Result (List Task) WordFault
-ahead done (Ok tasks) = Ok (done ++ tasks)
-ahead done (Err fault) = Err fault
-
-pub ahead_more : (done : List Task) (task : Task) (more : Result (List Task) WordFault) → ahead done (before_tasks task more) ≡ ahead (done ++ task ∷ []) more
-ahead_more done task (Ok tasks) = ap Ok (sym (append_assoc done (task ∷ []) tasks))
-ahead_more done task (Err fault) = refl
-
 pub task_goes_on : (unit place : ℕ) (letters : List Letter) (more : List (List Letter)) (task : Task) → task_at unit place letters ≡ Ok task
-    → tasks_from unit place (letters ∷ more) ≡ before_tasks task (tasks_from unit (place + 1) more)
-task_goes_on unit place letters more task is = ap (λ (one : Result Task WordFault). tasks_behind one (tasks_from unit (place + 1) more)) is
+    → tasks_from unit place (letters ∷ more) ≡ before task (tasks_from unit (place + 1) more)
+task_goes_on unit place letters more task is = ap (λ (one : Result Task WordFault). and_behind one (tasks_from unit (place + 1) more)) is
 
 pub task_ends : (unit place : ℕ) (letters : List Letter) (more : List (List Letter)) (fault : WordFault) → task_at unit place letters ≡ Err fault
     → tasks_from unit place (letters ∷ more) ≡ Err fault
-task_ends unit place letters more fault is = ap (λ (one : Result Task WordFault). tasks_behind one (tasks_from unit (place + 1) more)) is
+task_ends unit place letters more fault is = ap (λ (one : Result Task WordFault). and_behind one (tasks_from unit (place + 1) more)) is
+
+pub speed_goes_on : (place : ℕ) (letters : List Letter) (more : List (List Letter)) (speed : StartSpeed) → speed_at place letters ≡ Ok speed
+    → speeds_from place (letters ∷ more) ≡ before speed (speeds_from (place + 1) more)
+speed_goes_on place letters more speed is = ap (λ (one : Result StartSpeed WordFault). and_behind one (speeds_from (place + 1) more)) is
+
+pub speed_ends : (place : ℕ) (letters : List Letter) (more : List (List Letter)) (fault : WordFault) → speed_at place letters ≡ Err fault
+    → speeds_from place (letters ∷ more) ≡ Err fault
+speed_ends place letters more fault is = ap (λ (one : Result StartSpeed WordFault). and_behind one (speeds_from (place + 1) more)) is
 
 module _ {X : Type 0} (passes : X → Bool) where
   no_first : (x : X) (xs : List X) (b : Bool) → passes x ≡ b → (b || list_any passes xs) ≡ false → (list_any passes xs ≡ false → All (λ y. passes y ≡ false) xs)

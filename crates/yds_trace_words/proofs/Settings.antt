@@ -1,16 +1,9 @@
 -- The settings of words, one after another.
-use Rattle.yds_model.proofs.Common.{◌≡◌, ℕ, List, [], ◌∷◌, ◌++◌, Bool, true, false, Result, Ok, Err, refl, sym, ap, ◌∙◌, append_assoc, if◌then◌else◌}
+use Rattle.yds_model.proofs.Common.{◌≡◌, ℕ, List, [], ◌∷◌, ◌++◌, Bool, true, false, Result, Ok, Err, refl, ap, ◌∙◌, if◌then◌else◌}
 use Rattle.yds_trace_words.specs.declared.fault.Reason.TheVariants as reasons
+pub use Rattle.yds_trace_words.proofs.Ahead.{ahead}
+use Rattle.yds_trace_words.proofs.Ahead.{ahead_more}
 use Rattle.yds_trace_words.specs.Words.{WordFault, Setting, Word, Whole, Waits, Wrong, word_of, last_setting, before, settings_from, settings_of, ends_words, refuse}
-
--- settings before those that are still to come
-abbrev pub ahead : List Setting → Result (List Setting) WordFault → Result (List Setting) WordFault
-ahead done (Ok settings) = Ok (done ++ settings)
-ahead done (Err fault) = Err fault
-
-ahead_more : (done : List Setting) (setting : Setting) (more : Result (List Setting) WordFault) → ahead done (before setting more) ≡ ahead (done ++ setting ∷ []) more
-ahead_more done setting (Ok settings) = ap Ok (sym (append_assoc done (setting ∷ []) settings))
-ahead_more done setting (Err fault) = refl
 
 choice : (b : Bool) (one other : Result (List Setting) WordFault) → b ≡ false → (if b then one else other) ≡ other
 choice true one other is = ap (λ (c : Bool). if c then one else other) is

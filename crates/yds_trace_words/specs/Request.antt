@@ -12,6 +12,7 @@ use Rattle.yds_trace_words.specs.declared.fault.Reason.TheVariants as reasons
 use Rattle.yds_trace_words.specs.Words.{WordFault, refuse, ◌>>=◌, Setting, settings_of, value_of, is_given, other_than, given_twice}
 use Rattle.yds_trace_words.specs.Decimal.{decimal_at}
 use Rattle.yds_trace_words.specs.Tasks.{is_label, tasks_asked}
+use Rattle.yds_trace_words.specs.Start.{start_asked}
 
 -- # Values
 
@@ -30,10 +31,6 @@ whole_or default least most name reason (Some text) = whole_at least most name r
 abbrev pub some_of : {A : Type 0} → Result A WordFault → Result (Option A) WordFault
 some_of (Ok x) = Ok (Some x)
 some_of (Err fault) = Err fault
-
-abbrev pub start_of : Option (List ℕ) → Result (Option ℕ) WordFault
-start_of None = Ok None
-start_of (Some text) = some_of (whole_at 1 MAX_NUMBER (codes "--start") reasons.Speed text)
 
 abbrev pub time_or_refused : List ℕ → Option ℕ → Result (Option ℕ) WordFault
 time_or_refused name None = refuse name reasons.Time
@@ -86,7 +83,7 @@ asked_by given = do
   cpu ← processor_of (value_of (codes "--cpu") given)
   us ← whole_or 10 1 MAX_UNIT (codes "--us") reasons.Unit (value_of (codes "--us") given)
   khz ← whole_or 10000 1 MAX_NUMBER (codes "--khz") reasons.Speed (value_of (codes "--khz") given)
-  start ← start_of (value_of (codes "--start") given)
+  start ← start_asked (value_of (codes "--start") given)
   from ← time_of (codes "--from") (value_of (codes "--from") given)
   to ← time_of (codes "--to") (value_of (codes "--to") given)
   in_order ← ordered from to

@@ -9,15 +9,16 @@ use Rattle.yds_trace.specs.Asked.{Which, Named, Numbered, Task}
 use Rattle.yds_trace_words.specs.declared.limits.TheConstants.{MAX_LABEL, MAX_TASKS}
 use Rattle.yds_trace_words.specs.declared.fault.Reason.{Reason}
 use Rattle.yds_trace_words.specs.declared.fault.Reason.TheVariants as reasons
+use Rattle.yds_trace_words.specs.declared.fault.Place.TheVariants as places
 use Rattle.yds_trace_words.specs.declared.letter.Letter.{Letter}
 use Rattle.yds_trace_words.specs.declared.letter.Sign.TheVariants as signs
-use Rattle.yds_trace_words.specs.Words.{WordFault, refuse, ◌>>=◌}
+use Rattle.yds_trace_words.specs.Words.{WordFault, refuse, ◌>>=◌, and_behind}
 use Rattle.yds_trace_words.specs.Decimal.{decimal_at}
 use Rattle.yds_trace_words.specs.Letters.{letters_of, is_at, text_of}
 
 -- the task at this place of the list is refused
 abbrev pub refuse_task : {A : Type 0} → ℕ → Reason → Result A WordFault
-refuse_task place reason = Err (record { word = codes "--tasks"; task = Some place; reason = reason })
+refuse_task place reason = Err (record { word = codes "--tasks"; place = Some (places.Task place); reason = reason })
 
 -- what there is, or the task is refused
 abbrev pub known : {A : Type 0} → ℕ → Reason → Option A → Result A WordFault
@@ -112,18 +113,10 @@ task_at unit place letters =
 
 -- # All tasks
 
-abbrev pub before_tasks : Task → Result (List Task) WordFault → Result (List Task) WordFault
-before_tasks task (Ok tasks) = Ok (task ∷ tasks)
-before_tasks task (Err fault) = Err fault
-
-abbrev pub tasks_behind : Result Task WordFault → Result (List Task) WordFault → Result (List Task) WordFault
-tasks_behind (Ok task) more = before_tasks task more
-tasks_behind (Err fault) more = Err fault
-
 -- those of these letters, from this place on, or the first that is refused
 abbrev pub tasks_from : ℕ → ℕ → List (List Letter) → Result (List Task) WordFault
 tasks_from unit place [] = Ok []
-tasks_from unit place (letters ∷ more) = tasks_behind (task_at unit place letters) (tasks_from unit (place + 1) more)
+tasks_from unit place (letters ∷ more) = and_behind (task_at unit place letters) (tasks_from unit (place + 1) more)
 
 abbrev pub is_same_pid : Which → Which → Bool
 is_same_pid (Numbered pid) (Numbered other) = pid == other
@@ -146,7 +139,7 @@ again_in task others =
 abbrev pub different_from : ℕ → List Task → Option WordFault
 different_from place [] = None
 different_from place (task ∷ tasks) = elim (again_in task tasks) [
-  | Some reason ↦ Some (record { word = codes "--tasks"; task = Some place; reason = reason })
+  | Some reason ↦ Some (record { word = codes "--tasks"; place = Some (places.Task place); reason = reason })
   | None ↦ different_from (place + 1) tasks
 ]
 

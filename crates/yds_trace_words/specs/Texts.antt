@@ -1,6 +1,8 @@
 -- The texts that answer words alone.
 use Rattle.std.specs.Prelude.{ℕ, List, [], ◌++◌, map, take, codes, decimal, ◌==◌, ◌||◌, if◌then◌else◌, Option, Some, None}
 use Rattle.yds_model.specs.Spelling.{is_visible}
+use Rattle.yds_trace_words.specs.declared.fault.Place.{Place}
+use Rattle.yds_trace_words.specs.declared.fault.Place.TheVariants as places
 use Rattle.yds_trace_words.specs.declared.fault.Reason.{Reason}
 use Rattle.yds_trace_words.specs.declared.fault.Reason.TheVariants as reasons
 use Rattle.yds_trace_words.specs.declared.texts.TheConstants.{HELP, VERSION}
@@ -22,6 +24,10 @@ reason_text reasons.Twice = codes "given twice; give it once"
 reason_text reasons.Processor = codes "no number of a processor; write a whole number from 0 to 8191, or all"
 reason_text reasons.Unit = codes "no unit of time; write whole microseconds from 1 to 1000000000"
 reason_text reasons.Speed = codes "no speed; write whole kilohertz from 1 to 4294967295"
+reason_text reasons.SpeedProcessor = codes "no number of a processor before the colon; write a whole number from 0 to 8191"
+reason_text reasons.SpeedForm = codes "no colon behind the processor; write CPU:KHZ, with the speed in kilohertz, or one speed for all processors"
+reason_text reasons.TooManySpeeds = codes "more than 1000 speeds; list fewer, or give one for all processors"
+reason_text reasons.ProcessorTwice = codes "another speed is of the same processor; give it once"
 reason_text reasons.Time = codes "no time of the trace's clock; write seconds to 9223372036.854775807, with at most nine digits behind the point"
 reason_text reasons.FromNotBefore = codes "not before --to; give an earlier time, or a later one there"
 reason_text reasons.Begin = codes "no way in which jobs begin; write run, or leave it out for jobs that begin at wake-ups"
@@ -49,10 +55,11 @@ shown byte = if is_visible byte || (byte == 32) then byte else 63
 abbrev pub shown_word : List ℕ → List ℕ
 shown_word word = map shown (take 64 word)
 
-abbrev pub task_text : Option ℕ → List ℕ
-task_text None = []
-task_text (Some place) = codes ", task " ++ decimal place
+abbrev pub place_text : Option Place → List ℕ
+place_text None = []
+place_text (Some (places.Task number)) = codes ", task " ++ decimal number
+place_text (Some (places.Speed number)) = codes ", speed " ++ decimal number
 
 -- the comment that tells it, and the line that no reader of documents takes
 abbrev pub fault_text : WordFault → List ℕ
-fault_text fault = codes "# " ++ shown_word fault.word ++ task_text fault.task ++ codes ": " ++ reason_text fault.reason ++ codes "\nfailed\n"
+fault_text fault = codes "# " ++ shown_word fault.word ++ place_text fault.place ++ codes ": " ++ reason_text fault.reason ++ codes "\nfailed\n"

@@ -3,8 +3,9 @@ use Rattle.std.specs.Prelude.{◌≡◌, ℕ, List, map, String, string_bytes, V
 use Rattle.std.specs.Borrow.{Bor}
 use Rattle.std.specs.declared.alloc.Global.{Global}
 use Rattle.yds_trace.specs.declared.asked.Task.{Task as TaskKept}
-use Rattle.yds_trace.specs.Asked.{Task}
-use Rattle.yds_trace.specs.Views.{which_read, task_read, asked_read}
+use Rattle.yds_trace.specs.declared.asked.StartSpeed.{StartSpeed as StartSpeedKept}
+use Rattle.yds_trace.specs.Asked.{Task, StartSpeed}
+use Rattle.yds_trace.specs.Views.{which_read, task_read, speed_read, asked_read}
 use Rattle.yds_trace_words.specs.declared.fault.WordFault.{WordFault as FaultTold}
 use Rattle.yds_trace_words.specs.declared.fault.NoRequest.{NoRequest}
 use Rattle.yds_trace_words.specs.declared.fault.NoRequest.TheVariants.{Fault, Memory}
@@ -24,7 +25,7 @@ abbrev pub words_of : List (String Global) → List (List ℕ)
 words_of words = map string_bytes words
 
 abbrev pub fault_read : FaultTold → WordFault
-fault_read fault = record { word = fault.word.now; task = fault.task; reason = fault.reason }
+fault_read fault = record { word = fault.word.now; place = fault.place; reason = fault.reason }
 
 abbrev pub setting_read : SettingKept → Setting
 setting_read setting = record { name = setting.name.now; value = setting.value.now }
@@ -60,6 +61,9 @@ bytes_read bytes = bytes.items
 
 abbrev pub tasks_read : Vec TaskKept Global → List Task
 tasks_read tasks = map task_read tasks.items
+
+abbrev pub speeds_read : Vec StartSpeedKept Global → List StartSpeed
+speeds_read speeds = map speed_read speeds.items
 
 abbrev pub called_read : CalledKept → Called
 called_read called = record { thread = which_read called.thread; label = called.label.items }

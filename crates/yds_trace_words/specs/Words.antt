@@ -2,6 +2,7 @@
 use Rattle.std.specs.Prelude.{ℕ, List, [], ◌∷◌, codes, Bool, ◌==◌, ◌||◌, if◌then◌else◌, Option, Some, None, is_some, Result, Ok, Err}
 use Rattle.std.specs.List.{list_any, before_first, after_first}
 use Rattle.std.specs.Str.{bytes_eq}
+use Rattle.yds_trace_words.specs.declared.fault.Place.{Place}
 use Rattle.yds_trace_words.specs.declared.fault.Reason.{Reason}
 use Rattle.yds_trace_words.specs.declared.fault.Reason.TheVariants as reasons
 
@@ -9,17 +10,27 @@ use Rattle.yds_trace_words.specs.declared.fault.Reason.TheVariants as reasons
 pub record WordFault : Type 0 where
   -- the word, or the name of what is set
   pub word : List ℕ
-  -- of a task in `--tasks` its place there, counted from 1
-  pub task : Option ℕ
+  -- where it stands in the list that the word gives
+  pub place : Option Place
   pub reason : Reason
 
 abbrev pub refuse : {A : Type 0} → List ℕ → Reason → Result A WordFault
-refuse word reason = Err (record { word = word; task = None; reason = reason })
+refuse word reason = Err (record { word = word; place = None; reason = reason })
 
 infixl 10 ◌>>=◌
 abbrev pub ◌>>=◌ : {A B : Type 0} → Result A WordFault → (A → Result B WordFault) → Result B WordFault
 (Ok x) >>= next = next x
 (Err fault) >>= next = Err fault
+
+-- one before others
+abbrev pub before : {A : Type 0} → A → Result (List A) WordFault → Result (List A) WordFault
+before x (Ok xs) = Ok (x ∷ xs)
+before x (Err fault) = Err fault
+
+-- the same, where that one may be refused itself
+abbrev pub and_behind : {A : Type 0} → Result A WordFault → Result (List A) WordFault → Result (List A) WordFault
+and_behind (Ok x) more = before x more
+and_behind (Err fault) more = Err fault
 
 -- # Names
 
@@ -58,14 +69,14 @@ is_equals byte = byte == 61
 abbrev pub with_value : List ℕ → List ℕ → Word
 with_value name value =
     if takes_value name then Whole (record { name = name; value = value })
-    else Wrong (record { word = name; task = None; reason = if is_flag name then reasons.Needless else reasons.Unknown })
+    else Wrong (record { word = name; place = None; reason = if is_flag name then reasons.Needless else reasons.Unknown })
 
 -- `--name`, before its value or by itself
 abbrev pub without_value : List ℕ → Word
 without_value name =
     if takes_value name then Waits name
     else (if is_flag name then Whole (record { name = name; value = [] })
-    else Wrong (record { word = name; task = None; reason = reasons.Unknown }))
+    else Wrong (record { word = name; place = None; reason = reasons.Unknown }))
 
 abbrev pub word_of : List ℕ → Word
 word_of word =
@@ -76,10 +87,6 @@ abbrev pub last_setting : Word → Result (List Setting) WordFault
 last_setting (Whole setting) = Ok (setting ∷ [])
 last_setting (Waits name) = refuse name reasons.NoValue
 last_setting (Wrong fault) = Err fault
-
-abbrev pub before : Setting → Result (List Setting) WordFault → Result (List Setting) WordFault
-before setting (Ok settings) = Ok (setting ∷ settings)
-before setting (Err fault) = Err fault
 
 -- the settings of a word that isn't the last: those from the next word on, or from the one behind it
 abbrev pub settings_from : Word → List ℕ → Result (List Setting) WordFault → Result (List Setting) WordFault → Result (List Setting) WordFault

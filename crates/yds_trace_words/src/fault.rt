@@ -1,5 +1,6 @@
 //! Why words can't be taken.
 ghost use Rattle.std.specs.Prelude.{◌≡◌, codes};
+ghost use Rattle.yds_trace_words.specs.declared.fault.Place.TheVariants as places;
 ghost use Rattle.yds_trace_words.specs.Views.{fault_read};
 
 use std::alloc::{AllocError, AllocFailed};
@@ -22,6 +23,14 @@ pub enum Reason {
     Unit,
     /// It is no speed.
     Speed,
+    /// No number of a processor stands before its speed.
+    SpeedProcessor,
+    /// No processor stands before the speed, in a list of speeds.
+    SpeedForm,
+    /// There are too many speeds.
+    TooManySpeeds,
+    /// A speed behind it is of the same processor.
+    ProcessorTwice,
     /// It is no time of the trace's clock.
     Time,
     /// `--from` isn't before `--to`.
@@ -60,13 +69,22 @@ pub enum Reason {
     ThreadTwice,
 }
 
+/// Where something stands in a list that a word gives, counted from 1.
+#[derive(Clone, Copy, Debug, PartialEq, Eq)]
+pub enum Place {
+    /// A task of `--tasks`.
+    Task(usize),
+    /// A speed of `--start`.
+    Speed(usize),
+}
+
 /// Words that can't be taken.
 #[derive(Clone, Copy, Debug, PartialEq, Eq)]
 pub struct WordFault<'a> {
     /// The word, or the name of what it sets.
     pub word: &'a [u8],
-    /// Of a task in `--tasks` its place there, counted from 1.
-    pub task: Option<usize>,
+    /// Where it stands in the list that the word gives.
+    pub place: Option<Place>,
     /// What is wrong.
     pub reason: Reason,
 }
@@ -74,22 +92,33 @@ pub struct WordFault<'a> {
 impl<'a> WordFault<'a> {
     /// Of a word, or of the name of what it sets.
     pub(crate) fn of(word: &'a [u8], reason: Reason) -> WordFault<'a>
-        ensures { result ≡ record { word = word.entry; task = None; reason = reason } }
+        ensures { result ≡ record { word = word.entry; place = None; reason = reason } }
     {
         WordFault {
             word,
-            task: None,
+            place: None,
             reason,
         }
     }
 
     /// Of a task in `--tasks`.
     pub(crate) fn of_task(place: usize, reason: Reason) -> WordFault<'a>
-        ensures { fault_read result ≡ record { word = codes "--tasks"; task = Some place; reason = reason } }
+        ensures { fault_read result ≡ record { word = codes "--tasks"; place = Some (places.Task place); reason = reason } }
     {
         WordFault {
             word: b"--tasks",
-            task: Some(place),
+            place: Some(Place::Task(place)),
+            reason,
+        }
+    }
+
+    /// Of a speed in `--start`.
+    pub(crate) fn of_speed(place: usize, reason: Reason) -> WordFault<'a>
+        ensures { fault_read result ≡ record { word = codes "--start"; place = Some (places.Speed place); reason = reason } }
+    {
+        WordFault {
+            word: b"--start",
+            place: Some(Place::Speed(place)),
             reason,
         }
     }

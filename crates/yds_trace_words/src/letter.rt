@@ -1,7 +1,9 @@
 //! The letters of a list of tasks.
 ghost use Rattle.std.specs.Prelude.{◌≡◌, IfOk, MatchOption, true, false};
-ghost use Rattle.std.specs.List.{list_any, before_first, after_first};
+ghost use Rattle.std.specs.List.{list_any, slice_split, before_first, after_first};
 ghost use Rattle.yds_trace_words.specs.Letters as spec;
+ghost use Rattle.yds_trace_words.specs.Views.{pieces_read};
+ghost use Rattle.yds_trace_words.specs.declared.letter.Sign.TheVariants as signs;
 
 use std::alloc::Global;
 use yds_model::Memory;
@@ -100,6 +102,29 @@ pub(crate) fn split_at(letters: &[Letter], sign: Sign) -> (&[Letter], Option<&[L
         }
     }
     (letters, None)
+}
+
+/// The letters of each piece between commas.
+pub(crate) fn pieces(alloc: Global, letters: &[Letter]) -> Result<Vec<&[Letter]>, Memory>
+    ensures { IfOk result (λ pieces. pieces_read pieces ≡ slice_split (spec.is_at signs.Comma) letters.entry.now) }
+{
+    let mut pieces = Vec::new(alloc);
+    let mut rest = letters;
+    loop {
+        let (piece, behind) = split_at(rest, Sign::Comma);
+        pieces.push(piece)?;
+        match behind {
+            Some(behind) => rest = behind,
+            None => return Ok(pieces),
+        }
+    }
+}
+
+/// Whether this sign is among the letters.
+pub(crate) fn has(letters: &[Letter], sign: Sign) -> bool
+    ensures { result ≡ list_any (spec.is_at sign) letters.now }
+{
+    split_at(letters, sign).1.is_some()
 }
 
 /// Whether the letter is this sign.

@@ -11,10 +11,11 @@ mod letter;
 mod limits;
 mod request;
 mod setting;
+mod start;
 mod tasks;
 mod texts;
 
-pub use fault::{NoRequest, Reason, WordFault};
-pub use limits::{MAX_LABEL, MAX_TASKS, MAX_UNIT};
+pub use fault::{NoRequest, Place, Reason, WordFault};
+pub use limits::{MAX_LABEL, MAX_SPEEDS, MAX_TASKS, MAX_UNIT};
 pub use request::{Request, read_words};
 pub use texts::{HELP, LINE_BYTES, VERSION, fault_line, push_shown};

@@ -6,5 +6,8 @@ pub const MAX_LABEL: usize = 53;
 /// The most tasks.
 pub const MAX_TASKS: usize = 1_000;
 
+/// The most processors whose speeds are listed.
+pub const MAX_SPEEDS: usize = 1_000;
+
 /// The greatest unit of time, in microseconds.
 pub const MAX_UNIT: u64 = 1_000_000_000;

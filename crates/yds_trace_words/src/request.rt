@@ -10,6 +10,7 @@ use crate::decimal::decimal;
 use crate::fault::{NoRequest, Reason, WordFault};
 use crate::limits::MAX_UNIT;
 use crate::setting::{Setting, other_than, settings, twice, value};
+use crate::start::start;
 use crate::tasks::tasks;
 use std::alloc::Global;
 use yds_kernel::MAX_NUMBER;
@@ -91,7 +92,7 @@ fn asked_by<'a>(alloc: Global, given: &[Setting<'a>]) -> Result<Asked, NoRequest
     let processor = processor(value(given, b"--cpu"))?;
     let unit = whole(given, b"--us", 10, (1, MAX_UNIT), Reason::Unit)?;
     let khz = whole(given, b"--khz", 10_000, (1, MAX_NUMBER), Reason::Speed)?;
-    let start = start(value(given, b"--start"))?;
+    let start = start(alloc, value(given, b"--start"))?;
     let from = time(b"--from", value(given, b"--from"))?;
     let to = time(b"--to", value(given, b"--to"))?;
     check_order(from, to)?;
@@ -187,19 +188,6 @@ fn others<'a>(processor: Option<u64>, value: Option<&[u8]>) -> Result<Option<u64
     match processor {
         Some(processor) => Ok(Some(processor)),
         None => Err(WordFault::of(b"--others", Reason::EachProcessor)),
-    }
-}
-
-/// The speed before the first change, in kilohertz.
-fn start<'a>(value: Option<&[u8]>) -> Result<Option<u64>, WordFault<'a>>
-    ensures { Takes (λ start. start) result (spec.start_of (option_map (λ value. value.now) value.entry)) }
-{
-    let Some(text) = value else {
-        return Ok(None);
-    };
-    match number_of(text, 1, MAX_NUMBER) {
-        Ok(khz) => Ok(Some(khz)),
-        Err(_) => Err(WordFault::of(b"--start", Reason::Speed)),
     }
 }
 

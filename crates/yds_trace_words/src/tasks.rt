@@ -1,20 +1,18 @@
 //! The tasks that `--tasks` lists.
-ghost use Rattle.std.specs.Prelude.{◌≡◌, map, option_map, IfOk};
-ghost use Rattle.std.specs.List.{list_all, list_any, slice_split};
+ghost use Rattle.std.specs.Prelude.{◌≡◌, map, option_map};
+ghost use Rattle.std.specs.List.{list_all, list_any};
 ghost use Rattle.yds_model.specs.Spelling.{is_visible};
 ghost use Rattle.yds_trace.specs.Views.{task_read, which_read};
-ghost use Rattle.yds_trace_words.specs.Letters.{is_at, text_of};
-ghost use Rattle.yds_trace_words.specs.declared.letter.Sign.TheVariants as signs;
+ghost use Rattle.yds_trace_words.specs.Letters.{text_of};
 ghost use Rattle.yds_trace_words.specs.Tasks as spec;
-ghost use Rattle.yds_trace_words.specs.Views.{Reads, pieces_read, bytes_read, called_read, times_read, tasks_read, fault_read};
+ghost use Rattle.yds_trace_words.specs.Views.{Reads, bytes_read, called_read, times_read, tasks_read, fault_read};
 
 use crate::decimal::decimal;
 use crate::fault::{NoRequest, Reason, WordFault};
-use crate::letter::{Letter, Sign, letters, split_at, text};
+use crate::letter::{Letter, Sign, letters, pieces, split_at, text};
 use crate::limits::{MAX_LABEL, MAX_TASKS};
 use std::alloc::Global;
 use yds_kernel::MAX_NUMBER;
-use yds_model::Memory;
 use yds_text::number_of;
 use yds_trace::{MAX_DEADLINE, Task, Which};
 
@@ -52,22 +50,6 @@ fn tasks_of<'a>(alloc: Global, unit: u64, pieces: &[&[Letter]]) -> Result<Vec<Ta
     match repeated(&tasks) {
         Some(fault) => Err(NoRequest::Fault(fault)),
         None => Ok(tasks),
-    }
-}
-
-/// The letters of each task.
-fn pieces(alloc: Global, letters: &[Letter]) -> Result<Vec<&[Letter]>, Memory>
-    ensures { IfOk result (λ pieces. pieces_read pieces ≡ slice_split (is_at signs.Comma) letters.entry.now) }
-{
-    let mut pieces = Vec::new(alloc);
-    let mut rest = letters;
-    loop {
-        let (piece, behind) = split_at(rest, Sign::Comma);
-        pieces.push(piece)?;
-        match behind {
-            Some(behind) => rest = behind,
-            None => return Ok(pieces),
-        }
     }
 }
 

@@ -1,10 +1,10 @@
 //! The texts that answer words alone.
-ghost use Rattle.std.specs.Prelude.{◌≡◌, ◌<◌, ◌≤◌, ◌+◌, ◌++◌, length};
+ghost use Rattle.std.specs.Prelude.{◌≡◌, ◌<◌, ◌≤◌, ◌+◌, ◌++◌, length, decimal};
 ghost use Rattle.arrayvec.specs.ArrayString.{array_string_len};
 ghost use Rattle.yds_trace_words.specs.Texts as spec;
 ghost use Rattle.yds_trace_words.specs.Views.{fault_read};
 
-use crate::fault::{Reason, WordFault};
+use crate::fault::{Place, Reason, WordFault};
 use arrayvec::ArrayString;
 use itoa::Buffer;
 
@@ -26,7 +26,8 @@ thread is woken and ends where that leaves the processor to sleep.
   --cpu all      each processor, in documents of its own, as with --parts
   --us N         so many microseconds are a unit of time (10)
   --khz N        so many kilohertz are a unit of speed (10000)
-  --start KHZ    the speed before the trace tells one
+  --start KHZ    the speed of each processor before the trace tells one, in kilohertz; or CPU:KHZ,CPU:KHZ,.. for these
+                 processors, and then that of others isn't known before the trace tells it
   --from S       from this time on, in seconds of the trace's clock
   --to S         up to this time
   --begin run    jobs begin at their first run, and wake-ups aren't read
@@ -58,14 +59,35 @@ pub fn fault_line(fault: &WordFault<'_>) -> ArrayString<LINE_BYTES>
     let mut line = ArrayString::new();
     line.push_str("# ");
     push_shown(fault.word, &mut line);
-    if let Some(place) = fault.task {
-        line.push_str(", task ");
-        line.push_str(Buffer::new().format(place));
-    }
+    push_place(fault.place, &mut line);
     line.push_str(": ");
     line.push_str(reason_text(fault.reason));
     line.push_str("\nfailed\n");
     line
+}
+
+/// Where it stands in the list that the word gives.
+fn push_place(place: Option<Place>, line: &mut ArrayString<LINE_BYTES>)
+    requires { array_string_len line.old ≤ 100 }
+    ensures shown { line.new.bytes ≡ line.old.bytes ++ spec.place_text place }
+    ensures short { array_string_len line.new ≤ array_string_len line.old + 28 }
+{
+    match place {
+        Some(Place::Task(number)) => push_number(", task ", number, line),
+        Some(Place::Speed(number)) => push_number(", speed ", number, line),
+        None => {}
+    }
+}
+
+/// A number behind a text.
+fn push_number(text: &str, number: usize, line: &mut ArrayString<LINE_BYTES>)
+    requires room { array_string_len line.old ≤ 100 }
+    requires few { length text.now ≤ 8 }
+    ensures shown { line.new.bytes ≡ line.old.bytes ++ text.now ++ decimal number }
+    ensures short { array_string_len line.new ≤ array_string_len line.old + 28 }
+{
+    line.push_str(text);
+    line.push_str(Buffer::new().format(number));
 }
 
 /// The first 64 bytes of a word, as a comment shows them.
@@ -106,6 +128,15 @@ fn reason_text(reason: Reason) -> &'static str
             "no number of a processor; write a whole number from 0 to 8191, or all",
         Reason::Unit => "no unit of time; write whole microseconds from 1 to 1000000000",
         Reason::Speed => "no speed; write whole kilohertz from 1 to 4294967295",
+        Reason::SpeedProcessor => {
+            "no number of a processor before the colon; write a whole number from 0 to 8191"
+        }
+        Reason::SpeedForm => {
+            "no colon behind the processor; write CPU:KHZ, with the speed in kilohertz, or one speed for all processors"
+        }
+        Reason::TooManySpeeds =>
+            "more than 1000 speeds; list fewer, or give one for all processors",
+        Reason::ProcessorTwice => "another speed is of the same processor; give it once",
         Reason::Time => {
             "no time of the trace's clock; write seconds to 9223372036.854775807, with at most nine digits behind the point"
         }

@@ -7,13 +7,13 @@ use Rattle.yds_trace.specs.declared.step.Whose.{Whose}
 use Rattle.yds_trace.specs.Asked.{task_of}
 use Rattle.yds_trace.specs.Finding.{found, whose_found}
 use Rattle.yds_trace.specs.Past.{lost_since, whole_since, has_switched, up_to}
-use Rattle.yds_trace.specs.Views.{asked_read, task_read}
+use Rattle.yds_trace.specs.Views.{start_read, asked_read, task_read}
 use Rattle.yds_trace.proofs.Written.{or_none, both_on, both_off}
 use Rattle.yds_trace.proofs.check.changes_by.Goals as goal
 
 pub returns-in-Loss : goal.returns-in-Loss
 returns-in-Loss c = λ past lines is.
-    rw c.in-Loss.is (ap (λ (time : ℕ). nat_lt time c.args.cut.decided) (c.lost_since.ensures c.args.asked.now.start past lines.times)
+    rw c.in-Loss.is (ap (λ (time : ℕ). nat_lt time c.args.cut.decided) (c.lost_since.ensures (start_read c.args.asked.now.start) past lines.times)
     ∙ or_none (nat_lt (lost_since c.args.event.now.processor since.ItsLastLine past) c.args.cut.decided))
 
 pub returns-then-is_new : goal.returns-then-is_new
@@ -27,7 +27,7 @@ returns-then-is_new c = λ past lines is.
     ∙ both_on (is_some (task_of (asked_read c.args.asked.now).tasks (thread_read c.in-Switch.previous)))
     (has_switched c.args.event.now.processor (up_to c.args.asked.now.to past))
     (nat_lt (whole_since c.args.event.now.time (up_to c.args.asked.now.to past)) c.args.cut.boundary)
-    (sym (c.is_new.ensures c.args.asked.now.start (up_to c.args.asked.now.to past) is.times) ∙ c.if-is_new.true))
+    (sym (c.is_new.ensures (start_read c.args.asked.now.start) (up_to c.args.asked.now.to past) is.times) ∙ c.if-is_new.true))
 
 pub returns-else-is_new : goal.returns-else-is_new
 returns-else-is_new c = λ past lines is.
@@ -35,4 +35,4 @@ returns-else-is_new c = λ past lines is.
     ∙ both_off (is_some (task_of (asked_read c.args.asked.now).tasks (thread_read c.in-Switch.previous)))
     (has_switched c.args.event.now.processor (up_to c.args.asked.now.to past))
     (nat_lt (whole_since c.args.event.now.time (up_to c.args.asked.now.to past)) c.args.cut.boundary)
-    (sym (c.is_new.ensures c.args.asked.now.start (up_to c.args.asked.now.to past) is.times) ∙ c.if-is_new.false))
+    (sym (c.is_new.ensures (start_read c.args.asked.now.start) (up_to c.args.asked.now.to past) is.times) ∙ c.if-is_new.false))

@@ -6,7 +6,7 @@ use Rattle.yds_trace_words.specs.declared.letter.Letter.TheVariants.{Text}
 use Rattle.yds_trace_words.specs.declared.letter.Sign.TheVariants as signs
 use Rattle.yds_trace_words.specs.Letters.{is_at}
 use Rattle.yds_trace_words.proofs.Listed.{one_more, last_one}
-use Rattle.yds_trace_words.proofs.tasks.pieces.Goals as goal
+use Rattle.yds_trace_words.proofs.letter.pieces.Goals as goal
 
 pub loop-pieces-preserved : goal.loop-pieces-preserved
 loop-pieces-preserved c =

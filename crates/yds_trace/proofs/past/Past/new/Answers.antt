@@ -1,0 +1,18 @@
+use Rattle.yds_model.proofs.Common.{◌≡◌, List, map, subst, refl}
+use Rattle.yds_trace.specs.declared.asked.StartSpeed.{StartSpeed as StartSpeedKept}
+use Rattle.yds_trace.specs.declared.past.Told.{Told}
+use Rattle.yds_trace.specs.Kept.{TellsSpeeds}
+use Rattle.yds_trace.specs.Views.{start_read, speed_read}
+use Rattle.yds_trace.proofs.past.Past.new.Goals as goal
+
+-- the same of an equal list
+told_as : (speeds kept : List StartSpeedKept) (told : List Told) → speeds ≡ kept → TellsSpeeds (map speed_read speeds) told → TellsSpeeds (map speed_read kept) told
+told_as speeds kept told same tells = subst (λ (list : List StartSpeedKept). TellsSpeeds (map speed_read list) told) same tells
+
+pub returns-in-Same : goal.returns-in-Same
+returns-in-Same c = c.begun.ensures (start_read c.args.start.now) (λ processor. rw (c.in-Same.is, c.new.ensures.items) refl)
+
+pub returns-in_ok-first_told-in-Listed : goal.returns-in_ok-first_told-in-Listed
+returns-in_ok-first_told-in-Listed c =
+    c.begun-in-Listed.ensures (start_read c.args.start.now)
+    (rw c.in-Listed.is (told_as _ _ c.in_ok-first_told-in-Listed.field-0.items c.deref.ensures.value c.in_ok-first_told-in-Listed.ensures))
