@@ -91,6 +91,9 @@ class ReportsTest(Folder):
     def test_stored(self) -> None:
         files = [EXPECTED / name for name in ("report-a.json", "report-refused.json")]
         self.assertEqual(call("reports", *files), (0, (EXPECTED / "reports.tsv").read_text(), ""))
+        failed = self.file("failed.json", "# line 3: events were lost before it\nfailed\n")
+        told = "failed" + "\t-" * 8 + "\tfailed"
+        self.assertEqual(call("reports", failed).out.splitlines()[1:], [told])
 
     def test_faults(self) -> None:
         for text, told in [
@@ -108,6 +111,8 @@ class ReportsTest(Folder):
                 '{"jobs":1,"work":1,"from":0,"to":1,"idle":0,"levels":[{"work":1,"length":1,"speed":1}]}',
                 "line 1: a level of the answer",
             ),
+            ("# CPU 0 of a kernel trace\njob a 0 9 4\n", 'line 2: "job a 0 9 4" is no report and no refusal; '),
+            ("feasible\n", 'line 1: "feasible" is no report and no refusal; give answers of yds_cli report --json'),
         ]:
             called = call("reports", self.file("wrong.json", text))
             self.assertEqual((called.status, called.out), (1, ""))

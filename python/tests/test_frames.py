@@ -14,6 +14,7 @@ CASES = int(os.environ.get("CASES", "200"))
 HEAD = "# CPU 0 of a kernel trace; time 0 is 200.000000000 s\n"
 UNITS = "# time unit 10 us, speed unit 1000 kHz, work unit 10 cycles\n"
 MS = "# time unit 1000 us, speed unit 1000 kHz\n"
+CLOSING = "# 1 job written, none left out\n"
 
 
 class Frames(unittest.TestCase):
@@ -23,6 +24,8 @@ class Frames(unittest.TestCase):
         self.file = Path(folder.name, "app.txt")
 
     def called(self, frames: str, trace: str, *words: str) -> Called:
+        """What it answers of a trace's document, which is closed here where it isn't."""
+        trace += "" if " written, " in trace else CLOSING
         self.file.write_bytes(frames.encode("latin-1"))
         return call("frames", "--jobs", self.file, *words, given=trace.encode("latin-1"))
 
@@ -50,7 +53,7 @@ class ByHand(Frames):
         """The trace's deadlines were 16 ms after the begins; the application's are its own."""
         trace = (
             HEAD + UNITS + "job r.0 0 1600 1\njob r.1 5000 6600 1\n"
-            "# late, without its runs: r.1 (ran on CPU 1), 25.000 ms after its deadline; window 5000 6600\n"
+            "# late, without its runs: r.1 (ran on another processor), 25.000 ms after its deadline; window 5000 6600\n"
             "job r.2 10000 11600 900\njob r.3 20000 21600 101\nticks 1\nrun r.0 0 9 1\nrun r.2 10000 10900 1\nrun r.3 20000 20100 1\n"
             "# not ended: r.3, 4.000 ms after its deadline\n# left out: r.4 (not ended); window 22000 23600\n"
             "# a comment of another kind\n# 4 jobs written, 1 left out, 1 late without its runs\n"
@@ -62,7 +65,7 @@ class ByHand(Frames):
             [
                 *("ticks 100", "run r.0 0 9 1", "run r.2 10000 10900 1", "run r.3 20000 20100 1"),
                 "# not ended: r.3, 3.999 ms after its deadline",
-                "# late, without its runs: r.1 (ran on CPU 1), at least 10.999 ms after its deadline; window 50 80",
+                "# late, without its runs: r.1 (ran on another processor), at least 10.999 ms after its deadline; window 50 80",
                 "# left out: r.4 (not ended); window 220 240",
                 "# 2 jobs of app.txt have no run here, the first r.1",
                 "# 1 job ends in the tick of its deadline, or within a unit of it: it may be late by less than that, the first r.2",
@@ -74,7 +77,7 @@ class ByHand(Frames):
             told[:3], [HEAD[:-1], "# time unit 1000 us, speed unit 1000 kHz, work unit 1000 cycles", MS[:-1]]
         )
         later = self.told(MS + lines.replace("50 80", "50 91").replace("200 216", "200 221"), trace)
-        self.assertIn("# left out: r.1 (ran on CPU 1); window 50 91", later)
+        self.assertIn("# left out: r.1 (ran on another processor); window 50 91", later)
         self.assertIn("# left out: r.3 (not ended); window 200 221", later)
         self.assertIn("# jobs of the trace that aren't here ran for 1.000 ms", later)
         self.assertEqual(later[-1], "# 5 jobs written, 3 left out")
@@ -105,20 +108,20 @@ class ByHand(Frames):
         """The second job began before time 0, so the third is NAME.0."""
         trace = (
             HEAD + UNITS + "job r.2 100 900 50\njob r.3 1000 1900 50\nticks 1\nrun r.2 100 150 1\nrun r.3 1000 1050 1\n"
-            "# left out: r.-1 (before from)\n# left out: r.0 (before from); window -90 -20\n# left out: r.1 (ran on CPU 1); window -3 50\n"
+            "# left out: r.-1 (before from)\n# left out: r.0 (before from); window -90 -20\n# left out: r.1 (ran on another processor); window -3 50\n"
         )
         lines = MS + "job r.0 1 9 50\njob r.1 10 19 50\njob r.2 20 29 0\n"
         told = self.told(lines, trace)
         self.assertEqual([line for line in told if line[:3] == "run"], ["run r.0 100 150 1", "run r.1 1000 1050 1"])
         self.assertEqual(told[-2:], ["# 3 jobs of the trace begin before time 0", "# 3 jobs written, 3 left out"])
         self.assertEqual(self.told(lines, trace.replace("r.-1", "r.before")), told)
-        unknown = trace.replace("# left out: r.1 (ran on CPU 1); window -3 50\n", "# left out: r.1 (no wake-up)\n")
+        unknown = trace.replace("# left out: r.1 (ran on another processor); window -3 50\n", "# left out: r.1 (its begin isn't in the trace)\n")
         called = self.called(lines, unknown)
         self.assertEqual(called[:2], (1, "failed\n"))
         self.assertEqual(
             called.err,
             "yds-frames: which job of r is the first at or after time 0 isn't known: r.1 or r.2 "
-            "(when r.1 began isn't told: no wake-up); give it, as --first r.1\n",
+            "(when r.1 began isn't told: its begin isn't in the trace); give it, as --first r.1\n",
         )
         self.assertEqual(self.told(lines, unknown, "--first", "r.2")[:9], told[:9])
         shifted = self.told(lines, unknown, "--first", "r.1")
@@ -319,7 +322,7 @@ def drawn_jobs(pick: random.Random, last: int) -> List[Truth]:
             runs.append((at, at + length))
             at += length + pick.choice([0, 1000, 4_000_000])
         end = runs[-1][1]
-        lost = pick.choice(["", "", "", "ran on CPU 1"])
+        lost = pick.choice(["", "", "", "ran on another processor"])
         jobs.append(Truth(task, numbers[task], begin, end if end <= last else None, runs, lost))
         numbers[task] += 1
         now = end

@@ -126,7 +126,7 @@ class JobsTest(unittest.TestCase):
 
     def test_a_late_job_without_its_runs_and_ends_within_a_tick(self) -> None:
         head = b"# time unit 10 us\njob a 0 10 8\njob b 0 10 8\nticks 2\nrun a 0 16 1\nrun b 16 17 16\n"
-        told = b"# ends: a 30\n# late, without its runs: b (ran on CPU 1), at least 0.2 ms after its deadline; window -3 10\n"
+        told = b"# ends: a 30\n# late, without its runs: b (ran on another processor), at least 0.2 ms after its deadline; window -3 10\n"
         rows = call("jobs", "--form", "csv", given=head + told).out.splitlines()
         self.assertEqual(rows[1:], ["a,0,10,0,15,15,-5,5,", "b,-3,10,8,,,-20,20,"])
         self.assertIn("no comment tells the unit of time", call("jobs", given=(head + told).split(b"\n", 1)[1]).err)

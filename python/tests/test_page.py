@@ -350,21 +350,21 @@ class VerdictTest(unittest.TestCase):
             (jobs, None),
             (jobs + runs + "failed\n", None),
             (HEAD + jobs + "ticks 1\n" + closing, "no"),
-            (HEAD + jobs + runs, "open"),
+            (HEAD + jobs + runs, None),
+            (HEAD + jobs + runs + closing[:-6] + "\n", None),
+            (HEAD + jobs + runs + closing + HEAD.replace("CPU 0", "CPU 1") + jobs.replace("a.", "b.") + "ticks 1\n" + closing, None),
             (HEAD + "job a.0 0 9 4\nticks 1\nrun a.0 0 4 1\n" + closing, "open"),
-            (HEAD + jobs + runs + "# left out: a.2 (no wake-up)\n" + closing, "open"),
+            (HEAD + jobs + runs + "# left out: a.2 (its begin isn't in the trace)\n" + closing, "open"),
             (HEAD + jobs + runs + "# left out: 3 jobs of a (events lost), the first a.2, the last a.4\n" + closing, "open"),
             (HEAD + jobs + runs + "# places where events were lost: 1\n" + closing, "open"),
-            (HEAD + jobs + runs + "# left out: a.2 (ran on CPU 1); window 20 29\n" + closing, "yes"),
-            (HEAD + jobs + runs + "# left out: a.2 (ran on CPU 1)\n# places where events were lost: 1\n" + closing, "open"),
-            (HEAD + jobs + runs + "# left out: a.2 (ran on CPU 1), 3.000 ms after its deadline\n" + closing, "no"),
+            (HEAD + jobs + runs + "# left out: a.2 (ran on another processor); window 20 29\n" + closing, "yes"),
+            (HEAD + jobs + runs + "# left out: a.2 (ran on another processor)\n# places where events were lost: 1\n" + closing, "open"),
+            (HEAD + jobs + runs + "# left out: a.2 (ran on another processor), 3.000 ms after its deadline\n" + closing, "no"),
             (HEAD + jobs + runs + "# late by less than a unit of time: a.1, 0.003 ms after its deadline\n" + closing, "no"),
             (jobs + runs + "# refuse a.7 from 0 to 9 work 99 top 2\n", "open"),
             (jobs + runs + "# not due by 18: b, 1 of 2 jobs, work 4\n", "open"),
             (jobs + "ticks 1\nrun a.0 0 4 1\nrun a.1 3 13 1\n", "no"),
             (jobs + "ticks 1\nrun a.0 0 4 1\nrun a.1 9 18 1\n", "no"),
-            (HEAD + jobs + runs + "# the deadline of a is 9000 ms, and its jobs begin 9 ms apart; deadlines are in milliseconds, "
-             "and this looks like microseconds\n" + closing, "open"),
             (HEAD + jobs + runs + "# the deadline of a, 9000.000000 ms, is more than 100 times the mean distance of its jobs' begins, "
              "9.000000 ms: is it in another unit?\n" + closing, "open"),
             (HEAD + jobs + runs + "# 2 stretches within one unit of time, 0.016000 ms together, are in no run\n" + closing, "yes"),
@@ -382,13 +382,13 @@ class VerdictTest(unittest.TestCase):
 
     def test_what_can_hide_a_miss_is_told_beside_it(self) -> None:
         text = (
-            "job a.0 0 9 4\nticks 1\nrun a.0 0 4 1\n# left out: a.1 (ran on CPU 1)\n# left out: a.2 (no wake-up)\n"
-            "# left out: a.3 (no wake-up)\n# left out: a.4 (after to)\n"
+            "job a.0 0 9 4\nticks 1\nrun a.0 0 4 1\n# left out: a.1 (ran on another processor)\n# left out: a.2 (its begin isn't in the trace)\n"
+            "# left out: a.3 (its begin isn't in the trace)\n# left out: a.4 (after to)\n"
         )
         for lost, wanted in (("", "no"), ("# places where events were lost: 2\n", "yes")):
             rows = {row["What"].text: row for row in page_of(text + lost).table("unjudged")}
-            self.assertEqual(rows["left out: a.1 (ran on CPU 1)"]["Can it hide a miss?"].text, wanted)
-            self.assertEqual(rows["left out: 2 jobs of a (no wake-up), the first a.2, the last a.3"]["Can it hide a miss?"].text, "yes")
+            self.assertEqual(rows["left out: a.1 (ran on another processor)"]["Can it hide a miss?"].text, wanted)
+            self.assertEqual(rows["left out: 2 jobs of a (its begin isn't in the trace), the first a.2, the last a.3"]["Can it hide a miss?"].text, "yes")
             self.assertEqual(rows["left out: a.4 (after to)"]["Can it hide a miss?"].text, "no")
 
     def test_a_program_that_says_nothing(self) -> None:
@@ -477,7 +477,7 @@ class HostileTest(unittest.TestCase):
 
         lines = [f"job t.{place} {place * 2} {place * 2 + 1} 2\n" for place in range(4000)] + ["ticks 1\n"]
         lines += [f"run t.{place} {place * 2} {place * 2 + 2} 1\n" for place in range(4000)]
-        lines += [f"# left out: t{place % 500}.{place} (no wake-up)\n" for place in range(10_000)] + ["# " + "x" * 100_000 + "\n"]
+        lines += [f"# left out: t{place % 500}.{place} (its begin isn't in the trace)\n" for place in range(10_000)] + ["# " + "x" * 100_000 + "\n"]
         with mock.patch("yds._page_pictures.find_spec", return_value=None):
             text = page.html("".join(lines), answer=audit)
         read = Page(text)
@@ -581,7 +581,9 @@ class CommandTest(unittest.TestCase):
             ((), b"failed\n", "line 1: the input is an answer of no: failed"),
             ((), b"job a 0 9\nticks 1\n", "line 1, column 10: a job needs NAME RELEASE DEADLINE WORK, in whole numbers"),
             ((), b"job a 0 9 4\n", "no slot and no run line, so there is nothing to judge; give a trace's document, or the answer"),
-            ((late, late), b"", "a second job is named audio.0"),
+            ((late, late), b"", "a second line of ticks, so this is of another document; give the texts of one"),
+            ((), b"job a 0 9 4\njob a 9 18 4\nticks 1\n", "a second job is named a"),
+            ((), "".join(late.read_text().splitlines(True)[:-1]).encode(), "line 1: the document of a trace begins here, and its last line, "),
             ((SAMPLES / "workload.json",), b"", 'is no line of a document'),
             ((late, Path("/nowhere")), b"", "/nowhere can't be read: No such file or directory"),
         ]:  # fmt: skip

@@ -171,9 +171,9 @@ class Gantts(unittest.TestCase):
 
     def test_jobs_that_were_left_out(self) -> None:
         told = (
-            "# left out: render.3 (ran on CPU 1), 25.000 ms after its deadline\n# left out: render.4 (ran on CPU 1)\n"
+            "# left out: render.3 (ran on another processor), 25.000 ms after its deadline\n# left out: render.4 (ran on another processor)\n"
             "# left out: render.6 (not ended)\n# left out: 3 runs within one tick\n"
-            "# left out: audio.2 (ran on CPU 1), not ended 10.000 ms after its deadline; window 12000 13000\n"
+            "# left out: audio.2 (ran on another processor), not ended 10.000 ms after its deadline; window 12000 13000\n"
         )
         picture = drawn_gantt(DOCUMENT + told)
         self.assertEqual(picture.rows[-1], "left out")
@@ -189,7 +189,7 @@ class Gantts(unittest.TestCase):
         self.assertEqual([(one.start, one.end) for one in picture.windows if one.row == 6], [(120, 130)])
 
     def test_no_cross_without_a_time_wherever_the_picture_goes(self) -> None:
-        told = "# left out: render.3 (no wake-up)\n# left out: 356 jobs of t0 (ran on another processor), the first t0.3, the last t0.621\n"
+        told = "# left out: render.3 (its begin isn't in the trace)\n# left out: 356 jobs of t0 (ran on another processor), the first t0.3, the last t0.621\n"
         for part in (None, Range(0, 2000), Range(5000, 6000)):
             picture = drawn_gantt(DOCUMENT + told, part=part)
             self.assertEqual((picture.crosses, "left out" in picture.rows), ([], False))
@@ -203,7 +203,7 @@ class Gantts(unittest.TestCase):
         self.assertEqual(drawn_gantt(DOCUMENT + told), drawn_gantt(DOCUMENT))
 
     def test_a_window_beyond_the_document_moves_no_axis(self) -> None:
-        told = "# left out: render.9 (ran on CPU 1); window -140000 -130000\n"
+        told = "# left out: render.9 (ran on another processor); window -140000 -130000\n"
         picture = drawn_gantt(DOCUMENT + told)
         self.assertEqual(picture.frame.x, (0.0, 190.0))
         self.assertIn("left out of the document: 1 job, 1 beyond this time", picture.frame.notes)
@@ -219,9 +219,9 @@ class Gantts(unittest.TestCase):
 
     def test_late_without_their_runs(self) -> None:
         told = (
-            "job render.3 3000 4000 1\n# late, without its runs: render.3 (ran on CPU 1), 25.000 ms after its deadline; window 3000 4000\n"
-            "job audio.2 12000 13000 1\n# late, without its runs: audio.2 (ran on CPU 1), not ended 10.000 ms after its deadline; window 12000 13000\n"
-            "job render.7 0 9000 1\n# late, without its runs: render.7 (no wake-up), at least 2.000 ms after its deadline\n"
+            "job render.3 3000 4000 1\n# late, without its runs: render.3 (ran on another processor), 25.000 ms after its deadline; window 3000 4000\n"
+            "job audio.2 12000 13000 1\n# late, without its runs: audio.2 (ran on another processor), not ended 10.000 ms after its deadline; window 12000 13000\n"
+            "job render.7 0 9000 1\n# late, without its runs: render.7 (its begin isn't in the trace), at least 2.000 ms after its deadline\n"
         )
         picture = drawn_gantt(DOCUMENT + told)
         wanted = [
@@ -365,7 +365,7 @@ decode.0,0,1000,0,400,400,600,0,10
 decode.1,1000,2000,1000,2150,1150,-150,150,10
 decode.2,2000,3000,2000,3020,1020,-20,20,10
 decode.3,3000,4000,inf,inf,inf,-inf,inf,0
-decode.4 (left out: ran on CPU 1),4000,5000,,6500,2500,-1500,1500,
+decode.4 (left out: ran on another processor),4000,5000,,6500,2500,-1500,1500,
 decode.5 (left out: not ended),5000,6000,,,,,,
 """
 

@@ -148,7 +148,7 @@ class Gantts(Case):
             self.assertTrue(any(left <= box.x0 and box.x1 <= right for left, right, _, _ in of_colour(axes, "#8c8c8c")))
 
     def test_who_was_left_out(self) -> None:
-        told = "# left out: a.1 (ran on CPU 1), 2.000 ms after its deadline; window 500 1000\n# left out: a.2 (no wake-up)\n"
+        told = "# left out: a.1 (ran on another processor), 2.000 ms after its deadline; window 500 1000\n# left out: a.2 (its begin isn't in the trace)\n"
         axes = pictures.gantt(rows(simulated.document(10) + told))
         self.assertEqual(marked(axes, "crosses-True"), [(5.0, 10.0)])
         self.assertEqual(marked(axes, "crosses-False"), [])

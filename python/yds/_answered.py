@@ -6,7 +6,7 @@ import re
 from typing import Dict, List, Optional
 
 from yds._forms_of_answers import NUMBER, TEXT, Cell, Cells, Form, found, fraction_cells, value
-from yds._text import Line, Units, printable, spelled
+from yds._text import Line, OneDocument, Units, printable, spelled
 
 _DUE = re.compile(r" # due at ([0-9]+\.[0-9]+) s$").search
 _NOTED = re.compile(
@@ -28,13 +28,17 @@ class Tables:
         self.columns: Dict[str, Dict[str, None]] = {}
         self.file = ""
         """What the first column of each new row says; nothing where it is empty."""
-        self._level = 0
-        self._units = Units()
+        self.begin()
 
     def begin(self) -> None:
         """Says that the lines of another answer come."""
         self._level = 0
         self._units = Units()
+        self._document = OneDocument()
+
+    def end(self) -> None:
+        """Says that all lines of an answer are read."""
+        self._document.end()
 
     def take(self, line: Line) -> None:
         """Reads a line of an answer."""
@@ -43,12 +47,15 @@ class Tables:
             return
         told = found(fields)
         if told is not None:
+            if fields[0] == "ticks":
+                self._document.take_ticks(line)
             self._keep(told[0], told[1], fields)
         elif self._take_miss(line.text.strip(" \t")):
             return
         elif fields[0].startswith("#"):
             if " unit " in line.text:
                 self._units.take(line)
+            self._document.take_comment(line)
             self._put("comments", {"text": Cell(TEXT, line.text.strip(" \t"))})
         elif line.text.strip(" \t").startswith("usage: yds_cli "):
             self._put("refusals", {"reason": Cell(TEXT, "usage")})

@@ -9,9 +9,8 @@ from typing import Any, Dict, Iterable, List, NamedTuple, Optional
 
 from yds._comments import BESIDE
 from yds._spelling import read_fraction
-from yds._text import Fault, Line, printable
+from yds._text import NO, Fault, Line, printable
 
-_NO = ("refused", "too-slow", "usage:", "failed")
 _MISSES = re.compile(r"# ([^ ]+) misses [0-9]+ deadlines?, ").match
 _CAVEAT = re.compile(rf"# (part [0-9]+: )?(?:{BESIDE})").match
 _FRACTION = re.compile(r"[0-9]{1,30}(\+[0-9]{1,30}/[1-9][0-9]{0,29})?").fullmatch
@@ -50,7 +49,7 @@ def collect(lines: Iterable[Line]) -> Collected:
         if not fields or fields[0].startswith("#"):
             continue
         kind = fields[1] if len(fields) > 1 else ""
-        if fields[0] in _NO:
+        if fields[0] in NO:
             answer = text.replace("\t", " ")
         elif kind == "energy":
             _add(energies, line, fields)

@@ -8,6 +8,7 @@ from __future__ import annotations
 import re
 from typing import Dict, List, NamedTuple, Optional, Set, Tuple
 
+from yds._heads import closing
 from yds._text import Comment, counted
 
 LEFT_OUT = "left out"
@@ -212,7 +213,6 @@ BESIDE = PARTIAL + rf"|with [0-9]+ deadlines? moved |{OTHERS}[0-9]+ ticks? "
 """How one begins that is told beside energies, wherever they are shown."""
 
 _NOT_DUE = re.compile(r"# not due by [0-9]+: ").match
-_WRITTEN = re.compile(r"# [0-9]+ jobs? written, ([0-9]+) left out").match
 IN_NO_LINE = ": this energy is in no line"
 NO_ROOM = "what they spent is in no line, and no plan makes room for them"
 
@@ -232,9 +232,9 @@ class Missing:
 
     def take(self, text: str) -> None:
         """Reads a comment."""
-        written = _WRITTEN(text)
-        if written is not None:
-            self.left_out += int(written.group(1))
+        closed = closing(text)
+        if closed is not None:
+            self.left_out += closed.left_out
         elif _NOT_DUE(text):
             self.not_due.append(text)
         elif text.startswith((f"# {WITHOUT_RUNS}: ", f"# {NOT_ENDED}: ")):

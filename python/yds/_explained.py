@@ -48,6 +48,7 @@ class Judged:
                 self._slots.append(row)
             elif row is not None and fields[0] in _SIZES:
                 self._take(line, fields)
+        rows.end()
 
     def _take(self, line: Line, fields: Sequence[str]) -> None:
         kind = fields[0]

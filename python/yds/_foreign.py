@@ -6,13 +6,12 @@ import re
 from fractions import Fraction
 from typing import Dict, Iterable, List, NamedTuple, Optional
 
-from yds._text import Line, Units, printable
+from yds._text import NO, Line, Units, printable
 from yds.rows import Job
 
 MOST_TIME, MOST_WORK, MOST_SLOT = 10**9, 10**6, 10**12
 """The greatest time, work of a job, and work of a slot of a document."""
 MOST_SIGNS = 1000
-_NO = ("refused", "failed", "too-slow", "usage:")
 _MIXED = re.compile(r"([0-9]+)\+([0-9]+)/([0-9]+)").fullmatch
 _RATIO = re.compile(r"([0-9]+)/([0-9]+)").fullmatch
 _DECIMAL = re.compile(r"([0-9]+\.?[0-9]*|\.[0-9]+)(?:[eE]([-+]?[0-9]+))?").fullmatch
@@ -98,7 +97,7 @@ class _Reading:
         """Reads a line."""
         fields = line.fields
         kind = fields[0] if fields else ""
-        if kind in _NO:
+        if kind in NO:
             raise line.fault(f"the input is an answer of no: {printable(line.text)}")
         if kind == "slot":
             self._slot(line, fields)

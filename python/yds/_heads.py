@@ -1,4 +1,4 @@
-"""What stands between a long document and its parts: the head line of a part, a part's texts, and what is raised."""
+"""How parts and documents of traces begin and end: the head line of a part, the last line of a trace's, a part's texts."""
 
 from __future__ import annotations
 
@@ -90,6 +90,53 @@ def read_head(line: bytes) -> Optional[Head]:
     cpu, is_open, last = found.group(7), found.group(8), found.group(9)
     cpu_number = None if cpu is None else int(cpu)
     return Head(number, first, final, start, end, shift, cpu_number, is_open is not None, last is not None)
+
+
+class Closing(NamedTuple):
+    """The last line of a trace's document: how many jobs were written, and how many were left out."""
+
+    written: int
+    left_out: int
+
+
+_OF_TRACE = re.compile(r"# CPU [0-9]+ of a kernel trace; time 0 is ").match
+_CLOSING = re.compile(
+    r"# ([0-9]{1,18}) jobs? written, (none|[0-9]{1,18}) left out(?:, [0-9]+ late without (?:its|their) runs)?"
+).fullmatch
+
+
+def closing(text: str) -> Optional[Closing]:
+    """What the last line of a trace's document tells; None where it is none.
+
+    >>> closing("# 8 jobs written, none left out"), closing("# 8 jobs writ")
+    (Closing(written=8, left_out=0), None)
+    """
+    found = _CLOSING(text)
+    if found is None:
+        return None
+    return Closing(int(found.group(1)), 0 if found.group(2) == "none" else int(found.group(2)))
+
+
+CUT_SHORT = (
+    "the document of a trace begins here, and its last line, as '# 8 jobs written, none left out', isn't there: it is "
+    "cut short; look at what wrote it"
+)
+
+
+class Unclosed:
+    """Where the document of a trace begins whose last line wasn't read yet. In the end there is none, or it is cut short."""
+
+    def __init__(self) -> None:
+        self.line = 0
+        """The number of its first line, from 1; 0 where there is none."""
+        self.file = ""
+
+    def take(self, text: str, line: int, file: str = "") -> None:
+        """Reads a comment."""
+        if _OF_TRACE(text):
+            self.line, self.file = (self.line, self.file) if self.line else (line, file)
+        elif self.line and closing(text) is not None:
+            self.line = 0
 
 
 class Part(NamedTuple):

@@ -5,12 +5,11 @@ from __future__ import annotations
 import re
 from typing import Dict, List, Tuple
 
-from yds._heads import read_head
-from yds._text import Fault, Line, base, printable
+from yds._heads import CUT_SHORT, Unclosed, read_head
+from yds._text import NO, Fault, Line, base, printable
 
 KINDS = frozenset("job task horizon slot run ticks point level piece member grid energy".split())
 TIMED = frozenset(["job", "task", "slot", "run"])
-NO = frozenset(["refused", "failed", "too-slow", "usage:"])
 _UNITS = {
     "time": (re.compile(r"time unit ([0-9.]+ us)"), "give both the same --us"),
     "speed": (re.compile(r"speed unit ([0-9.]+ kHz)"), "give both the same --khz"),
@@ -36,7 +35,8 @@ class Joined:
         self._known: Dict[str, Tuple[str, str]] = {}
         self._points_by = ""
         self._lines = 0
-        self._has_points = self._has_units = self._needs_units = False
+        self._unclosed = Unclosed()
+        self._has_points = self._has_units = self._needs_units = self._has_ticks = False
 
     def take(self, line: Line) -> None:
         """Reads a line of a text."""
@@ -52,24 +52,42 @@ class Joined:
             raise line.fault(f'"{printable(line.text.strip())}" is no line of a document')
         else:
             self._lines += 1
+            if kind == "ticks":
+                self._take_ticks(line)
             self._has_points = self._has_points or kind == "point"
             self._needs_units = self._needs_units or kind in TIMED
 
+    def _take_ticks(self, line: Line) -> None:
+        if self._has_ticks:
+            raise line.fault("a second line of ticks, so this is of another document; give the texts of one", 0)
+        self._has_ticks = True
+
     def _take_comment(self, line: Line) -> None:
+        self._take_ends(line)
         for kind, (form, hint) in _UNITS.items():
             found = form.search(line.text)
             if found:
                 self._tell(line, f"a unit of {kind} of", found.group(1), hint)
                 self.told_by = self.told_by or line.file
                 self._has_units = True
-        if read_head(line.text.encode("latin-1", "replace") + b"\n"):
-            # Each part of a trace has a time 0 of its own.
-            self._known.pop("time 0 at", None)
         zero, period = _ZERO.search(line.text), _PERIOD.fullmatch(line.text)
         if zero:
             self._tell(line, "time 0 at", zero.group(1), "give one trace")
         if period:
             self._tell(line, "the period", period.group(1), "give the jobs of one horizon")
+
+    def _take_ends(self, line: Line) -> None:
+        """Reads where a part, and where the document of a trace, begins and ends."""
+        if read_head(line.text.encode("latin-1", "replace") + b"\n"):
+            self._refuse_cut()
+            # Each part of a trace has a time 0 and ticks of its own.
+            self._known.pop("time 0 at", None)
+            self._has_ticks = False
+        self._unclosed.take(line.text, line.number, line.file)
+
+    def _refuse_cut(self) -> None:
+        if self._unclosed.line:
+            raise Fault(CUT_SHORT, self._unclosed.file, self._unclosed.line)
 
     def _tell(self, line: Line, what: str, told: str, hint: str) -> None:
         """What a comment tells has to be what another told before."""
@@ -79,6 +97,7 @@ class Joined:
 
     def finish(self, file: str) -> None:
         """Says that a text has ended."""
+        self._refuse_cut()
         if not self._lines:
             raise Fault(f"{file} has no line of a document; look at what wrote it")
         if self._has_points and self._points_by:

@@ -13,7 +13,7 @@ from array import array
 from collections import deque
 from typing import IO, Deque, Dict, Iterable, Iterator, List, NamedTuple, Optional, Tuple, Union
 
-from yds._heads import MOST_BYTES, MOST_TIME, PartsError, read_head
+from yds._heads import CUT_SHORT, MOST_BYTES, MOST_TIME, PartsError, Unclosed, read_head
 
 _NUMBER = rb"(0|[1-9][0-9]{0,29})"
 _UNREAD = rb"(?:0|[1-9][0-9]{0,29})"
@@ -141,6 +141,7 @@ class Long:
         self._look_at = 0
         self._waiting: List[Waiting] = []
         self._told: Dict[bytes, bytes] = {}
+        self._unclosed = Unclosed()
 
     def __enter__(self) -> Long:
         return self
@@ -170,6 +171,8 @@ class Long:
         if not self.jobs:
             found_none = "no job line; look at what wrote the input"
             raise PartsError(found_none if number else "the input is empty; look at what wrote it")
+        if self._unclosed.line:
+            raise PartsError(CUT_SHORT, self._unclosed.line)
         self._make_room()
         self._look_up_waiting()
         self._refuse_doubled()
@@ -216,6 +219,7 @@ class Long:
         if head is not None and self.jobs:
             told = f"the head of part {head.number}, so the input is parts already; give --split"
             raise PartsError(told, number)
+        self._unclosed.take(line.decode("latin-1"), number)
         for kind, amount, unit in _UNIT.findall(line):
             if self._told.setdefault(kind, amount) != amount:
                 here, before = (f"{number.decode()} {unit.decode()}" for number in (amount, self._told[kind]))

@@ -2,13 +2,9 @@
 
 from __future__ import annotations
 
-import re
 from typing import Dict, Iterable, Iterator, List, Optional
 
-from yds._heads import MOST_BYTES, MOST_JOBS, Head, Part, PartsError, read_head
-
-_CLOSING = re.compile(rb"# [0-9]+ jobs? written, .*\n")
-"""The last line of a document of yds_trace."""
+from yds._heads import MOST_BYTES, MOST_JOBS, Head, Part, PartsError, closing, read_head
 
 
 class _Begun:
@@ -36,7 +32,7 @@ class _Begun:
         if self.jobs != self.head.jobs:
             told = f"{self.name} has {self.jobs} jobs, and its head tells {self.head.jobs}"
             raise PartsError(told, self.line)
-        if _CLOSING.fullmatch(self.lines[-1]) is None:
+        if closing(self.lines[-1].decode("latin-1").rstrip("\r\n")) is None:
             told = f"{self.name} doesn't end with '# {self.jobs} jobs written, ..': the text is cut short"
             raise PartsError(told, self.line)
         return Part(self.head, b"".join(self.lines))

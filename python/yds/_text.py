@@ -12,13 +12,14 @@ import sys
 from fractions import Fraction
 from typing import BinaryIO, Dict, Iterable, Iterator, List, NamedTuple, Optional, Sequence, Tuple, Union
 
-from yds._heads import MOST_BYTES, read_head
+from yds._heads import CUT_SHORT, MOST_BYTES, Unclosed, read_head
 
 STANDARD_INPUT = "-"
 _FIELD = re.compile(r"[^ \t]+")
 _WHOLE = re.compile(r"[0-9]{1,30}").fullmatch
 _FRACTION = re.compile(r"([0-9]{1,30})(?:\+([0-9]{1,30})/([0-9]{1,30}))?").fullmatch
-_NO = ("refused", "failed", "too-slow", "usage:")
+NO = ("refused", "failed", "too-slow", "usage:")
+"""How an answer of no begins."""
 
 
 class Fault(ValueError):
@@ -205,13 +206,48 @@ def fraction(line: Line, fields: Sequence[str], place: int) -> Tuple[int, int]:
     return int(found.group(1)) * int(found.group(3)) + int(found.group(2)), int(found.group(3))
 
 
+class OneDocument:
+    """Sees that a text is one document, and one of a trace whole: it has one head of a part, and is closed."""
+
+    def __init__(self) -> None:
+        self._part: Optional[Line] = None
+        self._unclosed = Unclosed()
+        self._has_ticks = False
+
+    def take_comment(self, line: Line) -> None:
+        """Reads a comment. The head of another part is a fault: its times count from another time 0."""
+        text = line.text
+        if text.startswith("# part ") and read_head(text.encode("latin-1", "replace") + b"\n") is not None:
+            if self._part is not None:
+                raise line.fault(
+                    f"another part begins here, behind that of line {self._part.number}, and its times count from "
+                    "another time 0; give one part at a time: yds-parts --split makes a file of each"
+                )
+            self._part = line
+        self._unclosed.take(text, line.number, line.file)
+
+    def take_ticks(self, line: Line) -> None:
+        """Reads a line of ticks. Another one is of another document."""
+        if self._has_ticks:
+            raise line.fault("a second line of ticks, so this is of another document; give one at a time", 0)
+        self._has_ticks = True
+
+    def end(self) -> None:
+        """Says that all lines are read."""
+        if self._unclosed.line:
+            raise Fault(CUT_SHORT, self._unclosed.file, self._unclosed.line)
+
+
 class Rows:
-    """The rows of a document's lines, in their order. An answer of no, two units, two parts, and a wrong number are faults."""
+    """The rows of a document's lines, in their order.
+
+    An answer of no, two units, two documents, a trace's document that is cut short, and a wrong number are faults.
+    """
 
     def __init__(self, source: Iterable[Line] = ()) -> None:
         self._source = source
         self._ticks: Optional[int] = None
-        self._part: Optional[Line] = None
+        self._document = OneDocument()
         self.units = Units()
 
     def __iter__(self) -> Iterator[Row]:
@@ -219,6 +255,11 @@ class Rows:
             row = self.row(line)
             if row is not None:
                 yield row
+        self.end()
+
+    def end(self) -> None:
+        """Says that all lines are read. Who asks for each row by its line says it."""
+        self._document.end()
 
     def row(self, line: Line) -> Optional[Row]:
         """The row of a line; None of an empty one."""
@@ -229,23 +270,11 @@ class Rows:
         if kind[0] == "#":
             if " unit " in line.text:
                 self.units.take(line)
-            if line.text.startswith("# part "):
-                self._take_head(line)
+            self._document.take_comment(line)
             return Comment(line, line.text.lstrip(" \t"))
-        if kind in _NO:
+        if kind in NO:
             raise line.fault(f"the input is an answer of no: {printable(line.text)}")
         return self._row(line, kind, fields)
-
-    def _take_head(self, line: Line) -> None:
-        """The head line of a part. The times of another one count from another time 0."""
-        if read_head(line.text.encode("latin-1", "replace") + b"\n") is None:
-            return
-        if self._part is not None:
-            raise line.fault(
-                f"another part begins here, behind that of line {self._part.number}, and its times count from another "
-                "time 0; give one part at a time: yds-parts --split makes a file of each"
-            )
-        self._part = line
 
     def _row(self, line: Line, kind: str, fields: List[str]) -> Row:
         if kind == "slot":
@@ -262,6 +291,7 @@ class Rows:
             self._ticks = whole(line, fields, 1, 1)[0]
             if not self._ticks:
                 raise line.fault(_FORMS["ticks"], 1)
+            self._document.take_ticks(line)
             return Ticks(line, self._ticks)
         if kind == "horizon":
             return Horizon(line, *whole(line, fields, 1, 1))

@@ -3,9 +3,10 @@
 from __future__ import annotations
 
 import re
-from typing import Dict, Iterable, List, NamedTuple, Optional, Sequence, Tuple
+from typing import Dict, Iterable, List, NamedTuple, Sequence, Tuple
 
 from yds._comments import LEFT_OUT, left_out_jobs, note_of
+from yds._heads import closing
 from yds._text import counted
 from yds._timeline import task_of
 
@@ -25,14 +26,9 @@ class Unjudged(NamedTuple):
 
 _REFUSED = re.compile(r"# refuse ([^ ]+) from [0-9]+ to [0-9]+ work ").match
 _NOT_DUE = re.compile(r"# not due by [0-9]+: (.+)").fullmatch
-_WRITTEN = re.compile(r"# ([0-9]{1,18}) jobs? written, ").match
 _LOST = re.compile(r"# places where events were lost: ([0-9]{1,18})").fullmatch
-_WRONG_UNIT = re.compile(
-    r"# (the deadline|APART) of .*(: is it in another unit\?|, and this looks like (micro|nano)?seconds)"
-).fullmatch
-_SHORT = re.compile(r"# (left out: .* within one tick|[0-9]+ stretch(es)? within one unit of time, )").match
-_OF_TRACE = re.compile(r"# CPU [0-9]+ of a kernel trace; ").match
-_SAID = re.compile(r"# (places where|the trace (begins|ends) at|no wake-up of|[0-9]+ switch|.* may sleep within)").match
+_WRONG_UNIT = re.compile(r"# (the deadline|APART) of .*: is it in another unit\?").fullmatch
+_SHORT = re.compile(r"# [0-9]+ stretch(es)? within one unit of time, ").match
 
 _CUT = "it lies outside what was asked for"
 _KNOWN = "its begin and its end are known, and it wasn't late"
@@ -112,38 +108,16 @@ def _others(comments: Iterable[str]) -> List[Unjudged]:
             found.append(Unjudged(text[2:], True, "whole jobs may have been there"))
         elif _WRONG_UNIT(text):
             found.append(Unjudged(text[2:], True, "in another unit each job may be in time, or late"))
-        elif _SAID(text):
-            found.append(Unjudged(text[2:], False, _why_said(text)))
         elif _SHORT(text):
             found.append(Unjudged(text[2:], False, "a job that was late in one is told"))
     return found
 
 
-def _why_said(text: str) -> str:
-    if " switch" in text:
-        return "only how long other tasks ran isn't whole"
-    if " may sleep" in text:
-        return "but one job may be taken for several, or several for one"
-    if "no wake-up of" in text:
-        return "but a job may have waited before, unseen"
-    return "what is before or behind it isn't judged"
-
-
 def _by_count(comments: Iterable[str], jobs: int) -> List[Unjudged]:
     """What the closing line of a trace's document tells: how many jobs were written."""
-    written: Optional[int] = None
-    of_trace = False
-    for text in comments:
-        of_trace = of_trace or _OF_TRACE(text) is not None
-        found = _WRITTEN(text)
-        if found is not None:
-            written = (written or 0) + int(found.group(1))
-    if not of_trace and written is None:
-        return []
-    if written is None:
-        told = "the closing line of the trace's document isn't there"
-        return [Unjudged(told, True, "the document may have been cut, and jobs with it")]
-    if written == jobs:
+    found = [closed.written for closed in map(closing, comments) if closed is not None]
+    written = sum(found)
+    if not found or written == jobs:
         return []
     told = f"the closing line tells {counted(written, 'job', 'jobs')}, and {counted(jobs, 'is', 'are')} here"
     return [Unjudged(told, written > jobs, "jobs were taken away" if written > jobs else "jobs were added", 0)]

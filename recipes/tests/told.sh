@@ -53,7 +53,7 @@ jobs_that_are_not_whole() {
 	tells "told: jobs that never ended" 1 "$unknown" energy "$work/starving"
 	tells "told: jobs that never ended, at one speed" 0 "$unknown" energy --at 200 "$work/starving"
 	# A job that was late, whose runs can't be written.
-	printf 'point 0 1\npoint 10 20\njob a 0 10 30\njob b 10 20 1\nslot a 0 3 30\n# late, without its runs: b (ran on CPU 1), 25.000 ms after its deadline; window 10 20\n# 2 jobs written, none left out, 1 late without its runs\n' >"$work/without"
+	printf 'point 0 1\npoint 10 20\njob a 0 10 30\njob b 10 20 1\nslot a 0 3 30\n# late, without its runs: b (ran on another processor), 25.000 ms after its deadline; window 10 20\n# 2 jobs written, none left out, 1 late without its runs\n' >"$work/without"
 	tells "told: a job without its runs is a miss" 1 "# trace misses 1 deadline, the first b" energy "$work/without"
 	tells "told: and its energy is in no line" 1 "# 1 job was late and stands in the document without its runs and their energy" energy "$work/without"
 	tells "told: and its work isn't known" 0 "# the work of 1 job isn't known, since it never ended or has no runs: what serves them whole may spend more and be later, the first b" energy --at 10 "$work/without"

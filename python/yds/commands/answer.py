@@ -64,6 +64,7 @@ def tell(given: Given, write: Callable[[str], None]) -> int:
         before = {table: len(rows) for table, rows in tables.rows.items()}
         for line in lines([file]):
             tables.take(line)
+        tables.end()
         if given.csv is None:
             write(as_json(tables, name if several else ""))
             continue

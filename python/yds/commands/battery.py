@@ -17,6 +17,7 @@ from yds._comments import (
     unknown_works,
     without_runs,
 )
+from yds._heads import closing
 from yds._hours import Prices, SideEnergy, SideHours, battery
 from yds._priced import decimal
 from yds._spelling import read_fraction
@@ -64,7 +65,6 @@ _DECIMAL = re.compile(r"[0-9]{1,20}\.?[0-9]{0,20}|\.[0-9]{1,20}").fullmatch
 _FRACTION = re.compile(r"[0-9]{1,30}(\+[0-9]{1,30}/[1-9][0-9]{0,29})?").fullmatch
 _MISSES = re.compile(r"# ([^ ]+) (misses [0-9]+) deadlines?, ").match
 _PASSED_ON = re.compile(rf"# (part [0-9]+: )?(?:{BESIDE})").match
-_WRITTEN = re.compile(r"# [0-9]+ jobs? written, ([0-9]+) left out").match
 
 
 def main(words: Sequence[str]) -> int:
@@ -171,7 +171,7 @@ class Reading:
 
     def _take_comment(self, comment: Comment) -> None:
         text = comment.text
-        period, misses, written = period_of(comment), _MISSES(text), _WRITTEN(text)
+        period, misses, closed = period_of(comment), _MISSES(text), closing(text)
         if period is not None:
             if self._period not in (None, period):
                 raise comment.line.fault(f"the period {period} here and {self._period} before; give one document", 2)
@@ -180,8 +180,8 @@ class Reading:
             self._no_period = text[2:]
         elif misses is not None:
             self._misses[misses.group(1)] = misses.group(2)
-        elif written is not None and int(written.group(1)):
-            self._caveats["# " + left_out_of(int(written.group(1)))] = None
+        elif closed is not None and closed.left_out:
+            self._caveats["# " + left_out_of(closed.left_out)] = None
         elif text.startswith((f"# {WITHOUT_RUNS}: ", f"# {NOT_ENDED}: ")):
             self._noted[text] = None
         elif _PASSED_ON(text):

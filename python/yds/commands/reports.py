@@ -6,7 +6,7 @@ import sys
 from typing import Callable, List, Sequence
 
 from yds._priced import decimal
-from yds._text import Fault, Line, lines
+from yds._text import NO, Fault, Line, lines, printable
 from yds._words import DONE, Command, Files, Given, run
 from yds.commands.collect import name_of
 from yds.tables import report
@@ -35,7 +35,7 @@ def tell(given: Given, write: Callable[[str], None]) -> int:
     """Writes the table."""
     write("\t".join(COLUMNS))
     for file in given.files:
-        found = [line for line in lines([file]) if line.text.strip(" \t")]
+        found = [line for line in lines([file]) if line.text.strip(" \t") and not line.text.startswith("#")]
         for line in found:
             write("\t".join(cells(file, line)))
         if not found:
@@ -49,6 +49,8 @@ def cells(file: str, line: Line) -> List[str]:
         row = report(line.text)
     except Fault as fault:
         raise line.fault(fault.told) from None
+    if row is None and line.fields[0] not in NO:
+        raise line.fault(f'"{printable(line.text)}" is no report and no refusal; give answers of yds_cli report --json')
     if row is None:
         return [name_of(file), *["-"] * (len(COLUMNS) - 2), line.text.replace("\t", " ")]
     return [name_of(file), *map(str, row[:6]), decimal(row.peak), decimal(row.mean), "ok"]

@@ -57,6 +57,7 @@ def scale(given: Given, write: Callable[[str], None]) -> int:
         else:
             told_kind = printable(line.fields[0])
             raise line.fault(f'"{told_kind}" doesn\'t grow with the work; give jobs or tasks alone', 0)
+    rows.end()
     if not excesses:
         raise Fault("no job and no task line")
     write(told(given.work, factor, excesses))
