@@ -280,6 +280,14 @@ def own_text(name: str) -> str:
     return mark[1].replace("\\n", "\n")
 
 
+def time_of(given: Dict[str, str], word: str) -> Optional[int]:
+    """The time that the word gives, in nanoseconds of the trace's clock."""
+    time = decimal(given[word], 9, MOST_TIME) if word in given else None
+    if word in given and time is None:
+        raise word_fault(word, "time")
+    return time
+
+
 def asked_by(words: List[str]) -> Asked:
     """What the words ask of a trace."""
     found = settings(words)
@@ -302,14 +310,7 @@ def asked_by(words: List[str]) -> Asked:
         asked.starts = speeds_in(given["--start"])
     elif "--start" in given:
         asked.start = whole("--start", given["--start"], 1, MOST_NUMBER)
-    for word in ("--from", "--to"):
-        time = decimal(given[word], 9, MOST_TIME) if word in given else None
-        if word in given and time is None:
-            raise word_fault(word, "time")
-        if word == "--from":
-            asked.begin = time
-        else:
-            asked.end = time
+    asked.begin, asked.end = (time_of(given, word) for word in ("--from", "--to"))
     if asked.begin is not None and asked.end is not None and asked.begin >= asked.end:
         raise word_fault("--from", "order")
     for word, value in (("--begin", "run"), ("--lost", "cut"), ("--moved", "parts"), ("--others", "spans")):

@@ -6,7 +6,7 @@ from fractions import Fraction
 from math import inf
 from typing import Callable, List, Optional, Sequence, Tuple
 
-from yds._at_top import NO, OTHERWISE, YES, AtTop
+from yds._at_top import NO, OTHERWISE, YES, AtTop, Refusal
 from yds._facts import Facts, Worst
 from yds._markup import Markup, Scale, element, join, of_bytes, shown, table
 from yds._sections import lateness, share
@@ -87,6 +87,27 @@ def _first_run(went: Waited, scale: Scale) -> Markup:
     return join(told)
 
 
+def _refused(one: AtTop, refusal: Refusal, scale: Scale) -> Markup:
+    """That even the top speed throughout can't meet it, and in which time there is too much work."""
+    return element(
+        "p",
+        element("b", "Top speed throughout: no. "),
+        "Jobs that are due by then have the work ",
+        refusal.work,
+        " within ",
+        scale.length(refusal.end - refusal.start),
+        ", from ",
+        scale.moment(refusal.start),
+        " to ",
+        scale.moment(refusal.end),
+        ", and ",
+        scale.with_speed(one.top),
+        f" does {one.top * (refusal.end - refusal.start)} there, whatever the order (",
+        element("code", "yds_cli admit"),
+        ").",
+    )
+
+
 def top_told(one: AtTop, due: int, scale: Scale) -> Markup:
     """Whether the top speed throughout would have met it."""
     top = scale.with_speed(one.top)
@@ -110,27 +131,7 @@ def top_told(one: AtTop, due: int, scale: Scale) -> Markup:
             " or earlier.",
         )
     if one.verdict == NO and one.refusal is not None:
-        refusal = one.refusal
-        words = [
-            "Top speed throughout: no. ",
-        ]
-        return element(
-            "p",
-            element("b", *words),
-            "Jobs that are due by then have the work ",
-            refusal.work,
-            " within ",
-            scale.length(refusal.end - refusal.start),
-            ", from ",
-            scale.moment(refusal.start),
-            " to ",
-            scale.moment(refusal.end),
-            ", and ",
-            top,
-            f" does {one.top * (refusal.end - refusal.start)} there, whatever the order (",
-            element("code", "yds_cli admit"),
-            ").",
-        )
+        return _refused(one, one.refusal, scale)
     if one.verdict == OTHERWISE:
         return element(
             "p",
