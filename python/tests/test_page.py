@@ -372,6 +372,12 @@ class VerdictTest(unittest.TestCase):
             with self.subTest(text):
                 self.assertEqual(self.colour(text), wanted)
 
+    def test_a_job_that_began_before_the_trace_is_of_its_task(self) -> None:
+        told = "# late, without its runs: a.before (its begin isn't in the trace), at least 40.000000 ms after its deadline\n"
+        closing = "# 2 jobs written, none left out, 1 late without its runs\n"
+        read = page_of(HEAD + "job a.before 0 1 1\njob a.0 0 1000 10000\nticks 1\nrun a.0 0 100 100\n" + told + closing)
+        self.assertEqual([(row["task"].text, row["jobs"].text, row["missed"].text) for row in read.table("by-task")], [("a", "2", "1")])
+
     def test_another_fault_of_the_slots(self) -> None:
         read = page_of("job a 0 9 4\njob b 0 9 4\nticks 1\nrun a 0 4 1\nrun b 3 7 1\n")
         told = "overlap slot 2 b 3 previous 4, and whether deadlines were met isn't told"

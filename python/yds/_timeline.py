@@ -26,7 +26,7 @@ from yds._text import Comment, Fault, Job, Other, Point, Row, Slot, Ticks
 from yds._text import Units as ToldUnits
 
 LATE, NOT_DONE = "late", "not done"
-_NUMBERED = re.compile(r"(.+)\.[0-9]+(?:@[0-9]+)?").fullmatch
+_NUMBERED = re.compile(r"(.+)\.(?:[0-9]+|before)(?:@[0-9]+)?").fullmatch
 
 
 class Window(NamedTuple):
@@ -73,10 +73,10 @@ class Timeline(NamedTuple):
 
 
 def task_of(name: str) -> str:
-    """The name without its last dot and number, and without the processor of a share behind it.
+    """The name without its last dot and number, or `before` of a trace's first job, and the processor of a share behind it.
 
-    >>> task_of("decode.2"), task_of("j7"), task_of("decode.2@1")
-    ('decode', 'j7', 'decode')
+    >>> task_of("decode.2"), task_of("j7"), task_of("decode.2@1"), task_of("decode.before")
+    ('decode', 'j7', 'decode', 'decode')
     """
     found = _NUMBERED(name)
     return found.group(1) if found else name
