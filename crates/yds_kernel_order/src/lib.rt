@@ -14,6 +14,3 @@ mod step;
 pub use limits::{MAX_PASSED, MAX_STEP_BACK};
 pub use reader::OrderedReader;
 pub use step::Step;
-
-#[cfg(test)]
-mod tests;

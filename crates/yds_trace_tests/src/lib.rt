@@ -8,6 +8,8 @@
 #[cfg(test)]
 mod kernel;
 #[cfg(test)]
+mod kernel_order;
+#[cfg(test)]
 mod kernel_text;
 #[cfg(test)]
 mod trace;

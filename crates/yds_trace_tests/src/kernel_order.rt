@@ -1,10 +1,10 @@
 //! What no clause says: that a reader over a source in memory gives these lines, whatever the pieces.
 ghost use Rattle.std.specs.Prelude.{◌≤◌};
 
-use crate::{OrderedReader, Step};
 use std::alloc::{AllocError, Global};
 use std::test::Fail;
 use yds_kernel::{Happening, LineFault, Reason, Said};
+use yds_kernel_order::{OrderedReader, Step};
 use yds_port::MemorySource;
 
 /// The numbers of a text's lines in order of time, read in pieces of so many bytes, and 0 where the reader told the end behind them.
