@@ -1,11 +1,11 @@
 -- What a ring holds after a line was put into it.
-use Rattle.yds_model.proofs.Common.{◌≡◌, ◌≢◌, ℕ, zero, suc, ◌+◌, ◌-◌, ◌<◌, ◌≤◌, List, [], ◌∷◌, ◌++◌, length, set, get_or, Bool, true, false, not, ◌||◌, or-true, Option, Some, None, option_map, unwrap_or, is_none, is_some, false≢true, true≢false, refl, sym, ap, ◌∙◌, arith, subst, append-nil, append_assoc, take, drop, drop_all, take_all, get_or-set_same, get_or-set_other, ◌⊎◌, inl, inr}
+use Rattle.yds_model.proofs.Common.{◌≡◌, ℕ, zero, suc, ◌+◌, ◌-◌, ◌<◌, ◌≤◌, List, [], ◌∷◌, ◌++◌, length, set, get_or, Bool, true, false, not, or-true, Option, Some, None, option_map, unwrap_or, is_none, is_some, false≢true, true≢false, refl, sym, ap, ◌∙◌, arith, subst, append-nil, append_assoc, take, drop, drop_all, take_all, get_or-set_same, get_or-set_other, ◌⊎◌, inl, inr}
 use Rattle.std.proofs.lemmas.Option.{none-some, same_Some}
 use Rattle.yds_kernel.specs.declared.loss.Since.{Since}
 use Rattle.yds_kernel.specs.Event.{Event, Said, Stamped, Lost}
 use Rattle.yds_kernel_order.specs.declared.limits.TheConstants.{MAX_PASSED}
 use Rattle.yds_kernel_order.specs.declared.ring.TheConstants.{SLOTS}
-use Rattle.yds_kernel_order.specs.Order.{Placed, put, with_line, next_placed, is_behind, is_before_by}
+use Rattle.yds_kernel_order.specs.Order.{Placed, put, next_placed}
 use Rattle.yds_kernel_order.specs.Ring.{Held, no_line, wrapped, slot_at, held_from, given_at, passed_in, IsMovedDown, IsBehind, Places, GivesFirst}
 use Rattle.yds_kernel_order.proofs.Placing.{inserted, put_passed, passed_in_front, inserted_front, passed_at_most, passed_count, IsAtMost}
 use Rattle.yds_kernel_order.proofs.Places.{length-held_from, at_place, held_join, held_set, held_moved, held_wrapped, wrapped_low, wrapped_within, wrapped_apart}

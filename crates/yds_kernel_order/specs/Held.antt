@@ -1,6 +1,6 @@
 -- What a place for a line holds.
 use Rattle.std.specs.Prelude.{◌≡◌, ℕ, List}
-use Rattle.yds_kernel.specs.Event.{Event, Happening, Switch, WakeUp, Speed, Loss, Marker, Other, Said, Stamped, Lost, Nothing}
+use Rattle.yds_kernel.specs.Event.{Happening, Switch, WakeUp, Speed, Loss, Marker, Other, Said, Stamped, Lost, Nothing}
 use Rattle.yds_kernel_order.specs.declared.slot.What.{What}
 use Rattle.yds_kernel_order.specs.declared.slot.What.TheVariants as what
 
