@@ -1,4 +1,3 @@
 pub mod LineFault
-pub mod Ahead
 pub mod Taken
 pub mod Reading

@@ -6,6 +6,7 @@ use Rattle.yds_kernel.specs.declared.fault.Reason.{Reason}
 use Rattle.yds_kernel.specs.Parts.{or_else}
 use Rattle.yds_kernel.specs.Event.{Said}
 use Rattle.yds_kernel.specs.Text.{Trace}
+use Rattle.yds_kernel_order.specs.Order.{order_of, line_at}
 use Rattle.yds_trace.specs.declared.fault.Cause.{Cause}
 use Rattle.yds_trace.specs.Asked.{Asked}
 use Rattle.yds_trace.specs.Faults.{first_fault, numbered, whole_fault}
@@ -35,3 +36,14 @@ line_fault_after asked past form =
 
 abbrev pub line_fault : Asked → Trace → Option LineFault
 line_fault asked trace = line_fault_after asked (past_of trace) trace.fault
+
+-- # Bytes, whose lines are taken in order of time
+
+-- A line's place in that order is told as its number in the text.
+abbrev pub in_text : List ℕ → Option LineFault → Option LineFault
+in_text input None = None
+in_text input (Some (InForm fault)) = Some (InForm fault)
+in_text input (Some (AtLine place cause)) = Some (AtLine (line_at input place) cause)
+
+abbrev pub line_fault_of : Asked → List ℕ → Option LineFault
+line_fault_of asked input = in_text input (line_fault asked (order_of input))

@@ -3,6 +3,7 @@ use Rattle.std.specs.Prelude.{◌≡◌, ℕ, ◌+◌, ◌^◌, ◌≤◌, ◌�
 use Rattle.yds_port.specs.Count.{Rose}
 use Rattle.yds_kernel.specs.Event.{Said}
 use Rattle.yds_kernel.specs.Text.{trace_of}
+use Rattle.yds_kernel_order.specs.Order.{order_of}
 use Rattle.yds_kernel_text.specs.declared.limits.TheConstants.{ROOM}
 use Rattle.yds_trace.specs.declared.ended.Ended.{Ended}
 use Rattle.yds_trace.specs.Asked.{Asked}
@@ -10,12 +11,12 @@ use Rattle.yds_trace.specs.Ended.{IsEnded}
 use Rattle.yds_trace.specs.Faults.{first_fault}
 use Rattle.yds_trace_reading.specs.declared.stopped.Stopped.{Stopped}
 use Rattle.yds_trace_reading.specs.declared.stopped.Stopped.TheVariants as stops
-use Rattle.yds_trace_reading.specs.LineFault.{InForm, AtLine, past_of, line_fault}
+use Rattle.yds_trace_reading.specs.LineFault.{InForm, AtLine, past_of, line_fault, line_fault_of}
 
 -- it was read whole, none of its lines is refused, and this is known at its end
 pub record IsRead (asked : Asked) (input : List ℕ) (ended : Ended) : Type 0 where
-  pub sound : line_fault asked (trace_of input) ≡ None
-  pub known : IsEnded asked (past_of (trace_of input)) ended
+  pub sound : line_fault asked (order_of input) ≡ None
+  pub known : IsEnded asked (past_of (order_of input)) ended
 
 -- Some lines without a fault end so. It is so of each source, one that doesn't tell its bytes, too.
 pub record IsEndOfSome (asked : Asked) (ended : Ended) : Type 0 where
@@ -27,11 +28,11 @@ pub record IsEndOfSome (asked : Asked) (ended : Ended) : Type 0 where
 abbrev pub IsTooLong : List ℕ → Type 0
 IsTooLong input = (2 ^ 64 ≤ length input + ROOM) ⊎ (2 ^ 64 ≤ length (trace_of input).said + 1)
 
--- Why it wasn't read whole: the first line that is refused, or what is no fault of its lines.
+-- Why it wasn't read whole: the first line in order of time that is refused, by its number in the text, or what is no fault of its lines.
 abbrev pub IsStopped : Asked → List ℕ → Stopped → Type 0
 IsStopped asked input (stops.InForm number fault) =
-    line_fault asked (trace_of input) ≡ Some (InForm (record { line = number; column = fault.column; reason = fault.reason }))
-IsStopped asked input (stops.AtLine number cause) = line_fault asked (trace_of input) ≡ Some (AtLine number cause)
+    line_fault_of asked input ≡ Some (InForm (record { line = number; column = fault.column; reason = fault.reason }))
+IsStopped asked input (stops.AtLine number cause) = line_fault_of asked input ≡ Some (AtLine number cause)
 IsStopped asked input stops.TooLong = IsTooLong input
 IsStopped asked input stops.ReadFault = Unit {0}
 IsStopped asked input stops.Memory = Unit {0}

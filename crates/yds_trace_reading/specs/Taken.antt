@@ -1,10 +1,6 @@
 -- What became of a line.
-use Rattle.std.specs.Prelude.{◌≡◌, ℕ, List, ◌∷◌, Some, None, Result, Ok, Err}
-use Rattle.yds_model.specs.Fields.{Spot}
-use Rattle.yds_kernel.specs.declared.fault.Reason.{Reason}
+use Rattle.std.specs.Prelude.{◌≡◌, ℕ, List, ◌∷◌, Some, None}
 use Rattle.yds_kernel.specs.Event.{Said}
-use Rattle.yds_kernel.specs.Views.{spot_read}
-use Rattle.yds_trace.specs.declared.fault.Cause.{Cause}
 use Rattle.yds_trace.specs.declared.pass.Pass.{Pass}
 use Rattle.yds_trace.specs.Asked.{Asked}
 use Rattle.yds_trace.specs.declared.ended.Ended.{Ended}
@@ -14,23 +10,15 @@ use Rattle.yds_trace.specs.Kept.{IsAt}
 use Rattle.yds_trace_reading.specs.declared.stopped.Stopped.{Stopped}
 use Rattle.yds_trace_reading.specs.declared.stopped.Stopped.TheVariants as stops
 
--- The line was taken: it says this and has no fault.
-pub record IsTaken (asked : Asked) (past : List Said) (said : Result Said (Spot Reason)) (now : Pass) : Type 0 where
-  pub line : Said
-  pub says : said ≡ Ok line
-  pub sound : said_fault asked past line ≡ None
-  pub stands : IsAt asked (line ∷ past) now
-
--- It was refused behind the lines before it.
-pub record IsRefused (asked : Asked) (past : List Said) (said : Result Said (Spot Reason)) (cause : Cause) : Type 0 where
-  pub line : Said
-  pub says : said ≡ Ok line
-  pub fault : said_fault asked past line ≡ Some cause
+-- The line was taken: it has no fault.
+pub record IsTaken (asked : Asked) (past : List Said) (said : Said) (now : Pass) : Type 0 where
+  pub sound : said_fault asked past said ≡ None
+  pub stands : IsAt asked (said ∷ past) now
 
 -- why the line of this number wasn't taken
-abbrev pub IsNotTaken : Asked → List Said → ℕ → Result Said (Spot Reason) → Stopped → Type 0
-IsNotTaken asked past number said (stops.InForm at fault) = (at ≡ number) × (said ≡ Err (spot_read fault))
-IsNotTaken asked past number said (stops.AtLine at cause) = (at ≡ number) × IsRefused asked past said cause
+abbrev pub IsNotTaken : Asked → List Said → ℕ → Said → Stopped → Type 0
+IsNotTaken asked past number said (stops.InForm at fault) = ⊥
+IsNotTaken asked past number said (stops.AtLine at cause) = (at ≡ number) × (said_fault asked past said ≡ Some cause)
 IsNotTaken asked past number said stops.TooLong = ⊥
 IsNotTaken asked past number said stops.ReadFault = ⊥
 IsNotTaken asked past number said stops.Memory = Unit {0}

@@ -1,7 +1,7 @@
 //! One pass over the lines of a trace.
 ghost use Rattle.std.specs.Prelude.{◌≡◌, ◌≤◌, List, [], Err, Some, IfOk, IfErr, IfSome, OnOk};
 ghost use Rattle.yds_kernel.specs.Event.{Said as SaidSpec};
-ghost use Rattle.yds_kernel_text.specs.Reading.{said_by};
+ghost use Rattle.yds_kernel_order.specs.Ordering.{number_now, said_now};
 ghost use Rattle.yds_port.specs.Count.{Rose};
 ghost use Rattle.yds_trace.specs.Asked as asking;
 ghost use Rattle.yds_trace.specs.Kept.{IsAt};
@@ -11,7 +11,7 @@ ghost use Rattle.yds_trace_reading.specs.Taken.{IsTaken, IsNotTaken, IsKnown, Is
 
 use crate::stopped::Stopped;
 use std::alloc::Global;
-use yds_kernel_text::{Advance, TraceReader};
+use yds_kernel_order::{OrderedReader, Step};
 use yds_port::{Source, Taken};
 use yds_trace::{Asked, Ended, Pass, Refused};
 
@@ -52,33 +52,32 @@ fn pass_over<S: Source>(alloc: Global, asked: Asked, source: &mut S) -> Result<E
     ensures none_left { IfSome (S.left source.old) (λ input. OnOk result (S.left source.new ≡ Some [])) }
     ensures rest { IsRest (S.left source.old) (S.left source.new) }
 {
-    let mut reader = TraceReader::new(alloc)?;
+    let mut reader = OrderedReader::new(alloc)?;
     let mut pass = Pass::new(alloc, asked)?;
-    for lines in 0..u64::MAX {
+    for _lines in 0..u64::MAX {
         match reader.advance(source) {
-            Advance::Line => take_line(alloc, &reader, &mut pass)?,
-            Advance::End => return end(alloc, lines, pass),
-            Advance::Failed => return Err(Stopped::ReadFault),
-            Advance::TooLong => return Err(Stopped::TooLong),
+            Step::Line => take_line(alloc, &reader, &mut pass)?,
+            Step::End => return end(alloc, reader.number(), pass),
+            Step::Refused { number, fault } => return Err(Stopped::InForm { number, fault }),
+            Step::Failed => return Err(Stopped::ReadFault),
+            Step::TooLong => return Err(Stopped::TooLong),
+            Step::Memory => return Err(Stopped::Memory),
         }
     }
     Err(Stopped::TooLong)
 }
 
 /// Takes the line that was given last.
-fn take_line(alloc: Global, reader: &TraceReader, pass: &mut Pass) -> Result<(), Stopped>
-    ensures taken { (asked : asking.Asked) (past : List SaidSpec) → IsAt asked past pass.old → OnOk result (IsTaken asked past (said_by reader.now) pass.new) }
+fn take_line(alloc: Global, reader: &OrderedReader, pass: &mut Pass) -> Result<(), Stopped>
+    ensures taken { (asked : asking.Asked) (past : List SaidSpec) → IsAt asked past pass.old → OnOk result (IsTaken asked past (said_now reader.now) pass.new) }
     ensures refused { (asked : asking.Asked) (past : List SaidSpec) → IsAt asked past pass.old
-        → IfErr result (IsNotTaken asked past reader.now.number (said_by reader.now)) }
+        → IfErr result (IsNotTaken asked past (number_now reader.now) (said_now reader.now)) }
 {
     let number = reader.number();
-    match reader.said() {
-        Ok(said) => match pass.take(alloc, said) {
-            Ok(()) => Ok(()),
-            Err(Refused::Fault(cause)) => Err(Stopped::AtLine { number, cause }),
-            Err(Refused::Memory) => Err(Stopped::Memory),
-        },
-        Err(fault) => Err(Stopped::InForm { number, fault }),
+    match pass.take(alloc, reader.said()) {
+        Ok(()) => Ok(()),
+        Err(Refused::Fault(cause)) => Err(Stopped::AtLine { number, cause }),
+        Err(Refused::Memory) => Err(Stopped::Memory),
     }
 }
 

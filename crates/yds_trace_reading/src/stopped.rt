@@ -8,9 +8,10 @@ use yds_trace::Cause;
 /// Why the reading of a trace ended before what is known at its end.
 #[derive(Clone, Copy, Debug, PartialEq, Eq)]
 pub enum Stopped {
-    /// The line of this number is refused by its form.
+    /// The line of this number in the text is refused by its form.
     InForm { number: u64, fault: LineFault },
-    /// The line of this number can't stand behind those before it, or the trace as a whole tells nothing, at its last line.
+    /// The line of this number in the text can't stand behind those before it in order of time, or the trace as a whole tells
+    /// nothing, at its last line.
     AtLine { number: u64, cause: Cause },
     /// The trace has as many bytes or lines as 64 bits count.
     TooLong,

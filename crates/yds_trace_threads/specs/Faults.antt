@@ -5,11 +5,12 @@ use Rattle.yds_kernel.specs.declared.fault.Reason.{Reason}
 use Rattle.yds_kernel.specs.Parts.{or_else}
 use Rattle.yds_kernel.specs.Event.{Event, Said, Stamped, Lost, Nothing}
 use Rattle.yds_kernel.specs.Text.{Trace}
+use Rattle.yds_kernel_order.specs.Order.{order_of}
 use Rattle.yds_trace.specs.declared.fault.Cause.{Cause}
 use Rattle.yds_trace.specs.declared.fault.Cause.TheVariants as causes
 use Rattle.yds_trace.specs.Past.{last_time}
 use Rattle.yds_trace.specs.Faults.{place_fault, processor_fault, numbered, has_stamp}
-use Rattle.yds_trace_reading.specs.LineFault.{LineFault, past_of, at_line, in_form}
+use Rattle.yds_trace_reading.specs.LineFault.{LineFault, past_of, at_line, in_form, in_text}
 
 -- Each event stands where it may, and at the time of the one before it or later.
 abbrev pub event_fault : List Said → Event → Option Cause
@@ -37,3 +38,7 @@ line_fault_after past form =
 
 abbrev pub line_fault : Trace → Option LineFault
 line_fault trace = line_fault_after (past_of trace) trace.fault
+
+-- of bytes, whose lines are taken in order of time: with its number in the text
+abbrev pub line_fault_of : List ℕ → Option LineFault
+line_fault_of input = in_text input (line_fault (order_of input))

@@ -1,12 +1,9 @@
 -- What the code keeps of a trace, against the definitions.
-use Rattle.std.specs.Prelude.{◌≡◌, ℕ, ◌+◌, ◌<◌, ◌≤◌, List, [], ◌∷◌, take, map, Bool, false, not, ◌==◌, ◌&&◌, if◌then◌else◌, Option, Some, None, Result, Ok, Err, slice_get, nat_eq}
+use Rattle.std.specs.Prelude.{◌≡◌, ℕ, ◌+◌, ◌<◌, ◌≤◌, List, [], ◌∷◌, take, map, Bool, false, not, ◌==◌, ◌&&◌, if◌then◌else◌, Option, Some, None, slice_get, nat_eq}
 use Rattle.std.specs.List.{list_any, slice_index_or}
 use Rattle.indexmap.specs.IndexSet.{IsUnique}
-use Rattle.yds_model.specs.Fields.{Spot}
-use Rattle.yds_kernel.specs.declared.fault.Reason.{Reason}
 use Rattle.yds_kernel.specs.Event.{Said, Stamped, Lost, Nothing}
 use Rattle.yds_kernel.specs.Parts.{capped}
-use Rattle.yds_kernel.specs.Views.{spot_read}
 use Rattle.yds_trace.specs.declared.fault.Cause.{Cause}
 use Rattle.yds_trace.specs.declared.limits.TheConstants.{MAX_PROCESSOR}
 use Rattle.yds_trace.specs.Past.{last_time}
@@ -141,23 +138,15 @@ pub record IsTally (past : List Said) (tally : Tally) : Type 0 where
 
 -- # Refusals
 
--- The line was taken: it says this and has no fault.
-pub record IsTaken (past : List Said) (said : Result Said (Spot Reason)) (now : Tally) : Type 0 where
-  pub line : Said
-  pub says : said ≡ Ok line
-  pub sound : said_fault past line ≡ None
-  pub stands : IsTally (line ∷ past) now
-
--- It was refused behind the lines before it.
-pub record IsRefusedBehind (past : List Said) (said : Result Said (Spot Reason)) (cause : Cause) : Type 0 where
-  pub line : Said
-  pub says : said ≡ Ok line
-  pub fault : said_fault past line ≡ Some cause
+-- The line was taken: it has no fault.
+pub record IsTaken (past : List Said) (said : Said) (now : Tally) : Type 0 where
+  pub sound : said_fault past said ≡ None
+  pub stands : IsTally (said ∷ past) now
 
 -- why the line of this number wasn't taken
-abbrev pub IsNotTaken : List Said → ℕ → Result Said (Spot Reason) → Halt → Type 0
-IsNotTaken past number said (halts.InForm at fault) = (at ≡ number) × (said ≡ Err (spot_read fault))
-IsNotTaken past number said (halts.AtLine at cause) = (at ≡ number) × IsRefusedBehind past said cause
+abbrev pub IsNotTaken : List Said → ℕ → Said → Halt → Type 0
+IsNotTaken past number said (halts.InForm at fault) = ⊥
+IsNotTaken past number said (halts.AtLine at cause) = (at ≡ number) × (said_fault past said ≡ Some cause)
 IsNotTaken past number said halts.Endless = ⊥
 IsNotTaken past number said halts.ReadFault = ⊥
 IsNotTaken past number said halts.WriteFault = ⊥

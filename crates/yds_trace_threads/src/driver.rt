@@ -2,7 +2,7 @@
 ghost use Rattle.std.specs.Prelude.{◌≡◌, ◌≢◌, ◌≤◌, ◌<◌, List, [], Err, Some, IfSome, IfOk, IfErr, OnOk};
 ghost use Rattle.yds_port.specs.Count.{Rose};
 ghost use Rattle.yds_kernel.specs.Event as trace;
-ghost use Rattle.yds_kernel_text.specs.Reading.{said_by};
+ghost use Rattle.yds_kernel_order.specs.Ordering.{number_now, said_now};
 ghost use Rattle.yds_trace_reading.specs.Reading.{IsRest, IsReadOut};
 ghost use Rattle.yds_trace_threads.specs.Telling.{IsMade, IsHalted, Writes};
 ghost use Rattle.yds_trace_threads.specs.Kept.{IsTally, IsTaken, IsNotTaken, IsTable, IsNoTable};
@@ -11,7 +11,7 @@ use crate::halt::Halt;
 use crate::tally::Tally;
 use std::alloc::Global;
 use std::hash::RandomState;
-use yds_kernel_text::{Advance, TraceReader};
+use yds_kernel_order::{OrderedReader, Step};
 use yds_port::{Sink, Source, write_all};
 use yds_trace::Refused;
 use yds_trace_reading::drain;
@@ -60,33 +60,32 @@ fn read_table<S: Source>(alloc: Global, keys: RandomState, source: &mut S) -> Re
     ensures none_left { IfSome (S.left source.old) (λ input. OnOk result (S.left source.new ≡ Some [])) }
     ensures rest { IsRest (S.left source.old) (S.left source.new) }
 {
-    let mut reader = TraceReader::new(alloc)?;
+    let mut reader = OrderedReader::new(alloc)?;
     let mut tally = Tally::new(alloc, keys)?;
-    for lines in 0..u64::MAX {
+    for _lines in 0..u64::MAX {
         match reader.advance(source) {
-            Advance::Line => take_line(alloc, &reader, &mut tally)?,
-            Advance::End => return table(alloc, lines, tally),
-            Advance::Failed => return Err(Halt::ReadFault),
-            Advance::TooLong => return Err(Halt::Endless),
+            Step::Line => take_line(alloc, &reader, &mut tally)?,
+            Step::End => return table(alloc, reader.number(), tally),
+            Step::Refused { number, fault } => return Err(Halt::InForm { number, fault }),
+            Step::Failed => return Err(Halt::ReadFault),
+            Step::TooLong => return Err(Halt::Endless),
+            Step::Memory => return Err(Halt::Memory),
         }
     }
     Err(Halt::Endless)
 }
 
 /// Takes the line that was given last.
-fn take_line(alloc: Global, reader: &TraceReader, tally: &mut Tally) -> Result<(), Halt>
-    ensures taken { (past : List trace.Said) → IsTally past tally.old → OnOk result (IsTaken past (said_by reader.now) tally.new) }
-    ensures refused { (past : List trace.Said) → IsTally past tally.old → IfErr result (IsNotTaken past reader.now.number (said_by reader.now)) }
+fn take_line(alloc: Global, reader: &OrderedReader, tally: &mut Tally) -> Result<(), Halt>
+    ensures taken { (past : List trace.Said) → IsTally past tally.old → OnOk result (IsTaken past (said_now reader.now) tally.new) }
+    ensures refused { (past : List trace.Said) → IsTally past tally.old → IfErr result (IsNotTaken past (number_now reader.now) (said_now reader.now)) }
     ensures no_write { IfErr result (λ halt. halt ≢ Halt.WriteFault) }
 {
     let number = reader.number();
-    match reader.said() {
-        Ok(said) => match tally.take(alloc, &said) {
-            Ok(()) => Ok(()),
-            Err(Refused::Fault(cause)) => Err(Halt::AtLine { number, cause }),
-            Err(Refused::Memory) => Err(Halt::Memory),
-        },
-        Err(fault) => Err(Halt::InForm { number, fault }),
+    match tally.take(alloc, &reader.said()) {
+        Ok(()) => Ok(()),
+        Err(Refused::Fault(cause)) => Err(Halt::AtLine { number, cause }),
+        Err(Refused::Memory) => Err(Halt::Memory),
     }
 }
 

@@ -9,9 +9,10 @@ use yds_trace::Cause;
 /// Why a trace's threads aren't told. Nothing of the table is written, but for a front of it where a write failed.
 #[derive(Clone, Copy, Debug, PartialEq, Eq)]
 pub enum Halt {
-    /// The line of this number is refused by its form.
+    /// The line of this number in the text is refused by its form.
     InForm { number: u64, fault: LineFault },
-    /// The line of this number can't stand behind those before it, or the trace as a whole tells nothing, at its last line.
+    /// The line of this number in the text can't stand behind those before it in order of time, or the trace as a whole tells
+    /// nothing, at its last line.
     AtLine { number: u64, cause: Cause },
     /// The trace has as many bytes or lines as 64 bits count.
     Endless,

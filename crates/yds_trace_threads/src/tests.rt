@@ -54,9 +54,9 @@ threads 3
 8\t0.000000\t0\t0\td
 ";
 
-/// The second line is before the first one.
+/// The second line is before the first one, by more than a millisecond.
 const BACK: &[u8] = b"\
-x-1 [000] d..2. 1.000002: sched_waking: comm=a pid=7 prio=120 target_cpu=000
+x-1 [000] d..2. 1.001002: sched_waking: comm=a pid=7 prio=120 target_cpu=000
 x-1 [000] d..2. 1.000001: sched_waking: comm=a pid=7 prio=120 target_cpu=000
 ";
 
