@@ -1,20 +1,20 @@
 -- What the telling of some lines shows of the whole trace.
-use Rattle.yds_model.proofs.Common.{◌≡◌, ℕ, ◌+◌, List, [], ◌∷◌, ◌++◌, map, length, reverse, Bool, Option, Some, None, Err, refl, sym, ap, subst, ◌∙◌, length-map, Appends}
-use Rattle.std.specs.Prelude.{IfSome, option_map}
-use Rattle.std.proofs.lemmas.List.{reverse-reverse, map-append}
+use Rattle.yds_model.proofs.Common.{◌≡◌, ℕ, ◌+◌, List, [], ◌∷◌, ◌++◌, length, reverse, Bool, Option, Some, None, Err, refl, sym, ap, subst, ◌∙◌, Appends}
+use Rattle.std.specs.Prelude.{option_map}
+use Rattle.std.proofs.lemmas.List.{reverse-reverse}
 use Rattle.yds_model.specs.Fields.{Spot, Fault}
 use Rattle.yds_kernel.specs.declared.fault.Reason.{Reason}
 use Rattle.yds_kernel.specs.Parts.{or_else}
 use Rattle.yds_kernel.specs.Event.{Said}
 use Rattle.yds_kernel.specs.Text.{Trace, trace_of}
-use Rattle.yds_kernel_order.specs.Order.{Placed, placed_of, said_in, in_order, order_of, number_at, line_at}
-use Rattle.yds_kernel_order.specs.Ordering.{Order, Ordering, IsGiven, IsOrderOf, whole_order}
-use Rattle.yds_kernel_text.specs.Reading.{unread}
-use Rattle.yds_kernel_text.specs.Advancing.{Counts}
+use Rattle.yds_kernel_order.specs.Order.{Placed, said_in, order_of, number_at, line_at}
+use Rattle.yds_kernel_order.specs.Ordering.{Order, Ordering, whole_order}
+use Rattle.yds_kernel_order.proofs.Given.{length-said_in}
 use Rattle.yds_trace.specs.Asked.{Asked}
 use Rattle.yds_trace.specs.Faults.{whole_fault}
 use Rattle.yds_trace.specs.Parts.{processors_of}
 use Rattle.yds_trace_reading.specs.LineFault.{past_of}
+use Rattle.yds_trace_reading.proofs.Giving.{AreGiven, AreFirst, past_behind, number_at_end}
 use Rattle.yds_trace_parts.specs.declared.halt.Halt.{Halt as HaltKept}
 use Rattle.yds_trace_parts.specs.declared.halt.Halt.TheVariants as kept
 use Rattle.yds_trace_parts.specs.declared.telling.Telling.{Telling}
@@ -31,11 +31,9 @@ use Rattle.yds_trace_parts.proofs.Joined.{both_empty}
 -- what is known behind so many lines, whose parts were written
 pub record IsBehind (asked : Asked) (strict : Bool) (input : Option (List ℕ)) (telling : Telling) (ordering : Ordering) (left : Option (List ℕ)) (count : ℕ) (old now : Option (List ℕ)) : Type 0 where
   pub given : List Placed
-  pub stands : IsTelling asked strict (said_in given) telling
+  pub known : AreGiven input ordering left given
   pub many : length given ≡ count
-  pub is_given : IsGiven ordering given
-  pub agrees : IfSome input (λ bytes. IsOrderOf bytes ordering given (unread ordering.reader left))
-  pub counts : Counts input left 0 ordering.reader.taken
+  pub stands : IsTelling asked strict (said_in given) telling
   pub appended : Appends old now (told_after asked strict (said_in given)).text
 
 -- # The trace, by some of its lines
@@ -45,12 +43,8 @@ pub record IsFront (bytes : List ℕ) (past : List Said) : Type 0 where
   pub behind : List Said
   pub front : past_of (order_of bytes) ≡ behind ++ past
 
--- lines that were placed, as what they say
-pub front_of : (bytes : List ℕ) (behind given : List Placed) → placed_of (trace_of bytes) ≡ behind ++ given → IsFront bytes (said_in given)
-front_of bytes behind given is = record {
-  behind = said_in behind;
-  front = reverse-reverse (said_in (placed_of (trace_of bytes))) ∙ ap said_in is ∙ map-append (λ (line : Placed). line.said) behind given;
-}
+pub front_of : (bytes : List ℕ) (given : List Placed) → AreFirst bytes given → IsFront bytes (said_in given)
+front_of bytes given first = record { behind = said_in first.behind; front = past_behind bytes given first }
 
 -- what is told of these lines is the begin of what is told of the trace
 pub begins_told : (asked : Asked) (strict : Bool) (bytes : List ℕ) (past : List Said) → IsFront bytes past →
@@ -125,8 +119,7 @@ last_line : (bytes : List ℕ) (given : List Placed) (lines number : ℕ) (form 
     whole_order (trace_of bytes) ≡ record { placed = given; lines = lines; fault = form } → number_at lines given (length given) ≡ number →
     line_at bytes (length (said_in given)) ≡ number
 last_line bytes given lines number form is last =
-    ap (λ (order : Order). number_at order.lines order.placed (length (said_in given))) is
-    ∙ ap (number_at lines given) (length-map given (λ (line : Placed). line.said)) ∙ last
+    ap (line_at bytes) (length-said_in given) ∙ number_at_end bytes given lines form is ∙ last
 
 end_goes : (asked : Asked) (strict : Bool) (past : List Said) (form : Option (Fault Reason)) (text : List ℕ) (halt : Option Halt) → halt ≡ None →
     told_at_end asked strict past form (record { text = text; halt = halt }) ≡ told_last asked strict past text (end_halt asked past form)

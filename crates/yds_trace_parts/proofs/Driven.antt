@@ -1,27 +1,25 @@
 -- What the telling of some lines shows of the source and of the sink, step by step.
-use Rattle.yds_model.proofs.Common.{◌≡◌, ℕ, suc, ◌+◌, ◌<◌, ◌≤◌, ◌^◌, inl, inr, List, [], ◌∷◌, ◌++◌, map, length, Bool, true, Option, Some, None, Ok, Err, refl, sym, ap, subst, ◌∙◌, arith, append_assoc, append-nil, length-append, length-map, length-reverse, Appends}
+use Rattle.yds_model.proofs.Common.{◌≡◌, ℕ, ◌+◌, ◌<◌, ◌≤◌, ◌^◌, inl, inr, List, [], ◌∷◌, ◌++◌, length, Bool, true, Option, Some, None, Ok, Err, refl, sym, ap, subst, ◌∙◌, arith, append_assoc, append-nil, length-append, length-reverse, Appends}
 use Rattle.std.specs.Prelude.{IfSome}
 use Rattle.std.proofs.KnownBytes.{Appends-nil, Appends-trans}
 use Rattle.yds_port.specs.Sink.{AppendsFront}
 use Rattle.yds_kernel.specs.declared.fault.LineFault.{LineFault}
 use Rattle.yds_kernel.specs.Parts.{or_else}
-use Rattle.yds_kernel.specs.Event.{Said, Nothing}
-use Rattle.yds_kernel.specs.Text.{trace_of}
+use Rattle.yds_kernel.specs.Event.{Said}
 use Rattle.yds_kernel.specs.Views.{spot_read}
 use Rattle.yds_kernel_text.specs.declared.limits.TheConstants.{ROOM}
-use Rattle.yds_kernel_text.specs.Reading.{unread}
 use Rattle.yds_kernel_text.specs.Advancing.{Counts}
-use Rattle.yds_kernel_order.specs.Order.{Placed, placed_of, said_in, order_of, number_at, line_at}
-use Rattle.yds_kernel_order.specs.Ordering.{Ordering, IsGiven, IsOrderOf, number_now, said_now}
+use Rattle.yds_kernel_order.specs.Order.{Placed, said_in, order_of, line_at}
+use Rattle.yds_kernel_order.specs.Ordering.{Ordering, number_now, said_now}
 use Rattle.yds_kernel_order.specs.Advancing.{GivesLine, IsOver, IsRefused}
-use Rattle.yds_kernel_order.proofs.Given.{given_front, number_stays}
+use Rattle.yds_kernel_order.proofs.Given.{length-said_in}
 use Rattle.yds_trace.specs.Asked.{Asked}
 use Rattle.yds_trace.specs.declared.fault.Cause.{Cause}
 use Rattle.yds_trace.specs.Faults.{first_fault, numbered, said_fault, whole_fault}
 use Rattle.yds_trace.specs.Kept.{told_to_forget}
 use Rattle.yds_trace.specs.Parts.{processors_of, parts_fault}
 use Rattle.yds_trace_reading.specs.LineFault.{past_of}
-use Rattle.yds_trace_reading.proofs.Passing.{counts_first, counts_on, taken_bytes}
+use Rattle.yds_trace_reading.proofs.Giving.{AreGiven, before_all, counts_on, taken_bytes, none_given, one_given, number_given, said_given, first_given, number_of_last}
 use Rattle.yds_trace_parts.specs.declared.halt.Halt.{Halt as HaltKept}
 use Rattle.yds_trace_parts.specs.declared.halt.Halt.TheVariants as kept
 use Rattle.yds_trace_parts.specs.declared.telling.Telling.{Telling}
@@ -31,29 +29,14 @@ use Rattle.yds_trace_parts.specs.Plain.{IsGranted, IsOfSome, IsPlainPass, HasRoo
 use Rattle.yds_trace_parts.specs.Telling.{IsHaltFor, IsTelling, IsEnd, Adds, at_number}
 use Rattle.yds_trace_parts.specs.Driving.{IsEndless, WritesSome, Writes}
 use Rattle.yds_trace_parts.specs.Laws.{Begins}
-use Rattle.yds_trace_parts.proofs.Ahead.{IsBehind, IsFront, front_of, halt_at_end, begins_told, some_written, line_halts, form_halts, end_halts, all_told}
+use Rattle.yds_trace_parts.proofs.Ahead.{IsBehind, IsFront, front_of, begins_told, some_written, line_halts, form_halts, end_halts, all_told}
 
 -- # Before the first line
 
-abbrev before_lines : Ordering
-before_lines = record { reader = record { left = []; text = []; ended = true; number = 0; taken = 0 }; lines = 0; waiting = []; given = None; stop = None }
-
-first_agrees : (left : Option (List ℕ)) → IfSome left (λ bytes. IsOrderOf bytes before_lines [] (unread before_lines.reader left))
-first_agrees None = tt
-first_agrees (Some bytes) = record { order = refl; read_to = tt; counted = refl }
-
-pub at_begin : (asked : Asked) (strict : Bool) (left : Option (List ℕ)) (telling : Telling) (ordering : Ordering) (written : Option (List ℕ)) →
-    ordering ≡ record { reader = record { left = []; text = []; ended = true; number = 0; taken = 0 }; lines = 0; waiting = []; given = None; stop = None } →
+pub at_begin : (asked : Asked) (strict : Bool) (left : Option (List ℕ)) (telling : Telling) (ordering : Ordering) (written : Option (List ℕ)) → ordering ≡ before_all →
     IsTelling asked strict [] telling → IsBehind asked strict left telling ordering left 0 written written
-at_begin asked strict left telling ordering written is stands = record {
-  given = [];
-  stands = stands;
-  many = refl;
-  is_given = ap (λ (one : Ordering). one.given) is;
-  agrees = subst (λ (one : Ordering). IfSome left (λ bytes. IsOrderOf bytes one [] (unread one.reader left))) (sym is) (first_agrees left);
-  counts = subst (λ (one : Ordering). Counts left left 0 one.reader.taken) (sym is) (counts_first left);
-  appended = Appends-nil written;
-}
+at_begin asked strict left telling ordering written is stands =
+    record { given = []; known = none_given left ordering is; many = refl; stands = stands; appended = Appends-nil written }
 
 -- nothing was read or written
 pub nothing_written : (asked : Asked) (strict : Bool) (input : Option (List ℕ)) (written : Option (List ℕ)) →
@@ -69,83 +52,50 @@ nothing_written asked strict (Some bytes) written = record {
 
 -- # A line more
 
--- what the next line says, and its number in the text
-says_line : (old new : Ordering) (before left : Option (List ℕ)) (faults_before faults_now : ℕ) → (gives : GivesLine old new before left faults_before faults_now) →
-    said_now new ≡ gives.line.said
-says_line old new before left faults_before faults_now gives = ap (λ (given : Option Placed). elim given [ None ↦ Nothing | Some line ↦ line.said ]) gives.is_last
-
-has_number : (old new : Ordering) (before left : Option (List ℕ)) (faults_before faults_now : ℕ) → (gives : GivesLine old new before left faults_before faults_now) →
-    number_now new ≡ gives.line.number
-has_number old new before left faults_before faults_now gives = ap (λ (given : Option Placed). elim given [ None ↦ new.lines | Some line ↦ line.number ]) gives.is_last
-
--- with it the order is that of the input, too
-agrees_more : (input : Option (List ℕ)) (given : List Placed) (old new : Ordering) (before left : Option (List ℕ)) (faults_before faults_now : ℕ) →
-    (gives : GivesLine old new before left faults_before faults_now) → IsGiven old given → IfSome input (λ bytes. IsOrderOf bytes old given (unread old.reader before)) →
-    IfSome input (λ bytes. IsOrderOf bytes new (gives.line ∷ given) (unread new.reader left))
-agrees_more None given old new before left faults_before faults_now gives is_given agrees = tt
-agrees_more (Some bytes) given old new before left faults_before faults_now gives is_given agrees = gives.in_order bytes given is_given agrees
-
 pub one_more : (asked : Asked) (strict : Bool) (input : Option (List ℕ)) (telling next : Telling) (old new : Ordering) (before left : Option (List ℕ))
     (count faults_before faults_now : ℕ) (written mid now : Option (List ℕ)) (piece : List ℕ) →
-    (known : IsBehind asked strict input telling old before count written mid) → GivesLine old new before left faults_before faults_now →
-    Counts before left old.reader.taken new.reader.taken → IsTelling asked strict (said_now new ∷ said_in known.given) next →
-    Adds asked strict (said_in known.given) (said_now new ∷ said_in known.given) piece → Appends mid now piece →
+    (ahead : IsBehind asked strict input telling old before count written mid) → GivesLine old new before left faults_before faults_now →
+    Counts before left old.reader.taken new.reader.taken → IsTelling asked strict (said_now new ∷ said_in ahead.given) next →
+    Adds asked strict (said_in ahead.given) (said_now new ∷ said_in ahead.given) piece → Appends mid now piece →
     IsBehind asked strict input next new left (count + 1) written now
-one_more asked strict input telling next old new before left count faults_before faults_now written mid now piece known gives counts stands added put =
-    let says = says_line old new before left faults_before faults_now gives in
-    let past = said_in known.given in
+one_more asked strict input telling next old new before left count faults_before faults_now written mid now piece ahead gives counts stands added put =
+    let says = said_given new gives.line gives.is_last in
+    let past = said_in ahead.given in
     record {
-      given = gives.line ∷ known.given;
+      given = gives.line ∷ ahead.given;
+      known = one_given input old new before left ahead.given faults_before faults_now ahead.known gives counts;
+      many = omega (arith, ahead.many);
       stands = subst (λ (said : Said). IsTelling asked strict (said ∷ past) next) says stands;
-      many = omega (arith, known.many);
-      is_given = gives.is_given known.given known.is_given;
-      agrees = agrees_more input known.given old new before left faults_before faults_now gives known.is_given known.agrees;
-      counts = counts_on input before left old.reader.taken new.reader.taken known.counts counts;
       appended = subst (λ (said : Said). Appends written now (told_after asked strict (said ∷ past)).text) says
-          (subst (Appends written now) (sym added) (Appends-trans written mid now (told_after asked strict past).text piece known.appended put));
+          (subst (Appends written now) (sym added) (Appends-trans written mid now (told_after asked strict past).text piece ahead.appended put));
     }
-
--- # Lines that were given
-
-front_some : (bytes : List ℕ) (ordering : Ordering) (given : List Placed) (rest : Option (List ℕ)) → IsGiven ordering given → IsOrderOf bytes ordering given rest →
-    IsFront bytes (said_in given)
-front_some bytes ordering given rest is_given agrees =
-    let front = given_front bytes ordering given rest is_given agrees in
-    front_of bytes front.behind given front.parts
-
--- The last one has the number that is told.
-line_number : (bytes : List ℕ) (ordering : Ordering) (line : Placed) (given : List Placed) (rest : Option (List ℕ)) → IsGiven ordering (line ∷ given) →
-    IsOrderOf bytes ordering (line ∷ given) rest → line_at bytes (length (said_in given) + 1) ≡ line.number
-line_number bytes ordering line given rest is_given agrees =
-    let front = given_front bytes ordering (line ∷ given) rest is_given agrees in
-    ap (λ (n : ℕ). line_at bytes (n + 1)) (length-map given (λ (one : Placed). one.said))
-    ∙ ap (λ (placed : List Placed). number_at (length (trace_of bytes).said) placed (length given + 1)) front.parts
-    ∙ number_stays (length (trace_of bytes).said) front.behind line given
 
 -- # A line that isn't taken
 
-halted_by : (asked : Asked) (strict : Bool) (bytes : List ℕ) (given : List Placed) (telling : Telling) (old new : Ordering) (before left : Option (List ℕ))
-    (faults_before faults_now : ℕ) (halt : HaltKept) (written now : Option (List ℕ)) → IsTelling asked strict (said_in given) telling → IsGiven old given →
-    IsOrderOf bytes old given (unread old.reader before) → GivesLine old new before left faults_before faults_now →
-    IsHaltFor (at_number (number_now new) (told_after asked strict (said_now new ∷ said_in given)).halt) halt →
+front_some : (bytes : List ℕ) (ordering : Ordering) (left : Option (List ℕ)) (given : List Placed) → AreGiven (Some bytes) ordering left given → IsFront bytes (said_in given)
+front_some bytes ordering left given known = front_of bytes given (first_given bytes ordering left given known)
+
+halted_by : (asked : Asked) (strict : Bool) (bytes : List ℕ) (line : Placed) (given : List Placed) (telling : Telling) (new : Ordering) (left : Option (List ℕ)) (halt : HaltKept)
+    (written now : Option (List ℕ)) → AreGiven (Some bytes) new left (line ∷ given) → number_now new ≡ line.number → IsFront bytes (said_in given) →
+    IsTelling asked strict (said_in given) telling → IsHaltFor (at_number (number_now new) (told_after asked strict (line.said ∷ said_in given)).halt) halt →
     Appends written now (told_after asked strict (said_in given)).text → Writes asked strict bytes (Err halt) written now
-halted_by asked strict bytes given telling old new before left faults_before faults_now halt written now stands is_given agrees gives why appended =
-    let is_more = gives.is_given given is_given in
-    let more = gives.in_order bytes given is_given agrees in
-    line_halts asked strict bytes (said_in given) gives.line.said (number_now new) telling halt written now
-    (front_some bytes new (gives.line ∷ given) (unread new.reader left) is_more more)
-    (line_number bytes new gives.line given (unread new.reader left) is_more more ∙ sym (has_number old new before left faults_before faults_now gives))
-    (front_some bytes old given (unread old.reader before) is_given agrees) stands
-    (subst (λ (said : Said). IsHaltFor (at_number (number_now new) (told_after asked strict (said ∷ said_in given)).halt) halt)
-    (says_line old new before left faults_before faults_now gives) why) appended
+halted_by asked strict bytes line given telling new left halt written now known number front stands why appended =
+    let first = first_given bytes new left (line ∷ given) known in
+    line_halts asked strict bytes (said_in given) line.said (number_now new) telling halt written now (front_of bytes (line ∷ given) first)
+    (ap (λ (n : ℕ). line_at bytes (n + 1)) (length-said_in given) ∙ number_of_last bytes line given first ∙ sym number) front stands why appended
 
 pub not_taken : (asked : Asked) (strict : Bool) (input : Option (List ℕ)) (telling : Telling) (old new : Ordering) (before left : Option (List ℕ))
-    (count faults_before faults_now : ℕ) (written now : Option (List ℕ)) (halt : HaltKept) → (known : IsBehind asked strict input telling old before count written now) →
-    GivesLine old new before left faults_before faults_now → IsHaltFor (at_number (number_now new) (told_after asked strict (said_now new ∷ said_in known.given)).halt) halt →
+    (count faults_before faults_now : ℕ) (written now : Option (List ℕ)) (halt : HaltKept) → (ahead : IsBehind asked strict input telling old before count written now) →
+    GivesLine old new before left faults_before faults_now → Counts before left old.reader.taken new.reader.taken →
+    IsHaltFor (at_number (number_now new) (told_after asked strict (said_now new ∷ said_in ahead.given)).halt) halt →
     IfSome input (λ bytes. Writes asked strict bytes (Err halt) written now)
-not_taken asked strict None telling old new before left count faults_before faults_now written now halt known gives why = tt
-not_taken asked strict (Some bytes) telling old new before left count faults_before faults_now written now halt known gives why =
-    halted_by asked strict bytes known.given telling old new before left faults_before faults_now halt written now known.stands known.is_given known.agrees gives why known.appended
+not_taken asked strict None telling old new before left count faults_before faults_now written now halt ahead gives counts why = tt
+not_taken asked strict (Some bytes) telling old new before left count faults_before faults_now written now halt ahead gives counts why =
+    halted_by asked strict bytes gives.line ahead.given telling new left halt written now
+    (one_given (Some bytes) old new before left ahead.given faults_before faults_now ahead.known gives counts) (number_given new gives.line gives.is_last)
+    (front_some bytes old before ahead.given ahead.known) ahead.stands
+    (subst (λ (said : Said). IsHaltFor (at_number (number_now new) (told_after asked strict (said ∷ said_in ahead.given)).halt) halt) (said_given new gives.line gives.is_last) why)
+    ahead.appended
 
 -- # A line whose form is refused
 
@@ -153,10 +103,10 @@ pub not_in_form : (asked : Asked) (strict : Bool) (input : Option (List ℕ)) (t
     (count faults_before faults_now number : ℕ) (fault : LineFault) (written now : Option (List ℕ)) → IsBehind asked strict input telling old before count written now →
     IsRefused number fault old new before left faults_before faults_now →
     IfSome input (λ bytes. Writes asked strict bytes (Err (kept.InForm number fault)) written now)
-not_in_form asked strict None telling old new before left count faults_before faults_now number fault written now known refused = tt
-not_in_form asked strict (Some bytes) telling old new before left count faults_before faults_now number fault written now known refused =
-    form_halts asked strict bytes known.given new.lines number (spot_read fault) written now (kept.InForm number fault) refl
-    (refused.whole bytes known.given known.is_given known.agrees) known.stands.goes_on known.appended
+not_in_form asked strict None telling old new before left count faults_before faults_now number fault written now ahead refused = tt
+not_in_form asked strict (Some bytes) telling old new before left count faults_before faults_now number fault written now ahead refused =
+    form_halts asked strict bytes ahead.given new.lines number (spot_read fault) written now (kept.InForm number fault) refl
+    (refused.whole bytes ahead.given ahead.known.last ahead.known.in_order) ahead.stands.goes_on ahead.appended
 
 -- # A write that failed
 
@@ -188,104 +138,103 @@ cut_by asked strict bytes past said written mid now piece front appended added p
 
 pub piece_cut : (asked : Asked) (strict : Bool) (input : Option (List ℕ)) (telling : Telling) (old new : Ordering) (before left : Option (List ℕ))
     (count faults_before faults_now : ℕ) (written mid now : Option (List ℕ)) (piece : List ℕ) →
-    (known : IsBehind asked strict input telling old before count written mid) → GivesLine old new before left faults_before faults_now →
-    Adds asked strict (said_in known.given) (said_now new ∷ said_in known.given) piece → AppendsFront piece mid now →
+    (ahead : IsBehind asked strict input telling old before count written mid) → GivesLine old new before left faults_before faults_now →
+    Counts before left old.reader.taken new.reader.taken → Adds asked strict (said_in ahead.given) (said_now new ∷ said_in ahead.given) piece → AppendsFront piece mid now →
     IfSome input (λ bytes. Writes asked strict bytes (Err kept.WriteFault) written now)
-piece_cut asked strict None telling old new before left count faults_before faults_now written mid now piece known gives added part = tt
-piece_cut asked strict (Some bytes) telling old new before left count faults_before faults_now written mid now piece known gives added part =
-    cut_by asked strict bytes (said_in known.given) gives.line.said written mid now piece
-    (front_some bytes new (gives.line ∷ known.given) (unread new.reader left) (gives.is_given known.given known.is_given)
-    (gives.in_order bytes known.given known.is_given known.agrees)) known.appended
-    (subst (λ (said : Said). Adds asked strict (said_in known.given) (said ∷ said_in known.given) piece) (says_line old new before left faults_before faults_now gives) added) part
+piece_cut asked strict None telling old new before left count faults_before faults_now written mid now piece ahead gives counts added part = tt
+piece_cut asked strict (Some bytes) telling old new before left count faults_before faults_now written mid now piece ahead gives counts added part =
+    cut_by asked strict bytes (said_in ahead.given) gives.line.said written mid now piece
+    (front_some bytes new left (gives.line ∷ ahead.given) (one_given (Some bytes) old new before left ahead.given faults_before faults_now ahead.known gives counts)) ahead.appended
+    (subst (λ (said : Said). Adds asked strict (said_in ahead.given) (said ∷ said_in ahead.given) piece) (said_given new gives.line gives.is_last) added) part
 
 -- # The end
 
 pub end_not_told : (asked : Asked) (strict : Bool) (input : Option (List ℕ)) (telling : Telling) (old new : Ordering) (before left : Option (List ℕ))
-    (count faults_before faults_now : ℕ) (written now : Option (List ℕ)) (halt : HaltKept) → (known : IsBehind asked strict input telling old before count written now) →
+    (count faults_before faults_now : ℕ) (written now : Option (List ℕ)) (halt : HaltKept) → (ahead : IsBehind asked strict input telling old before count written now) →
     IsOver old new before left faults_before faults_now → IsHaltFor (at_number (number_now new)
-    (or_else (at_line count (whole_fault asked (said_in known.given))) (last_piece asked strict (said_in known.given) (processors_of asked (said_in known.given))).halt)) halt →
+    (or_else (at_line count (whole_fault asked (said_in ahead.given))) (last_piece asked strict (said_in ahead.given) (processors_of asked (said_in ahead.given))).halt)) halt →
     IfSome input (λ bytes. Writes asked strict bytes (Err halt) written now)
-end_not_told asked strict None telling old new before left count faults_before faults_now written now halt known over why = tt
-end_not_told asked strict (Some bytes) telling old new before left count faults_before faults_now written now halt known over why =
-    end_halts asked strict bytes known.given new.lines (number_now new) telling halt written now (over.whole bytes known.given known.is_given known.agrees)
-    (sym (over.number known.given known.is_given)) (front_some bytes old known.given (unread old.reader before) known.is_given known.agrees) known.stands
+end_not_told asked strict None telling old new before left count faults_before faults_now written now halt ahead over why = tt
+end_not_told asked strict (Some bytes) telling old new before left count faults_before faults_now written now halt ahead over why =
+    end_halts asked strict bytes ahead.given new.lines (number_now new) telling halt written now (over.whole bytes ahead.given ahead.known.last ahead.known.in_order)
+    (sym (over.number ahead.given ahead.known.last)) (front_some bytes old before ahead.given ahead.known) ahead.stands
     (subst (λ (n : ℕ). IsHaltFor (at_number (number_now new)
-    (or_else (at_line n (whole_fault asked (said_in known.given))) (last_piece asked strict (said_in known.given) (processors_of asked (said_in known.given))).halt)) halt)
-    (sym known.many ∙ sym (length-map known.given (λ (line : Placed). line.said))) why) known.appended
+    (or_else (at_line n (whole_fault asked (said_in ahead.given))) (last_piece asked strict (said_in ahead.given) (processors_of asked (said_in ahead.given))).halt)) halt)
+    (sym ahead.many ∙ sym (length-said_in ahead.given)) why) ahead.appended
 
 -- the texts of all parts, with that of the last one
 told_all : (asked : Asked) (strict : Bool) (bytes : List ℕ) (telling : Telling) (old new : Ordering) (before left : Option (List ℕ)) (count faults_before faults_now : ℕ)
-    (written now : Option (List ℕ)) (text : List ℕ) → (known : IsBehind asked strict (Some bytes) telling old before count written now) →
-    IsOver old new before left faults_before faults_now → whole_fault asked (said_in known.given) ≡ None → IsEnd asked strict (said_in known.given) text →
-    told_in_text asked strict bytes ≡ record { text = (told_after asked strict (said_in known.given)).text ++ text; halt = None }
-told_all asked strict bytes telling old new before left count faults_before faults_now written now text known over sound last =
-    all_told asked strict bytes known.given new.lines text (over.whole bytes known.given known.is_given known.agrees) known.stands.goes_on sound last
+    (written now : Option (List ℕ)) (text : List ℕ) → (ahead : IsBehind asked strict (Some bytes) telling old before count written now) →
+    IsOver old new before left faults_before faults_now → whole_fault asked (said_in ahead.given) ≡ None → IsEnd asked strict (said_in ahead.given) text →
+    told_in_text asked strict bytes ≡ record { text = (told_after asked strict (said_in ahead.given)).text ++ text; halt = None }
+told_all asked strict bytes telling old new before left count faults_before faults_now written now text ahead over sound last =
+    all_told asked strict bytes ahead.given new.lines text (over.whole bytes ahead.given ahead.known.last ahead.known.in_order) ahead.stands.goes_on sound last
 
 pub end_told : (asked : Asked) (strict : Bool) (input : Option (List ℕ)) (telling : Telling) (old new : Ordering) (before left : Option (List ℕ)) (count faults_before faults_now : ℕ)
-    (written mid now : Option (List ℕ)) (text : List ℕ) → (known : IsBehind asked strict input telling old before count written mid) →
-    IsOver old new before left faults_before faults_now → whole_fault asked (said_in known.given) ≡ None → IsEnd asked strict (said_in known.given) text → Appends mid now text →
+    (written mid now : Option (List ℕ)) (text : List ℕ) → (ahead : IsBehind asked strict input telling old before count written mid) →
+    IsOver old new before left faults_before faults_now → whole_fault asked (said_in ahead.given) ≡ None → IsEnd asked strict (said_in ahead.given) text → Appends mid now text →
     IfSome input (λ bytes. Writes asked strict bytes (Ok tt) written now)
-end_told asked strict None telling old new before left count faults_before faults_now written mid now text known over sound last put = tt
-end_told asked strict (Some bytes) telling old new before left count faults_before faults_now written mid now text known over sound last put =
-    let all = told_all asked strict bytes telling old new before left count faults_before faults_now written mid text known over sound last in
+end_told asked strict None telling old new before left count faults_before faults_now written mid now text ahead over sound last put = tt
+end_told asked strict (Some bytes) telling old new before left count faults_before faults_now written mid now text ahead over sound last put =
+    let all = told_all asked strict bytes telling old new before left count faults_before faults_now written mid text ahead over sound last in
     record {
       told = ap (λ (told : Told). told.halt) all;
       appended = subst (Appends written now) (sym (ap (λ (told : Told). told.text) all))
-          (Appends-trans written mid now (told_after asked strict (said_in known.given)).text text known.appended put);
+          (Appends-trans written mid now (told_after asked strict (said_in ahead.given)).text text ahead.appended put);
     }
 
 pub end_cut : (asked : Asked) (strict : Bool) (input : Option (List ℕ)) (telling : Telling) (old new : Ordering) (before left : Option (List ℕ)) (count faults_before faults_now : ℕ)
-    (written mid now : Option (List ℕ)) (text : List ℕ) → (known : IsBehind asked strict input telling old before count written mid) →
-    IsOver old new before left faults_before faults_now → whole_fault asked (said_in known.given) ≡ None → IsEnd asked strict (said_in known.given) text → AppendsFront text mid now →
+    (written mid now : Option (List ℕ)) (text : List ℕ) → (ahead : IsBehind asked strict input telling old before count written mid) →
+    IsOver old new before left faults_before faults_now → whole_fault asked (said_in ahead.given) ≡ None → IsEnd asked strict (said_in ahead.given) text → AppendsFront text mid now →
     IfSome input (λ bytes. Writes asked strict bytes (Err kept.WriteFault) written now)
-end_cut asked strict None telling old new before left count faults_before faults_now written mid now text known over sound last part = tt
-end_cut asked strict (Some bytes) telling old new before left count faults_before faults_now written mid now text known over sound last part =
+end_cut asked strict None telling old new before left count faults_before faults_now written mid now text ahead over sound last part = tt
+end_cut asked strict (Some bytes) telling old new before left count faults_before faults_now written mid now text ahead over sound last part =
     subst (λ (whole : List ℕ). AppendsFront whole written now)
-    (sym (ap (λ (told : Told). told.text) (told_all asked strict bytes telling old new before left count faults_before faults_now written mid text known over sound last)))
-    (front_after (told_after asked strict (said_in known.given)).text text written mid now known.appended part)
+    (sym (ap (λ (told : Told). told.text) (told_all asked strict bytes telling old new before left count faults_before faults_now written mid text ahead over sound last)))
+    (front_after (told_after asked strict (said_in ahead.given)).text text written mid now ahead.appended part)
 
 -- Nothing is left then.
 pub over_nothing : (asked : Asked) (strict : Bool) (input : Option (List ℕ)) (telling : Telling) (old new : Ordering) (before left : Option (List ℕ)) (count faults_before faults_now : ℕ)
     (written now : Option (List ℕ)) → IsBehind asked strict input telling old before count written now → IsOver old new before left faults_before faults_now →
     IfSome input (λ bytes. left ≡ Some [])
-over_nothing asked strict None telling old new before left count faults_before faults_now written now known over = tt
-over_nothing asked strict (Some bytes) telling old new before left count faults_before faults_now written now known over =
-    over.none_left bytes known.given known.is_given known.agrees
+over_nothing asked strict None telling old new before left count faults_before faults_now written now ahead over = tt
+over_nothing asked strict (Some bytes) telling old new before left count faults_before faults_now written now ahead over =
+    over.none_left bytes ahead.given ahead.known.last ahead.known.in_order
 
 -- # What isn't of the trace
 
 some_lines : (asked : Asked) (strict : Bool) (bytes : List ℕ) (telling : Telling) (old : Ordering) (before : Option (List ℕ)) (count : ℕ) (written now : Option (List ℕ)) →
-    (known : IsBehind asked strict (Some bytes) telling old before count written now) → WritesSome asked strict bytes written now
-some_lines asked strict bytes telling old before count written now known =
-    some_written asked strict bytes (said_in known.given) telling written now
-    (front_some bytes old known.given (unread old.reader before) known.is_given known.agrees) known.stands known.appended
+    (ahead : IsBehind asked strict (Some bytes) telling old before count written now) → WritesSome asked strict bytes written now
+some_lines asked strict bytes telling old before count written now ahead =
+    some_written asked strict bytes (said_in ahead.given) telling written now
+    (front_some bytes old before ahead.given ahead.known) ahead.stands ahead.appended
 
 -- a read failed
 pub read_failed : (asked : Asked) (strict : Bool) (input : Option (List ℕ)) (telling : Telling) (old : Ordering) (before : Option (List ℕ)) (count : ℕ)
     (written now : Option (List ℕ)) → IsBehind asked strict input telling old before count written now →
     IfSome input (λ bytes. Writes asked strict bytes (Err kept.ReadFault) written now)
-read_failed asked strict None telling old before count written now known = tt
-read_failed asked strict (Some bytes) telling old before count written now known = some_lines asked strict bytes telling old before count written now known
+read_failed asked strict None telling old before count written now ahead = tt
+read_failed asked strict (Some bytes) telling old before count written now ahead = some_lines asked strict bytes telling old before count written now ahead
 
 -- memory ran out
 pub no_memory : (asked : Asked) (strict : Bool) (input : Option (List ℕ)) (telling : Telling) (old : Ordering) (before : Option (List ℕ)) (count : ℕ)
     (written now : Option (List ℕ)) → IsBehind asked strict input telling old before count written now →
     IfSome input (λ bytes. Writes asked strict bytes (Err kept.Memory) written now)
-no_memory asked strict None telling old before count written now known = tt
-no_memory asked strict (Some bytes) telling old before count written now known = some_lines asked strict bytes telling old before count written now known
+no_memory asked strict None telling old before count written now ahead = tt
+no_memory asked strict (Some bytes) telling old before count written now ahead = some_lines asked strict bytes telling old before count written now ahead
 
 endless : (asked : Asked) (strict : Bool) (bytes : List ℕ) (telling : Telling) (old : Ordering) (before : Option (List ℕ)) (count : ℕ)
     (written now : Option (List ℕ)) → IsBehind asked strict (Some bytes) telling old before count written now → IsEndless bytes →
     Writes asked strict bytes (Err kept.Endless) written now
-endless asked strict bytes telling old before count written now known long = (long, some_lines asked strict bytes telling old before count written now known)
+endless asked strict bytes telling old before count written now ahead long = (long, some_lines asked strict bytes telling old before count written now ahead)
 
 pub too_many_bytes : (asked : Asked) (strict : Bool) (input : Option (List ℕ)) (telling : Telling) (old : Ordering) (before left : Option (List ℕ)) (count taken : ℕ)
     (written now : Option (List ℕ)) → IsBehind asked strict input telling old before count written now → Counts before left old.reader.taken taken → 2 ^ 64 ≤ taken + ROOM →
     IfSome input (λ bytes. Writes asked strict bytes (Err kept.Endless) written now)
-too_many_bytes asked strict None telling old before left count taken written now known counts many = tt
-too_many_bytes asked strict (Some bytes) telling old before left count taken written now known counts many =
-    endless asked strict bytes telling old before count written now known
-    (inl (omega (arith, many, taken_bytes bytes left taken (counts_on (Some bytes) before left old.reader.taken taken known.counts counts))))
+too_many_bytes asked strict None telling old before left count taken written now ahead counts many = tt
+too_many_bytes asked strict (Some bytes) telling old before left count taken written now ahead counts many =
+    endless asked strict bytes telling old before count written now ahead
+    (inl (omega (arith, many, taken_bytes bytes left taken (counts_on (Some bytes) before left old.reader.taken taken ahead.known.counts counts))))
 
 -- as many lines as these are in order of time
 as_many : (bytes : List ℕ) (past : List Said) → IsFront bytes past → length past ≤ length (order_of bytes).said
@@ -296,11 +245,11 @@ as_many bytes past front =
 pub too_many_lines : (asked : Asked) (strict : Bool) (input : Option (List ℕ)) (telling : Telling) (old : Ordering) (before : Option (List ℕ)) (count : ℕ)
     (written now : Option (List ℕ)) → IsBehind asked strict input telling old before count written now → MOST_LINES ≤ count →
     IfSome input (λ bytes. Writes asked strict bytes (Err kept.Endless) written now)
-too_many_lines asked strict None telling old before count written now known all = tt
-too_many_lines asked strict (Some bytes) telling old before count written now known all =
-    endless asked strict bytes telling old before count written now known
-    (inr (omega (arith, all, known.many, length-map known.given (λ (line : Placed). line.said),
-    as_many bytes (said_in known.given) (front_some bytes old known.given (unread old.reader before) known.is_given known.agrees))))
+too_many_lines asked strict None telling old before count written now ahead all = tt
+too_many_lines asked strict (Some bytes) telling old before count written now ahead all =
+    endless asked strict bytes telling old before count written now ahead
+    (inr (omega (arith, all, ahead.many, length-said_in ahead.given,
+    as_many bytes (said_in ahead.given) (front_some bytes old before ahead.given ahead.known))))
 
 -- # What a part needs
 
@@ -340,23 +289,23 @@ of_some asked strict past telling count granted stands many = record {
 
 -- as many lines say something as were given
 pub past_length : (asked : Asked) (strict : Bool) (input : Option (List ℕ)) (telling : Telling) (old : Ordering) (before : Option (List ℕ)) (count : ℕ)
-    (written now : Option (List ℕ)) → (known : IsBehind asked strict input telling old before count written now) → length (said_in known.given) ≡ count
-past_length asked strict input telling old before count written now known = length-map known.given (λ (line : Placed). line.said) ∙ known.many
+    (written now : Option (List ℕ)) → (ahead : IsBehind asked strict input telling old before count written now) → length (said_in ahead.given) ≡ count
+past_length asked strict input telling old before count written now ahead = length-said_in ahead.given ∙ ahead.many
 
 pub room_behind : (asked : Asked) (strict : Bool) (input : Option (List ℕ)) (telling : Telling) (old : Ordering) (before : Option (List ℕ)) (count : ℕ)
     (written now : Option (List ℕ)) → IsGranted asked → IsBehind asked strict input telling old before count written now → count < MOST_LINES →
     HasRoom (told_to_forget telling.pass) telling.pass
-room_behind asked strict input telling old before count written now granted known few = record {
+room_behind asked strict input telling old before count written now granted ahead few = record {
   number = count;
-  of_some = of_some asked strict (said_in known.given) telling count granted known.stands (past_length asked strict input telling old before count written now known);
+  of_some = of_some asked strict (said_in ahead.given) telling count granted ahead.stands (past_length asked strict input telling old before count written now ahead);
   room = few;
 }
 
 pub plain_behind : (asked : Asked) (strict : Bool) (input : Option (List ℕ)) (telling : Telling) (old : Ordering) (before : Option (List ℕ)) (count : ℕ)
     (written now : Option (List ℕ)) → IsGranted asked → IsBehind asked strict input telling old before count written now → count ≤ MOST_LINES →
     IsPlainPass (told_to_forget telling.pass) telling.pass
-plain_behind asked strict input telling old before count written now granted known few = record {
+plain_behind asked strict input telling old before count written now granted ahead few = record {
   number = count;
-  of_some = of_some asked strict (said_in known.given) telling count granted known.stands (past_length asked strict input telling old before count written now known);
+  of_some = of_some asked strict (said_in ahead.given) telling count granted ahead.stands (past_length asked strict input telling old before count written now ahead);
   few = few;
 }

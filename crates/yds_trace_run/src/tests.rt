@@ -207,10 +207,11 @@ fn turns(alloc: Global, jobs: u16) -> Result<Vec<u8>, AllocError> {
 
 #[test]
 fn a_part_stands_before_a_failed_read(rt: HostRuntime) -> Result<(), Fail> {
-    // Behind line 2,048 more than 2,000 jobs wait, and the first part is written. Some 20 lines later the read fails.
-    let trace = turns(rt.alloc(), 2_100)?;
+    // Behind line 2,048 more than 2,000 jobs wait, and the first part is written. It has its place when 64 lines more are
+    // read, and some 20 lines later the read fails.
+    let trace = turns(rt.alloc(), 2_200)?;
     let line = "--tasks a:0.01,b:0.01 --us 1 --start 1000000 --begin run --parts";
-    let (ended, written) = told(&rt, line, trace, 2_760)?;
+    let (ended, written) = told(&rt, line, trace, 2_850)?;
     assert_eq!(rt; ended, Status::ReadFault);
     assert!(rt; written.starts_with(b"# part 1: jobs 1 to 2046, from "));
     assert!(rt;

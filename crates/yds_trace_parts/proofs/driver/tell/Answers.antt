@@ -1,7 +1,7 @@
 use Rattle.yds_model.proofs.Common.{◌≡◌, ℕ, ◌+◌, ◌∙◌, length, Ok, refl, sym, ap, arith, err_from_is_err_and}
 use Rattle.yds_trace.specs.Views.{asked_read}
 use Rattle.yds_trace_reading.proofs.Draining.{rest_same, rest_of}
-use Rattle.yds_trace_reading.proofs.Passing.{counts_on}
+use Rattle.yds_trace_reading.proofs.Giving.{counts_on}
 use Rattle.yds_trace_parts.specs.declared.halt.Halt.{Halt as HaltKept}
 use Rattle.yds_trace_parts.proofs.Driven.{at_begin, nothing_written, one_more, not_taken, not_in_form, piece_cut, end_not_told, end_told, end_cut, over_nothing, read_failed, no_memory, too_many_bytes, too_many_lines, past_length, room_behind, plain_behind}
 use Rattle.yds_trace_parts.proofs.Ending.{own_halt, tells_halt, tells_read_fault, tells_write_fault, tells_all}
@@ -70,8 +70,8 @@ returns-in_err-pieces-in-Line g c =
     rw (told.1, told.2)
     (tells_halt g.S.Source.left g.S.Source.faults g.K.Sink.written g.K.Sink.flushed g.K.Sink.flushes g.K.Sink.faults (asked_read c.args.asked) c.args.strict _ _ _ _ _ (own_halt _ _ why)
     (c.in-Line.ensures.advances.no_fault ∙ c.loop-lines.invariant.read) c.loop-lines.invariant.wrote c.loop-lines.invariant.flushed c.loop-lines.invariant.flushes
-    (not_taken (asked_read c.args.asked) c.args.strict (g.S.Source.left c.args.source.now) _ _ _ _ _ _ _ _ _ _ _ known c.in-Line.ensures.advances why)
-    (rest_of _ _ _ (counts_on (g.S.Source.left c.args.source.now) _ _ _ _ c.loop-lines.invariant.behind.counts c.in-Line.ensures.counts)))
+    (not_taken (asked_read c.args.asked) c.args.strict (g.S.Source.left c.args.source.now) _ _ _ _ _ _ _ _ _ _ _ known c.in-Line.ensures.advances c.in-Line.ensures.counts why)
+    (rest_of _ _ _ (counts_on (g.S.Source.left c.args.source.now) _ _ _ _ c.loop-lines.invariant.behind.known.counts c.in-Line.ensures.counts)))
 
 pub returns-in_err-write_all-in-Line : goal.returns-in_err-write_all-in-Line
 returns-in_err-write_all-in-Line g c =
@@ -82,9 +82,9 @@ returns-in_err-write_all-in-Line g c =
     (tells_write_fault g.S.Source.left g.S.Source.faults g.K.Sink.written g.K.Sink.flushed g.K.Sink.flushes g.K.Sink.faults (asked_read c.args.asked) c.args.strict _ _ _ _ _ c.loop-lines.invariant.wrote c.in_err-write_all-in-Line.ensures.puts.delivers.1
     (c.in-Line.ensures.advances.no_fault ∙ c.loop-lines.invariant.read)
     (c.in_err-write_all-in-Line.ensures.puts.flushed_stays ∙ c.loop-lines.invariant.flushed) (c.in_err-write_all-in-Line.ensures.puts.flushes_stay ∙ c.loop-lines.invariant.flushes)
-    (piece_cut (asked_read c.args.asked) c.args.strict (g.S.Source.left c.args.source.now) _ _ _ _ _ _ _ _ _ _ _ _ known c.in-Line.ensures.advances
+    (piece_cut (asked_read c.args.asked) c.args.strict (g.S.Source.left c.args.source.now) _ _ _ _ _ _ _ _ _ _ _ _ known c.in-Line.ensures.advances c.in-Line.ensures.counts
     (c.in_ok-pieces-in-Line.ensures.adds (asked_read c.args.asked) c.args.strict _ known.stands place) (rw c.deref.ensures.value at c.in_err-write_all-in-Line.ensures.puts.delivers.0))
-    (rest_of _ _ _ (counts_on (g.S.Source.left c.args.source.now) _ _ _ _ c.loop-lines.invariant.behind.counts c.in-Line.ensures.counts)))
+    (rest_of _ _ _ (counts_on (g.S.Source.left c.args.source.now) _ _ _ _ c.loop-lines.invariant.behind.known.counts c.in-Line.ensures.counts)))
 
 pub returns-in_err-text-in-End : goal.returns-in_err-text-in-End
 returns-in_err-text-in-End g c =
@@ -96,7 +96,7 @@ returns-in_err-text-in-End g c =
     (tells_halt g.S.Source.left g.S.Source.faults g.K.Sink.written g.K.Sink.flushed g.K.Sink.flushes g.K.Sink.faults (asked_read c.args.asked) c.args.strict _ _ _ _ _ (own_halt _ _ why)
     (c.in-End.ensures.advances.no_fault ∙ c.loop-lines.invariant.read) c.loop-lines.invariant.wrote c.loop-lines.invariant.flushed c.loop-lines.invariant.flushes
     (end_not_told (asked_read c.args.asked) c.args.strict (g.S.Source.left c.args.source.now) _ _ _ _ _ _ _ _ _ _ _ known c.in-End.ensures.advances why)
-    (rest_of _ _ _ (counts_on (g.S.Source.left c.args.source.now) _ _ _ _ c.loop-lines.invariant.behind.counts c.in-End.ensures.counts)))
+    (rest_of _ _ _ (counts_on (g.S.Source.left c.args.source.now) _ _ _ _ c.loop-lines.invariant.behind.known.counts c.in-End.ensures.counts)))
 
 pub returns-in_err-write_all-in-End : goal.returns-in_err-write_all-in-End
 returns-in_err-write_all-in-End g c =
@@ -110,7 +110,7 @@ returns-in_err-write_all-in-End g c =
     (end_cut (asked_read c.args.asked) c.args.strict (g.S.Source.left c.args.source.now) _ _ _ _ _ _ _ _ _ _ _ _ known c.in-End.ensures.advances
     (c.in_ok-text-in-End.ensures.sound (asked_read c.args.asked) c.args.strict _ known.stands place) (c.in_ok-text-in-End.ensures.told (asked_read c.args.asked) c.args.strict _ known.stands place)
     (rw c.deref-in-End.ensures.value at c.in_err-write_all-in-End.ensures.puts.delivers.0))
-    (rest_of _ _ _ (counts_on (g.S.Source.left c.args.source.now) _ _ _ _ c.loop-lines.invariant.behind.counts c.in-End.ensures.counts)))
+    (rest_of _ _ _ (counts_on (g.S.Source.left c.args.source.now) _ _ _ _ c.loop-lines.invariant.behind.known.counts c.in-End.ensures.counts)))
 
 pub returns-in-End : goal.returns-in-End
 returns-in-End g c =
@@ -123,37 +123,37 @@ returns-in-End g c =
     (c.in_ok-text-in-End.ensures.sound (asked_read c.args.asked) c.args.strict _ known.stands place) (c.in_ok-text-in-End.ensures.told (asked_read c.args.asked) c.args.strict _ known.stands place)
     (rw c.deref-in-End.ensures.value at c.in_ok-write_all-in-End.ensures.puts.delivers.0))
     (over_nothing (asked_read c.args.asked) c.args.strict (g.S.Source.left c.args.source.now) _ _ _ _ _ _ _ _ _ _ known c.in-End.ensures.advances)
-    (rest_of _ _ _ (counts_on (g.S.Source.left c.args.source.now) _ _ _ _ c.loop-lines.invariant.behind.counts c.in-End.ensures.counts))
+    (rest_of _ _ _ (counts_on (g.S.Source.left c.args.source.now) _ _ _ _ c.loop-lines.invariant.behind.known.counts c.in-End.ensures.counts))
 
 pub returns-in-Refused : goal.returns-in-Refused
 returns-in-Refused g c =
     tells_halt g.S.Source.left g.S.Source.faults g.K.Sink.written g.K.Sink.flushed g.K.Sink.flushes g.K.Sink.faults (asked_read c.args.asked) c.args.strict _ _ _ _ _ tt
     (c.in-Refused.ensures.advances.no_fault ∙ c.loop-lines.invariant.read) c.loop-lines.invariant.wrote c.loop-lines.invariant.flushed c.loop-lines.invariant.flushes
     (not_in_form (asked_read c.args.asked) c.args.strict (g.S.Source.left c.args.source.now) _ _ _ _ _ _ _ _ _ _ _ _ c.loop-lines.invariant.behind c.in-Refused.ensures.advances)
-    (rest_of _ _ _ (counts_on (g.S.Source.left c.args.source.now) _ _ _ _ c.loop-lines.invariant.behind.counts c.in-Refused.ensures.counts))
+    (rest_of _ _ _ (counts_on (g.S.Source.left c.args.source.now) _ _ _ _ c.loop-lines.invariant.behind.known.counts c.in-Refused.ensures.counts))
 
 pub returns-in-Failed : goal.returns-in-Failed
 returns-in-Failed g c =
     tells_read_fault g.S.Source.left g.S.Source.faults g.K.Sink.written g.K.Sink.flushed g.K.Sink.flushes g.K.Sink.faults (asked_read c.args.asked) c.args.strict _ _ _ _ _ c.loop-lines.invariant.read c.in-Failed.ensures.advances c.loop-lines.invariant.wrote c.loop-lines.invariant.flushed c.loop-lines.invariant.flushes
     (read_failed (asked_read c.args.asked) c.args.strict (g.S.Source.left c.args.source.now) _ _ _ _ _ _ c.loop-lines.invariant.behind)
-    (rest_of _ _ _ (counts_on (g.S.Source.left c.args.source.now) _ _ _ _ c.loop-lines.invariant.behind.counts c.in-Failed.ensures.counts))
+    (rest_of _ _ _ (counts_on (g.S.Source.left c.args.source.now) _ _ _ _ c.loop-lines.invariant.behind.known.counts c.in-Failed.ensures.counts))
 
 pub returns-in-TooLong : goal.returns-in-TooLong
 returns-in-TooLong g c =
     tells_halt g.S.Source.left g.S.Source.faults g.K.Sink.written g.K.Sink.flushed g.K.Sink.flushes g.K.Sink.faults (asked_read c.args.asked) c.args.strict _ _ _ _ _ tt
     (c.in-TooLong.ensures.advances.no_fault ∙ c.loop-lines.invariant.read) c.loop-lines.invariant.wrote c.loop-lines.invariant.flushed c.loop-lines.invariant.flushes
     (too_many_bytes (asked_read c.args.asked) c.args.strict (g.S.Source.left c.args.source.now) _ _ _ _ _ _ _ _ c.loop-lines.invariant.behind c.in-TooLong.ensures.counts c.in-TooLong.ensures.advances.counted)
-    (rest_of _ _ _ (counts_on (g.S.Source.left c.args.source.now) _ _ _ _ c.loop-lines.invariant.behind.counts c.in-TooLong.ensures.counts))
+    (rest_of _ _ _ (counts_on (g.S.Source.left c.args.source.now) _ _ _ _ c.loop-lines.invariant.behind.known.counts c.in-TooLong.ensures.counts))
 
 pub returns-in-Memory : goal.returns-in-Memory
 returns-in-Memory g c =
     tells_halt g.S.Source.left g.S.Source.faults g.K.Sink.written g.K.Sink.flushed g.K.Sink.flushes g.K.Sink.faults (asked_read c.args.asked) c.args.strict _ _ _ _ _ tt
     (c.in-Memory.ensures.advances ∙ c.loop-lines.invariant.read) c.loop-lines.invariant.wrote c.loop-lines.invariant.flushed c.loop-lines.invariant.flushes
     (no_memory (asked_read c.args.asked) c.args.strict (g.S.Source.left c.args.source.now) _ _ _ _ _ _ c.loop-lines.invariant.behind)
-    (rest_of _ _ _ (counts_on (g.S.Source.left c.args.source.now) _ _ _ _ c.loop-lines.invariant.behind.counts c.in-Memory.ensures.counts))
+    (rest_of _ _ _ (counts_on (g.S.Source.left c.args.source.now) _ _ _ _ c.loop-lines.invariant.behind.known.counts c.in-Memory.ensures.counts))
 
 pub returns : goal.returns
 returns g c =
     tells_halt g.S.Source.left g.S.Source.faults g.K.Sink.written g.K.Sink.flushed g.K.Sink.flushes g.K.Sink.faults (asked_read c.args.asked) c.args.strict _ _ _ _ _ tt c.loop-lines.invariant.read c.loop-lines.invariant.wrote c.loop-lines.invariant.flushed c.loop-lines.invariant.flushes
     (too_many_lines (asked_read c.args.asked) c.args.strict (g.S.Source.left c.args.source.now) _ _ _ _ _ _ c.loop-lines.invariant.behind (omega (arith, c.loop-lines-test.false)))
-    (rest_of _ _ _ c.loop-lines.invariant.behind.counts)
+    (rest_of _ _ _ c.loop-lines.invariant.behind.known.counts)
