@@ -18,7 +18,7 @@ use Rattle.yds_trace_threads.specs.Telling.{IsSound, threads_text}
 use Rattle.yds_trace_run.specs.Fault.{TraceFault, OfLine, document_fault, fault_of}
 use Rattle.yds_trace_run.specs.FaultText.{fault_text, halt_text, too_long_text}
 
--- The trace has no fault, its document passes no limit, and the text is that of the definition.
+-- The trace, its lines in order of time, has no fault, its document passes no limit, and the text is that of the definition.
 pub record IsDocument (asked : Asked) (strict : Bool) (input text : List ℕ) : Type 0 where
   pub sound : line_fault_of asked input ≡ None
   pub fits : document_fault asked strict (past_of (order_of input)) ≡ None
@@ -43,7 +43,7 @@ pub record IsHalted (asked : Asked) (strict : Bool) (input text : List ℕ) : Ty
   pub first : (told_in_text asked strict input).halt ≡ Some halt
   pub says : text ≡ (told_in_text asked strict input).text ++ halt_text halt
 
--- the text of the parts that were whole with some of the trace's lines, from the first on
+-- the text of the parts that were whole with some of the trace's lines, from the first on in order of time
 pub record ArePartsOfSome (asked : Asked) (strict : Bool) (input text : List ℕ) : Type 0 where
   pub past : List Said
   pub behind : List Said
@@ -85,7 +85,7 @@ pub record IsTable (input text : List ℕ) : Type 0 where
   pub sound : IsSound input
   pub says : text ≡ threads_text input
 
--- This is the first line that is refused, and the text is just its comment and the line `failed`.
+-- This is the first line in order of time that is refused, and the text is just its comment and the line `failed`.
 pub record IsNoTable (input text : List ℕ) : Type 0 where
   pub fault : LineFault
   pub first : threads_fault input ≡ Some fault

@@ -42,6 +42,8 @@ use yds_trace_words::{HELP, LINE_BYTES, NoRequest, Request, VERSION, fault_line,
 ///   behind those of some lines.
 /// - `WriteFault`: a front of one of these texts was written.
 ///
+/// The lines of a trace are taken in order of time, and a line is told by its number in the text.
+///
 /// The source and the sink need not tell their bytes. Where both do, what was written is what the definitions say of the words and
 /// of all bytes of the source. The code is one for all sources and sinks. Threads are looked up with these keys, on which no
 /// answer depends.
