@@ -1,5 +1,5 @@
 -- What was given stays: lines that still come stand behind it, and it keeps its numbers.
-use Rattle.yds_model.proofs.Common.{◌≡◌, ◌≢◌, ℕ, zero, suc, ◌+◌, ◌<◌, ◌≤◌, List, [], ◌∷◌, ◌++◌, length, map, reverse, Bool, true, false, ◌==◌, if◌then◌else◌, Option, Some, None, unwrap_or, refl, sym, ap, ◌∙◌, arith, subst, append-nil, length-append, length-map, map-append, eqb-true, eqb-false, cond-true, cond-false}
+use Rattle.yds_model.proofs.Common.{◌≡◌, ◌≢◌, ℕ, zero, suc, ◌+◌, ◌<◌, ◌≤◌, List, [], ◌∷◌, ◌++◌, length, map, reverse, Bool, true, false, ◌==◌, if◌then◌else◌, Option, Some, None, unwrap_or, refl, sym, ap, ◌∙◌, arith, subst, append-nil, length-append, length-map, map-append, eq-eqb, ne_eqb}
 use Rattle.std.proofs.lemmas.List.{reverse-reverse}
 use Rattle.yds_kernel.specs.Event.{Said, Stamped, Lost, Nothing}
 use Rattle.yds_kernel.specs.Text.{Trace, trace_of, trace_from}
@@ -93,11 +93,11 @@ order_behind_given ordering (line ∷ before) bytes is_given =
   stopped (Some (AtFault fault)) lines waiting given bytes enough = record { behind = waiting; parts = refl; enough = omega arith }
 
 -- All lines are those that were given, with others behind them.
-pub given_front : (input : List ℕ) (ordering : Ordering) (given : List Placed) (rest : Option (List ℕ)) → IsGiven ordering given → IsOrderOf input ordering given rest →
+pub given_front : (input : List ℕ) (ordering : Ordering) (given : List Placed) (left : Option (List ℕ)) → IsGiven ordering given → IsOrderOf input ordering given left →
     Behind 0 (placed_of (trace_of input)) given
 given_front input ordering given None is_given stands = absurd stands
-given_front input ordering given (Some bytes) is_given stands =
-    subst (λ (order : Order). Behind 0 order.placed given) (sym stands.order) (order_behind_given ordering given bytes is_given)
+given_front input ordering given (Some left) is_given stands =
+    subst (λ (order : Order). Behind 0 order.placed given) (sym stands.order) (order_behind_given ordering given (ordering.reader.left ++ left) is_given)
 
 -- # Numbers
 
@@ -106,13 +106,13 @@ pub number_behind : (lines : ℕ) (behind given : List Placed) (place : ℕ) →
 number_behind lines [] given place within = refl
 number_behind lines (last ∷ behind) given place within =
     let other : place ≢ length (behind ++ given) + 1 = λ same. omega (arith, same, length-append behind given) in
-    rw (eqb-false place (length (behind ++ given) + 1) other) (number_behind lines behind given place within)
+    rw (ne_eqb place (length (behind ++ given) + 1) other) (number_behind lines behind given place within)
 
 -- the line that is given next has its number
 pub number_of_next : (lines : ℕ) (behind given : List Placed) (line : Placed) → number_at lines (behind ++ line ∷ given) (length given + 1) ≡ line.number
 number_of_next lines behind given line =
     number_behind lines behind (line ∷ given) (length given + 1) (omega arith)
-    ∙ rw (eqb-true (length given + 1)) refl
+    ∙ rw (eq-eqb (length given + 1) (length given + 1) refl) refl
 
 -- # How many lines are placed
 
@@ -159,10 +159,10 @@ placed_from_length number (first ∷ said) past =
     omega (arith, placed_from_length (number + 1) said (next_placed number first past), next_placed_length number first past)
 
 -- No more lines were given than the text has up to its first fault.
-pub given_within : (input : List ℕ) (ordering : Ordering) (given : List Placed) (rest : Option (List ℕ)) → IsGiven ordering given → IsOrderOf input ordering given rest →
+pub given_within : (input : List ℕ) (ordering : Ordering) (given : List Placed) (left : Option (List ℕ)) → IsGiven ordering given → IsOrderOf input ordering given left →
     length given ≤ length (trace_of input).said
-given_within input ordering given rest is_given stands =
-    let front : Behind 0 (placed_of (trace_of input)) given = given_front input ordering given rest is_given stands in
+given_within input ordering given left is_given stands =
+    let front : Behind 0 (placed_of (trace_of input)) given = given_front input ordering given left is_given stands in
     omega (arith, placed_from_length 1 (trace_of input).said [], ap length front.parts, length-append front.behind given)
 
 -- # What was said

@@ -1,3 +1,4 @@
 pub mod Placing
 pub mod Places
+pub mod Holding
 pub mod Given

@@ -1,5 +1,5 @@
 -- The places of a ring: what stands in them, from a place on.
-use Rattle.yds_model.proofs.Common.{◌≡◌, ◌≢◌, ℕ, zero, suc, ◌+◌, ◌-◌, ◌<◌, ◌≤◌, List, [], ◌∷◌, ◌++◌, length, get_or, Bool, true, false, nat_lt, if◌then◌else◌, refl, sym, ap, ◌∙◌, arith, append-nil, add-zero}
+use Rattle.yds_model.proofs.Common.{◌≡◌, ◌≢◌, ℕ, zero, suc, ◌+◌, ◌-◌, ◌<◌, ◌≤◌, List, [], ◌∷◌, ◌++◌, length, get_or, Bool, true, false, nat_lt, if◌then◌else◌, refl, sym, ap, ◌∙◌, arith, add-zero, ◌⊎◌, inl, inr, cases_lt, lt-ltb, le-ltb, set, get_or-set_other}
 use Rattle.yds_kernel_order.specs.declared.ring.TheConstants.{SLOTS}
 use Rattle.yds_kernel_order.specs.Order.{Placed}
 use Rattle.yds_kernel_order.specs.Ring.{no_line, wrapped, slot_at, held_from, IsMovedDown}
@@ -28,10 +28,79 @@ held_join slots first low (suc high) =
     ∙ ap (λ (n : ℕ). slot_at slots n ∷ held_from slots first (low + high)) place
     ∙ ap (λ (lines : List Placed). slot_at slots (first + low + high) ∷ lines) (held_join slots first low high)
 
+-- a line that is put before all of a front stands behind it
+pub inserted_over : (count : ℕ) (line : Placed) (front rest : List Placed) → length front ≡ count → inserted count line (front ++ rest) ≡ front ++ line ∷ rest
+inserted_over zero line [] rest len = refl
+inserted_over zero line (last ∷ front) rest len = absurd (omega arith)
+inserted_over (suc count) line [] rest len = absurd (omega arith)
+inserted_over (suc count) line (last ∷ front) rest len = ap (λ (lines : List Placed). last ∷ lines) (inserted_over count line front rest (omega arith))
+
 -- # Behind the last place
 
 pub wrapped_low : (place : ℕ) → place < SLOTS → wrapped place ≡ place
-wrapped_low place within = ?
+wrapped_low place within = rw (lt-ltb place SLOTS within) refl
 
 pub wrapped_high : (place : ℕ) → SLOTS ≤ place → wrapped place ≡ place - SLOTS
-wrapped_high place beyond = ?
+wrapped_high place beyond = rw (le-ltb place SLOTS beyond) refl
+
+pub wrapped_within : (place : ℕ) → place < SLOTS + SLOTS → wrapped place < SLOTS
+wrapped_within place within = elim (cases_lt place SLOTS) [
+  | inl low ↦ omega (arith, wrapped_low place low)
+  | inr high ↦ omega (arith, wrapped_high place high)
+]
+
+-- a place from a wrapped one on is that from the other one on
+pub wrapped_on : (first more : ℕ) → first + more < SLOTS + SLOTS → wrapped (wrapped first + more) ≡ wrapped (first + more)
+wrapped_on first more within = elim (cases_lt first SLOTS) [
+  | inl low ↦ ap (λ (n : ℕ). wrapped (n + more)) (wrapped_low first low)
+  | inr high ↦
+      ap (λ (n : ℕ). wrapped (n + more)) (wrapped_high first high)
+      ∙ wrapped_low (first - SLOTS + more) (omega arith)
+      ∙ omega (arith, wrapped_high (first + more) (omega arith))
+]
+
+-- two places of a ring are different where they stand apart
+pub wrapped_apart : (low high : ℕ) → low < high → high < low + SLOTS → high < SLOTS + SLOTS → wrapped low ≢ wrapped high
+wrapped_apart low high less near within same = elim (cases_lt high SLOTS) [
+  | inl below ↦ omega (arith, same, wrapped_low low (omega arith), wrapped_low high below)
+  | inr beyond ↦ elim (cases_lt low SLOTS) [
+    | inl lower ↦ omega (arith, same, wrapped_low low lower, wrapped_high high beyond)
+    | inr upper ↦ omega (arith, same, wrapped_high low upper, wrapped_high high beyond)
+  ]
+]
+
+-- the same lines from a wrapped place on
+pub held_wrapped : (slots : List Placed) (first more count : ℕ) → first + more + count ≤ SLOTS + SLOTS →
+    held_from slots (wrapped first + more) count ≡ held_from slots (first + more) count
+held_wrapped slots first more count within =
+    held_same slots slots (first + more) (wrapped first + more) count (λ place below. (
+    ap (λ (n : ℕ). get_or slots (wrapped n) no_line) (omega arith)
+    ∙ ap (λ (n : ℕ). get_or slots n no_line) (wrapped_on first (more + place) (omega arith))
+    ∙ ap (λ (n : ℕ). get_or slots (wrapped n) no_line) (omega arith)))
+
+-- # A line in its place
+
+-- a line that was written behind those that are held
+pub held_set : (slots : List Placed) (line : Placed) (first held : ℕ) → first < SLOTS → held < SLOTS → length slots ≡ SLOTS →
+    held_from (set slots (wrapped (first + held)) line) first held ≡ held_from slots first held
+held_set slots line first held low fits len =
+    held_same slots (set slots (wrapped (first + held)) line) first first held (λ place below.
+    get_or-set_other slots (wrapped (first + held)) (wrapped (first + place)) line no_line
+    (wrapped_apart (first + place) (first + held) (omega arith) (omega arith) (omega arith)))
+
+-- the lines after one was moved before so many
+pub held_moved : (old new : List Placed) (first low count : ℕ) → IsMovedDown first (low + count) count old new →
+    held_from new first (suc (low + count)) ≡ inserted count (slot_at old (first + (low + count))) (held_from old first (low + count))
+held_moved old new first low count moved =
+    let suc_count : suc (low + count) ≡ suc low + count = omega arith in
+    let upper : held_from new (first + suc low) count ≡ held_from old (first + low) count =
+    held_same old new (first + low) (first + suc low) count (λ place below. (
+      ap (slot_at new) (omega arith) ∙ moved.above (low + place) (omega arith) (omega arith) ∙ ap (slot_at old) (omega arith))) in
+    let line : slot_at new (first + low) ≡ slot_at old (first + (low + count)) = moved.moved low refl in
+    let lower : held_from new first low ≡ held_from old first low = held_same old new first first low (λ place below. moved.below place (omega arith)) in
+    ap (held_from new first) suc_count ∙ held_join new first (suc low) count
+    ∙ ap (λ (lines : List Placed). lines ++ slot_at new (first + low) ∷ held_from new first low) upper
+    ∙ ap (λ (here : Placed). held_from old (first + low) count ++ here ∷ held_from new first low) line
+    ∙ ap (λ (lines : List Placed). held_from old (first + low) count ++ slot_at old (first + (low + count)) ∷ lines) lower
+    ∙ sym (inserted_over count (slot_at old (first + (low + count))) (held_from old (first + low) count) (held_from old first low) (length-held_from old (first + low) count))
+    ∙ ap (inserted count (slot_at old (first + (low + count)))) (sym (held_join old first low count))

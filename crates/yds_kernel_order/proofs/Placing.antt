@@ -75,3 +75,30 @@ inserted_front (suc count) line (last ∷ front) rest within = ap (λ (lines : L
 pub IsAtMost : ℕ → Option ℕ → Type 0
 IsAtMost most None = Unit {0}
 IsAtMost most (Some count) = count ≤ most
+
+counted_more : (most : ℕ) (stands far : Bool) (found : Option ℕ) → IsAtMost most found → IsAtMost (suc most) (if stands then Some 0 else (if far then None else option_map suc found))
+counted_more most true far found fits = omega arith
+counted_more most false true found fits = tt
+counted_more most false false None fits = tt
+counted_more most false false (Some count) fits = omega (arith, fits)
+
+counted_last : (stands : Bool) → IsAtMost 0 (if stands then Some 0 else None)
+counted_last true = omega arith
+counted_last false = tt
+
+-- no more are passed than may be
+pub passed_at_most : (most time : ℕ) (past : List Placed) → IsAtMost most (passed_in most time past)
+passed_at_most most time [] = omega arith
+passed_at_most zero time (last ∷ past) = counted_last (stands_before time last)
+passed_at_most (suc most) time (last ∷ past) =
+    counted_more most (stands_before time last) (is_later_by MAX_STEP_BACK time last.said) (passed_in most time past) (passed_at_most most time past)
+
+-- no more are passed than are there
+pub passed_within : (most time : ℕ) (past : List Placed) → IsAtMost (length past) (passed_in most time past)
+passed_within most time [] = omega arith
+passed_within zero time (last ∷ past) = counted_none (length past) (stands_before time last) where
+  counted_none : (len : ℕ) (stands : Bool) → IsAtMost (suc len) (if stands then Some 0 else None)
+  counted_none len true = omega arith
+  counted_none len false = tt
+passed_within (suc most) time (last ∷ past) =
+    counted_more (length past) (stands_before time last) (is_later_by MAX_STEP_BACK time last.said) (passed_in most time past) (passed_within most time past)

@@ -4,7 +4,6 @@ use Rattle.yds_port.specs.Count.{Rose}
 use Rattle.yds_kernel.specs.declared.fault.LineFault.{LineFault}
 use Rattle.yds_kernel.specs.Text.{trace_of}
 use Rattle.yds_kernel_text.specs.declared.limits.TheConstants.{ROOM}
-use Rattle.yds_kernel_text.specs.Reading.{unread}
 use Rattle.yds_kernel_order.specs.declared.step.Step.{Step}
 use Rattle.yds_kernel_order.specs.declared.step.Step.TheVariants as steps
 use Rattle.yds_kernel_order.specs.Order.{Placed, number_at}
@@ -15,21 +14,21 @@ pub record GivesLine (old new : Ordering) (before now : Option (List ℕ)) (faul
   pub line : Placed
   pub is_last : new.given ≡ Some line
   pub is_given : (given : List Placed) → IsGiven old given → IsGiven new (line ∷ given)
-  pub in_order : (input : List ℕ) (given : List Placed) → IsGiven old given → IsOrderOf input old given (unread old.reader before)
-      → IsOrderOf input new (line ∷ given) (unread new.reader now)
+  pub in_order : (input : List ℕ) (given : List Placed) → IsGiven old given → IsOrderOf input old given before
+      → IsOrderOf input new (line ∷ given) now
   pub no_fault : faults_now ≡ faults_before
 
 -- each line was given
 pub record IsOver (old new : Ordering) (before now : Option (List ℕ)) (faults_before faults_now : ℕ) : Type 0 where
-  pub whole : (input : List ℕ) (given : List Placed) → IsGiven old given → IsOrderOf input old given (unread old.reader before)
+  pub whole : (input : List ℕ) (given : List Placed) → IsGiven old given → IsOrderOf input old given before
       → whole_order (trace_of input) ≡ record { placed = given; lines = new.lines; fault = None }
   pub number : (given : List Placed) → IsGiven old given → number_now new ≡ number_at new.lines given (length given)
-  pub none_left : (input : List ℕ) (given : List Placed) → IsGiven old given → IsOrderOf input old given (unread old.reader before) → now ≡ Some []
+  pub none_left : (input : List ℕ) (given : List Placed) → IsGiven old given → IsOrderOf input old given before → now ≡ Some []
   pub no_fault : faults_now ≡ faults_before
 
 -- each line before the one of this number was given, whose form is refused
 pub record IsRefused (at : ℕ) (fault : LineFault) (old new : Ordering) (before now : Option (List ℕ)) (faults_before faults_now : ℕ) : Type 0 where
-  pub whole : (input : List ℕ) (given : List Placed) → IsGiven old given → IsOrderOf input old given (unread old.reader before)
+  pub whole : (input : List ℕ) (given : List Placed) → IsGiven old given → IsOrderOf input old given before
       → whole_order (trace_of input)
       ≡ record { placed = given; lines = new.lines; fault = Some (record { line = at; column = fault.column; reason = fault.reason }) }
   pub no_fault : faults_now ≡ faults_before

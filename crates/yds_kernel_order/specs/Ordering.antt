@@ -56,27 +56,27 @@ order_at None lines placed bytes = order_behind lines placed bytes
 order_at (Some AtEnd) lines placed bytes = record { placed = placed; lines = lines; fault = None }
 order_at (Some (AtFault fault)) lines placed bytes = record { placed = placed; lines = lines; fault = Some fault }
 
--- nothing is unread where the reading stopped at the end
+-- the source has nothing left where the reading stopped at the end
 abbrev pub IsReadTo : Option Stop → List ℕ → Type 0
-IsReadTo None bytes = Unit {0}
-IsReadTo (Some AtEnd) bytes = bytes ≡ []
-IsReadTo (Some (AtFault fault)) bytes = Unit {0}
+IsReadTo None left = Unit {0}
+IsReadTo (Some AtEnd) left = left ≡ []
+IsReadTo (Some (AtFault fault)) left = Unit {0}
 
 -- Up to where the reading stops each line was taken that was read.
 abbrev pub IsCounted : Option Stop → ℕ → ℕ → Type 0
 IsCounted None lines number = lines ≡ number
 IsCounted (Some stop) lines number = Unit {0}
 
--- It stands for the order of this input, where these lines were given, the last one first, and these bytes are unread.
-pub record StandsFor (input : List ℕ) (ordering : Ordering) (given : List Placed) (bytes : List ℕ) : Type 0 where
-  pub order : whole_order (trace_of input) ≡ order_at ordering.stop ordering.lines (ordering.waiting ++ given) bytes
-  pub read_to : IsReadTo ordering.stop bytes
+-- It stands for the order of this input, where these lines were given, the last one first, and the source has these bytes left.
+pub record StandsFor (input : List ℕ) (ordering : Ordering) (given : List Placed) (left : List ℕ) : Type 0 where
+  pub order : whole_order (trace_of input) ≡ order_at ordering.stop ordering.lines (ordering.waiting ++ given) (ordering.reader.left ++ left)
+  pub read_to : IsReadTo ordering.stop left
   pub counted : IsCounted ordering.stop ordering.lines ordering.reader.number
 
 -- the same where the source tells what it has left
 abbrev pub IsOrderOf : List ℕ → Ordering → List Placed → Option (List ℕ) → Type 0
 IsOrderOf input ordering given None = ⊥
-IsOrderOf input ordering given (Some bytes) = StandsFor input ordering given bytes
+IsOrderOf input ordering given (Some left) = StandsFor input ordering given left
 
 -- # Which lines were given
 

@@ -4,7 +4,7 @@ use Rattle.yds_model.specs.Fields.{Spot}
 use Rattle.yds_port.specs.Count.{Rose}
 use Rattle.yds_kernel.specs.declared.fault.Reason.{Reason}
 use Rattle.yds_kernel.specs.Event.{Said}
-use Rattle.yds_kernel_text.specs.Reading.{said_by, unread}
+use Rattle.yds_kernel_text.specs.Reading.{said_by}
 use Rattle.yds_kernel_order.specs.declared.limits.TheConstants.{MAX_PASSED}
 use Rattle.yds_kernel_order.specs.declared.step.Step.{Step}
 use Rattle.yds_kernel_order.specs.declared.step.Step.TheVariants as steps
@@ -47,8 +47,8 @@ Puts (Err step) old new = ⊥
 -- a line was taken, or the reading stopped
 pub record TakesOne (old new : Ordering) (before now : Option (List ℕ)) (faults_before faults_now : ℕ) : Type 0 where
   pub given : (given : List Placed) → IsGiven old given → IsGiven new given
-  pub order : (input : List ℕ) (given : List Placed) → IsGiven old given → IsOrderOf input old given (unread old.reader before)
-      → IsOrderOf input new given (unread new.reader now)
+  pub order : (input : List ℕ) (given : List Placed) → IsGiven old given → IsOrderOf input old given before
+      → IsOrderOf input new given now
   pub room : length new.waiting ≤ MAX_PASSED + 1
   pub fewer : lines_left new < lines_left old
   pub no_fault : faults_now ≡ faults_before

@@ -126,7 +126,7 @@ impl Ring {
         requires { length self.old.waiting ≤ MAX_PASSED }
         ensures { Places number (Lost processor since) self.old self.new }
     {
-        let place = wrapped(self.first + self.given + self.waiting);
+        let place = wrapped(self.first + (self.given + self.waiting));
         let slot = &mut self.slots[place];
         slot.set_loss(number, processor, since);
         self.waiting += 1;
