@@ -1,2 +1,3 @@
-pub mod Passing
+pub mod Giving
 pub mod Draining
+pub mod Passing
