@@ -193,14 +193,6 @@ end_cut asked strict (Some bytes) telling old new before left count faults_befor
     (sym (ap (λ (told : Told). told.text) (told_all asked strict bytes telling old new before left count faults_before faults_now written mid text ahead over sound last)))
     (front_after (told_after asked strict (said_in ahead.given)).text text written mid now ahead.appended part)
 
--- Nothing is left then.
-pub over_nothing : (asked : Asked) (strict : Bool) (input : Option (List ℕ)) (telling : Telling) (old new : Ordering) (before left : Option (List ℕ)) (count faults_before faults_now : ℕ)
-    (written now : Option (List ℕ)) → IsBehind asked strict input telling old before count written now → IsOver old new before left faults_before faults_now →
-    IfSome input (λ bytes. left ≡ Some [])
-over_nothing asked strict None telling old new before left count faults_before faults_now written now ahead over = tt
-over_nothing asked strict (Some bytes) telling old new before left count faults_before faults_now written now ahead over =
-    over.none_left bytes ahead.given ahead.known.last ahead.known.in_order
-
 -- # What isn't of the trace
 
 some_lines : (asked : Asked) (strict : Bool) (bytes : List ℕ) (telling : Telling) (old : Ordering) (before : Option (List ℕ)) (count : ℕ) (written now : Option (List ℕ)) →

@@ -1,9 +1,9 @@
 use Rattle.yds_model.proofs.Common.{◌≡◌, ℕ, ◌+◌, ◌∙◌, length, Ok, refl, sym, ap, arith, err_from_is_err_and}
 use Rattle.yds_trace.specs.Views.{asked_read}
 use Rattle.yds_trace_reading.proofs.Draining.{rest_same, rest_of}
-use Rattle.yds_trace_reading.proofs.Giving.{counts_on}
+use Rattle.yds_trace_reading.proofs.Giving.{counts_on, none_left}
 use Rattle.yds_trace_parts.specs.declared.halt.Halt.{Halt as HaltKept}
-use Rattle.yds_trace_parts.proofs.Driven.{at_begin, nothing_written, one_more, not_taken, not_in_form, piece_cut, end_not_told, end_told, end_cut, over_nothing, read_failed, no_memory, too_many_bytes, too_many_lines, past_length, room_behind, plain_behind}
+use Rattle.yds_trace_parts.proofs.Driven.{at_begin, nothing_written, one_more, not_taken, not_in_form, piece_cut, end_not_told, end_told, end_cut, read_failed, no_memory, too_many_bytes, too_many_lines, past_length, room_behind, plain_behind}
 use Rattle.yds_trace_parts.proofs.Ending.{own_halt, tells_halt, tells_read_fault, tells_write_fault, tells_all}
 use Rattle.yds_trace_parts.proofs.driver.tell.Goals as goal
 
@@ -122,7 +122,7 @@ returns-in-End g c =
     (end_told (asked_read c.args.asked) c.args.strict (g.S.Source.left c.args.source.now) _ _ _ _ _ _ _ _ _ _ _ _ known c.in-End.ensures.advances
     (c.in_ok-text-in-End.ensures.sound (asked_read c.args.asked) c.args.strict _ known.stands place) (c.in_ok-text-in-End.ensures.told (asked_read c.args.asked) c.args.strict _ known.stands place)
     (rw c.deref-in-End.ensures.value at c.in_ok-write_all-in-End.ensures.puts.delivers.0))
-    (over_nothing (asked_read c.args.asked) c.args.strict (g.S.Source.left c.args.source.now) _ _ _ _ _ _ _ _ _ _ known c.in-End.ensures.advances)
+    (none_left {A = Unit {0}} {E = HaltKept} (g.S.Source.left c.args.source.now) _ _ _ _ _ _ _ (Ok tt) known.known c.in-End.ensures.advances)
     (rest_of _ _ _ (counts_on (g.S.Source.left c.args.source.now) _ _ _ _ c.loop-lines.invariant.behind.known.counts c.in-End.ensures.counts))
 
 pub returns-in-Refused : goal.returns-in-Refused
