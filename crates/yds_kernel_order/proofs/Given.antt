@@ -5,7 +5,23 @@ use Rattle.yds_kernel.specs.Event.{Said, Stamped, Lost, Nothing}
 use Rattle.yds_kernel.specs.Text.{Trace, trace_of, trace_from}
 use Rattle.yds_kernel_order.specs.declared.limits.TheConstants.{MAX_PASSED, MAX_STEP_BACK}
 use Rattle.yds_kernel_order.specs.Order.{Placed, is_before_by, is_behind, is_loss_line, put, with_last, with_line, next_placed, placed_from, placed_of, said_in, in_order, number_at}
-use Rattle.yds_kernel_order.specs.Ordering.{Order, Ordering, Stop, AtEnd, AtFault, IsGiven, IsOrderOf, HoldsEnough, order_at, whole_order}
+use Rattle.yds_kernel_order.specs.Ordering.{Order, Ordering, Stop, AtEnd, AtFault, IsGiven, IsOrderOf, IsReadTo, IsCounted, HoldsEnough, order_at, whole_order}
+
+-- # Before the first line
+
+-- A new reader stands for the order of what its source has left.
+pub first_order : (input : List ℕ) (ordering : Ordering) → ordering.stop ≡ None → ordering.lines ≡ 0 → ordering.waiting ≡ [] → ordering.reader.left ≡ [] →
+    ordering.reader.number ≡ 0 → IsOrderOf input ordering [] (Some input)
+first_order input ordering stop lines waiting left number = record {
+  order =
+      ap (λ (n : ℕ). record { placed = placed_of (trace_of input); lines = n; fault = (trace_of input).fault }) (omega arith)
+      ∙ ap (λ (bytes : List ℕ). order_at None 0 [] (bytes ++ input)) (sym left)
+      ∙ ap (λ (placed : List Placed). order_at None 0 (placed ++ []) (ordering.reader.left ++ input)) (sym waiting)
+      ∙ ap (λ (n : ℕ). order_at None n (ordering.waiting ++ []) (ordering.reader.left ++ input)) (sym lines)
+      ∙ ap (λ (s : Option Stop). order_at s ordering.lines (ordering.waiting ++ []) (ordering.reader.left ++ input)) (sym stop);
+  read_to = subst (λ (s : Option Stop). IsReadTo s input) (sym stop) tt;
+  counted = subst (λ (s : Option Stop). IsCounted s ordering.lines ordering.reader.number) (sym stop) (lines ∙ sym number);
+}
 
 -- # Lines that come stand behind what was given
 
@@ -173,7 +189,7 @@ past_in_order trace = reverse-reverse (said_in (placed_of trace))
 
 -- as much is said as lines are placed
 pub length-said_in : (placed : List Placed) → length (said_in placed) ≡ length placed
-length-said_in placed = length-map (λ line. line.said) placed
+length-said_in placed = length-map placed (λ line. line.said)
 
 pub said_behind : (behind given : List Placed) → said_in (behind ++ given) ≡ said_in behind ++ said_in given
 said_behind behind given = map-append (λ line. line.said) behind given

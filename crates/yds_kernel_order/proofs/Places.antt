@@ -35,6 +35,10 @@ inserted_over zero line (last ∷ front) rest len = absurd (omega arith)
 inserted_over (suc count) line [] rest len = absurd (omega arith)
 inserted_over (suc count) line (last ∷ front) rest len = ap (λ (lines : List Placed). last ∷ lines) (inserted_over count line front rest (omega arith))
 
+-- the same place
+pub at_place : (slots : List Placed) (one other : ℕ) → one ≡ other → slot_at slots one ≡ slot_at slots other
+at_place slots one other same = ap (slot_at slots) same
+
 -- # Behind the last place
 
 pub wrapped_low : (place : ℕ) → place < SLOTS → wrapped place ≡ place
@@ -74,9 +78,9 @@ pub held_wrapped : (slots : List Placed) (first more count : ℕ) → first + mo
     held_from slots (wrapped first + more) count ≡ held_from slots (first + more) count
 held_wrapped slots first more count within =
     held_same slots slots (first + more) (wrapped first + more) count (λ place below. (
-    ap (λ (n : ℕ). get_or slots (wrapped n) no_line) (omega arith)
+    at_place slots (wrapped first + more + place) (wrapped first + (more + place)) (omega arith)
     ∙ ap (λ (n : ℕ). get_or slots n no_line) (wrapped_on first (more + place) (omega arith))
-    ∙ ap (λ (n : ℕ). get_or slots (wrapped n) no_line) (omega arith)))
+    ∙ at_place slots (first + (more + place)) (first + more + place) (omega arith)))
 
 -- # A line in its place
 
@@ -95,7 +99,8 @@ held_moved old new first low count moved =
     let suc_count : suc (low + count) ≡ suc low + count = omega arith in
     let upper : held_from new (first + suc low) count ≡ held_from old (first + low) count =
     held_same old new (first + low) (first + suc low) count (λ place below. (
-      ap (slot_at new) (omega arith) ∙ moved.above (low + place) (omega arith) (omega arith) ∙ ap (slot_at old) (omega arith))) in
+      at_place new (first + suc low + place) (first + (low + place) + 1) (omega arith) ∙ moved.above (low + place) (omega arith) (omega arith)
+      ∙ at_place old (first + (low + place)) (first + low + place) (omega arith))) in
     let line : slot_at new (first + low) ≡ slot_at old (first + (low + count)) = moved.moved low refl in
     let lower : held_from new first low ≡ held_from old first low = held_same old new first first low (λ place below. moved.below place (omega arith)) in
     ap (held_from new first) suc_count ∙ held_join new first (suc low) count

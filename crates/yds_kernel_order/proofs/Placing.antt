@@ -1,5 +1,5 @@
 -- Where a line is put, by how many lines it is put before.
-use Rattle.yds_model.proofs.Common.{◌≡◌, ℕ, zero, suc, ◌+◌, ◌<◌, ◌≤◌, List, [], ◌∷◌, ◌++◌, length, Bool, true, false, not, ◌||◌, if◌then◌else◌, Option, Some, None, option_map, refl, sym, ap, ◌∙◌, arith, cases_Bool}
+use Rattle.yds_model.proofs.Common.{◌≡◌, ℕ, zero, suc, ◌+◌, ◌<◌, ◌≤◌, List, [], ◌∷◌, ◌++◌, length, Bool, true, false, not, ◌||◌, if◌then◌else◌, Option, Some, None, option_map, refl, sym, ap, ◌∙◌, arith, subst}
 use Rattle.yds_kernel.specs.Event.{Event, Said, Stamped, Lost, Nothing}
 use Rattle.yds_kernel_order.specs.declared.limits.TheConstants.{MAX_PASSED, MAX_STEP_BACK}
 use Rattle.yds_kernel_order.specs.Order.{Placed, is_before_by, is_behind, put, with_last, with_line, next_placed}
@@ -72,7 +72,7 @@ inserted_front (suc count) line [] rest within = absurd (omega arith)
 inserted_front (suc count) line (last ∷ front) rest within = ap (λ (lines : List Placed). last ∷ lines) (inserted_front count line front rest (omega arith))
 
 -- as many as are passed are there, and are not more than may be
-pub IsAtMost : ℕ → Option ℕ → Type 0
+abbrev pub IsAtMost : ℕ → Option ℕ → Type 0
 IsAtMost most None = Unit {0}
 IsAtMost most (Some count) = count ≤ most
 
@@ -102,3 +102,7 @@ passed_within zero time (last ∷ past) = counted_none (length past) (stands_bef
   counted_none len false = tt
 passed_within (suc most) time (last ∷ past) =
     counted_more (length past) (stands_before time last) (is_later_by MAX_STEP_BACK time last.said) (passed_in most time past) (passed_within most time past)
+
+-- as many as are passed are there
+pub passed_count : (most time : ℕ) (past : List Placed) (count : ℕ) → passed_in most time past ≡ Some count → count ≤ length past
+passed_count most time past count is = subst (IsAtMost (length past)) is (passed_within most time past)

@@ -73,10 +73,5 @@ IsBehind held (line ∷ before) = (held.given ≡ Some line) × (MAX_PASSED ≤ 
 
 -- What the line of this number says was put among what waits, and no line was put before the given one.
 pub record Places (number : ℕ) (said : Said) (old new : Held) : Type 0 where
-  pub room : length new.waiting ≤ length old.waiting + 1
   pub behind : (given : List Placed) → IsBehind old given → IsBehind new given
   pub placed : (given : List Placed) → IsBehind old given → new.waiting ++ given ≡ next_placed number said (old.waiting ++ given)
-
--- the line that was given last is this one
-abbrev pub is_line : Option Placed → Option Placed → Type 0
-is_line result given = result ≡ given

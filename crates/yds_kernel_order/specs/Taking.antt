@@ -9,12 +9,16 @@ use Rattle.yds_kernel_order.specs.declared.limits.TheConstants.{MAX_PASSED}
 use Rattle.yds_kernel_order.specs.declared.step.Step.{Step}
 use Rattle.yds_kernel_order.specs.declared.step.Step.TheVariants as steps
 use Rattle.yds_kernel_order.specs.Order.{Placed, next_placed}
-use Rattle.yds_kernel_order.specs.Ordering.{Ordering, AtEnd, AtFault, IsGiven, IsOrderOf}
+use Rattle.yds_kernel_order.specs.Ordering.{Ordering, Stop, AtEnd, AtFault, IsGiven, IsOrderOf}
 use Rattle.yds_kernel_order.specs.Advancing.{IsTooLong}
 
--- a line may still come that is put before the next one
+-- a line may still come that is put before the first one that waits, where so many wait
+abbrev pub may_come : Option Stop → ℕ → Bool
+may_come None waiting = nat_le waiting MAX_PASSED
+may_come (Some stop) waiting = false
+
 abbrev pub needs_more : Ordering → Bool
-needs_more ordering = elim ordering.stop [ None ↦ nat_le (length ordering.waiting) MAX_PASSED | Some stop ↦ false ]
+needs_more ordering = may_come ordering.stop (length ordering.waiting)
 
 -- how many lines the text may still have
 abbrev pub lines_left : Ordering → ℕ
@@ -34,7 +38,7 @@ PutsSaid (Err spot) old new =
 
 pub record PutsLine (old new : Ordering) : Type 0 where
   pub reader : new.reader ≡ old.reader
-  pub room : length new.waiting ≤ MAX_PASSED + 1
+  pub counted : old.reader.number < 2 ^ 64
   pub said : PutsSaid (said_by old.reader) old new
 
 abbrev pub Puts : Result (Unit {0}) Step → Ordering → Ordering → Type 0
@@ -49,7 +53,6 @@ pub record TakesOne (old new : Ordering) (before now : Option (List ℕ)) (fault
   pub given : (given : List Placed) → IsGiven old given → IsGiven new given
   pub order : (input : List ℕ) (given : List Placed) → IsGiven old given → IsOrderOf input old given before
       → IsOrderOf input new given now
-  pub room : length new.waiting ≤ MAX_PASSED + 1
   pub fewer : lines_left new < lines_left old
   pub no_fault : faults_now ≡ faults_before
 
@@ -67,10 +70,19 @@ pub record GivesWaiting (old new : Ordering) : Type 0 where
   pub line : Placed
   pub first : old.waiting ≡ new.waiting ++ line ∷ []
   pub given : new.given ≡ Some line
+  pub reader : new.reader ≡ old.reader
+  pub lines : new.lines ≡ old.lines
+  pub stop : new.stop ≡ old.stop
+
+-- nothing waited where the reading stopped so
+pub record GivesNone (stop : Stop) (old new : Ordering) : Type 0 where
+  pub same : new ≡ old
+  pub none : old.waiting ≡ []
+  pub stopped : old.stop ≡ Some stop
 
 abbrev pub GivesNext : Step → Ordering → Ordering → Type 0
-GivesNext steps.Line old new = GivesWaiting old new × (new.reader ≡ old.reader) × (new.lines ≡ old.lines) × (new.stop ≡ old.stop)
-GivesNext steps.End old new = (new ≡ old) × (old.waiting ≡ []) × (old.stop ≡ Some AtEnd)
+GivesNext steps.Line old new = GivesWaiting old new
+GivesNext steps.End old new = GivesNone AtEnd old new
 GivesNext (steps.Refused number fault) old new =
-    (new ≡ old) × (old.waiting ≡ []) × (old.stop ≡ Some (AtFault (record { line = number; column = fault.column; reason = fault.reason })))
+    GivesNone (AtFault (record { line = number; column = fault.column; reason = fault.reason })) old new
 GivesNext step old new = ⊥

@@ -1,8 +1,7 @@
 //! A reader of the lines of a trace in order of time.
-ghost use Rattle.std.specs.Prelude.{◌≡◌, ◌≤◌, [], true, false, length, None, IfOk};
+ghost use Rattle.std.specs.Prelude.{◌≡◌, [], true, false, None, IfOk};
 ghost use Rattle.yds_kernel.specs.Views.{said_read};
 ghost use Rattle.yds_kernel_text.specs.Advancing.{Counts};
-ghost use Rattle.yds_kernel_order.specs.declared.limits.TheConstants.{MAX_PASSED};
 ghost use Rattle.yds_kernel_order.specs.Ordering.{number_now, said_now};
 ghost use Rattle.yds_kernel_order.specs.Advancing.{Advances};
 ghost use Rattle.yds_kernel_order.specs.Taking.{Takes, Puts, GivesNext, needs_more};
@@ -94,8 +93,9 @@ impl OrderedReader {
         ensures counts { Counts (S.left source.old) (S.left source.new) self.old.reader.taken self.new.reader.taken }
     {
         while self.needs_more() {
-            if let Err(step) = self.take(source) {
-                return step;
+            match self.take(source) {
+                Ok(()) => {}
+                Err(step) => return step,
             }
         }
         self.give()
@@ -127,7 +127,7 @@ impl OrderedReader {
 
     /// Puts the line that was read among those that wait, or stops at it.
     fn put(&mut self) -> Result<(), Step>
-        requires { length self.old.waiting ≤ MAX_PASSED }
+        requires { needs_more self.old ≡ true }
         ensures { Puts result self.old self.new }
     {
         let number = self.reader.number();

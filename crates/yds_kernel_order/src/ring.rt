@@ -1,10 +1,10 @@
 //! The lines that wait, in order of time, and the one that was given last.
-ghost use Rattle.std.specs.Prelude.{◌≡◌, ◌+◌, ◌-◌, ◌<◌, ◌≤◌, [], None, vec_len, length, IfOk, OnOk};
+ghost use Rattle.std.specs.Prelude.{◌≡◌, ◌+◌, ◌<◌, ◌≤◌, [], Some, None, length, IfOk, OnOk, MatchOption};
 ghost use Rattle.yds_kernel.specs.Event.{Stamped, Lost};
 ghost use Rattle.yds_kernel.specs.Views.{event_read, said_read};
 ghost use Rattle.yds_kernel_order.specs.declared.limits.TheConstants.{MAX_PASSED};
 ghost use Rattle.yds_kernel_order.specs.declared.ring.TheConstants.{SLOTS};
-ghost use Rattle.yds_kernel_order.specs.Ring.{Gives, Places, wrapped, passed_in, held_from, is_line, IsMovedDown};
+ghost use Rattle.yds_kernel_order.specs.Ring.{Gives, Places, wrapped, passed_in, held_from, IsMovedDown};
 
 use crate::limits::MAX_PASSED;
 use crate::slot::Slot;
@@ -47,7 +47,7 @@ impl Ring {
         ensures { IfOk result (λ ring. ring ≡ record { waiting = []; given = None }) }
     {
         let mut slots = Vec::with_capacity(alloc, SLOTS)?;
-        for _ in 0..SLOTS {
+        for _count in 0..SLOTS {
             slots.push(Slot::new(alloc))?;
         }
         Ok(Ring {
@@ -67,7 +67,7 @@ impl Ring {
 
     /// The line that was given last.
     pub fn given(&self) -> Option<&Slot>
-        ensures { is_line result self.now.given }
+        ensures { MatchOption result (self.now.given ≡ None) (λ slot. self.now.given ≡ Some slot.now) }
     {
         if self.given == 0 {
             None
@@ -92,7 +92,7 @@ impl Ring {
     /// Puts the line of this number among those that wait. One that says nothing has no place.
     pub fn place(&mut self, number: u64, said: Said<'_>) -> Result<(), AllocError>
         requires { length self.old.waiting ≤ MAX_PASSED }
-        ensures { OnOk result (Places number (said_read said) self.old self.new) }
+        ensures { OnOk result (Places number (said_read said.entry) self.old self.new) }
     {
         match said {
             Said::Event(event) => self.place_event(number, event),
@@ -107,16 +107,14 @@ impl Ring {
     /// Puts an event before those that are later, or behind all where it has no place among them.
     fn place_event(&mut self, number: u64, event: Event<'_>) -> Result<(), AllocError>
         requires { length self.old.waiting ≤ MAX_PASSED }
-        ensures { OnOk result (Places number (Stamped (event_read event)) self.old self.new) }
+        ensures { OnOk result (Places number (Stamped (event_read event.entry)) self.old self.new) }
     {
         let held = self.given + self.waiting;
         let place = wrapped(self.first + held);
         let found = passed(&self.slots, self.first, held, event.time);
         let slot = &mut self.slots[place];
         slot.set_event(number, event, found.is_none())?;
-        if let Some(count) = found {
-            move_down(&mut self.slots, self.first, held, count);
-        }
+        move_down(&mut self.slots, self.first, held, found.unwrap_or(0));
         self.waiting += 1;
         Ok(())
     }

@@ -129,7 +129,7 @@ impl Slot {
 
     /// Takes an event, with copies of its names, in the place of what it held.
     pub fn set_event(&mut self, number: u64, event: Event<'_>, stays: bool) -> Result<(), AllocError>
-        ensures { OnOk result (self.new ≡ record { number = number; said = Stamped (event_read event); stays = stays }) }
+        ensures { OnOk result (self.new ≡ record { number = number; said = Stamped (event_read event.entry); stays = stays }) }
     {
         self.number = number;
         self.stays = stays;

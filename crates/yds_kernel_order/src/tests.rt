@@ -4,11 +4,10 @@ ghost use Rattle.std.specs.Prelude.{◌≤◌};
 use crate::{OrderedReader, Step};
 use std::alloc::{AllocError, Global};
 use std::test::Fail;
-use yds_kernel::{LineFault, Reason, Said};
+use yds_kernel::{Happening, LineFault, Reason, Said};
 use yds_port::MemorySource;
 
-/// The numbers of a text's lines in order of time, read in pieces of so many bytes; 0 stands for the end behind them, and 100 and
-/// more for a line that is refused.
+/// The numbers of a text's lines in order of time, read in pieces of so many bytes, and 0 where the reader told the end behind them.
 fn numbers(alloc: Global, text: &[u8], piece: usize) -> Result<Vec<u64>, AllocError>
     requires { 1 ≤ piece }
 {
@@ -22,26 +21,10 @@ fn numbers(alloc: Global, text: &[u8], piece: usize) -> Result<Vec<u64>, AllocEr
                 numbers.push(0)?;
                 return Ok(numbers);
             }
-            Step::Refused { number, fault: _ } => {
-                numbers.push(number.saturating_add(100))?;
-                return Ok(numbers);
-            }
-            Step::Failed | Step::TooLong | Step::Memory => numbers.push(99)?,
+            Step::Refused { .. } | Step::Failed | Step::TooLong | Step::Memory => numbers.push(99)?,
         }
     }
     Ok(numbers)
-}
-
-/// The time of the line that was given last, and the length of the name of the thread that it wakes.
-fn time_and_name(reader: &OrderedReader) -> (u64, usize) {
-    match reader.said() {
-        Said::Event(event) => match event.happening {
-            yds_kernel::Happening::WakeUp(thread) => (event.time, thread.name.len()),
-            yds_kernel::Happening::Switch { previous, state: _, next: _ } => (event.time, previous.name.len()),
-            _ => (event.time, 0),
-        },
-        Said::Lost { .. } | Said::Nothing => (0, 0),
-    }
 }
 
 #[test]
@@ -51,26 +34,75 @@ fn lines_come_in_order_of_time(rt: HostRuntime) -> Result<(), Fail> {
         let read = numbers(rt.alloc(), text.as_slice(), piece)?;
         assert_eq!(rt; read.as_slice(), [3, 1, 4, 0].as_slice());
     }
+    assert_eq!(rt; numbers(rt.alloc(), b"# b\n", 1)?.as_slice(), [0].as_slice());
+    Ok(())
+}
+
+#[test]
+fn more_than_a_ring_holds_is_given(rt: HostRuntime) -> Result<(), Fail> {
+    let mut text = Vec::new(rt.alloc());
+    for _ in 0..64 {
+        text.extend_from_slice(b" a-1 [0] 5.000001: x:\n".as_slice())?;
+    }
+    for _ in 0..2 {
+        text.extend_from_slice(b" a-1 [1] 5.000000: x:\n".as_slice())?;
+    }
+    let read = numbers(rt.alloc(), &text, 100)?;
+    assert_eq!(rt; read.len(), 67);
+    assert_eq!(rt; read[0], 65);
+    assert_eq!(rt; read[1], 66);
+    assert_eq!(rt; read[2], 1);
+    assert_eq!(rt; read[65], 64);
     Ok(())
 }
 
 #[test]
 fn a_line_too_far_behind_stays(rt: HostRuntime) -> Result<(), Fail> {
     let text = b" a-1 [0] 5.001: x:\n a-1 [1] 5.000: x:\n a-1 [1] 4.999999999: x:\n";
-    assert_eq!(rt; numbers(rt.alloc(), text.as_slice(), 9)?.as_slice(), [2, 1, 3, 0].as_slice());
+    let read = numbers(rt.alloc(), text.as_slice(), 9)?;
+    assert_eq!(rt; read.as_slice(), [2, 1, 3, 0].as_slice());
     Ok(())
 }
 
 #[test]
 fn nothing_passes_a_loss_line(rt: HostRuntime) -> Result<(), Fail> {
     let text = b" a-1 [0] 5.1: x:\nCPU:3 [LOST 2 EVENTS]\n a-1 [1] 5.09999: x:\n a-1 [1] 5.09998: x:\n";
-    assert_eq!(rt; numbers(rt.alloc(), text.as_slice(), 9)?.as_slice(), [1, 2, 4, 3, 0].as_slice());
+    let read = numbers(rt.alloc(), text.as_slice(), 9)?;
+    assert_eq!(rt; read.as_slice(), [1, 2, 4, 3, 0].as_slice());
     Ok(())
 }
 
 #[test]
-fn lines_before_a_fault_are_given(rt: HostRuntime) -> Result<(), Fail> {
-    let text = b" a-1 [0] 5.2: x:\n a-1 [0] 5.1999: x:\n a-1 [0] 5.1: sched_switch: no\n a-1 [0] 5.1: x:\n";
-    assert_eq!(rt; numbers(rt.alloc(), text.as_slice(), 9)?.as_slice(), [2, 1, 103].as_slice());
+fn names_and_the_fault_behind_them_are_told(rt: HostRuntime) -> Result<(), Fail> {
+    let text = b" a-1 [0] 5.2: x:\n b-2 [0] 5.1999: sched_waking: comm=cd pid=3 prio=9\n a-1 [0] 5.1: sched_switch: no\n";
+    let mut source = MemorySource::new(text.to_vec(rt.alloc())?, 9, Vec::new(rt.alloc()));
+    let mut reader = OrderedReader::new(rt.alloc())?;
+    assert_eq!(rt; reader.number(), 0);
+    assert_eq!(rt; reader.advance(&mut source), Step::Line);
+    assert_eq!(rt; reader.number(), 2);
+    match reader.said() {
+        Said::Event(event) => match event.happening {
+            Happening::WakeUp(thread) => assert_eq!(rt; thread.name, b"cd".as_slice()),
+            _ => assert!(rt; false),
+        },
+        Said::Lost { .. } | Said::Nothing => assert!(rt; false),
+    }
+    assert_eq!(rt; reader.advance(&mut source), Step::Line);
+    let fault = LineFault {
+        column: 29,
+        reason: Reason::UnknownSwitch,
+    };
+    assert_eq!(rt; reader.advance(&mut source), Step::Refused { number: 3, fault });
+    assert_eq!(rt; reader.number(), 1);
+    Ok(())
+}
+
+#[test]
+fn a_failed_read_is_told(rt: HostRuntime) -> Result<(), Fail> {
+    let text = b" a-1 [0] 5.2: x:\n a-1 [0] 5.1999: x:\n";
+    let mut source = MemorySource::new(text.to_vec(rt.alloc())?, 9, [2].to_vec(rt.alloc())?);
+    let mut reader = OrderedReader::new(rt.alloc())?;
+    assert_eq!(rt; reader.advance(&mut source), Step::Failed);
+    assert_eq!(rt; reader.said(), Said::Nothing);
     Ok(())
 }
