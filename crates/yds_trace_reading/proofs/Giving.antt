@@ -1,26 +1,23 @@
 -- What the lines that were given so far, in order of time, show of the whole trace.
-use Rattle.yds_model.proofs.Common.{◌≡◌, ℕ, zero, suc, ◌+◌, ◌≤◌, List, [], ◌∷◌, ◌++◌, length, Bool, true, false, if◌then◌else◌, Option, Some, None, unwrap_or, refl, sym, ap, subst, ◌∙◌, arith, zero-add, length-append, map-append}
-use Rattle.std.specs.Prelude.{IfSome}
-use Rattle.std.proofs.lemmas.List.{reverse-reverse}
+use Rattle.yds_model.proofs.Common.{◌≡◌, ℕ, ◌+◌, ◌≤◌, List, [], ◌∷◌, ◌++◌, length, Option, Some, None, true, Result, Ok, Err, refl, sym, ap, subst, ◌∙◌, arith}
+use Rattle.std.specs.Prelude.{IfSome, OnOk}
 use Rattle.yds_model.specs.Fields.{Fault}
 use Rattle.yds_kernel.specs.declared.fault.Reason.{Reason}
 use Rattle.yds_kernel.specs.Parts.{or_else}
-use Rattle.yds_kernel.specs.Event.{Said, Stamped, Lost, Nothing}
-use Rattle.yds_kernel.specs.Text.{Trace, trace_of}
-use Rattle.yds_kernel_text.specs.Reading.{unread}
+use Rattle.yds_kernel.specs.Event.{Said, Nothing}
+use Rattle.yds_kernel.specs.Text.{trace_of}
 use Rattle.yds_kernel_text.specs.Advancing.{Counts}
-use Rattle.yds_kernel_order.specs.declared.limits.TheConstants.{MAX_PASSED, MAX_STEP_BACK}
-use Rattle.yds_kernel_order.specs.Order.{Placed, is_behind, is_before_by, put, with_last, with_line, next_placed, placed_from, placed_of, said_in, in_order, order_of, number_at, line_at}
+use Rattle.yds_kernel_order.specs.Order.{Placed, placed_of, said_in, order_of, number_at, line_at}
 use Rattle.yds_kernel_order.specs.Ordering.{Order, Ordering, IsGiven, IsOrderOf, whole_order, number_now, said_now}
-use Rattle.yds_kernel_order.specs.Advancing.{GivesLine}
-use Rattle.yds_kernel_order.proofs.Given.{Behind, given_front, number_of_next}
+use Rattle.yds_kernel_order.specs.Advancing.{GivesLine, IsOver}
+use Rattle.yds_kernel_order.proofs.Given.{Behind, first_order, given_front, number_of_next, past_in_order, said_behind}
 use Rattle.yds_trace.specs.declared.fault.Cause.{Cause}
 use Rattle.yds_trace_reading.specs.LineFault.{LineFault, AtLine, at_line, past_of, in_text}
 
 -- These lines of the input were given, the last one first; and as many bytes were taken as the source has fewer.
 pub record AreGiven (input : Option (List ℕ)) (ordering : Ordering) (left : Option (List ℕ)) (given : List Placed) : Type 0 where
   pub last : IsGiven ordering given
-  pub in_order : IfSome input (λ bytes. IsOrderOf bytes ordering given (unread ordering.reader left))
+  pub in_order : IfSome input (λ bytes. IsOrderOf bytes ordering given left)
   pub counts : Counts input left 0 ordering.reader.taken
 
 pub counts_on : (input before now : Option (List ℕ)) (old new : ℕ) → Counts input before 0 old → Counts before now old new → Counts input now 0 new
@@ -46,15 +43,7 @@ before_all = record {
 
 first_of_all : (left : Option (List ℕ)) → AreGiven left before_all left []
 first_of_all None = record { last = refl; in_order = tt; counts = tt }
-first_of_all (Some bytes) = record {
-  last = refl;
-  in_order = record {
-    order = ap (λ (lines : ℕ). record { placed = placed_of (trace_of bytes); lines = lines; fault = (trace_of bytes).fault }) (sym (zero-add (length (trace_of bytes).said)));
-    read_to = tt;
-    counted = refl;
-  };
-  counts = refl;
-}
+first_of_all (Some bytes) = record { last = refl; in_order = first_order bytes before_all refl refl refl refl refl; counts = refl }
 
 pub none_given : (left : Option (List ℕ)) (ordering : Ordering) → ordering ≡ before_all → AreGiven left ordering left []
 none_given left ordering is = subst (λ (begin : Ordering). AreGiven left begin left []) (sym is) (first_of_all left)
@@ -87,61 +76,17 @@ abbrev pub AreFirst : List ℕ → List Placed → Type 0
 AreFirst bytes given = Behind 0 (placed_of (trace_of bytes)) given
 
 pub first_given : (bytes : List ℕ) (ordering : Ordering) (left : Option (List ℕ)) (given : List Placed) → AreGiven (Some bytes) ordering left given → AreFirst bytes given
-first_given bytes ordering left given known = given_front bytes ordering given (unread ordering.reader left) known.last known.in_order
-
-past_in_order : (trace : Trace) → past_of (in_order trace) ≡ said_in (placed_of trace)
-past_in_order trace = reverse-reverse (said_in (placed_of trace))
+first_given bytes ordering left given known = given_front bytes ordering given left known.last known.in_order
 
 pub past_behind : (bytes : List ℕ) (given : List Placed) (first : AreFirst bytes given) → past_of (order_of bytes) ≡ said_in first.behind ++ said_in given
 past_behind bytes given first =
-    past_in_order (trace_of bytes) ∙ ap said_in first.parts ∙ map-append (λ (line : Placed). line.said) first.behind given
+    past_in_order (trace_of bytes) ∙ ap said_in first.parts ∙ said_behind first.behind given
 
 -- the number in the text of the last one of them
 pub number_of_last : (bytes : List ℕ) (line : Placed) (given : List Placed) → AreFirst bytes (line ∷ given) → line_at bytes (length given + 1) ≡ line.number
 number_of_last bytes line given first =
     ap (λ (placed : List Placed). number_at (length (trace_of bytes).said) placed (length given + 1)) first.parts
     ∙ number_of_next (length (trace_of bytes).said) first.behind given line
-
--- # No more lines are given than the text has
-
-length_put : (most : ℕ) (line : Placed) (past : List Placed) → IfSome (put most line past) (λ all. length all ≡ length past + 1)
-length_put most line [] = omega arith
-length_put zero line (last ∷ past) = first_length line last past (is_behind line last) where
-  first_length : (line last : Placed) (past : List Placed) (stands : Bool) →
-      IfSome (if stands then Some (line ∷ last ∷ past) else None) (λ all. length all ≡ length (last ∷ past) + 1)
-  first_length line last past true = omega arith
-  first_length line last past false = tt
-length_put (suc most) line (last ∷ past) =
-    next_length line last past (is_behind line last) (is_before_by MAX_STEP_BACK line.said last.said) (put most line past) (length_put most line past) where
-  next_length : (line last : Placed) (past : List Placed) (stands far : Bool) (rest : Option (List Placed)) → IfSome rest (λ all. length all ≡ length past + 1) →
-      IfSome (if stands then Some (line ∷ last ∷ past) else (if far then None else with_last last rest)) (λ all. length all ≡ length (last ∷ past) + 1)
-  next_length line last past true far rest is = omega arith
-  next_length line last past false true rest is = tt
-  next_length line last past false false None is = tt
-  next_length line last past false false (Some all) is = omega (arith, is)
-
-length_unwrapped : (stays : Placed) (past : List Placed) (found : Option (List Placed)) → IfSome found (λ all. length all ≡ length past + 1)
-    → length (unwrap_or found (stays ∷ past)) ≡ length past + 1
-length_unwrapped stays past None is = omega arith
-length_unwrapped stays past (Some all) is = is
-
-length_with_line : (line : Placed) (past : List Placed) → length (with_line line past) ≡ length past + 1
-length_with_line line past =
-    length_unwrapped (record { number = line.number; said = line.said; stays = true }) past (put MAX_PASSED line past) (length_put MAX_PASSED line past)
-
-length_next : (number : ℕ) (said : Said) (past : List Placed) → length (next_placed number said past) ≤ length past + 1
-length_next number (Stamped event) past = omega (arith, length_with_line (record { number = number; said = Stamped event; stays = false }) past)
-length_next number (Lost processor since) past = omega (arith, length_with_line (record { number = number; said = Lost processor since; stays = true }) past)
-length_next number Nothing past = omega arith
-
-length_placed : (number : ℕ) (said : List Said) (past : List Placed) → length (placed_from number said past) ≤ length past + length said
-length_placed number [] past = omega arith
-length_placed number (first ∷ said) past =
-    omega (arith, length_next number first past, length_placed (number + 1) said (next_placed number first past))
-
-pub given_lines : (bytes : List ℕ) (given : List Placed) → AreFirst bytes given → length given ≤ length (trace_of bytes).said
-given_lines bytes given first =
-    omega (arith, ap length first.parts, length-append first.behind given, length_placed 1 (trace_of bytes).said [])
 
 -- # All lines of the input
 
@@ -160,6 +105,13 @@ all_given bytes given lines fault is = record {
 pub number_at_end : (bytes : List ℕ) (given : List Placed) (lines : ℕ) (fault : Option (Fault Reason)) → whole_order (trace_of bytes) ≡ record { placed = given; lines = lines; fault = fault }
     → line_at bytes (length given) ≡ number_at lines given (length given)
 number_at_end bytes given lines fault is = ap (λ (order : Order). number_at order.lines order.placed (length given)) is
+
+-- At the end the source has nothing left.
+pub none_left : {A E : Type 0} (input before left : Option (List ℕ)) (old new : Ordering) (given : List Placed) (faults_before faults_now : ℕ) (result : Result A E)
+    → AreGiven input old before given → IsOver old new before left faults_before faults_now → IfSome input (λ bytes. OnOk result (left ≡ Some []))
+none_left None before left old new given faults_before faults_now result known over = tt
+none_left (Some bytes) before left old new given faults_before faults_now (Err error) known over = tt
+none_left (Some bytes) before left old new given faults_before faults_now (Ok value) known over = over.none_left bytes given known.last known.in_order
 
 -- # Faults
 

@@ -1,5 +1,5 @@
 -- What a pass over some lines shows of the whole trace.
-use Rattle.yds_model.proofs.Common.{◌≡◌, ℕ, ◌+◌, ◌≤◌, ◌^◌, inl, inr, List, [], ◌∷◌, ◌++◌, length, Option, Some, None, true, Result, Ok, Err, refl, sym, ap, ap₂, subst, ◌∙◌, arith, length-map}
+use Rattle.yds_model.proofs.Common.{◌≡◌, ℕ, ◌+◌, ◌≤◌, ◌^◌, inl, inr, List, [], ◌∷◌, ◌++◌, length, Option, Some, None, true, Result, Ok, Err, refl, sym, ap, ap₂, subst, ◌∙◌, arith}
 use Rattle.std.specs.Prelude.{IfSome, IfOk}
 use Rattle.std.specs.Result.{IfErr}
 use Rattle.yds_model.specs.Fields.{Fault}
@@ -13,6 +13,7 @@ use Rattle.yds_kernel_text.specs.Advancing.{Counts}
 use Rattle.yds_kernel_order.specs.Order.{Placed, said_in, order_of, number_at}
 use Rattle.yds_kernel_order.specs.Ordering.{Ordering, whole_order, number_now, said_now}
 use Rattle.yds_kernel_order.specs.Advancing.{GivesLine, IsOver, IsRefused}
+use Rattle.yds_kernel_order.proofs.Given.{given_within, length-said_in}
 use Rattle.yds_trace.specs.declared.fault.Cause.{Cause}
 use Rattle.yds_trace.specs.declared.ended.Ended.{Ended}
 use Rattle.yds_trace.specs.declared.pass.Pass.{Pass}
@@ -22,10 +23,10 @@ use Rattle.yds_trace.specs.Faults.{first_fault, numbered, said_fault, whole_faul
 use Rattle.yds_trace.specs.Kept.{IsAt}
 use Rattle.yds_trace_reading.specs.declared.stopped.Stopped.{Stopped}
 use Rattle.yds_trace_reading.specs.declared.stopped.Stopped.TheVariants as stops
-use Rattle.yds_trace_reading.specs.LineFault.{LineFault, InForm, AtLine, at_line, in_form, past_of, in_text, line_fault, line_fault_of, line_fault_after}
+use Rattle.yds_trace_reading.specs.LineFault.{InForm, AtLine, at_line, in_form, past_of, in_text, line_fault, line_fault_of, line_fault_after}
 use Rattle.yds_trace_reading.specs.Taken.{IsTaken, IsNotTaken, IsKnown, IsNotKnown}
 use Rattle.yds_trace_reading.specs.Reading.{IsEndOfSome, IsRead, IsTooLong, IsStopped}
-use Rattle.yds_trace_reading.proofs.Giving.{AreGiven, AreFirst, AreAll, counts_on, taken_bytes, none_given, one_given, first_given, past_behind, number_of_last, given_lines, all_given, number_at_end, told_in_text, number_given, said_given}
+use Rattle.yds_trace_reading.proofs.Giving.{AreGiven, AreFirst, AreAll, counts_on, taken_bytes, none_given, one_given, first_given, past_behind, number_of_last, all_given, number_at_end, told_in_text, number_given, said_given}
 
 -- the first fault of the lines so far is that of all lines
 fault_stays : (asked : Asked) (more past : List Said) (found : ℕ × Cause) → first_fault asked past ≡ Some found → first_fault asked (more ++ past) ≡ Some found
@@ -73,7 +74,7 @@ said_fault_first : (asked : Asked) (bytes : List ℕ) (given : List Placed) (lin
 said_fault_first asked bytes given line cause first sound wrong =
     let here : first_fault asked (said_in (line ∷ given)) ≡ Some (length given + 1, cause) =
     ap (λ (found : Option (ℕ × Cause)). or_else found (numbered (length (said_in given) + 1) (said_fault asked (said_in given) line.said))) sound
-    ∙ ap (numbered (length (said_in given) + 1)) wrong ∙ ap (λ (n : ℕ). Some (n + 1, cause)) (length-map given (λ (one : Placed). one.said)) in
+    ∙ ap (numbered (length (said_in given) + 1)) wrong ∙ ap (λ (n : ℕ). Some (n + 1, cause)) (length-said_in given) in
     let all : first_fault asked (past_of (order_of bytes)) ≡ Some (length given + 1, cause) =
     ap (first_fault asked) (past_behind bytes (line ∷ given) first) ∙ fault_stays asked (said_in first.behind) (said_in (line ∷ given)) (length given + 1, cause) here in
     told_in_text bytes (first_fault asked (past_of (order_of bytes)))
@@ -119,7 +120,7 @@ end_fault : (asked : Asked) (bytes : List ℕ) (given : List Placed) → AreAll 
 end_fault asked bytes given all sound =
     ap₂ (line_fault_after asked) all.past all.form
     ∙ ap (λ (found : Option (ℕ × Cause)). or_else (at_line found) (at_line (numbered (length (said_in given)) (whole_fault asked (said_in given))))) sound
-    ∙ ap (λ (n : ℕ). at_line (numbered n (whole_fault asked (said_in given)))) (length-map given (λ (one : Placed). one.said))
+    ∙ ap (λ (n : ℕ). at_line (numbered n (whole_fault asked (said_in given)))) (length-said_in given)
 
 read_at_end : (asked : Asked) (bytes : List ℕ) (given : List Placed) (ended : Ended) → AreAll bytes given None → first_fault asked (said_in given) ≡ None
     → IsKnown asked (said_in given) ended → IsRead asked bytes ended
@@ -172,4 +173,4 @@ pub too_many_lines : (asked : Asked) (input : Option (List ℕ)) (pass : Pass) (
     → IsAhead asked input pass old before count → 2 ^ 64 ≤ count + 1 → IfSome input IsTooLong
 too_many_lines asked None pass old before count ahead much = tt
 too_many_lines asked (Some bytes) pass old before count ahead much =
-    inr (omega (arith, much, ahead.many, given_lines bytes ahead.given (first_given bytes old before ahead.given ahead.known)))
+    inr (omega (arith, much, ahead.many, given_within bytes old ahead.given before ahead.known.last ahead.known.in_order))

@@ -1,4 +1,5 @@
-//! What no clause says: the table of recorded lines and of made ones, and that nothing of it is written behind a fault.
+//! What no clause says: the table of recorded lines and of made ones, in order of time or a little out of it, and that nothing of
+//! it is written behind a fault.
 
 use crate::{Halt, tell_threads};
 use std::hash::RandomState;
@@ -54,10 +55,26 @@ threads 3
 8\t0.000000\t0\t0\td
 ";
 
-/// The second line is before the first one, by more than a millisecond.
+/// The lines of `MADE`, as two processors' lines stand that were written a little out of order.
+const EXCHANGED: &[u8] = b"\
+x-1 [000] d..2. 1.000010: sched_switch: prev_comm=swapper/0 prev_pid=0 prev_prio=120 prev_state=R ==> next_comm=a next_pid=7 next_prio=120
+x-1 [000] d..2. 1.000000: sched_waking: comm=a pid=7 prio=120 target_cpu=000
+x-1 [000] d..2. 1.000001: sched_wakeup: comm=a pid=7 prio=120 target_cpu=000
+x-1 [000] d..2. 1.000110: sched_switch: prev_comm=a prev_pid=7 prev_prio=120 prev_state=S ==> next_comm=swapper/0 next_pid=0 next_prio=120
+x-1 [000] d..2. 1.000200: sched_waking: comm=a pid=7 prio=120 target_cpu=000
+x-1 [001] d..2. 1.000020: sched_switch: prev_comm=swapper/1 prev_pid=0 prev_prio=120 prev_state=R ==> next_comm=b \x1bc next_pid=9 next_prio=120
+x-1 [001] d..2. 1.000520: cpu_frequency: state=600000 cpu_id=0
+x-1 [000] d..2. 1.000210: sched_switch: prev_comm=swapper/0 prev_pid=0 prev_prio=120 prev_state=R ==> next_comm=a2 next_pid=7 next_prio=120
+x-1 [000] d..2. 1.000310: sched_switch: prev_comm=d prev_pid=8 prev_prio=120 prev_state=S ==> next_comm=swapper/0 next_pid=0 next_prio=120
+";
+
+/// Lines that are exchanged stand before the fifth one of the text, which is before the fourth one by more than a millisecond.
 const BACK: &[u8] = b"\
-x-1 [000] d..2. 1.001002: sched_waking: comm=a pid=7 prio=120 target_cpu=000
-x-1 [000] d..2. 1.000001: sched_waking: comm=a pid=7 prio=120 target_cpu=000
+x-1 [000] d..2. 1.000020: sched_waking: comm=a pid=7 prio=120 target_cpu=000
+x-1 [000] d..2. 1.000010: sched_waking: comm=a pid=7 prio=120 target_cpu=000
+# what says nothing
+x-1 [000] d..2. 1.001031: sched_waking: comm=a pid=7 prio=120 target_cpu=000
+x-1 [000] d..2. 1.000030: sched_waking: comm=a pid=7 prio=120 target_cpu=000
 ";
 
 /// A letter for how it ended.
@@ -68,7 +85,7 @@ fn letter(told: &Result<(), Halt>) -> u8 {
         Err(Halt::WriteFault) => b'w',
         Err(
             Halt::AtLine {
-                number: 2,
+                number: 5,
                 cause: Cause::TimeGoesBack,
             },
         ) => b'b',
@@ -83,6 +100,7 @@ fn table_is_written_or_nothing(rt: HostRuntime) -> Result<(), Fail> {
     let cases = [
         (RECORDED, 0, 0, b'.', RECORDED_TABLE),
         (MADE, 0, 0, b'.', MADE_TABLE),
+        (EXCHANGED, 0, 0, b'.', MADE_TABLE),
         (MADE, 2, 0, b'r', b"".as_slice()),
         (MADE, 0, 1, b'w', b"".as_slice()),
         (BACK, 0, 0, b'b', b"".as_slice()),

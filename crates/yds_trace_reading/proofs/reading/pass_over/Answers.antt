@@ -1,40 +1,55 @@
-use Rattle.yds_model.proofs.Common.{◌∙◌, arith, err_from_is_err_and}
+use Rattle.yds_model.proofs.Common.{◌∙◌, arith, refl, err_from_is_err_and}
+use Rattle.yds_kernel_order.specs.Order.{said_in}
 use Rattle.yds_trace.specs.Views.{asked_read}
-use Rattle.yds_trace_reading.proofs.Passing.{counts_on, one_more, not_taken, known_whole, read_whole, stopped_whole, too_many_lines}
-use Rattle.yds_trace_reading.proofs.Draining.{rest_same, rest_of, nothing_left}
+use Rattle.yds_trace_reading.proofs.Giving.{counts_on, none_left}
+use Rattle.yds_trace_reading.proofs.Passing.{at_begin, one_more, not_taken, not_formed, known_whole, read_whole, stopped_whole, too_many_bytes, too_many_lines}
+use Rattle.yds_trace_reading.proofs.Draining.{rest_same, rest_of}
 use Rattle.yds_trace_reading.proofs.reading.pass_over.Goals as goal
 
 pub returns-in_err-take_line-in-Line-clause-stopped : goal.returns-in_err-take_line-in-Line-clause-stopped
 returns-in_err-take_line-in-Line-clause-stopped g c =
     let told = err_from_is_err_and c.from_residual-in_err-take_line-in-Line.result c.from_residual-in_err-take_line-in-Line.ensures.1 in
     rw (told.1, told.2)
-    (not_taken (asked_read c.args.asked) _ _ _ _ _ _ _ _ _ _ c.loop-lines.invariant.ahead c.in-Line.ensures.advances
-    (c.in_err-take_line-in-Line.ensures.refused (asked_read c.args.asked) c.loop-lines.invariant.ahead.past c.loop-lines.invariant.ahead.stands))
+    (not_taken (asked_read c.args.asked) _ _ _ _ _ _ _ _ _ _ c.loop-lines.invariant.ahead c.in-Line.ensures.advances c.in-Line.ensures.counts
+    (c.in_err-take_line-in-Line.ensures.refused (asked_read c.args.asked) (said_in c.loop-lines.invariant.ahead.given) c.loop-lines.invariant.ahead.stands))
+
+pub returns-in-Refused-clause-stopped : goal.returns-in-Refused-clause-stopped
+returns-in-Refused-clause-stopped g c = not_formed (asked_read c.args.asked) _ _ _ _ _ _ _ _ _ _ _ c.loop-lines.invariant.ahead c.in-Refused.ensures.advances
 
 pub returns-in-End-clause-read : goal.returns-in-End-clause-read
 returns-in-End-clause-read g c =
-    read_whole (asked_read c.args.asked) _ _ c.loop-lines.reader _ _ _ c.loop-lines.invariant.ahead c.in-End.ensures.advances.at_end
-    (c.end.ensures.known (asked_read c.args.asked) c.loop-lines.invariant.ahead.past c.loop-lines.invariant.ahead.stands)
+    read_whole (asked_read c.args.asked) _ _ c.loop-lines.reader _ _ _ _ _ _ _ c.loop-lines.invariant.ahead c.in-End.ensures.advances
+    (c.end.ensures.known (asked_read c.args.asked) (said_in c.loop-lines.invariant.ahead.given) c.loop-lines.invariant.ahead.stands)
 
 pub returns-in-End-clause-stopped : goal.returns-in-End-clause-stopped
 returns-in-End-clause-stopped g c =
-    stopped_whole (asked_read c.args.asked) _ _ c.loop-lines.reader _ _ _ c.loop-lines.invariant.ahead c.in-End.ensures.advances.at_end
-    (c.end.ensures.refused (asked_read c.args.asked) c.loop-lines.invariant.ahead.past c.loop-lines.invariant.ahead.stands)
+    stopped_whole (asked_read c.args.asked) _ _ c.loop-lines.reader _ _ _ _ _ _ _ c.loop-lines.invariant.ahead c.in-End.ensures.advances
+    (rw (← c.number.ensures) (c.end.ensures.refused (asked_read c.args.asked) (said_in c.loop-lines.invariant.ahead.given) c.loop-lines.invariant.ahead.stands))
+
+pub loop-lines-init : goal.loop-lines-init
+loop-lines-init g c = record {
+  ahead = at_begin (asked_read c.args.asked) (g.S.Source.left c.args.source.now) _ _ c.in_ok-reader.ensures c.in_ok-pass.ensures;
+  faults = refl;
+}
 
 pub loop-lines-preserved : goal.loop-lines-preserved
 loop-lines-preserved g c = record {
   ahead = one_more (asked_read c.args.asked) _ _ _ _ _ _ _ _ _ _ c.loop-lines.invariant.ahead c.in-Line.ensures.advances c.in-Line.ensures.counts
-      (c.in_ok-take_line-in-Line.ensures.taken (asked_read c.args.asked) c.loop-lines.invariant.ahead.past c.loop-lines.invariant.ahead.stands);
+      (c.in_ok-take_line-in-Line.ensures.taken (asked_read c.args.asked) (said_in c.loop-lines.invariant.ahead.given) c.loop-lines.invariant.ahead.stands);
   faults = c.in-Line.ensures.advances.no_fault ∙ c.loop-lines.invariant.faults;
 }
 
 pub returns-clause-stopped : goal.returns-clause-stopped
 returns-clause-stopped g c = too_many_lines (asked_read c.args.asked) _ _ _ _ _ c.loop-lines.invariant.ahead (omega (arith, c.loop-lines-test.false))
 
+pub returns-in-TooLong-clause-stopped : goal.returns-in-TooLong-clause-stopped
+returns-in-TooLong-clause-stopped g c =
+    too_many_bytes (asked_read c.args.asked) _ _ _ _ _ _ _ c.loop-lines.invariant.ahead c.in-TooLong.ensures.counts c.in-TooLong.ensures.advances.counted
+
 pub returns-in-End-clause-known : goal.returns-in-End-clause-known
 returns-in-End-clause-known g c =
     known_whole (asked_read c.args.asked) _ _ c.loop-lines.reader _ _ _ c.loop-lines.invariant.ahead
-    (c.end.ensures.known (asked_read c.args.asked) c.loop-lines.invariant.ahead.past c.loop-lines.invariant.ahead.stands)
+    (c.end.ensures.known (asked_read c.args.asked) (said_in c.loop-lines.invariant.ahead.given) c.loop-lines.invariant.ahead.stands)
 
 -- # What is left
 
@@ -45,21 +60,26 @@ pub returns-in_err-pass-clause-rest : goal.returns-in_err-pass-clause-rest
 returns-in_err-pass-clause-rest g c = rest_same (g.S.Source.left c.args.source.now)
 
 pub returns-in_err-take_line-in-Line-clause-rest : goal.returns-in_err-take_line-in-Line-clause-rest
-returns-in_err-take_line-in-Line-clause-rest g c = rest_of _ _ _ (counts_on (g.S.Source.left c.args.source.now) _ _ _ _ c.loop-lines.invariant.ahead.counts c.in-Line.ensures.counts)
+returns-in_err-take_line-in-Line-clause-rest g c = rest_of _ _ _ (counts_on (g.S.Source.left c.args.source.now) _ _ _ _ c.loop-lines.invariant.ahead.known.counts c.in-Line.ensures.counts)
 
 pub returns-in-End-clause-rest : goal.returns-in-End-clause-rest
-returns-in-End-clause-rest g c = rest_of _ _ _ (counts_on (g.S.Source.left c.args.source.now) _ _ _ _ c.loop-lines.invariant.ahead.counts c.in-End.ensures.counts)
+returns-in-End-clause-rest g c = rest_of _ _ _ (counts_on (g.S.Source.left c.args.source.now) _ _ _ _ c.loop-lines.invariant.ahead.known.counts c.in-End.ensures.counts)
 
 pub returns-in-End-clause-none_left : goal.returns-in-End-clause-none_left
 returns-in-End-clause-none_left g c =
-    nothing_left (g.S.Source.left c.args.source.now) _ _ _ (counts_on (g.S.Source.left c.args.source.now) _ _ _ _ c.loop-lines.invariant.ahead.counts c.in-End.ensures.counts)
-    c.in-End.ensures.advances.none_left
+    none_left (g.S.Source.left c.args.source.now) _ _ _ _ _ _ _ _ c.loop-lines.invariant.ahead.known c.in-End.ensures.advances
+
+pub returns-in-Refused-clause-rest : goal.returns-in-Refused-clause-rest
+returns-in-Refused-clause-rest g c = rest_of _ _ _ (counts_on (g.S.Source.left c.args.source.now) _ _ _ _ c.loop-lines.invariant.ahead.known.counts c.in-Refused.ensures.counts)
 
 pub returns-in-Failed-clause-rest : goal.returns-in-Failed-clause-rest
-returns-in-Failed-clause-rest g c = rest_of _ _ _ (counts_on (g.S.Source.left c.args.source.now) _ _ _ _ c.loop-lines.invariant.ahead.counts c.in-Failed.ensures.counts)
+returns-in-Failed-clause-rest g c = rest_of _ _ _ (counts_on (g.S.Source.left c.args.source.now) _ _ _ _ c.loop-lines.invariant.ahead.known.counts c.in-Failed.ensures.counts)
 
 pub returns-in-TooLong-clause-rest : goal.returns-in-TooLong-clause-rest
-returns-in-TooLong-clause-rest g c = rest_of _ _ _ (counts_on (g.S.Source.left c.args.source.now) _ _ _ _ c.loop-lines.invariant.ahead.counts c.in-TooLong.ensures.counts)
+returns-in-TooLong-clause-rest g c = rest_of _ _ _ (counts_on (g.S.Source.left c.args.source.now) _ _ _ _ c.loop-lines.invariant.ahead.known.counts c.in-TooLong.ensures.counts)
+
+pub returns-in-Memory-clause-rest : goal.returns-in-Memory-clause-rest
+returns-in-Memory-clause-rest g c = rest_of _ _ _ (counts_on (g.S.Source.left c.args.source.now) _ _ _ _ c.loop-lines.invariant.ahead.known.counts c.in-Memory.ensures.counts)
 
 pub returns-clause-rest : goal.returns-clause-rest
-returns-clause-rest g c = rest_of _ _ _ c.loop-lines.invariant.ahead.counts
+returns-clause-rest g c = rest_of _ _ _ c.loop-lines.invariant.ahead.known.counts

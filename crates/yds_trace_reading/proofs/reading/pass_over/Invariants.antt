@@ -5,6 +5,6 @@ use Rattle.yds_trace_reading.proofs.reading.pass_over.Given as goal
 
 abbrev pub invariant-loop-lines : goal.invariant-loop-lines
 invariant-loop-lines g l = record {
-  ahead : IsAhead (asked_read l.fn.asked) (g.S.Source.left l.fn.source) l.pass l.reader (g.S.Source.left l.source) l.lines;
+  ahead : IsAhead (asked_read l.fn.asked) (g.S.Source.left l.fn.source) l.pass l.reader (g.S.Source.left l.source) l._lines;
   faults : g.S.Source.faults l.source ≡ g.S.Source.faults l.fn.source;
 }
