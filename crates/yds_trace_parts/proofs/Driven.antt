@@ -19,7 +19,7 @@ use Rattle.yds_trace.specs.Faults.{first_fault, numbered, said_fault, whole_faul
 use Rattle.yds_trace.specs.Kept.{told_to_forget}
 use Rattle.yds_trace.specs.Parts.{processors_of, parts_fault}
 use Rattle.yds_trace_reading.specs.LineFault.{past_of}
-use Rattle.yds_trace_reading.proofs.Giving.{AreGiven, before_all, counts_on, taken_bytes, none_given, one_given, number_given, said_given, first_given, number_of_last}
+use Rattle.yds_trace_reading.proofs.Giving.{AreGiven, counts_on, taken_bytes, none_given, one_given, number_given, said_given, first_given, number_of_last}
 use Rattle.yds_trace_parts.specs.declared.halt.Halt.{Halt as HaltKept}
 use Rattle.yds_trace_parts.specs.declared.halt.Halt.TheVariants as kept
 use Rattle.yds_trace_parts.specs.declared.telling.Telling.{Telling}
@@ -33,7 +33,8 @@ use Rattle.yds_trace_parts.proofs.Ahead.{IsBehind, IsFront, front_of, begins_tol
 
 -- # Before the first line
 
-pub at_begin : (asked : Asked) (strict : Bool) (left : Option (List ℕ)) (telling : Telling) (ordering : Ordering) (written : Option (List ℕ)) → ordering ≡ before_all →
+pub at_begin : (asked : Asked) (strict : Bool) (left : Option (List ℕ)) (telling : Telling) (ordering : Ordering) (written : Option (List ℕ)) →
+    ordering ≡ record { reader = record { left = []; text = []; ended = true; number = 0; taken = 0 }; lines = 0; waiting = []; given = None; stop = None } →
     IsTelling asked strict [] telling → IsBehind asked strict left telling ordering left 0 written written
 at_begin asked strict left telling ordering written is stands =
     record { given = []; known = none_given left ordering is; many = refl; stands = stands; appended = Appends-nil written }

@@ -1,4 +1,5 @@
 use Rattle.yds_model.proofs.Common.{◌≡◌, ℕ, ◌+◌, ◌∙◌, length, Ok, refl, sym, ap, arith, err_from_is_err_and}
+use Rattle.yds_kernel_order.specs.Order.{said_in}
 use Rattle.yds_trace.specs.Views.{asked_read}
 use Rattle.yds_trace_reading.proofs.Draining.{rest_same, rest_of}
 use Rattle.yds_trace_reading.proofs.Giving.{counts_on, none_left}
@@ -36,8 +37,8 @@ loop-lines-preserved g c =
     let place = ap (λ (n : ℕ). n + 1) (sym (past_length _ _ _ _ _ _ _ _ _ known)) in
     record {
       behind = one_more (asked_read c.args.asked) c.args.strict _ _ _ _ _ _ _ _ _ _ _ _ _ _ known c.in-Line.ensures.advances c.in-Line.ensures.counts
-          (c.in_ok-pieces-in-Line.ensures.told (asked_read c.args.asked) c.args.strict _ known.stands place)
-          (c.in_ok-pieces-in-Line.ensures.adds (asked_read c.args.asked) c.args.strict _ known.stands place)
+          (c.in_ok-pieces-in-Line.ensures.told (asked_read c.args.asked) c.args.strict (said_in known.given) known.stands place)
+          (c.in_ok-pieces-in-Line.ensures.adds (asked_read c.args.asked) c.args.strict (said_in known.given) known.stands place)
           (rw c.deref.ensures.value at c.in_ok-write_all-in-Line.ensures.puts.delivers.0);
       read = c.in-Line.ensures.advances.no_fault ∙ c.loop-lines.invariant.read;
       wrote = c.in_ok-write_all-in-Line.ensures.puts.delivers.1 ∙ c.loop-lines.invariant.wrote;
@@ -83,7 +84,7 @@ returns-in_err-write_all-in-Line g c =
     (c.in-Line.ensures.advances.no_fault ∙ c.loop-lines.invariant.read)
     (c.in_err-write_all-in-Line.ensures.puts.flushed_stays ∙ c.loop-lines.invariant.flushed) (c.in_err-write_all-in-Line.ensures.puts.flushes_stay ∙ c.loop-lines.invariant.flushes)
     (piece_cut (asked_read c.args.asked) c.args.strict (g.S.Source.left c.args.source.now) _ _ _ _ _ _ _ _ _ _ _ _ known c.in-Line.ensures.advances c.in-Line.ensures.counts
-    (c.in_ok-pieces-in-Line.ensures.adds (asked_read c.args.asked) c.args.strict _ known.stands place) (rw c.deref.ensures.value at c.in_err-write_all-in-Line.ensures.puts.delivers.0))
+    (c.in_ok-pieces-in-Line.ensures.adds (asked_read c.args.asked) c.args.strict (said_in known.given) known.stands place) (rw c.deref.ensures.value at c.in_err-write_all-in-Line.ensures.puts.delivers.0))
     (rest_of _ _ _ (counts_on (g.S.Source.left c.args.source.now) _ _ _ _ c.loop-lines.invariant.behind.known.counts c.in-Line.ensures.counts)))
 
 pub returns-in_err-text-in-End : goal.returns-in_err-text-in-End
