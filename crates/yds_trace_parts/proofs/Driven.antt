@@ -23,7 +23,7 @@ use Rattle.yds_trace_reading.proofs.Giving.{AreGiven, counts_on, taken_bytes, no
 use Rattle.yds_trace_parts.specs.declared.halt.Halt.{Halt as HaltKept}
 use Rattle.yds_trace_parts.specs.declared.halt.Halt.TheVariants as kept
 use Rattle.yds_trace_parts.specs.declared.telling.Telling.{Telling}
-use Rattle.yds_trace_parts.specs.Told.{Halt, InForm, Told, at_line, last_piece, line_halt, told_with, told_next, told_after, told_in_text}
+use Rattle.yds_trace_parts.specs.Told.{Halt, Told, at_line, last_piece, line_halt, told_with, told_next, told_after, told_in_text}
 use Rattle.yds_trace_parts.specs.declared.limits.TheConstants.{MOST_LINES}
 use Rattle.yds_trace_parts.specs.Plain.{IsGranted, IsOfSome, IsPlainPass, HasRoom}
 use Rattle.yds_trace_parts.specs.Telling.{IsHaltFor, IsTelling, IsEnd, Adds, at_number}

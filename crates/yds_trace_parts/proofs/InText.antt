@@ -18,7 +18,7 @@ use Rattle.yds_trace_document.specs.Part.{part_of, part_limit_fault}
 use Rattle.yds_trace_text.specs.PartText.{part_text}
 use Rattle.yds_trace_parts.specs.declared.halt.Halt.{Halt as HaltKept}
 use Rattle.yds_trace_parts.specs.declared.halt.Halt.TheVariants as kept
-use Rattle.yds_trace_parts.specs.Told.{Halt, InForm, AtLine, OfDocument, OfText, NoPlace, Told, at_line, line_halt, next_number, part_processor, of_document, of_text, part_halt, both, piece_unless, part_piece, no_place, open_longest, waiting_halt, piece_with, piece_at, piece_of, pieces, told_with, told_next, told_after, has_written, last_pieces, no_job_halt, last_piece, by_number}
+use Rattle.yds_trace_parts.specs.Told.{Halt, InForm, AtLine, OfDocument, OfText, NoPlace, at_line, line_halt, next_number, part_processor, of_document, of_text, part_halt, both, piece_unless, part_piece, no_place, open_longest, waiting_halt, piece_with, piece_at, piece_of, pieces, told_with, told_next, told_after, has_written, last_pieces, no_job_halt, last_piece, by_number}
 use Rattle.yds_trace_parts.specs.Telling.{IsHaltFor, with_number, at_number}
 
 -- # At which place

@@ -1,4 +1,4 @@
-use Rattle.yds_model.proofs.Common.{◌≡◌, ℕ, ◌+◌, ◌∙◌, length, Ok, refl, sym, ap, arith, err_from_is_err_and}
+use Rattle.yds_model.proofs.Common.{ℕ, ◌+◌, ◌∙◌, Ok, refl, sym, ap, arith, err_from_is_err_and}
 use Rattle.yds_kernel_order.specs.Order.{said_in}
 use Rattle.yds_trace.specs.Views.{asked_read}
 use Rattle.yds_trace_reading.proofs.Draining.{rest_same, rest_of}
