@@ -1,65 +1,70 @@
 -- What the telling of some lines shows of the whole trace.
-use Rattle.yds_model.proofs.Common.{◌≡◌, ℕ, List, [], ◌∷◌, ◌++◌, length, reverse, Bool, Option, Some, None, Err, refl, sym, ap, subst, ◌∙◌, Appends}
+use Rattle.yds_model.proofs.Common.{◌≡◌, ℕ, ◌+◌, List, [], ◌∷◌, ◌++◌, length, reverse, Bool, Option, Some, None, Err, refl, sym, ap, subst, ◌∙◌, Appends}
+use Rattle.std.specs.Prelude.{option_map}
+use Rattle.std.proofs.lemmas.List.{reverse-reverse}
 use Rattle.yds_model.specs.Fields.{Spot, Fault}
 use Rattle.yds_kernel.specs.declared.fault.Reason.{Reason}
 use Rattle.yds_kernel.specs.Parts.{or_else}
 use Rattle.yds_kernel.specs.Event.{Said}
-use Rattle.yds_kernel.specs.Text.{Trace, no_line, trace_of}
-use Rattle.yds_kernel_text.specs.Reading.{Reading, unread}
-use Rattle.yds_kernel_text.specs.Advancing.{Counts}
+use Rattle.yds_kernel.specs.Text.{Trace, trace_of}
+use Rattle.yds_kernel_order.specs.Order.{Placed, said_in, order_of, number_at, line_at}
+use Rattle.yds_kernel_order.specs.Ordering.{Order, Ordering, whole_order}
+use Rattle.yds_kernel_order.proofs.Given.{length-said_in}
 use Rattle.yds_trace.specs.Asked.{Asked}
 use Rattle.yds_trace.specs.Faults.{whole_fault}
 use Rattle.yds_trace.specs.Parts.{processors_of}
 use Rattle.yds_trace_reading.specs.LineFault.{past_of}
-use Rattle.yds_trace_reading.specs.Ahead.{ahead, Agrees}
-use Rattle.yds_trace_reading.proofs.Passing.{ahead_past, ahead_fault}
+use Rattle.yds_trace_reading.proofs.Giving.{AreGiven, AreFirst, past_behind, number_at_end}
 use Rattle.yds_trace_parts.specs.declared.halt.Halt.{Halt as HaltKept}
 use Rattle.yds_trace_parts.specs.declared.halt.Halt.TheVariants as kept
 use Rattle.yds_trace_parts.specs.declared.telling.Telling.{Telling}
-use Rattle.yds_trace_parts.specs.Told.{Halt, InForm, Told, at_line, end_halt, piece_unless, with_piece, last_pieces, no_job_halt, last_piece, told_last, told_after, told_at_end, told_of}
-use Rattle.yds_trace_parts.specs.Telling.{halt_read, IsHaltFor, IsTelling, IsEnd}
+use Rattle.yds_trace_parts.specs.Told.{Halt, InForm, Told, at_line, end_halt, piece_unless, with_piece, last_pieces, no_job_halt, last_piece, told_last, told_after, told_at_end, told_of, by_number, told_in_text}
+use Rattle.yds_trace_parts.specs.Telling.{halt_read, IsHaltFor, IsTelling, IsEnd, at_number}
 use Rattle.yds_trace_parts.specs.Driving.{WritesSome, WritesTold, Writes}
 use Rattle.yds_trace_parts.specs.Laws.{Begins}
 use Rattle.yds_trace_parts.proofs.Growing.{begins_on, lines_begin, end_begins, halted, end_halted, nothing_more, halting_text}
+use Rattle.yds_trace_parts.proofs.InText.{halts_here, ends_here, same_number, found_there}
 use Rattle.yds_trace_parts.proofs.Joined.{both_empty}
 
 -- # What was read so far
 
 -- what is known behind so many lines, whose parts were written
-pub record IsBehind (asked : Asked) (strict : Bool) (input : Option (List ℕ)) (telling : Telling) (reading : Reading) (left : Option (List ℕ)) (count : ℕ) (old now : Option (List ℕ)) : Type 0 where
-  pub past : List Said
-  pub stands : IsTelling asked strict past telling
-  pub many : length past ≡ count
-  pub number : reading.number ≡ count
-  pub agrees : Agrees input past count (unread reading left)
-  pub counts : Counts input left 0 reading.taken
-  pub appended : Appends old now (told_after asked strict past).text
+pub record IsBehind (asked : Asked) (strict : Bool) (input : Option (List ℕ)) (telling : Telling) (ordering : Ordering) (left : Option (List ℕ)) (count : ℕ) (old now : Option (List ℕ)) : Type 0 where
+  pub given : List Placed
+  pub known : AreGiven input ordering left given
+  pub many : length given ≡ count
+  pub stands : IsTelling asked strict (said_in given) telling
+  pub appended : Appends old now (told_after asked strict (said_in given)).text
 
 -- # The trace, by some of its lines
 
 -- the lines that are still to come
 pub record IsFront (bytes : List ℕ) (past : List Said) : Type 0 where
   pub behind : List Said
-  pub front : past_of (trace_of bytes) ≡ behind ++ past
+  pub front : past_of (order_of bytes) ≡ behind ++ past
 
-pub front_of : (bytes : List ℕ) (past : List Said) (rest : Trace) → trace_of bytes ≡ ahead past rest → IsFront bytes past
-front_of bytes past rest is = record { behind = reverse rest.said; front = ap past_of is ∙ ahead_past past rest }
+pub front_of : (bytes : List ℕ) (given : List Placed) → AreFirst bytes given → IsFront bytes (said_in given)
+front_of bytes given first = record { behind = said_in first.behind; front = past_behind bytes given first }
 
 -- what is told of these lines is the begin of what is told of the trace
 pub begins_told : (asked : Asked) (strict : Bool) (bytes : List ℕ) (past : List Said) → IsFront bytes past →
-    Begins (told_after asked strict past).text (told_of asked strict (trace_of bytes)).text
+    Begins (told_after asked strict past).text (told_in_text asked strict bytes).text
 begins_told asked strict bytes past front =
-    begins_on (told_after asked strict past).text (told_after asked strict (past_of (trace_of bytes))).text (told_of asked strict (trace_of bytes)).text
+    begins_on (told_after asked strict past).text (told_after asked strict (past_of (order_of bytes))).text (told_in_text asked strict bytes).text
     (subst (λ (lines : List Said). Begins (told_after asked strict past).text (told_after asked strict lines).text) (sym front.front) (lines_begin asked strict front.behind past))
-    (end_begins asked strict (past_of (trace_of bytes)) (trace_of bytes).fault)
+    (end_begins asked strict (past_of (order_of bytes)) (order_of bytes).fault)
 
 -- where they halt, so does it
 halts_told : (asked : Asked) (strict : Bool) (bytes : List ℕ) (past : List Said) (found : Halt) → IsFront bytes past → (told_after asked strict past).halt ≡ Some found →
-    told_of asked strict (trace_of bytes) ≡ told_after asked strict past
+    told_of asked strict (order_of bytes) ≡ told_after asked strict past
 halts_told asked strict bytes past found front is =
-    let all : told_after asked strict (past_of (trace_of bytes)) ≡ told_after asked strict past =
+    let all : told_after asked strict (past_of (order_of bytes)) ≡ told_after asked strict past =
     ap (told_after asked strict) front.front ∙ halted asked strict front.behind past found is in
-    end_halted asked strict (past_of (trace_of bytes)) (trace_of bytes).fault found (ap (λ (told : Told). told.halt) all ∙ is) ∙ all
+    end_halted asked strict (past_of (order_of bytes)) (order_of bytes).fault found (ap (λ (told : Told). told.halt) all ∙ is) ∙ all
+
+-- a reason with the number of its line
+abbrev numbered : (bytes : List ℕ) (told : Told) → Option Halt
+numbered bytes told = option_map (by_number (line_at bytes)) told.halt
 
 -- # Some lines
 
@@ -70,35 +75,51 @@ some_written asked strict bytes past telling old now front stands appended =
 
 -- # A line that halts
 
-told_by : (asked : Asked) (strict : Bool) (bytes : List ℕ) (past : List Said) (said : Said) (halt : HaltKept) (found : Halt) (old now : Option (List ℕ)) → IsFront bytes (said ∷ past) →
-    halt_read halt ≡ Some found → (told_after asked strict (said ∷ past)).halt ≡ halt_read halt → Appends old now (told_after asked strict past).text →
+told_by : (asked : Asked) (strict : Bool) (bytes : List ℕ) (past : List Said) (said : Said) (number : ℕ) (halt : HaltKept) (found : Halt) (old now : Option (List ℕ)) →
+    IsFront bytes (said ∷ past) → line_at bytes (length past + 1) ≡ number → (told_after asked strict past).halt ≡ None → halt_read halt ≡ Some found →
+    at_number number (told_after asked strict (said ∷ past)).halt ≡ halt_read halt → Appends old now (told_after asked strict past).text →
     WritesTold asked strict bytes (Some halt) old now
-told_by asked strict bytes past said halt found old now front read is appended =
-    let all = halts_told asked strict bytes (said ∷ past) found front (is ∙ read) in
+told_by asked strict bytes past said number halt found old now front line goes read is appended =
+    let there = found_there number (told_after asked strict (said ∷ past)).halt found (is ∙ read) in
+    let all = halts_told asked strict bytes (said ∷ past) there.0 front there.1 in
     record {
-      told = ap (λ (told : Told). told.halt) all ∙ is;
-      appended = subst (Appends old now) (sym (ap (λ (told : Told). told.text) all ∙ halting_text asked strict past said found (is ∙ read))) appended;
+      told = ap (numbered bytes) all ∙ same_number (line_at bytes) (length past + 1) number (told_after asked strict (said ∷ past)).halt line
+          (halts_here asked strict past said goes) ∙ is;
+      appended = subst (Appends old now) (sym (ap (λ (told : Told). told.text) all ∙ halting_text asked strict past said there.0 there.1)) appended;
     }
 
-pub line_halts : (asked : Asked) (strict : Bool) (bytes : List ℕ) (past : List Said) (said : Said) (telling : Telling) (halt : HaltKept) (old now : Option (List ℕ)) →
-    IsFront bytes (said ∷ past) → IsFront bytes past → IsTelling asked strict past telling → IsHaltFor (told_after asked strict (said ∷ past)).halt halt →
-    Appends old now (told_after asked strict past).text → Writes asked strict bytes (Err halt) old now
-line_halts asked strict bytes past said telling kept.Memory old now behind front stands is appended = some_written asked strict bytes past telling old now front stands appended
-line_halts asked strict bytes past said telling kept.Endless old now behind front stands is appended = absurd is
-line_halts asked strict bytes past said telling kept.ReadFault old now behind front stands is appended = absurd is
-line_halts asked strict bytes past said telling kept.WriteFault old now behind front stands is appended = absurd is
-line_halts asked strict bytes past said telling (kept.InForm number fault) old now behind front stands is appended =
-    told_by asked strict bytes past said (kept.InForm number fault) _ old now behind refl is appended
-line_halts asked strict bytes past said telling (kept.AtLine number cause) old now behind front stands is appended =
-    told_by asked strict bytes past said (kept.AtLine number cause) _ old now behind refl is appended
-line_halts asked strict bytes past said telling (kept.Limit processor part fault) old now behind front stands is appended =
-    told_by asked strict bytes past said (kept.Limit processor part fault) _ old now behind refl is appended
-line_halts asked strict bytes past said telling (kept.TooLong processor part) old now behind front stands is appended =
-    told_by asked strict bytes past said (kept.TooLong processor part) _ old now behind refl is appended
-line_halts asked strict bytes past said telling (kept.NoPlace name begin late) old now behind front stands is appended =
-    told_by asked strict bytes past said (kept.NoPlace name begin late) _ old now behind refl is appended
+pub line_halts : (asked : Asked) (strict : Bool) (bytes : List ℕ) (past : List Said) (said : Said) (number : ℕ) (telling : Telling) (halt : HaltKept) (old now : Option (List ℕ)) →
+    IsFront bytes (said ∷ past) → line_at bytes (length past + 1) ≡ number → IsFront bytes past → IsTelling asked strict past telling →
+    IsHaltFor (at_number number (told_after asked strict (said ∷ past)).halt) halt → Appends old now (told_after asked strict past).text →
+    Writes asked strict bytes (Err halt) old now
+line_halts asked strict bytes past said number telling kept.Memory old now behind line front stands is appended =
+    some_written asked strict bytes past telling old now front stands appended
+line_halts asked strict bytes past said number telling kept.Endless old now behind line front stands is appended = absurd is
+line_halts asked strict bytes past said number telling kept.ReadFault old now behind line front stands is appended = absurd is
+line_halts asked strict bytes past said number telling kept.WriteFault old now behind line front stands is appended = absurd is
+line_halts asked strict bytes past said number telling (kept.InForm at fault) old now behind line front stands is appended =
+    told_by asked strict bytes past said number (kept.InForm at fault) _ old now behind line stands.goes_on refl is appended
+line_halts asked strict bytes past said number telling (kept.AtLine at cause) old now behind line front stands is appended =
+    told_by asked strict bytes past said number (kept.AtLine at cause) _ old now behind line stands.goes_on refl is appended
+line_halts asked strict bytes past said number telling (kept.Limit processor part fault) old now behind line front stands is appended =
+    told_by asked strict bytes past said number (kept.Limit processor part fault) _ old now behind line stands.goes_on refl is appended
+line_halts asked strict bytes past said number telling (kept.TooLong processor part) old now behind line front stands is appended =
+    told_by asked strict bytes past said number (kept.TooLong processor part) _ old now behind line stands.goes_on refl is appended
+line_halts asked strict bytes past said number telling (kept.NoPlace name begin late) old now behind line front stands is appended =
+    told_by asked strict bytes past said number (kept.NoPlace name begin late) _ old now behind line stands.goes_on refl is appended
 
 -- # The end
+
+-- the trace and the numbers of its lines, by all lines in their order
+abbrev trace_by : Order → Trace
+trace_by order = record { said = reverse (said_in order.placed); fault = order.fault }
+
+-- its last line has this number
+last_line : (bytes : List ℕ) (given : List Placed) (lines number : ℕ) (form : Option (Fault Reason)) →
+    whole_order (trace_of bytes) ≡ record { placed = given; lines = lines; fault = form } → number_at lines given (length given) ≡ number →
+    line_at bytes (length (said_in given)) ≡ number
+last_line bytes given lines number form is last =
+    ap (line_at bytes) (length-said_in given) ∙ number_at_end bytes given lines form is ∙ last
 
 end_goes : (asked : Asked) (strict : Bool) (past : List Said) (form : Option (Fault Reason)) (text : List ℕ) (halt : Option Halt) → halt ≡ None →
     told_at_end asked strict past form (record { text = text; halt = halt }) ≡ told_last asked strict past text (end_halt asked past form)
@@ -106,25 +127,23 @@ end_goes asked strict past form text None is = refl
 end_goes asked strict past form text (Some found) is = cc
 
 -- what is told of a trace of these lines, which were all taken, and then of this line
-told_whole : (asked : Asked) (strict : Bool) (bytes : List ℕ) (past : List Said) (form : Option (Fault Reason)) → trace_of bytes ≡ ahead past (record { said = []; fault = form }) →
-    (told_after asked strict past).halt ≡ None →
-    told_of asked strict (trace_of bytes) ≡ told_last asked strict past (told_after asked strict past).text (end_halt asked past form)
-told_whole asked strict bytes past form is goes =
-    ap (told_of asked strict) is
-    ∙ ap (λ (fault : Option (Fault Reason)). told_at_end asked strict (past_of (ahead past (record { said = []; fault = form }))) fault (told_after asked strict (past_of (ahead past (record { said = []; fault = form })))))
-    (ahead_fault past (record { said = []; fault = form }))
-    ∙ ap (λ (lines : List Said). told_at_end asked strict lines form (told_after asked strict lines)) (ahead_past past (record { said = []; fault = form }))
-    ∙ end_goes asked strict past form (told_after asked strict past).text (told_after asked strict past).halt goes
+told_whole : (asked : Asked) (strict : Bool) (bytes : List ℕ) (given : List Placed) (lines : ℕ) (form : Option (Fault Reason)) →
+    whole_order (trace_of bytes) ≡ record { placed = given; lines = lines; fault = form } → (told_after asked strict (said_in given)).halt ≡ None →
+    told_of asked strict (order_of bytes) ≡ told_last asked strict (said_in given) (told_after asked strict (said_in given)).text (end_halt asked (said_in given) form)
+told_whole asked strict bytes given lines form is goes =
+    ap (λ (order : Order). told_of asked strict (trace_by order)) is
+    ∙ ap (λ (past : List Said). told_at_end asked strict past form (told_after asked strict past)) (reverse-reverse (said_in given))
+    ∙ end_goes asked strict (said_in given) form (told_after asked strict (said_in given)).text (told_after asked strict (said_in given)).halt goes
 
 -- a line whose form is refused
-pub form_halts : (asked : Asked) (strict : Bool) (bytes : List ℕ) (past : List Said) (number : ℕ) (fault : Spot Reason) (old now : Option (List ℕ)) (halt : HaltKept) →
+pub form_halts : (asked : Asked) (strict : Bool) (bytes : List ℕ) (given : List Placed) (lines number : ℕ) (fault : Spot Reason) (old now : Option (List ℕ)) (halt : HaltKept) →
     halt_read halt ≡ Some (InForm (record { line = number; column = fault.column; reason = fault.reason })) →
-    trace_of bytes ≡ ahead past (record { said = []; fault = Some (record { line = number; column = fault.column; reason = fault.reason }) }) →
-    (told_after asked strict past).halt ≡ None → Appends old now (told_after asked strict past).text → WritesTold asked strict bytes (Some halt) old now
-form_halts asked strict bytes past number fault old now halt read is goes appended =
-    let all = told_whole asked strict bytes past (Some (record { line = number; column = fault.column; reason = fault.reason })) is goes in
+    whole_order (trace_of bytes) ≡ record { placed = given; lines = lines; fault = Some (record { line = number; column = fault.column; reason = fault.reason }) } →
+    (told_after asked strict (said_in given)).halt ≡ None → Appends old now (told_after asked strict (said_in given)).text → WritesTold asked strict bytes (Some halt) old now
+form_halts asked strict bytes given lines number fault old now halt read is goes appended =
+    let all = told_whole asked strict bytes given lines (Some (record { line = number; column = fault.column; reason = fault.reason })) is goes in
     record {
-      told = ap (λ (told : Told). told.halt) all ∙ sym read;
+      told = ap (numbered bytes) all ∙ sym read;
       appended = subst (Appends old now) (sym (ap (λ (told : Told). told.text) all)) appended;
     }
 
@@ -140,45 +159,55 @@ last_text asked strict past text None found is =
     nothing_more text (last_piece asked strict past (processors_of asked past))
     (both_empty (last_pieces asked strict past (processors_of asked past)) (piece_unless (no_job_halt asked past (processors_of asked past)) []) found is)
 
-end_by : (asked : Asked) (strict : Bool) (bytes : List ℕ) (past : List Said) (halt : HaltKept) (found : Halt) (old now : Option (List ℕ)) → trace_of bytes ≡ ahead past no_line →
-    (told_after asked strict past).halt ≡ None → halt_read halt ≡ Some found →
-    or_else (at_line (length past) (whole_fault asked past)) (last_piece asked strict past (processors_of asked past)).halt ≡ halt_read halt →
-    Appends old now (told_after asked strict past).text → WritesTold asked strict bytes (Some halt) old now
-end_by asked strict bytes past halt found old now whole goes read is appended =
-    let all = told_whole asked strict bytes past None whole goes in
-    let halts = ap (λ (told : Told). told.halt) all ∙ last_halt asked strict past (told_after asked strict past).text (end_halt asked past None) ∙ is in
+-- why nothing more is told behind the last line
+abbrev pub halt_at_end : Asked → Bool → List Said → Option Halt
+halt_at_end asked strict past = or_else (at_line (length past) (whole_fault asked past)) (last_piece asked strict past (processors_of asked past)).halt
+
+end_by : (asked : Asked) (strict : Bool) (bytes : List ℕ) (given : List Placed) (lines number : ℕ) (halt : HaltKept) (found : Halt) (old now : Option (List ℕ)) →
+    whole_order (trace_of bytes) ≡ record { placed = given; lines = lines; fault = None } → number_at lines given (length given) ≡ number →
+    (told_after asked strict (said_in given)).halt ≡ None → halt_read halt ≡ Some found → at_number number (halt_at_end asked strict (said_in given)) ≡ halt_read halt →
+    Appends old now (told_after asked strict (said_in given)).text → WritesTold asked strict bytes (Some halt) old now
+end_by asked strict bytes given lines number halt found old now whole last goes read is appended =
+    let past = said_in given in
+    let all = told_whole asked strict bytes given lines None whole goes in
+    let halts = last_halt asked strict past (told_after asked strict past).text (end_halt asked past None) in
+    let there = found_there number (halt_at_end asked strict past) found (is ∙ read) in
     record {
-      told = halts;
+      told = ap (numbered bytes) all ∙ ap (λ (reason : Option Halt). option_map (by_number (line_at bytes)) reason) halts
+          ∙ same_number (line_at bytes) (length past) number (halt_at_end asked strict past) (last_line bytes given lines number None whole last)
+          (ends_here asked strict past) ∙ is;
       appended = subst (Appends old now) (sym (ap (λ (told : Told). told.text) all
-          ∙ last_text asked strict past (told_after asked strict past).text (end_halt asked past None) found
-          (last_halt asked strict past (told_after asked strict past).text (end_halt asked past None) ∙ is ∙ read))) appended;
+          ∙ last_text asked strict past (told_after asked strict past).text (end_halt asked past None) there.0 (halts ∙ there.1))) appended;
     }
 
 -- the end isn't told
-pub end_halts : (asked : Asked) (strict : Bool) (bytes : List ℕ) (past : List Said) (telling : Telling) (halt : HaltKept) (old now : Option (List ℕ)) → trace_of bytes ≡ ahead past no_line →
-    IsFront bytes past → IsTelling asked strict past telling →
-    IsHaltFor (or_else (at_line (length past) (whole_fault asked past)) (last_piece asked strict past (processors_of asked past)).halt) halt →
-    Appends old now (told_after asked strict past).text → Writes asked strict bytes (Err halt) old now
-end_halts asked strict bytes past telling kept.Memory old now whole front stands is appended = some_written asked strict bytes past telling old now front stands appended
-end_halts asked strict bytes past telling kept.Endless old now whole front stands is appended = absurd is
-end_halts asked strict bytes past telling kept.ReadFault old now whole front stands is appended = absurd is
-end_halts asked strict bytes past telling kept.WriteFault old now whole front stands is appended = absurd is
-end_halts asked strict bytes past telling (kept.InForm number fault) old now whole front stands is appended =
-    end_by asked strict bytes past (kept.InForm number fault) _ old now whole stands.goes_on refl is appended
-end_halts asked strict bytes past telling (kept.AtLine number cause) old now whole front stands is appended =
-    end_by asked strict bytes past (kept.AtLine number cause) _ old now whole stands.goes_on refl is appended
-end_halts asked strict bytes past telling (kept.Limit processor part fault) old now whole front stands is appended =
-    end_by asked strict bytes past (kept.Limit processor part fault) _ old now whole stands.goes_on refl is appended
-end_halts asked strict bytes past telling (kept.TooLong processor part) old now whole front stands is appended =
-    end_by asked strict bytes past (kept.TooLong processor part) _ old now whole stands.goes_on refl is appended
-end_halts asked strict bytes past telling (kept.NoPlace name begin late) old now whole front stands is appended =
-    end_by asked strict bytes past (kept.NoPlace name begin late) _ old now whole stands.goes_on refl is appended
+pub end_halts : (asked : Asked) (strict : Bool) (bytes : List ℕ) (given : List Placed) (lines number : ℕ) (telling : Telling) (halt : HaltKept) (old now : Option (List ℕ)) →
+    whole_order (trace_of bytes) ≡ record { placed = given; lines = lines; fault = None } → number_at lines given (length given) ≡ number →
+    IsFront bytes (said_in given) → IsTelling asked strict (said_in given) telling → IsHaltFor (at_number number (halt_at_end asked strict (said_in given))) halt →
+    Appends old now (told_after asked strict (said_in given)).text → Writes asked strict bytes (Err halt) old now
+end_halts asked strict bytes given lines number telling kept.Memory old now whole last front stands is appended =
+    some_written asked strict bytes (said_in given) telling old now front stands appended
+end_halts asked strict bytes given lines number telling kept.Endless old now whole last front stands is appended = absurd is
+end_halts asked strict bytes given lines number telling kept.ReadFault old now whole last front stands is appended = absurd is
+end_halts asked strict bytes given lines number telling kept.WriteFault old now whole last front stands is appended = absurd is
+end_halts asked strict bytes given lines number telling (kept.InForm at fault) old now whole last front stands is appended =
+    end_by asked strict bytes given lines number (kept.InForm at fault) _ old now whole last stands.goes_on refl is appended
+end_halts asked strict bytes given lines number telling (kept.AtLine at cause) old now whole last front stands is appended =
+    end_by asked strict bytes given lines number (kept.AtLine at cause) _ old now whole last stands.goes_on refl is appended
+end_halts asked strict bytes given lines number telling (kept.Limit processor part fault) old now whole last front stands is appended =
+    end_by asked strict bytes given lines number (kept.Limit processor part fault) _ old now whole last stands.goes_on refl is appended
+end_halts asked strict bytes given lines number telling (kept.TooLong processor part) old now whole last front stands is appended =
+    end_by asked strict bytes given lines number (kept.TooLong processor part) _ old now whole last stands.goes_on refl is appended
+end_halts asked strict bytes given lines number telling (kept.NoPlace name begin late) old now whole last front stands is appended =
+    end_by asked strict bytes given lines number (kept.NoPlace name begin late) _ old now whole last stands.goes_on refl is appended
 
 -- what is told of the whole trace, with its last parts
-pub all_told : (asked : Asked) (strict : Bool) (bytes : List ℕ) (past : List Said) (text : List ℕ) → trace_of bytes ≡ ahead past no_line →
-    (told_after asked strict past).halt ≡ None → whole_fault asked past ≡ None → IsEnd asked strict past text →
-    told_of asked strict (trace_of bytes) ≡ record { text = (told_after asked strict past).text ++ text; halt = None }
-all_told asked strict bytes past text whole goes sound last =
-    told_whole asked strict bytes past None whole goes
+pub all_told : (asked : Asked) (strict : Bool) (bytes : List ℕ) (given : List Placed) (lines : ℕ) (text : List ℕ) →
+    whole_order (trace_of bytes) ≡ record { placed = given; lines = lines; fault = None } → (told_after asked strict (said_in given)).halt ≡ None →
+    whole_fault asked (said_in given) ≡ None → IsEnd asked strict (said_in given) text →
+    told_in_text asked strict bytes ≡ record { text = (told_after asked strict (said_in given)).text ++ text; halt = None }
+all_told asked strict bytes given lines text whole goes sound last =
+    let past = said_in given in
+    ap (λ (told : Told). record { text = told.text; halt = numbered bytes told }) (told_whole asked strict bytes given lines None whole goes
     ∙ ap (λ fault. told_last asked strict past (told_after asked strict past).text (at_line (length past) fault)) sound
-    ∙ ap (with_piece (told_after asked strict past).text) last
+    ∙ ap (with_piece (told_after asked strict past).text) last)

@@ -1,17 +1,13 @@
 -- What a trace that was told shows of the source and of the sink, by each way in which it ends.
 use Rattle.yds_model.proofs.Common.{◌≡◌, ℕ, ◌<◌, List, [], Bool, Option, Some, None, Result, Ok, Err, refl, subst, arith}
 use Rattle.std.specs.Prelude.{⊤, IfSome}
-use Rattle.yds_model.specs.Fields.{Spot}
 use Rattle.yds_port.specs.Count.{Rose}
-use Rattle.yds_kernel.specs.declared.fault.Reason.{Reason}
-use Rattle.yds_kernel.specs.Event.{Said}
 use Rattle.yds_trace.specs.Asked.{Asked}
 use Rattle.yds_trace_reading.specs.Reading.{IsRest}
 use Rattle.yds_trace_parts.specs.declared.halt.Halt.{Halt as HaltKept}
 use Rattle.yds_trace_parts.specs.declared.halt.Halt.TheVariants as kept
 use Rattle.yds_trace_parts.specs.Told.{Halt}
 use Rattle.yds_trace_parts.specs.Telling.{IsHaltFor}
-use Rattle.yds_trace_parts.specs.Saying.{IsInForm, IsNotSaid}
 use Rattle.yds_trace_parts.specs.Driving.{Writes, Tells}
 
 -- # Neither a read nor a write failed
@@ -31,22 +27,6 @@ own_halt found (kept.AtLine number cause) is = tt
 own_halt found (kept.Limit processor part fault) is = tt
 own_halt found (kept.TooLong processor part) is = tt
 own_halt found (kept.NoPlace name begin late) is = tt
-
-own_form : (number : ℕ) (spot : Spot Reason) (halt : HaltKept) → IsInForm number spot halt → IsOwn halt
-own_form number spot kept.Memory is = tt
-own_form number spot kept.Endless is = tt
-own_form number spot kept.ReadFault is = is
-own_form number spot kept.WriteFault is = is
-own_form number spot (kept.InForm at fault) is = tt
-own_form number spot (kept.AtLine at cause) is = tt
-own_form number spot (kept.Limit processor part fault) is = tt
-own_form number spot (kept.TooLong processor part) is = tt
-own_form number spot (kept.NoPlace name begin late) is = tt
-
-pub own_line : (asked : Asked) (strict : Bool) (past : List Said) (number : ℕ) (said : Result Said (Spot Reason)) (halt : HaltKept) →
-    IsNotSaid asked strict past number said halt → IsOwn halt
-own_line asked strict past number (Ok line) halt is = own_halt _ halt is
-own_line asked strict past number (Err spot) halt is = own_form number spot halt is
 
 none_of : {A : Type 0} (option : Option A) → IfSome option (λ one. ⊤)
 none_of None = tt

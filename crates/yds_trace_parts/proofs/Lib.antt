@@ -2,6 +2,7 @@ pub mod Placed
 pub mod Joined
 pub mod Growing
 pub mod Steps
+pub mod InText
 pub mod Ahead
 pub mod Parting
 pub mod Numbers

@@ -1,7 +1,7 @@
 -- What may be written of a trace that isn't told to its end: the parts of lines from the first on, and nothing else.
 use Rattle.yds_model.proofs.Common.{◌≡◌, ℕ, List, [], ◌∷◌, ◌++◌, Bool, Some, refl, sym, append-nil, Appends}
 use Rattle.yds_kernel.specs.Event.{Said}
-use Rattle.yds_kernel.specs.Text.{trace_of}
+use Rattle.yds_kernel_order.specs.Order.{order_of}
 use Rattle.yds_trace.specs.Asked.{Asked}
 use Rattle.yds_trace_reading.specs.LineFault.{past_of}
 use Rattle.yds_trace_parts.specs.Told.{told_after}
@@ -11,8 +11,8 @@ use Rattle.yds_trace_parts.specs.Driving.{WritesSome}
 pub nothing_yet : (asked : Asked) (strict : Bool) (input old : List ℕ) → WritesSome asked strict input (Some old) (Some old)
 nothing_yet asked strict input old = record {
   past = [];
-  behind = past_of (trace_of input);
-  front = sym (append-nil (past_of (trace_of input)));
+  behind = past_of (order_of input);
+  front = sym (append-nil (past_of (order_of input)));
   goes_on = refl;
   appended = sym (append-nil old);
 }

@@ -4,7 +4,7 @@ use Rattle.std.specs.Io.KnownBytes.{Appends}
 use Rattle.yds_port.specs.Count.{Rose}
 use Rattle.yds_port.specs.Sink.{AppendsFront}
 use Rattle.yds_kernel.specs.Event.{Said}
-use Rattle.yds_kernel.specs.Text.{trace_of}
+use Rattle.yds_kernel_order.specs.Order.{order_of}
 use Rattle.yds_kernel_text.specs.declared.limits.TheConstants.{ROOM}
 use Rattle.yds_trace.specs.Asked.{Asked}
 use Rattle.yds_trace_reading.specs.LineFault.{past_of}
@@ -12,32 +12,32 @@ use Rattle.yds_trace_reading.specs.Reading.{IsRest}
 use Rattle.yds_trace_parts.specs.declared.halt.Halt.{Halt as HaltKept}
 use Rattle.yds_trace_parts.specs.declared.halt.Halt.TheVariants as kept
 use Rattle.yds_trace_parts.specs.declared.limits.TheConstants.{MOST_LINES}
-use Rattle.yds_trace_parts.specs.Told.{told_after, told_of}
+use Rattle.yds_trace_parts.specs.Told.{told_after, told_in_text}
 use Rattle.yds_trace_parts.specs.Telling.{halt_read}
 
 -- Its bytes are as many as 64 bits count, but for one buffer; or its lines are as many as are told.
 abbrev pub IsEndless : List ℕ → Type 0
-IsEndless input = (2 ^ 64 ≤ length input + ROOM) ⊎ (MOST_LINES ≤ length (trace_of input).said)
+IsEndless input = (2 ^ 64 ≤ length input + ROOM) ⊎ (MOST_LINES ≤ length (order_of input).said)
 
--- Some of the trace's lines, from the first on, were taken, and their parts were written.
+-- Some of the trace's lines, from the first on in order of time, were taken, and their parts were written.
 pub record WritesSome (asked : Asked) (strict : Bool) (input : List ℕ) (old new : Option (List ℕ)) : Type 0 where
   pub past : List Said
   pub behind : List Said
-  pub front : past_of (trace_of input) ≡ behind ++ past
+  pub front : past_of (order_of input) ≡ behind ++ past
   pub goes_on : (told_after asked strict past).halt ≡ None
   pub appended : Appends old new (told_after asked strict past).text
 
 -- all that is told of the trace, for which it halts here
 pub record WritesTold (asked : Asked) (strict : Bool) (input : List ℕ) (halt : Option HaltKept) (old new : Option (List ℕ)) : Type 0 where
-  pub told : (told_of asked strict (trace_of input)).halt ≡ (elim halt [ None ↦ None | Some reason ↦ halt_read reason ])
-  pub appended : Appends old new (told_of asked strict (trace_of input)).text
+  pub told : (told_in_text asked strict input).halt ≡ (elim halt [ None ↦ None | Some reason ↦ halt_read reason ])
+  pub appended : Appends old new (told_in_text asked strict input).text
 
 abbrev pub Writes : Asked → Bool → List ℕ → Result (Unit {0}) HaltKept → Option (List ℕ) → Option (List ℕ) → Type 0
 Writes asked strict input (Ok done) old new = WritesTold asked strict input None old new
 Writes asked strict input (Err kept.Memory) old new = WritesSome asked strict input old new
 Writes asked strict input (Err kept.ReadFault) old new = WritesSome asked strict input old new
 Writes asked strict input (Err kept.Endless) old new = IsEndless input × WritesSome asked strict input old new
-Writes asked strict input (Err kept.WriteFault) old new = AppendsFront (told_of asked strict (trace_of input)).text old new
+Writes asked strict input (Err kept.WriteFault) old new = AppendsFront (told_in_text asked strict input).text old new
 Writes asked strict input (Err halt) old new = WritesTold asked strict input (Some halt) old new
 
 -- A trace was told from a source to a sink, whose members stand first, by the answer: what became of both.

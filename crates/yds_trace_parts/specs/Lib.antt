@@ -2,6 +2,5 @@ pub mod Told
 pub mod Place
 pub mod Telling
 pub mod Plain
-pub mod Saying
 pub mod Driving
 pub mod Laws

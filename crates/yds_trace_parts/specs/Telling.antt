@@ -1,5 +1,5 @@
 -- What is kept while a trace is told in parts, and what a line makes of it.
-use Rattle.std.specs.Prelude.{◌≡◌, ℕ, ◌+◌, ◌≤◌, ◌⊎◌, ⊤, List, [], ◌∷◌, ◌++◌, map, min, Bool, true, false, Option, Some, None}
+use Rattle.std.specs.Prelude.{◌≡◌, ℕ, ◌+◌, ◌≤◌, ◌⊎◌, ⊤, List, [], ◌∷◌, ◌++◌, map, min, Bool, true, false, Option, Some, None, option_map}
 use Rattle.std.specs.List.{list_any}
 use Rattle.yds_kernel.specs.Event.{Said}
 use Rattle.yds_trace.specs.declared.cut.Cut.{Cut}
@@ -18,7 +18,7 @@ use Rattle.yds_trace_parts.specs.declared.part.Last.{Last}
 use Rattle.yds_trace_parts.specs.declared.processors.Processor.{Processor}
 use Rattle.yds_trace_parts.specs.declared.processors.Pieces.{Pieces}
 use Rattle.yds_trace_parts.specs.declared.telling.Telling.{Telling}
-use Rattle.yds_trace_parts.specs.Told.{Halt, InForm, AtLine, OfDocument, OfText, NoPlace, Told, no_piece, both, part_halt, part_piece, piece_at, piece_of, has_written, last_piece, line_halt, told_after}
+use Rattle.yds_trace_parts.specs.Told.{Halt, InForm, AtLine, OfDocument, OfText, NoPlace, Told, no_piece, both, part_halt, part_piece, piece_at, piece_of, has_written, last_piece, line_halt, told_after, by_number}
 
 -- # Reasons
 
@@ -38,6 +38,14 @@ halt_read kept.Endless = None
 halt_read kept.ReadFault = None
 halt_read kept.WriteFault = None
 halt_read kept.Memory = None
+
+-- the same, with this number of the line in the text in the stead of its place
+abbrev pub with_number : ℕ → HaltKept → HaltKept
+with_number number (kept.AtLine place cause) = kept.AtLine number cause
+with_number number halt = halt
+
+abbrev pub at_number : ℕ → Option Halt → Option Halt
+at_number number found = option_map (by_number (λ _. number)) found
 
 -- It is the reason that was found. Memory may be wanting at any time.
 abbrev pub IsHaltFor : Option Halt → HaltKept → Type 0

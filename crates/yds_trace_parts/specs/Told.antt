@@ -1,5 +1,6 @@
--- What a trace is told as in parts: the texts of those that were whole, one behind the other, and where that ended before the trace did.
-use Rattle.std.specs.Prelude.{ℕ, ◌+◌, List, [], ◌∷◌, ◌++◌, length, Bool, not, ◌&&◌, ◌||◌, nat_lt, if◌then◌else◌, Option, Some, None}
+-- What a trace is told as in parts: the texts of those that were whole, one behind the other, and where that ended before the trace did. A line is
+-- told by its place in the trace, and of bytes by its number in the text.
+use Rattle.std.specs.Prelude.{ℕ, ◌+◌, List, [], ◌∷◌, ◌++◌, length, Bool, not, ◌&&◌, ◌||◌, nat_lt, if◌then◌else◌, Option, Some, None, option_map}
 use Rattle.std.specs.List.{find, list_any}
 use Rattle.yds_model.specs.declared.limits.TheConstants.{MAX_INPUT}
 use Rattle.yds_model.specs.Fields.{Fault}
@@ -7,6 +8,7 @@ use Rattle.yds_kernel.specs.declared.fault.Reason.{Reason}
 use Rattle.yds_kernel.specs.Event.{Said}
 use Rattle.yds_kernel.specs.Parts.{or_else, capped}
 use Rattle.yds_kernel.specs.Text.{Trace}
+use Rattle.yds_kernel_order.specs.Order.{order_of, line_at}
 use Rattle.yds_trace.specs.declared.fault.Cause.{Cause}
 use Rattle.yds_trace.specs.declared.fault.Cause.TheVariants as causes
 use Rattle.yds_trace.specs.Asked.{Asked, on}
@@ -25,7 +27,7 @@ use Rattle.yds_trace_reading.specs.LineFault.{past_of}
 pub data Halt : Type 0 where
   -- the form of a line is refused
   InForm : (fault : Fault Reason) → Halt
-  -- the line of this number can't stand behind those before it
+  -- the line at this place, or of this number in the text, can't stand behind those before it
   AtLine : (number : ℕ) (cause : Cause) → Halt
   -- The part of this number passes a limit of documents; it is one of this processor, where each has documents of its own.
   OfDocument : (processor : Option ℕ) (part : ℕ) (fault : DocumentFault) → Halt
@@ -205,3 +207,17 @@ told_at_end asked strict past form told = elim told.halt [
 -- what a trace is told as: all of its parts, or those before the first halt
 abbrev pub told_of : Asked → Bool → Trace → Told
 told_of asked strict trace = told_at_end asked strict (past_of trace) trace.fault (told_after asked strict (past_of trace))
+
+-- # Bytes
+
+-- the same reason, by the numbers of lines that stand at places
+abbrev pub by_number : (ℕ → ℕ) → Halt → Halt
+by_number number_of (AtLine place cause) = AtLine (number_of place) cause
+by_number number_of halt = halt
+
+-- What these bytes are told as: their lines in order of time. A line for which it isn't told further has its number in the text.
+abbrev pub told_in_text : Asked → Bool → List ℕ → Told
+told_in_text asked strict bytes = record {
+  text = (told_of asked strict (order_of bytes)).text;
+  halt = option_map (by_number (line_at bytes)) (told_of asked strict (order_of bytes)).halt;
+}

@@ -1,22 +1,25 @@
 //! A source of lines and a sink of parts.
-ghost use Rattle.std.specs.Prelude.{◌≡◌, ◌≢◌, ◌+◌, ◌≤◌, ◌<◌, List, [], Bool, Err, Some, IfSome, IfOk, IfErr, OnOk, length};
+ghost use Rattle.std.specs.Prelude.{◌≡◌, ◌≢◌, ◌+◌, ◌≤◌, ◌<◌, List, [], ◌∷◌, Bool, Err, None, Some, IfSome, IfOk, IfErr, OnOk, length};
 ghost use Rattle.yds_port.specs.Count.{Rose};
 ghost use Rattle.yds_kernel.specs.Event as trace;
-ghost use Rattle.yds_kernel_text.specs.Reading.{said_by};
+ghost use Rattle.yds_kernel.specs.Parts.{or_else};
+ghost use Rattle.yds_kernel_order.specs.Ordering.{number_now, said_now};
 ghost use Rattle.yds_trace.specs.Asked as asking;
+ghost use Rattle.yds_trace.specs.Faults.{whole_fault};
 ghost use Rattle.yds_trace.specs.Kept.{told_to_forget};
+ghost use Rattle.yds_trace.specs.Parts as parts;
 ghost use Rattle.yds_trace.specs.Views.{asked_read};
 ghost use Rattle.yds_trace_reading.specs.Reading.{IsReadOut};
-ghost use Rattle.yds_trace_parts.specs.Plain.{HasRoom, IsGranted};
-ghost use Rattle.yds_trace_parts.specs.Telling.{IsTelling};
-ghost use Rattle.yds_trace_parts.specs.Saying.{IsSaid, IsAdded, IsNotSaid};
+ghost use Rattle.yds_trace_parts.specs.Plain.{HasRoom, IsGranted, IsPlainPass};
+ghost use Rattle.yds_trace_parts.specs.Telling.{IsTelling, IsHaltFor, IsEnd, Adds, at_number};
+ghost use Rattle.yds_trace_parts.specs.Told.{told_after, at_line, last_piece};
 ghost use Rattle.yds_trace_parts.specs.Driving.{Writes, Tells};
 
 use crate::halt::Halt;
 use crate::limits::MOST_LINES;
 use crate::telling::Telling;
 use std::alloc::Global;
-use yds_kernel_text::{Advance, TraceReader};
+use yds_kernel_order::{OrderedReader, Step};
 use yds_port::{Sink, Source, write_all};
 use yds_trace::Asked;
 use yds_trace_reading::drain;
@@ -65,39 +68,69 @@ fn tell<S: Source, K: Sink>(
     requires { IsGranted (asked_read asked) }
     ensures { Tells S.left S.faults K.written K.flushed K.flushes K.faults (asked_read asked) strict result source.old source.new sink.old sink.new }
 {
-    let mut reader = TraceReader::new(alloc)?;
+    let mut reader = OrderedReader::new(alloc)?;
     let mut telling = Telling::new(alloc, asked, strict)?;
     for lines in 0..MOST_LINES {
         match reader.advance(source) {
-            Advance::Line => {
-                let pieces = take_line(alloc, &reader, &mut telling)?;
+            Step::Line => {
+                let pieces = take_line(alloc, &reader, lines + 1, &mut telling)?;
                 write_all(sink, &pieces)?;
             }
-            Advance::End => {
-                let text = telling.end(alloc, lines)?;
+            Step::End => {
+                let text = end(alloc, &reader, lines, &mut telling)?;
                 write_all(sink, &text)?;
                 return Ok(());
             }
-            Advance::Failed => return Err(Halt::ReadFault),
-            Advance::TooLong => return Err(Halt::Endless),
+            Step::Refused { number, fault } => return Err(Halt::InForm { number, fault }),
+            Step::Failed => return Err(Halt::ReadFault),
+            Step::TooLong => return Err(Halt::Endless),
+            Step::Memory => return Err(Halt::Memory),
         }
     }
     Err(Halt::Endless)
 }
 
-/// Takes the line that was given last. It gives the texts of the parts that are whole with it.
-fn take_line(alloc: Global, reader: &TraceReader, telling: &mut Telling) -> Result<Vec<u8>, Halt>
+/// Takes the line that was given last, at this place in order of time. It gives the texts of the parts that are whole with it, or
+/// tells by its number in the text why the trace isn't told further.
+fn take_line(
+    alloc: Global,
+    reader: &OrderedReader,
+    place: u64,
+    telling: &mut Telling,
+) -> Result<Vec<u8>, Halt>
     requires { HasRoom (told_to_forget telling.old.pass) telling.old.pass }
-    ensures said { (asked : asking.Asked) (strict : Bool) (past : List trace.Said) → IsTelling asked strict past telling.old → reader.now.number ≡ length past + 1
-        → OnOk result (IsSaid asked strict past (said_by reader.now) telling.new) }
-    ensures adds { (asked : asking.Asked) (strict : Bool) (past : List trace.Said) → IsTelling asked strict past telling.old → reader.now.number ≡ length past + 1
-        → IfOk result (λ piece. IsAdded asked strict past (said_by reader.now) piece.items) }
-    ensures halts { (asked : asking.Asked) (strict : Bool) (past : List trace.Said) → IsTelling asked strict past telling.old → reader.now.number ≡ length past + 1
-        → IfErr result (IsNotSaid asked strict past reader.now.number (said_by reader.now)) }
+    ensures told { (asked : asking.Asked) (strict : Bool) (past : List trace.Said) → IsTelling asked strict past telling.old → place ≡ length past + 1
+        → OnOk result (IsTelling asked strict (said_now reader.now ∷ past) telling.new) }
+    ensures adds { (asked : asking.Asked) (strict : Bool) (past : List trace.Said) → IsTelling asked strict past telling.old → place ≡ length past + 1
+        → IfOk result (λ piece. Adds asked strict past (said_now reader.now ∷ past) piece.items) }
+    ensures halts { (asked : asking.Asked) (strict : Bool) (past : List trace.Said) → IsTelling asked strict past telling.old → place ≡ length past + 1
+        → IfErr result (IsHaltFor (at_number (number_now reader.now) (told_after asked strict (said_now reader.now ∷ past)).halt)) }
 {
-    let number = reader.number();
-    match reader.said() {
-        Ok(said) => telling.take(alloc, number, said),
-        Err(fault) => Err(Halt::InForm { number, fault }),
+    match telling.take(alloc, place, reader.said()) {
+        Ok(pieces) => Ok(pieces),
+        Err(halt) => Err(halt.with_number(reader.number())),
+    }
+}
+
+/// Ends behind the last line, at this place in order of time. It gives the texts of the last parts, or tells by that line's number
+/// in the text why there is none.
+fn end(
+    alloc: Global,
+    reader: &OrderedReader,
+    place: u64,
+    telling: &mut Telling,
+) -> Result<Vec<u8>, Halt>
+    requires { IsPlainPass (told_to_forget telling.old.pass) telling.old.pass }
+    ensures told { (asked : asking.Asked) (strict : Bool) (past : List trace.Said) → IsTelling asked strict past telling.old → place ≡ length past
+        → IfOk result (λ text. IsEnd asked strict past text.items) }
+    ensures sound { (asked : asking.Asked) (strict : Bool) (past : List trace.Said) → IsTelling asked strict past telling.old → place ≡ length past
+        → OnOk result (whole_fault asked past ≡ None) }
+    ensures halts { (asked : asking.Asked) (strict : Bool) (past : List trace.Said) → IsTelling asked strict past telling.old → place ≡ length past
+        → IfErr result (IsHaltFor (at_number (number_now reader.now)
+        (or_else (at_line place (whole_fault asked past)) (last_piece asked strict past (parts.processors_of asked past)).halt))) }
+{
+    match telling.end(alloc, place) {
+        Ok(text) => Ok(text),
+        Err(halt) => Err(halt.with_number(reader.number())),
     }
 }

@@ -1,6 +1,6 @@
 //! Why a trace isn't told further.
 ghost use Rattle.std.specs.Prelude.{◌≡◌};
-ghost use Rattle.yds_trace_parts.specs.Telling.{halt_of_text};
+ghost use Rattle.yds_trace_parts.specs.Telling.{halt_of_text, with_number};
 
 use std::alloc::AllocError;
 use yds_kernel::LineFault;
@@ -18,7 +18,8 @@ pub enum Halt {
         number: u64,
         fault: LineFault,
     },
-    /// The line of this number can't stand behind those before it, or the trace as a whole tells nothing, at its last line.
+    /// The line of this number can't stand behind those before it in order of time, or the trace as a whole tells nothing, at its
+    /// last line.
     AtLine {
         number: u64,
         cause: Cause,
@@ -99,6 +100,16 @@ impl Halt {
             },
             NoText::TooLong => Halt::TooLong { processor, part },
             NoText::Memory => Halt::Memory,
+        }
+    }
+
+    /// The same, with this number of the line in the text in the stead of its place in order of time.
+    pub(crate) fn with_number(self, number: u64) -> Halt
+        ensures { result ≡ with_number number self }
+    {
+        match self {
+            Halt::AtLine { cause, .. } => Halt::AtLine { number, cause },
+            halt => halt,
         }
     }
 }

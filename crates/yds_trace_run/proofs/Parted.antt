@@ -7,12 +7,11 @@ use Rattle.yds_model.specs.declared.status.Status.{Status}
 use Rattle.yds_model.specs.declared.status.Status.TheVariants as statuses
 use Rattle.yds_port.specs.Count.{Rose, next_count}
 use Rattle.yds_port.specs.Sink.{AppendsFront}
-use Rattle.yds_kernel.specs.Text.{trace_of}
 use Rattle.yds_trace.specs.Asked.{Asked}
 use Rattle.yds_trace_reading.specs.Reading.{IsReadOut}
 use Rattle.yds_trace_parts.specs.declared.halt.Halt.{Halt as HaltKept}
 use Rattle.yds_trace_parts.specs.declared.halt.Halt.TheVariants as halts
-use Rattle.yds_trace_parts.specs.Told.{Halt, InForm, AtLine, OfDocument, OfText, NoPlace, told_after, told_of}
+use Rattle.yds_trace_parts.specs.Told.{Halt, InForm, AtLine, OfDocument, OfText, NoPlace, told_after, told_in_text}
 use Rattle.yds_trace_parts.specs.Driving.{WritesSome, Writes as WritesParts}
 use Rattle.yds_trace_words.specs.Request.{ReadTrace}
 use Rattle.yds_trace_run.specs.FaultText.{halt_text, too_long_text, memory_text, read_fault_text}
@@ -59,55 +58,55 @@ outcome_more statuses.Memory first text status old mid new flushed before behind
 -- # What was written
 
 module _ (asked : Asked) (strict : Bool) (bytes : List ℕ) (in_parts : asked.in_parts ≡ true) where
-  told_so : (text : List ℕ) (status : Status) → IsTold true asked strict (trace_of bytes) text status → IsTold asked.in_parts asked strict (trace_of bytes) text status
-  told_so text status is = subst (λ (b : Bool). IsTold b asked strict (trace_of bytes) text status) (sym in_parts) is
+  told_so : (text : List ℕ) (status : Status) → IsTold true asked strict bytes text status → IsTold asked.in_parts asked strict bytes text status
+  told_so text status is = subst (λ (b : Bool). IsTold b asked strict bytes text status) (sym in_parts) is
 
   -- behind the parts of some lines
   ends_so : (old mid : Option (List ℕ)) (comment : List ℕ) (some : WritesSome asked strict bytes old mid)
       → EndsWith (Ok (ReadTrace asked strict)) bytes ((told_after asked strict some.past).text ++ comment) comment
   ends_so old mid comment some = record {
     before = (told_after asked strict some.past).text;
-    stands = subst (λ (b : Bool). WasWritten b asked strict (trace_of bytes) (told_after asked strict some.past).text) (sym in_parts)
+    stands = subst (λ (b : Bool). WasWritten b asked strict bytes (told_after asked strict some.past).text) (sym in_parts)
         (record { past = some.past; behind = some.behind; front = some.front; goes_on = some.goes_on; says = refl });
     says = refl;
   }
 
   -- a text with this status, behind what was told
-  refused_so : (halt : Halt) (ended : Status) (old mid new : Option (List ℕ)) (flushed : Option ℕ) → (told_of asked strict (trace_of bytes)).halt ≡ Some halt
-      → Appends old mid (told_of asked strict (trace_of bytes)).text → Outcome ended (halt_text halt) statuses.Refused mid new flushed
+  refused_so : (halt : Halt) (ended : Status) (old mid new : Option (List ℕ)) (flushed : Option ℕ) → (told_in_text asked strict bytes).halt ≡ Some halt
+      → Appends old mid (told_in_text asked strict bytes).text → Outcome ended (halt_text halt) statuses.Refused mid new flushed
       → Writes (Ok (ReadTrace asked strict)) bytes ended old new flushed
   refused_so halt ended old mid new flushed first before behind = record {
-    text = (told_of asked strict (trace_of bytes)).text ++ halt_text halt;
+    text = (told_in_text asked strict bytes).text ++ halt_text halt;
     status = statuses.Refused;
-    is_text = inl (told_so ((told_of asked strict (trace_of bytes)).text ++ halt_text halt) statuses.Refused (record { halt = halt; first = first; says = refl }));
-    outcome = outcome_more ended (told_of asked strict (trace_of bytes)).text (halt_text halt) statuses.Refused old mid new flushed before behind;
+    is_text = inl (told_so ((told_in_text asked strict bytes).text ++ halt_text halt) statuses.Refused (record { halt = halt; first = first; says = refl }));
+    outcome = outcome_more ended (told_in_text asked strict bytes).text (halt_text halt) statuses.Refused old mid new flushed before behind;
   }
 
   -- A write failed: a front of all that is told.
-  failed_so : (halt : Option Halt) (ended : Status) (old new : Option (List ℕ)) (flushed : Option ℕ) → (told_of asked strict (trace_of bytes)).halt ≡ halt
-      → ended ≡ statuses.WriteFault → AppendsFront (told_of asked strict (trace_of bytes)).text old new → Writes (Ok (ReadTrace asked strict)) bytes ended old new flushed
+  failed_so : (halt : Option Halt) (ended : Status) (old new : Option (List ℕ)) (flushed : Option ℕ) → (told_in_text asked strict bytes).halt ≡ halt
+      → ended ≡ statuses.WriteFault → AppendsFront (told_in_text asked strict bytes).text old new → Writes (Ok (ReadTrace asked strict)) bytes ended old new flushed
   failed_so None ended old new flushed is failed front = record {
-    text = (told_of asked strict (trace_of bytes)).text;
+    text = (told_in_text asked strict bytes).text;
     status = statuses.Done;
-    is_text = inl (told_so (told_of asked strict (trace_of bytes)).text statuses.Done (record { sound = is; says = refl }));
-    outcome = subst (λ (one : Status). Outcome one (told_of asked strict (trace_of bytes)).text statuses.Done old new flushed) (sym failed) front;
+    is_text = inl (told_so (told_in_text asked strict bytes).text statuses.Done (record { sound = is; says = refl }));
+    outcome = subst (λ (one : Status). Outcome one (told_in_text asked strict bytes).text statuses.Done old new flushed) (sym failed) front;
   }
   failed_so (Some halt) ended old new flushed is failed front = record {
-    text = (told_of asked strict (trace_of bytes)).text ++ halt_text halt;
+    text = (told_in_text asked strict bytes).text ++ halt_text halt;
     status = statuses.Refused;
-    is_text = inl (told_so ((told_of asked strict (trace_of bytes)).text ++ halt_text halt) statuses.Refused (record { halt = halt; first = is; says = refl }));
-    outcome = subst (λ (one : Status). Outcome one ((told_of asked strict (trace_of bytes)).text ++ halt_text halt) statuses.Refused old new flushed) (sym failed)
-        (front_longer (told_of asked strict (trace_of bytes)).text (halt_text halt) old new front);
+    is_text = inl (told_so ((told_in_text asked strict bytes).text ++ halt_text halt) statuses.Refused (record { halt = halt; first = is; says = refl }));
+    outcome = subst (λ (one : Status). Outcome one ((told_in_text asked strict bytes).text ++ halt_text halt) statuses.Refused old new flushed) (sym failed)
+        (front_longer (told_in_text asked strict bytes).text (halt_text halt) old new front);
   }
 
   done_so : (ended : Status) (old mid new : Option (List ℕ)) (flushed : Option ℕ) → WritesParts asked strict bytes (Ok tt) old mid
       → Outcome ended [] statuses.Done mid new flushed → Writes (Ok (ReadTrace asked strict)) bytes ended old new flushed
   done_so ended old mid new flushed drives outcome = record {
-    text = (told_of asked strict (trace_of bytes)).text;
+    text = (told_in_text asked strict bytes).text;
     status = statuses.Done;
-    is_text = inl (told_so (told_of asked strict (trace_of bytes)).text statuses.Done (record { sound = drives.told; says = refl }));
-    outcome = subst (λ (text : List ℕ). Outcome ended text statuses.Done old new flushed) (append-nil (told_of asked strict (trace_of bytes)).text)
-        (outcome_more ended (told_of asked strict (trace_of bytes)).text [] statuses.Done old mid new flushed drives.appended outcome);
+    is_text = inl (told_so (told_in_text asked strict bytes).text statuses.Done (record { sound = drives.told; says = refl }));
+    outcome = subst (λ (text : List ℕ). Outcome ended text statuses.Done old new flushed) (append-nil (told_in_text asked strict bytes).text)
+        (outcome_more ended (told_in_text asked strict bytes).text [] statuses.Done old mid new flushed drives.appended outcome);
   }
 
   module _ {K : Type 0} (written : K → Option (List ℕ)) (flushed : K → Option ℕ) (flushes faults : K → ℕ) where
@@ -142,8 +141,8 @@ module _ (asked : Asked) (strict : Bool) (bytes : List ℕ) (in_parts : asked.in
       outcome = outcome_more ended (told_after asked strict drives.past).text memory_text statuses.Memory (written old) (written mid) (written new) (flushed new) drives.appended tells.outcome;
     }
     halted_so halts.WriteFault ended old mid new drives tells =
-        failed_so (told_of asked strict (trace_of bytes)).halt ended (written old) (written new) (flushed new) refl tells.0
-        (subst (λ (one : K). AppendsFront (told_of asked strict (trace_of bytes)).text (written old) (written one)) (sym tells.1) drives)
+        failed_so (told_in_text asked strict bytes).halt ended (written old) (written new) (flushed new) refl tells.0
+        (subst (λ (one : K). AppendsFront (told_in_text asked strict bytes).text (written old) (written one)) (sym tells.1) drives)
 
 -- # Halts
 

@@ -5,13 +5,12 @@ use Rattle.std.specs.Io.KnownBytes.{Appends, Keeps}
 use Rattle.yds_model.specs.declared.status.Status.{Status}
 use Rattle.yds_model.specs.declared.status.Status.TheVariants as statuses
 use Rattle.yds_port.specs.Count.{Rose}
-use Rattle.yds_kernel.specs.Text.{trace_of}
 use Rattle.yds_trace_reading.specs.declared.stopped.Stopped.{Stopped}
 use Rattle.yds_trace_reading.specs.LineFault.{LineFault, InForm, AtLine}
 use Rattle.yds_trace_reading.specs.Reading.{IsReadOut}
 use Rattle.yds_trace_threads.specs.declared.halt.Halt.{Halt}
 use Rattle.yds_trace_threads.specs.declared.halt.Halt.TheVariants as halts
-use Rattle.yds_trace_threads.specs.Faults.{line_fault as threads_fault}
+use Rattle.yds_trace_threads.specs.Faults.{line_fault_of as threads_fault}
 use Rattle.yds_trace_threads.specs.Telling.{threads_text, Writes as WritesThreads}
 use Rattle.yds_trace_words.specs.Request.{ListThreads}
 use Rattle.yds_trace_run.specs.Fault.{OfLine}
@@ -70,7 +69,7 @@ module _ {K : Type 0} (written : K → Option (List ℕ)) (flushed : K → Optio
   threads_write (Some bytes) ended old mid new told delivered = done_so bytes ended old mid new told delivered
 
   line_so : (bytes : List ℕ) (line : LineFault) (ended : Status) (old mid new : K)
-      → (threads_fault (trace_of bytes) ≡ Some line) × Keeps (written old) (written mid) → IsDelivered written flushed flushes faults (fault_text (OfLine line)) statuses.Refused ended mid new
+      → (threads_fault bytes ≡ Some line) × Keeps (written old) (written mid) → IsDelivered written flushed flushes faults (fault_text (OfLine line)) statuses.Refused ended mid new
       → Writes (Ok ListThreads) bytes ended (written old) (written new) (flushed new)
   line_so bytes line ended old mid new told tells = record {
     text = fault_text (OfLine line);

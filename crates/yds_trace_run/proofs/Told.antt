@@ -4,14 +4,14 @@ use Rattle.std.specs.Prelude.{IfSome}
 use Rattle.yds_model.specs.declared.status.Status.{Status}
 use Rattle.yds_model.specs.declared.status.Status.TheVariants as statuses
 use Rattle.yds_kernel.specs.Parts.{or_else}
-use Rattle.yds_kernel.specs.Text.{Trace, trace_of}
+use Rattle.yds_kernel_order.specs.Order.{order_of}
 use Rattle.yds_trace.specs.declared.ended.Ended.{Ended}
 use Rattle.yds_trace.specs.Asked.{Asked}
 use Rattle.yds_trace.specs.Ended.{IsEnded as KnowsEnd}
 use Rattle.yds_kernel.specs.Event.{Said}
 use Rattle.yds_trace_reading.specs.declared.stopped.Stopped.{Stopped}
 use Rattle.yds_trace_reading.specs.declared.stopped.Stopped.TheVariants as stops
-use Rattle.yds_trace_reading.specs.LineFault.{LineFault, InForm, AtLine, past_of, line_fault}
+use Rattle.yds_trace_reading.specs.LineFault.{LineFault, InForm, AtLine, past_of, line_fault_of, in_text}
 use Rattle.yds_trace_reading.specs.Reading.{IsEndOfSome, IsRead, IsStopped}
 use Rattle.yds_trace_words.specs.Words.{WordFault}
 use Rattle.yds_trace_words.specs.Request.{Request, ShowHelp, ShowVersion, ReadTrace, ListThreads}
@@ -23,16 +23,17 @@ use Rattle.yds_trace_run.specs.Endings.{IsText, Writes, IsDelivered, Tells, IsTe
 -- # Ends that aren't of the trace
 
 -- In parts, no part is written with no line.
-none_written : (in_parts : Bool) (asked : Asked) (strict : Bool) (trace : Trace) → WasWritten in_parts asked strict trace []
-none_written false asked strict trace = refl
-none_written true asked strict trace = record { past = []; behind = past_of trace; front = sym (append-nil (past_of trace)); goes_on = refl; says = refl }
+none_written : (in_parts : Bool) (asked : Asked) (strict : Bool) (input : List ℕ) → WasWritten in_parts asked strict input []
+none_written false asked strict input = refl
+none_written true asked strict input =
+    record { past = []; behind = past_of (order_of input); front = sym (append-nil (past_of (order_of input))); goes_on = refl; says = refl }
 
 none_stands : (request : Result Request WordFault) (input : List ℕ) → StandsBefore request input []
 none_stands (Err fault) input = refl
 none_stands (Ok ShowHelp) input = refl
 none_stands (Ok ShowVersion) input = refl
 none_stands (Ok ListThreads) input = refl
-none_stands (Ok (ReadTrace asked strict)) input = none_written asked.in_parts asked strict (trace_of input)
+none_stands (Ok (ReadTrace asked strict)) input = none_written asked.in_parts asked strict input
 
 -- a comment with nothing before it
 pub ends_alone : (request : Result Request WordFault) (input comment : List ℕ) → EndsWith request input comment comment
@@ -40,26 +41,26 @@ ends_alone request input comment = record { before = []; stands = none_stands re
 
 -- # Why it wasn't read
 
-stopped_fault : (asked : Asked) (strict : Bool) (bytes : List ℕ) (fault : LineFault) → line_fault asked (trace_of bytes) ≡ Some fault → fault_of asked strict (trace_of bytes) ≡ Some (OfLine fault)
+stopped_fault : (asked : Asked) (strict : Bool) (bytes : List ℕ) (fault : LineFault) → line_fault_of asked bytes ≡ Some fault → fault_of asked strict bytes ≡ Some (OfLine fault)
 stopped_fault asked strict bytes fault is =
-    ap (λ (line : Option LineFault). or_else (of_line line) (document_fault asked strict (past_of (trace_of bytes)))) is
+    ap (λ (line : Option LineFault). or_else (of_line line) (document_fault asked strict (past_of (order_of bytes)))) is
 
 -- what is told in one document
-in_one : (asked : Asked) (strict : Bool) (trace : Trace) (text : List ℕ) (status : Status) → asked.in_parts ≡ false → IsTold false asked strict trace text status
-    → IsTold asked.in_parts asked strict trace text status
-in_one asked strict trace text status whole is = subst (λ (b : Bool). IsTold b asked strict trace text status) (sym whole) is
+in_one : (asked : Asked) (strict : Bool) (input text : List ℕ) (status : Status) → asked.in_parts ≡ false → IsTold false asked strict input text status
+    → IsTold asked.in_parts asked strict input text status
+in_one asked strict input text status whole is = subst (λ (b : Bool). IsTold b asked strict input text status) (sym whole) is
 
-line_told : (asked : Asked) (strict : Bool) (bytes : List ℕ) (fault : LineFault) → line_fault asked (trace_of bytes) ≡ Some fault
-    → IsTold false asked strict (trace_of bytes) (fault_text (OfLine fault)) statuses.Refused
+line_told : (asked : Asked) (strict : Bool) (bytes : List ℕ) (fault : LineFault) → line_fault_of asked bytes ≡ Some fault
+    → IsTold false asked strict bytes (fault_text (OfLine fault)) statuses.Refused
 line_told asked strict bytes fault is = record { fault = OfLine fault; first = stopped_fault asked strict bytes fault is; says = refl }
 
 stopped_is : (asked : Asked) (strict : Bool) (bytes : List ℕ) (stopped : Stopped) → asked.in_parts ≡ false → IsStopped asked bytes stopped
     → IsText (Ok (ReadTrace asked strict)) bytes (stopped_text stopped) (stopped_status stopped)
 stopped_is asked strict bytes (stops.InForm number fault) whole is =
     let line : LineFault = InForm (record { line = number; column = fault.column; reason = fault.reason }) in
-    inl (in_one asked strict (trace_of bytes) (fault_text (OfLine line)) statuses.Refused whole (line_told asked strict bytes line is))
+    inl (in_one asked strict bytes (fault_text (OfLine line)) statuses.Refused whole (line_told asked strict bytes line is))
 stopped_is asked strict bytes (stops.AtLine number cause) whole is =
-    inl (in_one asked strict (trace_of bytes) (fault_text (OfLine (AtLine number cause))) statuses.Refused whole (line_told asked strict bytes (AtLine number cause) is))
+    inl (in_one asked strict bytes (fault_text (OfLine (AtLine number cause))) statuses.Refused whole (line_told asked strict bytes (AtLine number cause) is))
 stopped_is asked strict bytes stops.TooLong whole is = inr (record { long = subst (λ (b : Bool). IsUncounted b bytes) (sym whole) is; refused = refl; ends = ends_alone (Ok (ReadTrace asked strict)) bytes (stopped_text stops.TooLong) })
 stopped_is asked strict bytes stops.ReadFault whole is = ends_alone (Ok (ReadTrace asked strict)) bytes (stopped_text stops.ReadFault)
 stopped_is asked strict bytes stops.Memory whole is = ends_alone (Ok (ReadTrace asked strict)) bytes (stopped_text stops.Memory)
@@ -74,14 +75,14 @@ stopped_writes written flushed flushes faults asked strict (Some bytes) stopped 
 
 -- # What was read
 
-told_is : (asked : Asked) (strict : Bool) (bytes : List ℕ) (text : List ℕ) (status : Status) → asked.in_parts ≡ false → line_fault asked (trace_of bytes) ≡ None
-    → IsTextOfLines asked strict (past_of (trace_of bytes)) text status → IsText (Ok (ReadTrace asked strict)) bytes text status
+told_is : (asked : Asked) (strict : Bool) (bytes : List ℕ) (text : List ℕ) (status : Status) → asked.in_parts ≡ false → line_fault_of asked bytes ≡ None
+    → IsTextOfLines asked strict (past_of (order_of bytes)) text status → IsText (Ok (ReadTrace asked strict)) bytes text status
 told_is asked strict bytes text statuses.Done whole sound is =
-    inl (in_one asked strict (trace_of bytes) text statuses.Done whole (record { sound = sound; fits = is.0; says = is.1 }))
+    inl (in_one asked strict bytes text statuses.Done whole (record { sound = sound; fits = is.0; says = is.1 }))
 told_is asked strict bytes text statuses.Refused whole sound is =
-    inl (in_one asked strict (trace_of bytes) text statuses.Refused whole (record {
+    inl (in_one asked strict bytes text statuses.Refused whole (record {
       fault = is.0;
-      first = ap (λ (line : Option LineFault). or_else (of_line line) (document_fault asked strict (past_of (trace_of bytes)))) sound ∙ is.1;
+      first = ap (λ (line : Option LineFault). or_else (of_line line) (document_fault asked strict (past_of (order_of bytes)))) sound ∙ is.1;
       says = is.2;
     }))
 told_is asked strict bytes text statuses.Memory whole sound is =
@@ -99,7 +100,7 @@ told_writes written flushed flushes faults asked strict (Some bytes) known ended
     record {
       text = tells.text;
       status = tells.status;
-      is_text = told_is asked strict bytes tells.text tells.status whole is.sound (tells.says asked (past_of (trace_of bytes)) is.known);
+      is_text = told_is asked strict bytes tells.text tells.status whole (ap (in_text bytes) is.sound) (tells.says asked (past_of (order_of bytes)) is.known);
       outcome = tells.delivered.outcome;
     }
 

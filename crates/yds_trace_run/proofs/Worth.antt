@@ -1,12 +1,12 @@
 -- What was written names each late job, is read again, and is faithful to the trace, in one document or in parts.
 use Rattle.yds_model.proofs.Common.{◌≡◌, ℕ, inl, inr, List, length, get_or, All, Bool, Option, Some, None, Ok, refl, sym, subst, ◌∙◌, ◌≢◌, ◌≤◌, true, false, nat_lt, if◌then◌else◌, ltb-false, and_parts, AllPairs, is_name}
-use Rattle.std.specs.Prelude.{IfSome}
+use Rattle.std.specs.Prelude.{IfSome, option_map}
 use Rattle.std.specs.Io.KnownBytes.{Appends}
 use Rattle.yds_model.specs.declared.status.Status.{Status}
 use Rattle.yds_model.specs.declared.status.Status.TheVariants as statuses
 use Rattle.yds_model.specs.declared.limits.TheConstants.{MAX_INPUT}
 use Rattle.yds_kernel.specs.Event.{Said}
-use Rattle.yds_kernel.specs.Text.{Trace, trace_of}
+use Rattle.yds_kernel_order.specs.Order.{order_of, line_at}
 use Rattle.yds_trace.specs.Asked.{Task, Asked, IsAsked, on}
 use Rattle.yds_trace.specs.Faults.{first_fault}
 use Rattle.yds_trace.specs.Parts.{processors_of}
@@ -27,6 +27,7 @@ use Rattle.yds_trace_words.specs.Tasks.{is_label}
 use Rattle.yds_trace_run.specs.Fault.{OfText, of_document, of_text, document_fault}
 use Rattle.yds_trace_text.specs.Text.{late_comment, text_of}
 use Rattle.yds_trace_reading.specs.LineFault.{past_of}
+use Rattle.yds_trace_parts.specs.Told.{Halt, told_of, by_number}
 use Rattle.yds_trace_words.specs.Request.{ReadTrace, IsFit}
 use Rattle.yds_trace_run.specs.Answer.{AreParts, IsTold}
 use Rattle.yds_trace_run.specs.Endings.{IsText, Outcome, Writes}
@@ -48,7 +49,7 @@ told_late asked past text fit is = λ feasible i d within by late. (
 -- # What a run that is done wrote
 
 done_so : (asked : Asked) (strict : Bool) (bytes text : List ℕ) (status : Status) → statuses.Done ≡ status → IsText (Ok (ReadTrace asked strict)) bytes text status
-    → IsTold asked.in_parts asked strict (trace_of bytes) text statuses.Done
+    → IsTold asked.in_parts asked strict bytes text statuses.Done
 done_so asked strict bytes text status done is = elim (subst (λ (s : Status). IsText (Ok (ReadTrace asked strict)) bytes text s) (sym done) is) [
   | inl told ↦ told
   | inr much ↦ let other : statuses.Done ≡ statuses.Refused = much.refused in absurd cc
@@ -56,7 +57,7 @@ done_so asked strict bytes text status done is = elim (subst (λ (s : Status). I
 
 -- What holds of each text that is told holds of what it wrote.
 done_holds : (Q : List ℕ → List ℕ → Type 0) (asked : Asked) (strict : Bool)
-    → ((bytes text : List ℕ) → IsTold asked.in_parts asked strict (trace_of bytes) text statuses.Done → Q bytes text)
+    → ((bytes text : List ℕ) → IsTold asked.in_parts asked strict bytes text statuses.Done → Q bytes text)
     → (input old new : Option (List ℕ)) (flushed : Option ℕ) (ended : Status) → ended ≡ statuses.Done
     → IfSome input (λ bytes. Writes (Ok (ReadTrace asked strict)) bytes ended old new flushed)
     → IfSome input (λ bytes. (text : List ℕ) × Appends old new text × Q bytes text)
@@ -73,10 +74,18 @@ labelled tasks labels different = record {
 
 -- # In parts
 
+-- No reason is told where there is none.
+none_there : (number_of : ℕ → ℕ) (halt : Option Halt) → option_map (by_number number_of) halt ≡ None → halt ≡ None
+none_there number_of None none = refl
+none_there number_of (Some halt) none = cc
+
 -- It is the text of the trace's parts, and none of its lines is refused.
-told_parts : (asked : Asked) (strict : Bool) (trace : Trace) (text : List ℕ) → AreParts asked strict trace text → IsToldAs asked strict (past_of trace) (written_parts asked (past_of trace)) text
-told_parts asked strict trace text parts =
-    subst (λ (one : List ℕ). IsToldAs asked strict (past_of trace) (written_parts asked (past_of trace)) one) (sym parts.says) (told_as asked strict trace parts.sound)
+told_parts : (asked : Asked) (strict : Bool) (input text : List ℕ) → AreParts asked strict input text
+    → IsToldAs asked strict (past_of (order_of input)) (written_parts asked (past_of (order_of input))) text
+told_parts asked strict input text parts =
+    let goes_on = none_there (line_at input) (told_of asked strict (order_of input)).halt parts.sound in
+    subst (λ (one : List ℕ). IsToldAs asked strict (past_of (order_of input)) (written_parts asked (past_of (order_of input))) one) (sym parts.says)
+    (told_as asked strict (order_of input) goes_on)
 
 parts_read_again : (asked : Asked) (strict : Bool) (past : List Said) (text : List ℕ) → IsFit asked → IsToldAs asked strict past (written_parts asked past) text
     → ArePartsReadAgain (written_parts asked past) text
@@ -96,19 +105,19 @@ sound_on processor asked past sound = first_fault_on asked processor past ∙ so
 
 -- # No late job is hidden
 
-hides_nothing : (in_parts : Bool) (asked : Asked) (strict : Bool) (trace : Trace) (text : List ℕ) → IsFit asked → IsTold in_parts asked strict trace text statuses.Done
-    → HidesNothing in_parts asked (past_of trace) text
-hides_nothing false asked strict trace text fit told = told_late asked (past_of trace) text fit.plain told.says
-hides_nothing true asked strict trace text fit told =
-    let parts = told_parts asked strict trace text told in
-    nothing_is_late_anywhere asked (past_of trace) fit.plain parts.sound parts.keeps
+hides_nothing : (in_parts : Bool) (asked : Asked) (strict : Bool) (input text : List ℕ) → IsFit asked → IsTold in_parts asked strict input text statuses.Done
+    → HidesNothing in_parts asked (past_of (order_of input)) text
+hides_nothing false asked strict input text fit told = told_late asked (past_of (order_of input)) text fit.plain told.says
+hides_nothing true asked strict input text fit told =
+    let parts = told_parts asked strict input text told in
+    nothing_is_late_anywhere asked (past_of (order_of input)) fit.plain parts.sound parts.keeps
 
 pub nothing_late : (asked : Asked) (strict : Bool) (input old new : Option (List ℕ)) (flushed : Option ℕ) (ended : Status) → IsFit asked → ended ≡ statuses.Done
     → IfSome input (λ bytes. Writes (Ok (ReadTrace asked strict)) bytes ended old new flushed)
-    → IfSome input (λ bytes. (text : List ℕ) × Appends old new text × HidesNothing asked.in_parts asked (past_of (trace_of bytes)) text)
+    → IfSome input (λ bytes. (text : List ℕ) × Appends old new text × HidesNothing asked.in_parts asked (past_of (order_of bytes)) text)
 nothing_late asked strict input old new flushed ended fit done writes =
-    done_holds (λ bytes text. HidesNothing asked.in_parts asked (past_of (trace_of bytes)) text) asked strict
-    (λ bytes text told. hides_nothing asked.in_parts asked strict (trace_of bytes) text fit told) input old new flushed ended done writes
+    done_holds (λ bytes text. HidesNothing asked.in_parts asked (past_of (order_of bytes)) text) asked strict
+    (λ bytes text told. hides_nothing asked.in_parts asked strict bytes text fit told) input old new flushed ended done writes
 
 -- # It is read again
 
@@ -131,22 +140,22 @@ document_again asked strict past text fit none is =
     (is_read_again asked strict past fit.plain (labelled asked.tasks fit.labels fit.different) (no_limit (limit_fault strict (settled_of asked past)) parts.0)
     (not_long (text_of asked past) parts.1))
 
-read_so : (in_parts : Bool) (asked : Asked) (strict : Bool) (trace : Trace) (text : List ℕ) → IsFit asked → IsTold in_parts asked strict trace text statuses.Done
-    → IsReadSo in_parts asked (past_of trace) text
-read_so false asked strict trace text fit told = document_again asked strict (past_of trace) text fit told.fits told.says
-read_so true asked strict trace text fit told = parts_read_again asked strict (past_of trace) text fit (told_parts asked strict trace text told)
+read_so : (in_parts : Bool) (asked : Asked) (strict : Bool) (input text : List ℕ) → IsFit asked → IsTold in_parts asked strict input text statuses.Done
+    → IsReadSo in_parts asked (past_of (order_of input)) text
+read_so false asked strict input text fit told = document_again asked strict (past_of (order_of input)) text fit told.fits told.says
+read_so true asked strict input text fit told = parts_read_again asked strict (past_of (order_of input)) text fit (told_parts asked strict input text told)
 
 pub read_again : (asked : Asked) (strict : Bool) (input old new : Option (List ℕ)) (flushed : Option ℕ) (ended : Status) → IsFit asked → ended ≡ statuses.Done
     → IfSome input (λ bytes. Writes (Ok (ReadTrace asked strict)) bytes ended old new flushed)
-    → IfSome input (λ bytes. (text : List ℕ) × Appends old new text × IsReadSo asked.in_parts asked (past_of (trace_of bytes)) text)
+    → IfSome input (λ bytes. (text : List ℕ) × Appends old new text × IsReadSo asked.in_parts asked (past_of (order_of bytes)) text)
 read_again asked strict input old new flushed ended fit done writes =
-    done_holds (λ bytes text. IsReadSo asked.in_parts asked (past_of (trace_of bytes)) text) asked strict
-    (λ bytes text told. read_so asked.in_parts asked strict (trace_of bytes) text fit told) input old new flushed ended done writes
+    done_holds (λ bytes text. IsReadSo asked.in_parts asked (past_of (order_of bytes)) text) asked strict
+    (λ bytes text told. read_so asked.in_parts asked strict bytes text fit told) input old new flushed ended done writes
 
 -- # It is faithful, and whole
 
 -- What holds of the lines of each trace that is told holds of its lines.
-lines_hold : (Q : List ℕ → Type 0) (asked : Asked) (strict : Bool) → ((bytes text : List ℕ) → IsTold asked.in_parts asked strict (trace_of bytes) text statuses.Done → Q bytes)
+lines_hold : (Q : List ℕ → Type 0) (asked : Asked) (strict : Bool) → ((bytes text : List ℕ) → IsTold asked.in_parts asked strict bytes text statuses.Done → Q bytes)
     → (input old new : Option (List ℕ)) (flushed : Option ℕ) (ended : Status) → ended ≡ statuses.Done
     → IfSome input (λ bytes. Writes (Ok (ReadTrace asked strict)) bytes ended old new flushed) → IfSome input Q
 lines_hold Q asked strict each None old new flushed ended done writes = tt
@@ -154,21 +163,21 @@ lines_hold Q asked strict each (Some bytes) old new flushed ended done writes =
     let whole = subst (λ (s : Status). Outcome s writes.text writes.status old new flushed) done writes.outcome in
     each bytes writes.text (done_so asked strict bytes writes.text writes.status whole.said writes.is_text)
 
-faithful_so : (in_parts : Bool) (asked : Asked) (strict : Bool) (trace : Trace) (text : List ℕ) → IsFit asked → IsTold in_parts asked strict trace text statuses.Done
-    → IsFaithfulSo in_parts asked (past_of trace)
-faithful_so false asked strict trace text fit told = documents_are_faithful asked (past_of trace) fit.plain
-faithful_so true asked strict trace text fit told =
-    let past = past_of trace in
-    let parts = told_parts asked strict trace text told in
+faithful_so : (in_parts : Bool) (asked : Asked) (strict : Bool) (input text : List ℕ) → IsFit asked → IsTold in_parts asked strict input text statuses.Done
+    → IsFaithfulSo in_parts asked (past_of (order_of input))
+faithful_so false asked strict input text fit told = documents_are_faithful asked (past_of (order_of input)) fit.plain
+faithful_so true asked strict input text fit told =
+    let past = past_of (order_of input) in
+    let parts = told_parts asked strict input text told in
     λ i d within.
     let processor = get_or (processors_of asked past) i d in
     parts_are_faithful (on processor asked) past (fit_on processor asked fit.plain) (sound_on processor asked past parts.sound) (all_parts_are_kept asked past parts.keeps i d within)
 
 pub faithful : (asked : Asked) (strict : Bool) (input old new : Option (List ℕ)) (flushed : Option ℕ) (ended : Status) → IsFit asked → ended ≡ statuses.Done
-    → IfSome input (λ bytes. Writes (Ok (ReadTrace asked strict)) bytes ended old new flushed) → IfSome input (λ bytes. IsFaithfulSo asked.in_parts asked (past_of (trace_of bytes)))
+    → IfSome input (λ bytes. Writes (Ok (ReadTrace asked strict)) bytes ended old new flushed) → IfSome input (λ bytes. IsFaithfulSo asked.in_parts asked (past_of (order_of bytes)))
 faithful asked strict input old new flushed ended fit done writes =
-    lines_hold (λ bytes. IsFaithfulSo asked.in_parts asked (past_of (trace_of bytes))) asked strict
-    (λ bytes text told. faithful_so asked.in_parts asked strict (trace_of bytes) text fit told) input old new flushed ended done writes
+    lines_hold (λ bytes. IsFaithfulSo asked.in_parts asked (past_of (order_of bytes))) asked strict
+    (λ bytes text told. faithful_so asked.in_parts asked strict bytes text fit told) input old new flushed ended done writes
 
 -- Of a job that moved, no stretch is lost where that is asked for.
 shared : (asked : Asked) (past : List Said) → AreSharedIfAsked asked past
@@ -178,11 +187,11 @@ shared asked past moved = record {
   none_moved = λ processor. none_has_moved (on processor asked) past moved;
 }
 
-whole_so : (in_parts : Bool) (asked : Asked) (strict : Bool) (trace : Trace) (text : List ℕ) → IsFit asked → IsTold in_parts asked strict trace text statuses.Done → IsWholeSo in_parts asked (past_of trace)
-whole_so false asked strict trace text fit told = shared asked (past_of trace)
-whole_so true asked strict trace text fit told =
-    let past = past_of trace in
-    let parts = told_parts asked strict trace text told in
+whole_so : (in_parts : Bool) (asked : Asked) (strict : Bool) (input text : List ℕ) → IsFit asked → IsTold in_parts asked strict input text statuses.Done → IsWholeSo in_parts asked (past_of (order_of input))
+whole_so false asked strict input text fit told = shared asked (past_of (order_of input))
+whole_so true asked strict input text fit told =
+    let past = past_of (order_of input) in
+    let parts = told_parts asked strict input text told in
     record {
       each = λ i d within.
           let processor = get_or (processors_of asked past) i d in
@@ -199,7 +208,7 @@ whole_so true asked strict trace text fit told =
     }
 
 pub whole : (asked : Asked) (strict : Bool) (input old new : Option (List ℕ)) (flushed : Option ℕ) (ended : Status) → IsFit asked → ended ≡ statuses.Done
-    → IfSome input (λ bytes. Writes (Ok (ReadTrace asked strict)) bytes ended old new flushed) → IfSome input (λ bytes. IsWholeSo asked.in_parts asked (past_of (trace_of bytes)))
+    → IfSome input (λ bytes. Writes (Ok (ReadTrace asked strict)) bytes ended old new flushed) → IfSome input (λ bytes. IsWholeSo asked.in_parts asked (past_of (order_of bytes)))
 whole asked strict input old new flushed ended fit done writes =
-    lines_hold (λ bytes. IsWholeSo asked.in_parts asked (past_of (trace_of bytes))) asked strict
-    (λ bytes text told. whole_so asked.in_parts asked strict (trace_of bytes) text fit told) input old new flushed ended done writes
+    lines_hold (λ bytes. IsWholeSo asked.in_parts asked (past_of (order_of bytes))) asked strict
+    (λ bytes text told. whole_so asked.in_parts asked strict bytes text fit told) input old new flushed ended done writes

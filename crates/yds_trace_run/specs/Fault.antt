@@ -3,13 +3,13 @@ use Rattle.std.specs.Prelude.{ℕ, List, length, Bool, nat_lt, if◌then◌else�
 use Rattle.yds_model.specs.declared.limits.TheConstants.{MAX_INPUT}
 use Rattle.yds_kernel.specs.Parts.{or_else}
 use Rattle.yds_kernel.specs.Event.{Said}
-use Rattle.yds_kernel.specs.Text.{Trace}
+use Rattle.yds_kernel_order.specs.Order.{order_of}
 use Rattle.yds_trace.specs.Asked.{Asked}
 use Rattle.yds_trace_document.specs.declared.fault.DocumentFault.{DocumentFault}
 use Rattle.yds_trace_document.specs.Settled.{settled_of}
 use Rattle.yds_trace_document.specs.Limits.{limit_fault}
 use Rattle.yds_trace_text.specs.Text.{text_of}
-use Rattle.yds_trace_reading.specs.LineFault.{LineFault, past_of, line_fault}
+use Rattle.yds_trace_reading.specs.LineFault.{LineFault, past_of, line_fault_of}
 
 pub data TraceFault : Type 0 where
   -- the first line that is refused
@@ -34,6 +34,6 @@ of_text text = if nat_lt MAX_INPUT (length text) then Some OfText else None
 abbrev pub document_fault : Asked → Bool → List Said → Option TraceFault
 document_fault asked strict past = or_else (of_document (limit_fault strict (settled_of asked past))) (of_text (text_of asked past))
 
--- the first cause for which the trace isn't told, if there is one
-abbrev pub fault_of : Asked → Bool → Trace → Option TraceFault
-fault_of asked strict trace = or_else (of_line (line_fault asked trace)) (document_fault asked strict (past_of trace))
+-- the first cause for which the trace that these bytes are isn't told, if there is one
+abbrev pub fault_of : Asked → Bool → List ℕ → Option TraceFault
+fault_of asked strict input = or_else (of_line (line_fault_of asked input)) (document_fault asked strict (past_of (order_of input)))

@@ -2,7 +2,7 @@
 ghost use Rattle.std.specs.Prelude.{◌≡◌, ◌≢◌, ◌<◌, ◌≤◌, ℕ, List, [], Ok, IfSome, Bool, true, false};
 ghost use Rattle.std.specs.Io.KnownBytes.{Appends};
 ghost use Rattle.yds_port.specs.Count.{Rose, next_count};
-ghost use Rattle.yds_kernel.specs.Text.{trace_of};
+ghost use Rattle.yds_kernel_order.specs.Order.{order_of};
 ghost use Rattle.yds_trace.specs.Asked as asking;
 ghost use Rattle.yds_trace_words.specs.Request.{request_of, ReadTrace, ListThreads, IsFit};
 ghost use Rattle.yds_trace_words.specs.Views.{words_of};
@@ -42,6 +42,8 @@ use yds_trace_words::{HELP, LINE_BYTES, NoRequest, Request, VERSION, fault_line,
 ///   behind those of some lines.
 /// - `WriteFault`: a front of one of these texts was written.
 ///
+/// The lines of a trace are taken in order of time, and a line is told by its number in the text.
+///
 /// The source and the sink need not tell their bytes. Where both do, what was written is what the definitions say of the words and
 /// of all bytes of the source. The code is one for all sources and sinks. Threads are looked up with these keys, on which no
 /// answer depends.
@@ -75,22 +77,22 @@ pub fn run<S: Source, K: Sink>(
     // late by less than a unit of time, and a comment names it.
     ensures nothing_late { result ≡ Status.Done → (asked : asking.Asked) (strict : Bool) → request_of (words_of words.now) ≡ Ok (ReadTrace asked strict)
         → IfSome (S.left source.old) (λ input.
-        (text : List ℕ) × Appends (K.written sink.old) (K.written sink.new) text × HidesNothing asked.in_parts asked (past_of (trace_of input)) text) }
+        (text : List ℕ) × Appends (K.written sink.old) (K.written sink.new) text × HidesNothing asked.in_parts asked (past_of (order_of input)) text) }
 
     // It is read again by the definition of documents, within the limits, as just its jobs and its runs, in their order.
     ensures read_again { result ≡ Status.Done → (asked : asking.Asked) (strict : Bool) → request_of (words_of words.now) ≡ Ok (ReadTrace asked strict)
         → IfSome (S.left source.old) (λ input.
-        (text : List ℕ) × Appends (K.written sink.old) (K.written sink.new) text × IsReadSo asked.in_parts asked (past_of (trace_of input)) text) }
+        (text : List ℕ) × Appends (K.written sink.old) (K.written sink.new) text × IsReadSo asked.in_parts asked (past_of (order_of input)) text) }
 
     // No job and no run of it is invented: each run is stretches of time that the trace shows of its job. And none is missing.
     ensures faithful { result ≡ Status.Done → (asked : asking.Asked) (strict : Bool) → request_of (words_of words.now) ≡ Ok (ReadTrace asked strict)
-        → IfSome (S.left source.old) (λ input. IsFaithfulSo asked.in_parts asked (past_of (trace_of input))) }
+        → IfSome (S.left source.old) (λ input. IsFaithfulSo asked.in_parts asked (past_of (order_of input))) }
 
     // In parts, a part that was written long ago says of its jobs what the whole trace says of them, and put together the parts are
     // the one document that the trace would have without limits. Where what a job ran is shared out among the processors, none of it
     // is lost.
     ensures whole { result ≡ Status.Done → (asked : asking.Asked) (strict : Bool) → request_of (words_of words.now) ≡ Ok (ReadTrace asked strict)
-        → IfSome (S.left source.old) (λ input. IsWholeSo asked.in_parts asked (past_of (trace_of input))) }
+        → IfSome (S.left source.old) (λ input. IsWholeSo asked.in_parts asked (past_of (order_of input))) }
 {
     match read_words(alloc, words) {
         Ok(Request::Help) => deliver(HELP, Status::Done, sink),

@@ -9,22 +9,23 @@ use yds_port::{MemorySink, MemorySource};
 use yds_trace::{Asked, Start, Task, Which};
 use yds_trace_parts::{Halt, tell_parts};
 
-/// How many jobs are in the trace: behind the last line of them, line 4,096, it is looked for a part, and more than 2,000 wait.
-const JOBS: u64 = 2_048;
+/// How many jobs are in the trace. Behind line 4,096 it is looked for a part, and more than 2,000 wait. More than 64 lines come
+/// behind it, so it has its place before the trace has ended.
+const JOBS: u64 = 2_100;
 
 /// Of the thread's first run it isn't known whether its job ran before, so that one is left out.
 const FIRST: &[u8] = b"# part 1: jobs 1 to 2046, from 20 to 40930, shift 0\n";
 
 const BOTH: &[u8] = b"\
 # part 1: jobs 1 to 2046, from 20 to 40930, shift 0
-# part 2: jobs 2047 to 2047, from 40940 to 40950, shift 40940, the last
+# part 2: jobs 2047 to 2099, from 40940 to 41990, shift 40940, the last
 ";
 
 /// Where each processor has documents of its own: one thread runs on processor 1, and none on the others.
 const EACH: &[u8] = b"\
 # part 1: jobs 1 to 2046, from 20 to 40930, shift 0, cpu 1
 # part 1: jobs 1 to 0, from 0 to 0, shift 0, cpu 0, the last
-# part 2: jobs 2047 to 2047, from 40940 to 40950, shift 40940, cpu 1, the last
+# part 2: jobs 2047 to 2099, from 40940 to 41990, shift 40940, cpu 1, the last
 ";
 
 /// The jobs of `t` on processor 0, or on each one, each due 10 microseconds after its first run.

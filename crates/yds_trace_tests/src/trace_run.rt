@@ -51,6 +51,32 @@ run t.0@0 50 150 100
 /// The first line of its only part: a job begins 100 units after the trace does.
 const PART: &[u8] = b"# part 1: jobs 1 to 1, from 100 to 1100, shift 100, the last\n";
 
+/// A job of a trace whose third line, of this processor, stands a line too late: it wakes the thread that the second one gives
+/// processor 0. This line stands behind the others.
+fn late(alloc: Global, processor: u16, last: &str) -> Result<Vec<u8>, AllocError> {
+    let text = format!(in alloc; "\
+  <idle>-0 [000] d..2. 5.000000: cpu_frequency: state=1000000 cpu_id=0
+  <idle>-0 [000] d..2. 5.001000: sched_switch: prev_comm=swapper prev_pid=0 prev_prio=120 prev_state=R ==> next_comm=t next_pid=7 next_prio=120
+  <idle>-0 [{processor}] d..2. 5.000990: sched_waking: comm=t pid=7 prio=120 target_cpu=000
+  t-7 [000] d..2. 5.003000: sched_switch: prev_comm=t prev_pid=7 prev_prio=120 prev_state=S ==> next_comm=swapper next_pid=0 next_prio=120
+{last}")?;
+    Ok(text.into_bytes())
+}
+
+/// Its document: the job begins a unit before it runs.
+const BEGUN: &[u8] = b"\
+# CPU 0 of a kernel trace; time 0 is 5.000990000 s
+# time unit 10 us, speed unit 10000 kHz, work unit 100 cycles
+job t.0 0 1000 20000
+ticks 1
+run t.0 1 201 100
+# 1 job written, none left out
+";
+
+/// A line that is earlier than the last of those by more than a millisecond.
+const BACK: &str =
+    "  <idle>-0 [001] d..2. 5.001500: sched_waking: comm=k pid=9 prio=120 target_cpu=000\n";
+
 /// These words, each up to a blank.
 fn words(alloc: Global, line: &str) -> Result<Vec<String>, Memory> {
     let mut words = Vec::new(alloc);
@@ -181,14 +207,50 @@ fn turns(alloc: Global, jobs: u16) -> Result<Vec<u8>, AllocError> {
 
 #[test]
 fn a_part_stands_before_a_failed_read(rt: HostRuntime) -> Result<(), Fail> {
-    // Behind line 2,048 more than 2,000 jobs wait, and the first part is written. Some 20 lines later the read fails.
-    let trace = turns(rt.alloc(), 2_100)?;
+    // Behind line 2,048 more than 2,000 jobs wait, and the first part is written. It has its place when 64 lines more are
+    // read, and some 20 lines later the read fails.
+    let trace = turns(rt.alloc(), 2_200)?;
     let line = "--tasks a:0.01,b:0.01 --us 1 --start 1000000 --begin run --parts";
-    let (ended, written) = told(&rt, line, trace, 2_760)?;
+    let (ended, written) = told(&rt, line, trace, 2_850)?;
     assert_eq!(rt; ended, Status::ReadFault);
     assert!(rt; written.starts_with(b"# part 1: jobs 1 to 2046, from "));
     assert!(rt;
         written.ends_with(b"\n# the input couldn't be read to its end; give it anew\nfailed\n")
     );
+    Ok(())
+}
+
+#[test]
+fn lines_out_of_order_are_told_by_their_numbers_in_the_text(rt: HostRuntime) -> Result<(), Fail> {
+    let cases = [
+        ("--tasks t:10", 1, "", Status::Done, BEGUN),
+        (
+            "--tasks t:10",
+            9_000,
+            "",
+            Status::Refused,
+            b"# line 3: the number of the processor is above 8191; leave the line out\nfailed\n".as_slice(),
+        ),
+        (
+            "--parts --tasks t:10",
+            9_000,
+            "",
+            Status::Refused,
+            b"# line 3: the number of the processor is above 8191; leave the line out\nfailed\n".as_slice(),
+        ),
+        (
+            "--tasks t:10",
+            1,
+            BACK,
+            Status::Refused,
+            b"# line 5: its time is before that of an earlier line, by more than a millisecond or behind more than 64 lines; sort the lines by their times\nfailed\n".as_slice(),
+        ),
+    ];
+    for (line, processor, last, status, want) in cases {
+        let trace = late(rt.alloc(), processor, last)?;
+        let (ended, written) = told(&rt, line, trace, 0)?;
+        assert_eq!(rt; ended, status, "{line}");
+        assert_eq!(rt; written.as_slice(), want, "{line}");
+    }
     Ok(())
 }

@@ -1,10 +1,11 @@
-use Rattle.yds_model.proofs.Common.{◌≡◌, ◌+◌, ◌∙◌, length, Ok, refl, sym, arith, err_from_is_err_and}
+use Rattle.yds_model.proofs.Common.{ℕ, ◌+◌, ◌∙◌, Ok, refl, sym, ap, arith, err_from_is_err_and}
+use Rattle.yds_kernel_order.specs.Order.{said_in}
 use Rattle.yds_trace.specs.Views.{asked_read}
-use Rattle.yds_trace_reading.proofs.Draining.{rest_same, rest_of, nothing_left}
-use Rattle.yds_trace_reading.proofs.Passing.{counts_on}
+use Rattle.yds_trace_reading.proofs.Draining.{rest_same, rest_of}
+use Rattle.yds_trace_reading.proofs.Giving.{counts_on, none_left}
 use Rattle.yds_trace_parts.specs.declared.halt.Halt.{Halt as HaltKept}
-use Rattle.yds_trace_parts.proofs.Driven.{at_begin, nothing_written, one_more, not_taken, piece_cut, end_not_told, end_told, end_cut, read_failed, too_many_bytes, too_many_lines, room_behind, plain_behind}
-use Rattle.yds_trace_parts.proofs.Ending.{own_halt, own_line, tells_halt, tells_read_fault, tells_write_fault, tells_all}
+use Rattle.yds_trace_parts.proofs.Driven.{at_begin, nothing_written, one_more, not_taken, not_in_form, piece_cut, end_not_told, end_told, end_cut, read_failed, no_memory, too_many_bytes, too_many_lines, past_length, room_behind, plain_behind}
+use Rattle.yds_trace_parts.proofs.Ending.{own_halt, tells_halt, tells_read_fault, tells_write_fault, tells_all}
 use Rattle.yds_trace_parts.proofs.driver.tell.Goals as goal
 
 -- # What the calls need
@@ -33,11 +34,11 @@ loop-lines-init g c = record {
 pub loop-lines-preserved : goal.loop-lines-preserved
 loop-lines-preserved g c =
     let known = c.loop-lines.invariant.behind in
-    let number : c.advance.new.self.number ≡ length known.past + 1 = omega (arith, c.in-Line.ensures.advances.next, known.number, known.many) in
+    let place = ap (λ (n : ℕ). n + 1) (sym (past_length _ _ _ _ _ _ _ _ _ known)) in
     record {
       behind = one_more (asked_read c.args.asked) c.args.strict _ _ _ _ _ _ _ _ _ _ _ _ _ _ known c.in-Line.ensures.advances c.in-Line.ensures.counts
-          (c.in_ok-pieces-in-Line.ensures.said (asked_read c.args.asked) c.args.strict known.past known.stands number)
-          (c.in_ok-pieces-in-Line.ensures.adds (asked_read c.args.asked) c.args.strict known.past known.stands number)
+          (c.in_ok-pieces-in-Line.ensures.told (asked_read c.args.asked) c.args.strict (said_in known.given) known.stands place)
+          (c.in_ok-pieces-in-Line.ensures.adds (asked_read c.args.asked) c.args.strict (said_in known.given) known.stands place)
           (rw c.deref.ensures.value at c.in_ok-write_all-in-Line.ensures.puts.delivers.0);
       read = c.in-Line.ensures.advances.no_fault ∙ c.loop-lines.invariant.read;
       wrote = c.in_ok-write_all-in-Line.ensures.puts.delivers.1 ∙ c.loop-lines.invariant.wrote;
@@ -65,80 +66,95 @@ pub returns-in_err-pieces-in-Line : goal.returns-in_err-pieces-in-Line
 returns-in_err-pieces-in-Line g c =
     let told = err_from_is_err_and c.from_residual-in_err-pieces-in-Line.result c.from_residual-in_err-pieces-in-Line.ensures.1 in
     let known = c.loop-lines.invariant.behind in
-    let number : c.advance.new.self.number ≡ length known.past + 1 = omega (arith, c.in-Line.ensures.advances.next, known.number, known.many) in
-    let why = c.in_err-pieces-in-Line.ensures.halts (asked_read c.args.asked) c.args.strict known.past known.stands number in
+    let place = ap (λ (n : ℕ). n + 1) (sym (past_length _ _ _ _ _ _ _ _ _ known)) in
+    let why = c.in_err-pieces-in-Line.ensures.halts (asked_read c.args.asked) c.args.strict _ known.stands place in
     rw (told.1, told.2)
-    (tells_halt g.S.Source.left g.S.Source.faults g.K.Sink.written g.K.Sink.flushed g.K.Sink.flushes g.K.Sink.faults (asked_read c.args.asked) c.args.strict _ _ _ _ _ (own_line (asked_read c.args.asked) c.args.strict known.past _ _ _ why)
+    (tells_halt g.S.Source.left g.S.Source.faults g.K.Sink.written g.K.Sink.flushed g.K.Sink.flushes g.K.Sink.faults (asked_read c.args.asked) c.args.strict _ _ _ _ _ (own_halt _ _ why)
     (c.in-Line.ensures.advances.no_fault ∙ c.loop-lines.invariant.read) c.loop-lines.invariant.wrote c.loop-lines.invariant.flushed c.loop-lines.invariant.flushes
-    (not_taken (asked_read c.args.asked) c.args.strict (g.S.Source.left c.args.source.now) _ _ _ _ _ _ _ _ _ _ _ known c.in-Line.ensures.advances why)
-    (rest_of _ _ _ (counts_on (g.S.Source.left c.args.source.now) _ _ _ _ c.loop-lines.invariant.behind.counts c.in-Line.ensures.counts)))
+    (not_taken (asked_read c.args.asked) c.args.strict (g.S.Source.left c.args.source.now) _ _ _ _ _ _ _ _ _ _ _ known c.in-Line.ensures.advances c.in-Line.ensures.counts why)
+    (rest_of _ _ _ (counts_on (g.S.Source.left c.args.source.now) _ _ _ _ c.loop-lines.invariant.behind.known.counts c.in-Line.ensures.counts)))
 
 pub returns-in_err-write_all-in-Line : goal.returns-in_err-write_all-in-Line
 returns-in_err-write_all-in-Line g c =
     let told = err_from_is_err_and c.from_residual-in_err-write_all-in-Line.result c.from_residual-in_err-write_all-in-Line.ensures.1 in
     let known = c.loop-lines.invariant.behind in
-    let number : c.advance.new.self.number ≡ length known.past + 1 = omega (arith, c.in-Line.ensures.advances.next, known.number, known.many) in
+    let place = ap (λ (n : ℕ). n + 1) (sym (past_length _ _ _ _ _ _ _ _ _ known)) in
     rw (told.1, told.2)
     (tells_write_fault g.S.Source.left g.S.Source.faults g.K.Sink.written g.K.Sink.flushed g.K.Sink.flushes g.K.Sink.faults (asked_read c.args.asked) c.args.strict _ _ _ _ _ c.loop-lines.invariant.wrote c.in_err-write_all-in-Line.ensures.puts.delivers.1
     (c.in-Line.ensures.advances.no_fault ∙ c.loop-lines.invariant.read)
     (c.in_err-write_all-in-Line.ensures.puts.flushed_stays ∙ c.loop-lines.invariant.flushed) (c.in_err-write_all-in-Line.ensures.puts.flushes_stay ∙ c.loop-lines.invariant.flushes)
-    (piece_cut (asked_read c.args.asked) c.args.strict (g.S.Source.left c.args.source.now) _ _ _ _ _ _ _ _ _ _ _ _ known c.in-Line.ensures.advances
-    (c.in_ok-pieces-in-Line.ensures.adds (asked_read c.args.asked) c.args.strict known.past known.stands number) (rw c.deref.ensures.value at c.in_err-write_all-in-Line.ensures.puts.delivers.0))
-    (rest_of _ _ _ (counts_on (g.S.Source.left c.args.source.now) _ _ _ _ c.loop-lines.invariant.behind.counts c.in-Line.ensures.counts)))
+    (piece_cut (asked_read c.args.asked) c.args.strict (g.S.Source.left c.args.source.now) _ _ _ _ _ _ _ _ _ _ _ _ known c.in-Line.ensures.advances c.in-Line.ensures.counts
+    (c.in_ok-pieces-in-Line.ensures.adds (asked_read c.args.asked) c.args.strict (said_in known.given) known.stands place) (rw c.deref.ensures.value at c.in_err-write_all-in-Line.ensures.puts.delivers.0))
+    (rest_of _ _ _ (counts_on (g.S.Source.left c.args.source.now) _ _ _ _ c.loop-lines.invariant.behind.known.counts c.in-Line.ensures.counts)))
 
 pub returns-in_err-text-in-End : goal.returns-in_err-text-in-End
 returns-in_err-text-in-End g c =
     let told = err_from_is_err_and c.from_residual-in_err-text-in-End.result c.from_residual-in_err-text-in-End.ensures.1 in
     let known = c.loop-lines.invariant.behind in
-    let why = c.in_err-text-in-End.ensures.halts (asked_read c.args.asked) c.args.strict known.past known.stands (sym known.many) in
+    let place = sym (past_length _ _ _ _ _ _ _ _ _ known) in
+    let why = c.in_err-text-in-End.ensures.halts (asked_read c.args.asked) c.args.strict _ known.stands place in
     rw (told.1, told.2)
     (tells_halt g.S.Source.left g.S.Source.faults g.K.Sink.written g.K.Sink.flushed g.K.Sink.flushes g.K.Sink.faults (asked_read c.args.asked) c.args.strict _ _ _ _ _ (own_halt _ _ why)
     (c.in-End.ensures.advances.no_fault ∙ c.loop-lines.invariant.read) c.loop-lines.invariant.wrote c.loop-lines.invariant.flushed c.loop-lines.invariant.flushes
-    (end_not_told (asked_read c.args.asked) c.args.strict (g.S.Source.left c.args.source.now) _ _ _ _ _ _ _ known c.in-End.ensures.advances.at_end why)
-    (rest_of _ _ _ (counts_on (g.S.Source.left c.args.source.now) _ _ _ _ c.loop-lines.invariant.behind.counts c.in-End.ensures.counts)))
+    (end_not_told (asked_read c.args.asked) c.args.strict (g.S.Source.left c.args.source.now) _ _ _ _ _ _ _ _ _ _ _ known c.in-End.ensures.advances why)
+    (rest_of _ _ _ (counts_on (g.S.Source.left c.args.source.now) _ _ _ _ c.loop-lines.invariant.behind.known.counts c.in-End.ensures.counts)))
 
 pub returns-in_err-write_all-in-End : goal.returns-in_err-write_all-in-End
 returns-in_err-write_all-in-End g c =
     let told = err_from_is_err_and c.from_residual-in_err-write_all-in-End.result c.from_residual-in_err-write_all-in-End.ensures.1 in
     let known = c.loop-lines.invariant.behind in
+    let place = sym (past_length _ _ _ _ _ _ _ _ _ known) in
     rw (told.1, told.2)
     (tells_write_fault g.S.Source.left g.S.Source.faults g.K.Sink.written g.K.Sink.flushed g.K.Sink.flushes g.K.Sink.faults (asked_read c.args.asked) c.args.strict _ _ _ _ _ c.loop-lines.invariant.wrote c.in_err-write_all-in-End.ensures.puts.delivers.1
     (c.in-End.ensures.advances.no_fault ∙ c.loop-lines.invariant.read)
     (c.in_err-write_all-in-End.ensures.puts.flushed_stays ∙ c.loop-lines.invariant.flushed) (c.in_err-write_all-in-End.ensures.puts.flushes_stay ∙ c.loop-lines.invariant.flushes)
-    (end_cut (asked_read c.args.asked) c.args.strict (g.S.Source.left c.args.source.now) _ _ _ _ _ _ _ _ known c.in-End.ensures.advances.at_end
-    (c.in_ok-text-in-End.ensures.sound (asked_read c.args.asked) c.args.strict known.past known.stands (sym known.many))
-    (c.in_ok-text-in-End.ensures.told (asked_read c.args.asked) c.args.strict known.past known.stands (sym known.many))
+    (end_cut (asked_read c.args.asked) c.args.strict (g.S.Source.left c.args.source.now) _ _ _ _ _ _ _ _ _ _ _ _ known c.in-End.ensures.advances
+    (c.in_ok-text-in-End.ensures.sound (asked_read c.args.asked) c.args.strict _ known.stands place) (c.in_ok-text-in-End.ensures.told (asked_read c.args.asked) c.args.strict _ known.stands place)
     (rw c.deref-in-End.ensures.value at c.in_err-write_all-in-End.ensures.puts.delivers.0))
-    (rest_of _ _ _ (counts_on (g.S.Source.left c.args.source.now) _ _ _ _ c.loop-lines.invariant.behind.counts c.in-End.ensures.counts)))
+    (rest_of _ _ _ (counts_on (g.S.Source.left c.args.source.now) _ _ _ _ c.loop-lines.invariant.behind.known.counts c.in-End.ensures.counts)))
 
 pub returns-in-End : goal.returns-in-End
 returns-in-End g c =
     let known = c.loop-lines.invariant.behind in
+    let place = sym (past_length _ _ _ _ _ _ _ _ _ known) in
     tells_all g.S.Source.left g.S.Source.faults g.K.Sink.written g.K.Sink.flushed g.K.Sink.flushes g.K.Sink.faults (asked_read c.args.asked) c.args.strict _ _ _ _
     (c.in-End.ensures.advances.no_fault ∙ c.loop-lines.invariant.read) (c.in_ok-write_all-in-End.ensures.puts.delivers.1 ∙ c.loop-lines.invariant.wrote)
     (c.in_ok-write_all-in-End.ensures.puts.flushed_stays ∙ c.loop-lines.invariant.flushed) (c.in_ok-write_all-in-End.ensures.puts.flushes_stay ∙ c.loop-lines.invariant.flushes)
-    (end_told (asked_read c.args.asked) c.args.strict (g.S.Source.left c.args.source.now) _ _ _ _ _ _ _ _ known c.in-End.ensures.advances.at_end
-    (c.in_ok-text-in-End.ensures.sound (asked_read c.args.asked) c.args.strict known.past known.stands (sym known.many))
-    (c.in_ok-text-in-End.ensures.told (asked_read c.args.asked) c.args.strict known.past known.stands (sym known.many))
+    (end_told (asked_read c.args.asked) c.args.strict (g.S.Source.left c.args.source.now) _ _ _ _ _ _ _ _ _ _ _ _ known c.in-End.ensures.advances
+    (c.in_ok-text-in-End.ensures.sound (asked_read c.args.asked) c.args.strict _ known.stands place) (c.in_ok-text-in-End.ensures.told (asked_read c.args.asked) c.args.strict _ known.stands place)
     (rw c.deref-in-End.ensures.value at c.in_ok-write_all-in-End.ensures.puts.delivers.0))
-    (nothing_left {A = Unit {0}} {E = HaltKept} (g.S.Source.left c.args.source.now) _ _ (Ok tt) (counts_on (g.S.Source.left c.args.source.now) _ _ _ _ known.counts c.in-End.ensures.counts) c.in-End.ensures.advances.none_left)
-    (rest_of _ _ _ (counts_on (g.S.Source.left c.args.source.now) _ _ _ _ c.loop-lines.invariant.behind.counts c.in-End.ensures.counts))
+    (none_left {A = Unit {0}} {E = HaltKept} (g.S.Source.left c.args.source.now) _ _ _ _ _ _ _ (Ok tt) known.known c.in-End.ensures.advances)
+    (rest_of _ _ _ (counts_on (g.S.Source.left c.args.source.now) _ _ _ _ c.loop-lines.invariant.behind.known.counts c.in-End.ensures.counts))
+
+pub returns-in-Refused : goal.returns-in-Refused
+returns-in-Refused g c =
+    tells_halt g.S.Source.left g.S.Source.faults g.K.Sink.written g.K.Sink.flushed g.K.Sink.flushes g.K.Sink.faults (asked_read c.args.asked) c.args.strict _ _ _ _ _ tt
+    (c.in-Refused.ensures.advances.no_fault ∙ c.loop-lines.invariant.read) c.loop-lines.invariant.wrote c.loop-lines.invariant.flushed c.loop-lines.invariant.flushes
+    (not_in_form (asked_read c.args.asked) c.args.strict (g.S.Source.left c.args.source.now) _ _ _ _ _ _ _ _ _ _ _ _ c.loop-lines.invariant.behind c.in-Refused.ensures.advances)
+    (rest_of _ _ _ (counts_on (g.S.Source.left c.args.source.now) _ _ _ _ c.loop-lines.invariant.behind.known.counts c.in-Refused.ensures.counts))
 
 pub returns-in-Failed : goal.returns-in-Failed
 returns-in-Failed g c =
     tells_read_fault g.S.Source.left g.S.Source.faults g.K.Sink.written g.K.Sink.flushed g.K.Sink.flushes g.K.Sink.faults (asked_read c.args.asked) c.args.strict _ _ _ _ _ c.loop-lines.invariant.read c.in-Failed.ensures.advances c.loop-lines.invariant.wrote c.loop-lines.invariant.flushed c.loop-lines.invariant.flushes
     (read_failed (asked_read c.args.asked) c.args.strict (g.S.Source.left c.args.source.now) _ _ _ _ _ _ c.loop-lines.invariant.behind)
-    (rest_of _ _ _ (counts_on (g.S.Source.left c.args.source.now) _ _ _ _ c.loop-lines.invariant.behind.counts c.in-Failed.ensures.counts))
+    (rest_of _ _ _ (counts_on (g.S.Source.left c.args.source.now) _ _ _ _ c.loop-lines.invariant.behind.known.counts c.in-Failed.ensures.counts))
 
 pub returns-in-TooLong : goal.returns-in-TooLong
 returns-in-TooLong g c =
     tells_halt g.S.Source.left g.S.Source.faults g.K.Sink.written g.K.Sink.flushed g.K.Sink.flushes g.K.Sink.faults (asked_read c.args.asked) c.args.strict _ _ _ _ _ tt
     (c.in-TooLong.ensures.advances.no_fault ∙ c.loop-lines.invariant.read) c.loop-lines.invariant.wrote c.loop-lines.invariant.flushed c.loop-lines.invariant.flushes
     (too_many_bytes (asked_read c.args.asked) c.args.strict (g.S.Source.left c.args.source.now) _ _ _ _ _ _ _ _ c.loop-lines.invariant.behind c.in-TooLong.ensures.counts c.in-TooLong.ensures.advances.counted)
-    (rest_of _ _ _ (counts_on (g.S.Source.left c.args.source.now) _ _ _ _ c.loop-lines.invariant.behind.counts c.in-TooLong.ensures.counts))
+    (rest_of _ _ _ (counts_on (g.S.Source.left c.args.source.now) _ _ _ _ c.loop-lines.invariant.behind.known.counts c.in-TooLong.ensures.counts))
+
+pub returns-in-Memory : goal.returns-in-Memory
+returns-in-Memory g c =
+    tells_halt g.S.Source.left g.S.Source.faults g.K.Sink.written g.K.Sink.flushed g.K.Sink.flushes g.K.Sink.faults (asked_read c.args.asked) c.args.strict _ _ _ _ _ tt
+    (c.in-Memory.ensures.advances ∙ c.loop-lines.invariant.read) c.loop-lines.invariant.wrote c.loop-lines.invariant.flushed c.loop-lines.invariant.flushes
+    (no_memory (asked_read c.args.asked) c.args.strict (g.S.Source.left c.args.source.now) _ _ _ _ _ _ c.loop-lines.invariant.behind)
+    (rest_of _ _ _ (counts_on (g.S.Source.left c.args.source.now) _ _ _ _ c.loop-lines.invariant.behind.known.counts c.in-Memory.ensures.counts))
 
 pub returns : goal.returns
 returns g c =
     tells_halt g.S.Source.left g.S.Source.faults g.K.Sink.written g.K.Sink.flushed g.K.Sink.flushes g.K.Sink.faults (asked_read c.args.asked) c.args.strict _ _ _ _ _ tt c.loop-lines.invariant.read c.loop-lines.invariant.wrote c.loop-lines.invariant.flushed c.loop-lines.invariant.flushes
     (too_many_lines (asked_read c.args.asked) c.args.strict (g.S.Source.left c.args.source.now) _ _ _ _ _ _ c.loop-lines.invariant.behind (omega (arith, c.loop-lines-test.false)))
-    (rest_of _ _ _ c.loop-lines.invariant.behind.counts)
+    (rest_of _ _ _ c.loop-lines.invariant.behind.known.counts)
