@@ -384,7 +384,7 @@ FORMS = {
 CAUSES = {
     "processor": "the number of the processor is above 8191; leave the line out",
     "time": "the time is above 9223372036.854775807 seconds; leave the line out",
-    "back": "its time is before that of an earlier line, by more than a millisecond or behind more than 64 lines; sort the lines by their times",
+    "back": "its time is before that of an earlier line, by more than a millisecond, behind more than 64 lines, or over lost events; sort the lines by their times",
     "lost": "events were lost before it; record with a larger buffer, choose --from and --to around it, or go on by --lost cut",
     "state": "a task leaves in a state that the kernel doesn't have; write the trace anew",
     "threads": "a task's name is that of another thread before; threads are renamed at their start, too: give the number, which stays, by PID=NAME:DEADLINE",

@@ -35,7 +35,7 @@ form_text reasons.Cut = codes "the last line is cut short; leave it out, or writ
 abbrev pub cause_text : Cause → List ℕ
 cause_text causes.ProcessorTooGreat = codes "the number of the processor is above 8191; leave the line out"
 cause_text causes.TimeTooGreat = codes "the time is above 9223372036.854775807 seconds; leave the line out"
-cause_text causes.TimeGoesBack = codes "its time is before that of an earlier line, by more than a millisecond or behind more than 64 lines; sort the lines by their times"
+cause_text causes.TimeGoesBack = codes "its time is before that of an earlier line, by more than a millisecond, behind more than 64 lines, or over lost events; sort the lines by their times"
 cause_text causes.EventsLost = codes "events were lost before it; record with a larger buffer, choose --from and --to around it, or go on by --lost cut"
 cause_text causes.UnknownState = codes "a task leaves in a state that the kernel doesn't have; write the trace anew"
 cause_text causes.TwoThreads = codes "a task's name is that of another thread before; threads are renamed at their start, too: give the number, which stays, by PID=NAME:DEADLINE"

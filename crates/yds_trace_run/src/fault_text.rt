@@ -105,7 +105,7 @@ fn push_cause(cause: Cause, line: &mut ArrayString<LINE_BYTES>)
             "the time is above 9223372036.854775807 seconds; leave the line out",
         ),
         Cause::TimeGoesBack => line.push_str(
-            "its time is before that of an earlier line, by more than a millisecond or behind more than 64 lines; sort the lines by their times",
+            "its time is before that of an earlier line, by more than a millisecond, behind more than 64 lines, or over lost events; sort the lines by their times",
         ),
         Cause::EventsLost => line.push_str(
             "events were lost before it; record with a larger buffer, choose --from and --to around it, or go on by --lost cut",
