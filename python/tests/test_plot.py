@@ -182,7 +182,7 @@ class Gantts(unittest.TestCase):
             notes,
             [
                 "left out of the document: 4 jobs, 3 of unknown time",
-                "late of these: render.3 by 25 ms, audio.2 by 10 ms",
+                "late of these: render.3 by 25 ms, audio.2 by at least 10 ms",
             ],
         )
         self.assertEqual([(mark.row, mark.time) for mark in picture.crosses], [(6, 120.0)])
@@ -226,7 +226,7 @@ class Gantts(unittest.TestCase):
         picture = drawn_gantt(DOCUMENT + told)
         wanted = [
             "not done: render.2, audio.1, audio.2",
-            "late: render.3 by 25 ms, render.7 by 2 ms, render.5 by 900 µs",
+            "late: render.3 by 25 ms, render.7 by at least 2 ms, render.5 by 900 µs",
         ]
         self.assertEqual(list(picture.frame.notes), wanted)
         self.assertEqual(len(picture.misses), 6)

@@ -2,7 +2,7 @@
 
 from __future__ import annotations
 
-from typing import Dict, List, NamedTuple, Optional, Sequence, Set, Tuple
+from typing import Dict, List, NamedTuple, Optional, Sequence, Set, Tuple, Union
 
 from yds._framed import EDGE, MISSED, SMALL, TEXT, Choice, Frame, Groups, Key, grouped, in_words, shortened_name
 from yds._pixels import Columns, Share, Stretch, as_many_as_fit, columns_of, is_narrow, merged, shares, text_width
@@ -168,7 +168,7 @@ class _Drawing:
         return [note for note in [*notes, *self._left_out()] if note]
 
     def _told(self, job: Window) -> str:
-        return f"{job.name} by {span_told(self.document.units, job.late)}" if job.late else job.name
+        return f"{job.name} {_by(job)}{span_told(self.document.units, job.late)}" if job.late else job.name
 
     def _note(self, name: str, texts: Sequence[str]) -> str:
         return f"{name}: {as_many_as_fit(texts, self.choice.width - 110, SMALL)}" if texts else ""
@@ -183,7 +183,7 @@ class _Drawing:
         told = [f"left out of the document: {counted(number, 'job', 'jobs')}"]
         told += [f"{unknown} of unknown time"] if unknown else []
         told += [f"{beyond} beyond this time"] if beyond else []
-        late = [f"{one.name} by {short(float(one.late))} ms" for one in document.absent if one.late]
+        late = [f"{one.name} {_by(one)}{short(float(one.late))} ms" for one in document.absent if one.late]
         return [", ".join(told), self._note("late of these", late)]
 
     def longest(self) -> str:
@@ -197,6 +197,11 @@ class _Drawing:
         texts = [f"{name} for {time_scale(self.document.units, sums[name]).told(sums[name])}" for name in longest[:3]]
         more = f" and {counted(len(longest) - 3, 'other', 'others')}" if len(longest) > 3 else ""
         return f"others: {as_many_as_fit(texts, self.choice.width - 190, SMALL)}{more}" if texts else ""
+
+
+def _by(one: Union[Window, Absent]) -> str:
+    """What stands between a job's name and how late it was."""
+    return "by at least " if one.at_least else "by "
 
 
 def _filled(narrow: Sequence[Stretch], columns: Columns) -> List[Stretch]:

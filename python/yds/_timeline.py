@@ -41,6 +41,8 @@ class Window(NamedTuple):
     """LATE, NOT_DONE, or empty."""
     late: Optional[Fraction]
     """How long after its deadline it ended, or was seen last; None where it isn't known."""
+    at_least: bool = False
+    """Whether it was later than that by an unknown time."""
 
 
 class Absent(NamedTuple):
@@ -50,6 +52,8 @@ class Absent(NamedTuple):
     window: Optional[Tuple[int, int]]
     late: Optional[str]
     """Milliseconds after its deadline, as they are written; None where nothing is told."""
+    at_least: bool = False
+    """Whether it was later than that by an unknown time."""
 
 
 class Timeline(NamedTuple):
@@ -159,7 +163,8 @@ class _Reading:
             late = self._after(job, deadline)
         if not miss:
             miss = NOT_DONE if not job.is_done else LATE if late else ""
-        return Window(job.name, task_of(job.name), release, deadline, miss, late or None)
+        at_least = note is not None and note.at_least
+        return Window(job.name, task_of(job.name), release, deadline, miss, late or None, at_least)
 
     def _after(self, job: HeldJob, deadline: int) -> Fraction:
         """How long after the deadline the job's last run ends, or the end that a comment tells."""
@@ -189,7 +194,9 @@ def timeline(rows: Iterable[Row], units: Optional[Units] = None) -> Timeline:
         raise Fault("no slot; give a trace's document or the answer of plan, round, avr or oa")
     units = units_of_told(reading.units) if units is None else units
     others = [(f"{one.name}-{one.pid}", one.start / reading.ticks, one.end / reading.ticks) for one in reading.others]
-    absent = [Absent(note.job, note.window, note.late) for note in reading.left_out.values()]
+    absent = [
+        Absent(note.job, note.window, note.late, note.at_least or note.never) for note in reading.left_out.values()
+    ]
     jobs = [reading.window(job, units) for job in reading.held.jobs]
     return Timeline(
         jobs, reading.runs, reading.points, absent, reading.counted, others, units, reading.is_trace, reading.is_plan
