@@ -30,6 +30,11 @@ pub taken_bytes : (bytes : List ℕ) (left : Option (List ℕ)) (taken : ℕ) �
 taken_bytes bytes None taken counts = absurd counts
 taken_bytes bytes (Some rest) taken counts = omega (arith, counts)
 
+-- Of an error nothing is said that is said of a value.
+pub none_said : (input : Option (List ℕ)) → IfSome input (λ bytes. Unit {0})
+none_said None = tt
+none_said (Some bytes) = tt
+
 -- # Before the first line, and with a line more
 
 -- what a new reader holds
