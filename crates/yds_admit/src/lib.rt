@@ -26,3 +26,6 @@ mod state;
 
 pub use admission::{Admission, admit};
 pub use refusal::Refusal;
+
+#[cfg(test)]
+mod tests;

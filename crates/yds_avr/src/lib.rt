@@ -10,3 +10,6 @@ mod rate;
 mod roster;
 
 pub use average_rate::{avr, avr_timetable};
+
+#[cfg(test)]
+mod tests;

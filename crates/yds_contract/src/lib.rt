@@ -14,3 +14,6 @@ mod span;
 mod spreading;
 
 pub use contraction::Contraction;
+
+#[cfg(test)]
+mod tests;

@@ -11,3 +11,6 @@ mod search;
 
 pub use interval::Interval;
 pub use search::critical;
+
+#[cfg(test)]
+mod tests;

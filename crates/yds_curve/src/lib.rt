@@ -12,3 +12,6 @@ mod excess;
 
 pub use bends::{Break, curve};
 pub use excess::least_above;
+
+#[cfg(test)]
+mod tests;

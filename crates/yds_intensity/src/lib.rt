@@ -11,3 +11,6 @@ mod sweeping;
 
 pub use deadline_order::order;
 pub use sweeping::{Sum, sums, sweep};
+
+#[cfg(test)]
+mod tests;

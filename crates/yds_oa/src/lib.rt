@@ -11,3 +11,6 @@ mod quotient;
 mod walk;
 
 pub use optimal_available::{oa, oa_timetable};
+
+#[cfg(test)]
+mod tests;

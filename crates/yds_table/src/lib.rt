@@ -14,3 +14,6 @@ mod table;
 pub use fault::TableFault;
 pub use table::Table;
 pub use yds_hull::Point;
+
+#[cfg(test)]
+mod tests;

@@ -1,6 +1,5 @@
-//! Tests of `yds_edf`.
+use super::*;
 use std::test::Fail;
-use yds_edf::{Queue, fill, lay};
 use yds_events::Stretch;
 use yds_fraction::Moment;
 use yds_model::JobRow;

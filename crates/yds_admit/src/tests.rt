@@ -1,6 +1,5 @@
-//! Tests of `yds_admit`.
+use super::*;
 use std::test::Fail;
-use yds_admit::{Refusal, admit};
 use yds_fraction::{Amount, Moment};
 use yds_model::JobRow;
 

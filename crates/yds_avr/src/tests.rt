@@ -1,6 +1,5 @@
-//! Tests of `yds_avr`.
+use super::*;
 use std::test::Fail;
-use yds_avr::avr;
 use yds_fraction::{Amount, Moment};
 use yds_model::JobRow;
 

@@ -1,6 +1,5 @@
-//! Tests of `yds_contract`.
+use super::*;
 use std::test::Fail;
-use yds_contract::Contraction;
 use yds_fraction::{Amount, Moment, Speed};
 use yds_model::limits::MAX_TIME;
 use yds_slots::Slot;

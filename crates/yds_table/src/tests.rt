@@ -1,7 +1,6 @@
-//! Tests of `yds_table`.
+use super::*;
 use std::test::Fail;
 use yds_fraction::Speed;
-use yds_table::{Point, Table, TableFault};
 
 #[test]
 fn a_table_with_a_point_above_its_hull(rt: HostRuntime) -> Result<(), Fail> {

@@ -1,6 +1,5 @@
-//! Tests of `yds_intensity`.
+use super::*;
 use std::test::Fail;
-use yds_intensity::{Sum, order, sums, sweep};
 use yds_model::JobRow;
 
 /// Three jobs, of which the first has the latest deadline and the others share one.
