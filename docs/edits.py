@@ -30,6 +30,7 @@ LATER = [
     "yds_group_runs",
     "yds_kernel",
     "yds_kernel_text",
+    "yds_kernel_order",
     "yds_kernel_examples",
     "yds_trace",
     "yds_trace_laws",

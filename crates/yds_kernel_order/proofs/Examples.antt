@@ -1,9 +1,9 @@
 -- Lines out of order, and where they are put: things that meet the definition, and near misses.
-use Rattle.yds_model.proofs.Common.{◌≡◌, ℕ, zero, suc, ◌+◌, List, [], ◌∷◌, ◌++◌, length, true, false, None, if◌then◌else◌, refl}
+use Rattle.yds_model.proofs.Common.{◌≡◌, ℕ, zero, suc, List, [], ◌∷◌, ◌++◌, true, false, None, if◌then◌else◌, refl}
 use Rattle.yds_kernel.specs.declared.loss.Since.TheVariants as since
 use Rattle.yds_kernel.specs.Event.{Said, Stamped, Lost, Nothing, Other}
 use Rattle.yds_kernel.specs.Text.{Trace}
-use Rattle.yds_kernel_order.specs.Order.{Placed, placed_of, in_order, is_before_by, number_at}
+use Rattle.yds_kernel_order.specs.Order.{Placed, placed_of, is_before_by, number_at}
 
 -- an event of this processor at this time
 abbrev at : ℕ → ℕ → Said

@@ -1,11 +1,11 @@
 -- What was given stays: lines that still come stand behind it, and it keeps its numbers.
-use Rattle.yds_model.proofs.Common.{◌≡◌, ◌≢◌, ℕ, zero, suc, ◌+◌, ◌<◌, ◌≤◌, List, [], ◌∷◌, ◌++◌, length, map, reverse, Bool, true, false, ◌==◌, if◌then◌else◌, Option, Some, None, unwrap_or, refl, sym, ap, ◌∙◌, arith, subst, append-nil, length-append, length-map, map-append, eq-eqb, ne_eqb}
+use Rattle.yds_model.proofs.Common.{◌≡◌, ◌≢◌, ℕ, zero, suc, ◌+◌, ◌≤◌, List, [], ◌∷◌, ◌++◌, length, reverse, Bool, true, false, if◌then◌else◌, Option, Some, None, unwrap_or, refl, sym, ap, ◌∙◌, arith, subst, append-nil, length-append, length-map, map-append, eq-eqb, ne_eqb}
 use Rattle.std.proofs.lemmas.List.{reverse-reverse}
 use Rattle.yds_kernel.specs.Event.{Said, Stamped, Lost, Nothing}
 use Rattle.yds_kernel.specs.Text.{Trace, trace_of, trace_from}
 use Rattle.yds_kernel_order.specs.declared.limits.TheConstants.{MAX_PASSED, MAX_STEP_BACK}
-use Rattle.yds_kernel_order.specs.Order.{Placed, is_before_by, is_behind, is_loss_line, put, with_last, with_line, next_placed, placed_from, placed_of, said_in, in_order, number_at}
-use Rattle.yds_kernel_order.specs.Ordering.{Order, Ordering, Stop, AtEnd, AtFault, IsGiven, IsOrderOf, IsReadTo, IsCounted, HoldsEnough, order_at, whole_order}
+use Rattle.yds_kernel_order.specs.Order.{Placed, is_before_by, is_behind, put, with_last, with_line, next_placed, placed_from, placed_of, said_in, in_order, number_at}
+use Rattle.yds_kernel_order.specs.Ordering.{Order, Ordering, Stop, AtEnd, AtFault, IsGiven, IsOrderOf, IsReadTo, IsCounted, HoldsEnough, order_at}
 
 -- # Before the first line
 
@@ -102,11 +102,11 @@ order_behind_given : (ordering : Ordering) (given : List Placed) (bytes : List �
 order_behind_given ordering [] bytes is_given = none_behind (order_at ordering.stop ordering.lines (ordering.waiting ++ []) bytes).placed
 order_behind_given ordering (line ∷ before) bytes is_given =
     stopped ordering.stop ordering.lines ordering.waiting (line ∷ before) bytes is_given.1 where
-  stopped : (stop : Option Stop) (lines : ℕ) (waiting given : List Placed) (bytes : List ℕ) → HoldsEnough stop waiting →
-      Behind 0 (order_at stop lines (waiting ++ given) bytes).placed given
-  stopped None lines waiting given bytes enough = fewer (placed_from_behind (lines + 1) (trace_from (lines + 1) bytes).said waiting given enough)
-  stopped (Some AtEnd) lines waiting given bytes enough = record { behind = waiting; parts = refl; enough = omega arith }
-  stopped (Some (AtFault fault)) lines waiting given bytes enough = record { behind = waiting; parts = refl; enough = omega arith }
+      stopped : (stop : Option Stop) (lines : ℕ) (waiting given : List Placed) (bytes : List ℕ) → HoldsEnough stop waiting →
+          Behind 0 (order_at stop lines (waiting ++ given) bytes).placed given
+      stopped None lines waiting given bytes enough = fewer (placed_from_behind (lines + 1) (trace_from (lines + 1) bytes).said waiting given enough)
+      stopped (Some AtEnd) lines waiting given bytes enough = record { behind = waiting; parts = refl; enough = omega arith }
+      stopped (Some (AtFault fault)) lines waiting given bytes enough = record { behind = waiting; parts = refl; enough = omega arith }
 
 -- All lines are those that were given, with others behind them.
 pub given_front : (input : List ℕ) (ordering : Ordering) (given : List Placed) (left : Option (List ℕ)) → IsGiven ordering given → IsOrderOf input ordering given left →

@@ -1,11 +1,11 @@
 -- What a ring holds after a line was put into it.
-use Rattle.yds_model.proofs.Common.{◌≡◌, ◌≢◌, ℕ, zero, suc, ◌+◌, ◌-◌, ◌<◌, ◌≤◌, List, [], ◌∷◌, ◌++◌, length, set, get_or, Bool, true, false, not, ◌||◌, or-true, Option, Some, None, option_map, unwrap_or, is_none, is_some, false≢true, true≢false, refl, sym, ap, ◌∙◌, arith, subst, append-nil, append_assoc, take, drop, drop_all, take_all, get_or-set_same, get_or-set_other, ◌⊎◌, inl, inr}
+use Rattle.yds_model.proofs.Common.{◌≡◌, ℕ, zero, suc, ◌+◌, ◌-◌, ◌<◌, ◌≤◌, List, [], ◌∷◌, ◌++◌, length, set, get_or, Bool, true, false, not, or-true, Option, Some, None, option_map, unwrap_or, is_none, is_some, false≢true, true≢false, refl, sym, ap, ◌∙◌, arith, subst, append-nil, append_assoc, take, drop, drop_all, take_all, get_or-set_same, get_or-set_other, ◌⊎◌, inl, inr}
 use Rattle.std.proofs.lemmas.Option.{none-some, same_Some}
 use Rattle.yds_kernel.specs.declared.loss.Since.{Since}
 use Rattle.yds_kernel.specs.Event.{Event, Said, Stamped, Lost}
 use Rattle.yds_kernel_order.specs.declared.limits.TheConstants.{MAX_PASSED}
 use Rattle.yds_kernel_order.specs.declared.ring.TheConstants.{SLOTS}
-use Rattle.yds_kernel_order.specs.Order.{Placed, put, with_line, next_placed, is_behind, is_before_by}
+use Rattle.yds_kernel_order.specs.Order.{Placed, put, next_placed}
 use Rattle.yds_kernel_order.specs.Ring.{Held, no_line, wrapped, slot_at, held_from, given_at, passed_in, IsMovedDown, IsBehind, Places, GivesFirst}
 use Rattle.yds_kernel_order.proofs.Placing.{inserted, put_passed, passed_in_front, inserted_front, passed_at_most, passed_count, IsAtMost}
 use Rattle.yds_kernel_order.proofs.Places.{length-held_from, at_place, held_join, held_set, held_moved, held_wrapped, wrapped_low, wrapped_within, wrapped_apart}
@@ -111,7 +111,7 @@ no_given slots first waiting =
 pub ring_places : (slots new : List Placed) (first given waiting number : ℕ) (said : Said) → given ≤ 1 →
     (MAX_PASSED < given + waiting → slot_at new first ≡ slot_at slots first) →
     ((before : List Placed) → IsApart (given + waiting) before →
-        held_from new first (suc (given + waiting)) ++ before ≡ next_placed number said (held_from slots first (given + waiting) ++ before)) →
+    held_from new first (suc (given + waiting)) ++ before ≡ next_placed number said (held_from slots first (given + waiting) ++ before)) →
     Places number said (ring_of slots first given waiting) (ring_of new first given (waiting + 1))
 ring_places slots new first zero waiting number said few stays placed = record {
   behind = kept;
@@ -120,6 +120,7 @@ ring_places slots new first zero waiting number said few stays placed = record {
   kept : (lines : List Placed) → IsBehind (ring_of slots first 0 waiting) lines → IsBehind (ring_of new first 0 (waiting + 1)) lines
   kept [] behind = refl
   kept (line ∷ before) behind = absurd (none-some line behind.0)
+
   put : (lines : List Placed) → IsBehind (ring_of slots first 0 waiting) lines →
       held_from new (first + 0) (waiting + 1) ++ lines ≡ next_placed number said (held_from slots (first + 0) waiting ++ lines)
   put [] behind =
@@ -138,6 +139,7 @@ ring_places slots new first (suc zero) waiting number said few stays placed = re
     ap Some (stays (omega (arith, behind.1, length-held_from slots (first + 1) waiting))) ∙ behind.0,
     omega (arith, behind.1, length-held_from slots (first + 1) waiting, length-held_from new (first + 1) (waiting + 1)),
   )
+
   put : (lines : List Placed) → IsBehind (ring_of slots first 1 waiting) lines →
       held_from new (first + 1) (waiting + 1) ++ lines ≡ next_placed number said (held_from slots (first + 1) waiting ++ lines)
   put [] behind = absurd (none-some (slot_at slots first) (sym behind))
@@ -187,7 +189,7 @@ event_places slots new first given waiting number event found low few room len i
     ring_places slots new first given waiting number (Stamped event) few
     (λ more. event_stays slots new first (given + waiting) number event found low fits more most put)
     (λ before apart. event_held slots new first (given + waiting) number event found before low fits len is_found
-      (apart_front event.time (given + waiting) (held_from slots first (given + waiting)) before (length-held_from slots first (given + waiting)) apart) put)
+    (apart_front event.time (given + waiting) (held_from slots first (given + waiting)) before (length-held_from slots first (given + waiting)) apart) put)
 
 -- # A line that tells of lost events
 

@@ -1,10 +1,10 @@
 -- A line that changes places with those before it, one after another.
-use Rattle.yds_model.proofs.Common.{◌≡◌, ◌≢◌, ℕ, ◌+◌, ◌-◌, ◌<◌, ◌≤◌, List, length, get_or, refl, sym, ap, ◌∙◌, arith, ◌⊎◌, inl, inr, cases_lt}
+use Rattle.yds_model.proofs.Common.{◌≡◌, ℕ, ◌+◌, ◌-◌, ◌<◌, List, length, get_or, refl, sym, ◌∙◌, arith, inl, inr, cases_lt}
 use Rattle.std.specs.List.{swap}
 use Rattle.std.proofs.lemmas.List.Edits.{Swapped, swapped_from_swap}
 use Rattle.yds_kernel_order.specs.declared.ring.TheConstants.{SLOTS}
 use Rattle.yds_kernel_order.specs.Order.{Placed}
-use Rattle.yds_kernel_order.specs.Ring.{no_line, wrapped, slot_at, IsMovedDown}
+use Rattle.yds_kernel_order.specs.Ring.{no_line, wrapped, IsMovedDown}
 use Rattle.yds_kernel_order.proofs.Places.{at_place, wrapped_within, wrapped_apart}
 
 -- it was put before none so far

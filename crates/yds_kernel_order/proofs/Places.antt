@@ -1,5 +1,5 @@
 -- The places of a ring: what stands in them, from a place on.
-use Rattle.yds_model.proofs.Common.{◌≡◌, ◌≢◌, ℕ, zero, suc, ◌+◌, ◌-◌, ◌<◌, ◌≤◌, List, [], ◌∷◌, ◌++◌, length, get_or, Bool, true, false, nat_lt, if◌then◌else◌, refl, sym, ap, ◌∙◌, arith, add-zero, ◌⊎◌, inl, inr, cases_lt, lt-ltb, le-ltb, set, get_or-set_other}
+use Rattle.yds_model.proofs.Common.{◌≡◌, ◌≢◌, ℕ, zero, suc, ◌+◌, ◌-◌, ◌<◌, ◌≤◌, List, [], ◌∷◌, ◌++◌, length, get_or, refl, sym, ap, ◌∙◌, arith, add-zero, inl, inr, cases_lt, lt-ltb, le-ltb, set, get_or-set_other}
 use Rattle.yds_kernel_order.specs.declared.ring.TheConstants.{SLOTS}
 use Rattle.yds_kernel_order.specs.Order.{Placed}
 use Rattle.yds_kernel_order.specs.Ring.{no_line, wrapped, slot_at, held_from, IsMovedDown}
@@ -99,8 +99,8 @@ held_moved old new first low count moved =
     let suc_count : suc (low + count) ≡ suc low + count = omega arith in
     let upper : held_from new (first + suc low) count ≡ held_from old (first + low) count =
     held_same old new (first + low) (first + suc low) count (λ place below. (
-      at_place new (first + suc low + place) (first + (low + place) + 1) (omega arith) ∙ moved.above (low + place) (omega arith) (omega arith)
-      ∙ at_place old (first + (low + place)) (first + low + place) (omega arith))) in
+    at_place new (first + suc low + place) (first + (low + place) + 1) (omega arith) ∙ moved.above (low + place) (omega arith) (omega arith)
+    ∙ at_place old (first + (low + place)) (first + low + place) (omega arith))) in
     let line : slot_at new (first + low) ≡ slot_at old (first + (low + count)) = moved.moved low refl in
     let lower : held_from new first low ≡ held_from old first low = held_same old new first first low (λ place below. moved.below place (omega arith)) in
     ap (held_from new first) suc_count ∙ held_join new first (suc low) count

@@ -1,6 +1,6 @@
 -- What the steps of a reader make of the order for which it stands.
-use Rattle.yds_model.proofs.Common.{◌≡◌, ℕ, zero, suc, ◌+◌, ◌-◌, ◌^◌, ◌<◌, ◌≤◌, List, [], ◌∷◌, ◌++◌, length, Bool, true, false, nat_le, Option, Some, None, Result, Ok, Err, refl, sym, ap, ◌∙◌, arith, subst, append_assoc, length-append, eq-eqb, leb-false, leb-true, false≢true, true≢false, OnOk, Fault, Spot}
-use Rattle.std.specs.Io.KnownBytes.{IsAtEnd, prepend_known}
+use Rattle.yds_model.proofs.Common.{◌≡◌, ℕ, ◌+◌, ◌-◌, ◌^◌, ◌<◌, ◌≤◌, List, [], ◌∷◌, ◌++◌, length, true, false, nat_le, Option, Some, None, Result, Ok, Err, refl, sym, ap, ◌∙◌, arith, subst, append_assoc, length-append, eq-eqb, leb-false, leb-true, false≢true, true≢false, OnOk, Fault, Spot}
+use Rattle.std.specs.Io.KnownBytes.{IsAtEnd}
 use Rattle.std.specs.Result.{is_err}
 use Rattle.yds_port.specs.Count.{Rose}
 use Rattle.yds_kernel.specs.declared.fault.Reason.{Reason}
@@ -10,7 +10,7 @@ use Rattle.yds_kernel.specs.Text.{Trace, trace_of, trace_from, then_says}
 use Rattle.yds_kernel_text.specs.Reading.{Reading, said_by, unread}
 use Rattle.yds_kernel_text.specs.Advancing.{Gives, Counts, GivesLine as ReadsLine, IsOver as IsReadOut}
 use Rattle.yds_kernel_order.specs.declared.limits.TheConstants.{MAX_PASSED}
-use Rattle.yds_kernel_order.specs.Order.{Placed, next_placed, placed_from, placed_of, number_at}
+use Rattle.yds_kernel_order.specs.Order.{Placed, next_placed, placed_from, number_at}
 use Rattle.yds_kernel_order.specs.Ring.{Held, IsBehind, Places}
 use Rattle.yds_kernel_order.specs.Ordering.{Order, Ordering, Stop, AtEnd, AtFault, IsGiven, IsOrderOf, HoldsEnough, StandsFor, IsCounted, IsReadTo, order_behind, order_at, whole_order, number_now}
 use Rattle.yds_kernel_order.specs.declared.step.Step.{Step}
@@ -64,8 +64,8 @@ unread_order input old given left before number trace none next says stands =
     let here : old.lines + 1 ≡ number = omega (arith, counted, next) in (
       here,
       stands.order
-      ∙ ap (λ (stop : Option Stop). order_at stop old.lines (old.waiting ++ given) (old.reader.left ++ before)) none
-      ∙ ap (order_by old.lines (old.waiting ++ given)) (ap (λ (n : ℕ). trace_from n (old.reader.left ++ before)) here ∙ says),
+          ∙ ap (λ (stop : Option Stop). order_at stop old.lines (old.waiting ++ given) (old.reader.left ++ before)) none
+          ∙ ap (order_by old.lines (old.waiting ++ given)) (ap (λ (n : ℕ). trace_from n (old.reader.left ++ before)) here ∙ says),
     )
 
 -- What the line says was put into its place, or the reading stopped at it.

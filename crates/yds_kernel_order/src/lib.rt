@@ -2,7 +2,8 @@
 //!
 //! It stands on `yds_kernel_text` for the lines of the text, on `yds_kernel` for what they say, and on `yds_port` for where the
 //! bytes come from. It keeps the promise that the lines that a reader gives, one after another, are those of the whole trace in
-//! order of time: none is missing, none is invented, and each has its number in the text.
+//! order of time: none is missing, none is invented, and each has its number in the text. Which order that is, stands in
+//! `specs/Order.antt`. A reader holds what at most 66 lines say, with the names that they have, whatever the trace's length.
 #![tactic(auto)]
 
 mod limits;

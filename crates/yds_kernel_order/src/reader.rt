@@ -52,11 +52,11 @@ impl OrderedReader {
     /// A reader that has given no line. It takes memory here, and later for names that are longer than those before them.
     pub fn new(alloc: Global) -> Result<OrderedReader, AllocError>
         ensures { IfOk result (λ ordering. ordering ≡ record {
-            reader = record { left = []; text = []; ended = true; number = 0; taken = 0 };
-            lines = 0;
-            waiting = [];
-            given = None;
-            stop = None;
+          reader = record { left = []; text = []; ended = true; number = 0; taken = 0 };
+          lines = 0;
+          waiting = [];
+          given = None;
+          stop = None;
         }) }
     {
         Ok(OrderedReader {
@@ -133,7 +133,7 @@ impl OrderedReader {
         let number = self.reader.number();
         match self.reader.said() {
             Ok(said) => {
-                if self.ring.place(number, said).is_err() {
+                if self.ring.place(number, &said).is_err() {
                     return Err(Step::Memory);
                 }
                 self.lines = number;

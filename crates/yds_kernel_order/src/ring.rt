@@ -48,7 +48,7 @@ impl Ring {
     {
         let mut slots = Vec::with_capacity(alloc, SLOTS)?;
         for _count in 0..SLOTS {
-            slots.push(Slot::new(alloc))?;
+            slots.push(Slot::new(alloc)?)?;
         }
         Ok(Ring {
             slots,
@@ -90,14 +90,14 @@ impl Ring {
     }
 
     /// Puts the line of this number among those that wait. One that says nothing has no place.
-    pub fn place(&mut self, number: u64, said: Said<'_>) -> Result<(), AllocError>
+    pub fn place(&mut self, number: u64, said: &Said<'_>) -> Result<(), AllocError>
         requires { length self.old.waiting ≤ MAX_PASSED }
-        ensures { OnOk result (Places number (said_read said.entry) self.old self.new) }
+        ensures { OnOk result (Places number (said_read said.now) self.old self.new) }
     {
         match said {
             Said::Event(event) => self.place_event(number, event),
             Said::Lost { processor, since } => {
-                self.place_loss(number, processor, since);
+                self.place_loss(number, *processor, *since);
                 Ok(())
             }
             Said::Nothing => Ok(()),
@@ -105,9 +105,9 @@ impl Ring {
     }
 
     /// Puts an event before those that are later, or behind all where it has no place among them.
-    fn place_event(&mut self, number: u64, event: Event<'_>) -> Result<(), AllocError>
+    fn place_event(&mut self, number: u64, event: &Event<'_>) -> Result<(), AllocError>
         requires { length self.old.waiting ≤ MAX_PASSED }
-        ensures { OnOk result (Places number (Stamped (event_read event.entry)) self.old self.new) }
+        ensures { OnOk result (Places number (Stamped (event_read event.now)) self.old self.new) }
     {
         let held = self.given + self.waiting;
         let place = wrapped(self.first + held);

@@ -1,5 +1,5 @@
 //! A place for a line that waits, with room for its names that is used again.
-ghost use Rattle.std.specs.Prelude.{◌≡◌, true, false, OnOk};
+ghost use Rattle.std.specs.Prelude.{◌≡◌, ◌≤◌, length, take, vec_len, true, false, IfOk, OnOk};
 ghost use Rattle.yds_kernel.specs.Event.{Stamped, Lost, Nothing};
 ghost use Rattle.yds_kernel.specs.Views.{event_read, said_read};
 ghost use Rattle.yds_kernel_order.specs.declared.limits.TheConstants.{MAX_STEP_BACK};
@@ -9,6 +9,9 @@ use crate::limits::MAX_STEP_BACK;
 use std::alloc::{AllocError, Global};
 use std::marker::Model;
 use yds_kernel::{Event, Happening, Said, Since, State, Thread};
+
+/// How long a name is for which there is room from the begin.
+const NAME_ROOM: usize = 32;
 
 /// What a line says, without its names.
 #[derive(Clone, Copy)]
@@ -38,13 +41,15 @@ pub(crate) struct Slot {
     processor: u64,
     time: u64,
     what: What,
-    // The names, one behind the other, and how long the first one is.
-    names: Vec<u8>,
+    // Room for two names, and how long they are.
+    first: Vec<u8>,
     first_len: usize,
+    second: Vec<u8>,
+    second_len: usize,
 }
 
 impl Model for Slot {
-    ghost use Rattle.std.specs.Prelude.{◌≤◌, vec_len};
+    ghost use Rattle.std.specs.Prelude.{◌≤◌, take, vec_len};
     ghost use Rattle.yds_kernel_order.specs.Order.{Placed};
 
     ghost Value = { Placed };
@@ -53,27 +58,29 @@ impl Model for Slot {
 
     ghost view = { λ slot. record {
       number = slot.number;
-      said = said_held slot.what slot.processor slot.time slot.first_len slot.names.items;
+      said = said_held slot.what slot.processor slot.time (take slot.first_len slot.first.items) (take slot.second_len slot.second.items);
       stays = slot.stays;
     } };
 
-    ghost invariant = { λ slot. (slot.first_len ≤ vec_len slot.names) × IsTimed slot.what slot.time };
+    ghost invariant = { λ slot. (slot.first_len ≤ vec_len slot.first) × (slot.second_len ≤ vec_len slot.second) × IsTimed slot.what slot.time };
 }
 
 impl Slot {
-    /// A place with a line that says nothing.
-    pub fn new(alloc: Global) -> Slot
-        ensures { result ≡ record { number = 0; said = Nothing; stays = false } }
+    /// A place with a line that says nothing, and room for names.
+    pub fn new(alloc: Global) -> Result<Slot, AllocError>
+        ensures { IfOk result (λ slot. slot ≡ record { number = 0; said = Nothing; stays = false }) }
     {
-        Slot {
+        Ok(Slot {
             number: 0,
             stays: false,
             processor: 0,
             time: 0,
             what: What::Nothing,
-            names: Vec::new(alloc),
+            first: vec![in alloc; 0; NAME_ROOM]?,
             first_len: 0,
-        }
+            second: vec![in alloc; 0; NAME_ROOM]?,
+            second_len: 0,
+        })
     }
 
     /// Its number in the text.
@@ -88,15 +95,25 @@ impl Slot {
         ensures { said_read result ≡ self.now.said }
     {
         let happening = match self.what {
-            What::Switch { previous, state, next } => {
-                let (first, second) = self.names.split_at(self.first_len);
-                Happening::Switch {
-                    previous: Thread { name: first, pid: previous },
-                    state,
-                    next: Thread { name: second, pid: next },
-                }
-            }
-            What::WakeUp(pid) => Happening::WakeUp(Thread { name: &self.names, pid }),
+            What::Switch {
+                previous,
+                state,
+                next,
+            } => Happening::Switch {
+                previous: Thread {
+                    name: &self.first[..self.first_len],
+                    pid: previous,
+                },
+                state,
+                next: Thread {
+                    name: &self.second[..self.second_len],
+                    pid: next,
+                },
+            },
+            What::WakeUp(pid) => Happening::WakeUp(Thread {
+                name: &self.first[..self.first_len],
+                pid,
+            }),
             What::Speed { processor, khz } => Happening::Speed { processor, khz },
             What::Loss => Happening::Loss,
             What::Marker => Happening::Marker,
@@ -128,40 +145,47 @@ impl Slot {
     }
 
     /// Takes an event, with copies of its names, in the place of what it held.
-    pub fn set_event(&mut self, number: u64, event: Event<'_>, stays: bool) -> Result<(), AllocError>
-        ensures { OnOk result (self.new ≡ record { number = number; said = Stamped (event_read event.entry); stays = stays }) }
+    pub fn set_event(
+        &mut self,
+        number: u64,
+        event: &Event<'_>,
+        stays: bool,
+    ) -> Result<(), AllocError>
+        ensures { OnOk result (self.new ≡ record { number = number; said = Stamped (event_read event.now); stays = stays }) }
     {
-        self.number = number;
-        self.stays = stays;
-        self.processor = event.processor;
-        self.time = event.time;
-        self.what = What::Other;
-        self.first_len = 0;
-        self.names.clear();
-        self.what = match event.happening {
+        self.what = match &event.happening {
             Happening::Switch {
                 previous,
                 state,
                 next,
             } => {
-                self.names.extend_from_slice(previous.name)?;
+                keep_name(&mut self.first, previous.name)?;
                 self.first_len = previous.name.len();
-                self.names.extend_from_slice(next.name)?;
+                keep_name(&mut self.second, next.name)?;
+                self.second_len = next.name.len();
                 What::Switch {
                     previous: previous.pid,
-                    state,
+                    state: *state,
                     next: next.pid,
                 }
             }
             Happening::WakeUp(thread) => {
-                self.names.extend_from_slice(thread.name)?;
+                keep_name(&mut self.first, thread.name)?;
+                self.first_len = thread.name.len();
                 What::WakeUp(thread.pid)
             }
-            Happening::Speed { processor, khz } => What::Speed { processor, khz },
+            Happening::Speed { processor, khz } => What::Speed {
+                processor: *processor,
+                khz: *khz,
+            },
             Happening::Loss => What::Loss,
             Happening::Marker => What::Marker,
             Happening::Other => What::Other,
         };
+        self.number = number;
+        self.stays = stays;
+        self.processor = event.processor;
+        self.time = event.time;
         Ok(())
     }
 
@@ -178,4 +202,39 @@ impl Slot {
     {
         self.time > time && self.time - time > MAX_STEP_BACK
     }
+}
+
+/// Copies a name to the front of the room for it.
+#[inline(always)]
+fn keep_name(room: &mut Vec<u8>, name: &[u8]) -> Result<(), AllocError>
+    ensures kept { OnOk result (take (length name.now) room.new.items ≡ name.now) }
+    ensures fits { OnOk result (length name.now ≤ vec_len room.new) }
+    ensures grows { vec_len room.old ≤ vec_len room.new }
+{
+    if room.len() < name.len() {
+        grow(room, name.len())?;
+    }
+    copy_front(room, name);
+    Ok(())
+}
+
+/// Copies a name to the front of its room.
+#[inline(always)]
+fn copy_front(room: &mut [u8], name: &[u8])
+    requires { length name.now ≤ length room.old }
+    ensures front { take (length name.now) room.new ≡ name.now }
+    ensures len { length room.new ≡ length room.old }
+{
+    room[..name.len()].copy_from_slice(name);
+}
+
+/// Makes room for a name of this length.
+#[cold]
+#[inline(never)]
+fn grow(room: &mut Vec<u8>, len: usize) -> Result<(), AllocError>
+    requires { vec_len room.old ≤ len }
+    ensures grown { OnOk result (len ≤ vec_len room.new) }
+    ensures grows { vec_len room.old ≤ vec_len room.new }
+{
+    room.resize(len, 0)
 }

@@ -34,7 +34,10 @@ fn lines_come_in_order_of_time(rt: HostRuntime) -> Result<(), Fail> {
         let read = numbers(rt.alloc(), text.as_slice(), piece)?;
         assert_eq!(rt; read.as_slice(), [3, 1, 4, 0].as_slice());
     }
-    assert_eq!(rt; numbers(rt.alloc(), b"# b\n", 1)?.as_slice(), [0].as_slice());
+    assert_eq!(rt;
+        numbers(rt.alloc(), b"# b\n", 1)?.as_slice(),
+        [0].as_slice()
+    );
     Ok(())
 }
 
@@ -66,7 +69,8 @@ fn a_line_too_far_behind_stays(rt: HostRuntime) -> Result<(), Fail> {
 
 #[test]
 fn nothing_passes_a_loss_line(rt: HostRuntime) -> Result<(), Fail> {
-    let text = b" a-1 [0] 5.1: x:\nCPU:3 [LOST 2 EVENTS]\n a-1 [1] 5.09999: x:\n a-1 [1] 5.09998: x:\n";
+    let text =
+        b" a-1 [0] 5.1: x:\nCPU:3 [LOST 2 EVENTS]\n a-1 [1] 5.09999: x:\n a-1 [1] 5.09998: x:\n";
     let read = numbers(rt.alloc(), text.as_slice(), 9)?;
     assert_eq!(rt; read.as_slice(), [1, 2, 4, 3, 0].as_slice());
     Ok(())
@@ -74,7 +78,8 @@ fn nothing_passes_a_loss_line(rt: HostRuntime) -> Result<(), Fail> {
 
 #[test]
 fn names_and_the_fault_behind_them_are_told(rt: HostRuntime) -> Result<(), Fail> {
-    let text = b" a-1 [0] 5.2: x:\n b-2 [0] 5.1999: sched_waking: comm=cd pid=3 prio=9\n a-1 [0] 5.1: sched_switch: no\n";
+    let text =
+        b" a-1 [0] 5.2: x:\n b-2 [0] 5.1999: sched_waking: comm=cd pid=3 prio=9\n a-1 [0] 5.1: sched_switch: no\n";
     let mut source = MemorySource::new(text.to_vec(rt.alloc())?, 9, Vec::new(rt.alloc()));
     let mut reader = OrderedReader::new(rt.alloc())?;
     assert_eq!(rt; reader.number(), 0);
@@ -92,7 +97,10 @@ fn names_and_the_fault_behind_them_are_told(rt: HostRuntime) -> Result<(), Fail>
         column: 29,
         reason: Reason::UnknownSwitch,
     };
-    assert_eq!(rt; reader.advance(&mut source), Step::Refused { number: 3, fault });
+    assert_eq!(rt;
+        reader.advance(&mut source),
+        Step::Refused { number: 3, fault }
+    );
     assert_eq!(rt; reader.number(), 1);
     Ok(())
 }

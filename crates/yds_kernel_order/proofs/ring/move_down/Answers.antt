@@ -13,5 +13,5 @@ loop-moved-preserved c =
     ∙ ap (swap slots (wrapped (place - 1))) c.wrapped-in-loop-moved.ensures in (
       c.swap.ensures.len ∙ c.loop-moved.invariant.0,
       moves_one c.args.slots.now slots c.swap.new.self c.args.first c.args.held c.loop-moved.moved place c.requires.first c.requires.held
-      (omega (arith, c.requires.count, c.loop-moved-test.true)) (omega (arith, c.requires.count, c.loop-moved-test.true)) c.loop-moved.invariant.0 swapped c.loop-moved.invariant.1,
+          (omega (arith, c.requires.count, c.loop-moved-test.true)) (omega (arith, c.requires.count, c.loop-moved-test.true)) c.loop-moved.invariant.0 swapped c.loop-moved.invariant.1,
     )

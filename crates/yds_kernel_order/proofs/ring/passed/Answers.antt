@@ -1,4 +1,4 @@
-use Rattle.yds_model.proofs.Common.{ℕ, ◌≡◌, ◌+◌, ◌-◌, sym, ◌∙◌, arith}
+use Rattle.yds_model.proofs.Common.{ℕ, ◌+◌, ◌-◌, sym, ◌∙◌, arith}
 use Rattle.yds_kernel_order.proofs.Passing.{slot_read, passes_here, passes_too_many, passes_too_far, passes_on}
 use Rattle.yds_kernel_order.proofs.ring.passed.Goals as goal
 use Rattle.yds_kernel_order.proofs.ring.passed.Goals.{then-count-eq-MAX_PASSED-via-then-count-eq-MAX_PASSED, then-count-eq-MAX_PASSED-via-else-count-eq-MAX_PASSED+then-is_far_behind}
@@ -9,7 +9,7 @@ returns-then-stands_before c =
     let count : ℕ = c.loop-count.count in
     let line = c.index-slots-wrapped.result in
     let here = slot_read slots c.wrapped.result (c.args.first + (c.args.held - 1 - count)) line c.index-slots-wrapped.is c.wrapped.ensures
-        (omega (arith, c.requires.first, c.requires.held)) c.requires.slots in
+    (omega (arith, c.requires.first, c.requires.held)) c.requires.slots in
     sym (passes_here slots c.args.first c.args.held c.args.time count line c.loop-count-test.true here (sym c.stands_before.ensures ∙ c.if-stands_before.true) c.loop-count.invariant.1)
 
 pub returns-then-count-eq-MAX_PASSED : goal.returns-then-count-eq-MAX_PASSED
@@ -18,7 +18,7 @@ returns-then-count-eq-MAX_PASSED c =
     let count : ℕ = c.loop-count.count in
     let line = c.index-slots-wrapped.result in
     let here = slot_read slots c.wrapped.result (c.args.first + (c.args.held - 1 - count)) line c.index-slots-wrapped.is c.wrapped.ensures
-        (omega (arith, c.requires.first, c.requires.held)) c.requires.slots in
+    (omega (arith, c.requires.first, c.requires.held)) c.requires.slots in
     let stands = sym c.stands_before.ensures ∙ c.if-stands_before.false in
     elim c.then-count-eq-MAX_PASSED.branch [
       | then-count-eq-MAX_PASSED-via-then-count-eq-MAX_PASSED w ↦
@@ -34,8 +34,8 @@ loop-count-preserved c =
     let count : ℕ = c.loop-count.count in
     let line = c.index-slots-wrapped.result in
     let here = slot_read slots c.wrapped.result (c.args.first + (c.args.held - 1 - count)) line c.index-slots-wrapped.is c.wrapped.ensures
-        (omega (arith, c.requires.first, c.requires.held)) c.requires.slots in (
+    (omega (arith, c.requires.first, c.requires.held)) c.requires.slots in (
       omega (arith, c.if-count-eq-MAX_PASSED.false, c.loop-count.invariant.0),
       passes_on slots c.args.first c.args.held c.args.time count line c.loop-count-test.true here (sym c.stands_before.ensures ∙ c.if-stands_before.false)
-      (sym c.is_far_behind.ensures ∙ c.if-is_far_behind.false) (omega (arith, c.if-count-eq-MAX_PASSED.false, c.loop-count.invariant.0)) c.loop-count.invariant.1,
+          (sym c.is_far_behind.ensures ∙ c.if-is_far_behind.false) (omega (arith, c.if-count-eq-MAX_PASSED.false, c.loop-count.invariant.0)) c.loop-count.invariant.1,
     )
