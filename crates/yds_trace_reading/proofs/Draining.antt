@@ -1,6 +1,6 @@
 -- What is left of a source behind the end of a reading.
-use Rattle.yds_model.proofs.Common.{◌≡◌, ℕ, ◌+◌, ◌^◌, ◌≤◌, inl, inr, List, [], length, take, Option, Some, None, Result, Ok, Err, ap, subst, arith, le_refl, length-append, length-take-le, Consumes}
-use Rattle.std.specs.Prelude.{⊤, IfSome, OnOk}
+use Rattle.yds_model.proofs.Common.{◌≡◌, ℕ, ◌+◌, ◌^◌, ◌≤◌, inl, inr, List, [], length, take, Option, Some, None, ap, subst, arith, le_refl, length-append, length-take-le, Consumes}
+use Rattle.std.specs.Prelude.{⊤, IfSome}
 use Rattle.std.specs.Io.KnownBytes.{Keeps, IsAtEnd}
 use Rattle.yds_port.specs.Count.{Rose}
 use Rattle.yds_kernel_text.specs.Advancing.{Counts}
@@ -16,13 +16,6 @@ pub rest_of : (input left : Option (List ℕ)) (taken : ℕ) → Counts input le
 rest_of None left taken counts = tt
 rest_of (Some bytes) None taken counts = absurd counts
 rest_of (Some bytes) (Some rest) taken counts = omega (arith, counts)
-
-pub nothing_left : {A E : Type 0} (input left : Option (List ℕ)) (taken : ℕ) (result : Result A E) → Counts input left 0 taken → IsAtEnd left
-    → IfSome input (λ bytes. OnOk result (left ≡ Some []))
-nothing_left None left taken result counts over = tt
-nothing_left (Some bytes) None taken result counts over = absurd counts
-nothing_left (Some bytes) (Some rest) taken (Ok value) counts over = ap Some over
-nothing_left (Some bytes) (Some rest) taken (Err error) counts over = tt
 
 -- # Behind some reads
 

@@ -30,9 +30,15 @@ pub taken_bytes : (bytes : List ℕ) (left : Option (List ℕ)) (taken : ℕ) �
 taken_bytes bytes None taken counts = absurd counts
 taken_bytes bytes (Some rest) taken counts = omega (arith, counts)
 
+-- Of an error nothing is said that is said of a value.
+pub none_said : (input : Option (List ℕ)) → IfSome input (λ bytes. Unit {0})
+none_said None = tt
+none_said (Some bytes) = tt
+
 -- # Before the first line, and with a line more
 
-abbrev before_all : Ordering
+-- what a new reader holds
+abbrev pub before_all : Ordering
 before_all = record {
   reader = record { left = []; text = []; ended = true; number = 0; taken = 0 };
   lines = 0;

@@ -1,5 +1,5 @@
 -- What a pass over some lines shows of the whole trace.
-use Rattle.yds_model.proofs.Common.{◌≡◌, ℕ, ◌+◌, ◌≤◌, ◌^◌, inl, inr, List, [], ◌∷◌, ◌++◌, length, Option, Some, None, true, Result, Ok, Err, refl, sym, ap, ap₂, subst, ◌∙◌, arith}
+use Rattle.yds_model.proofs.Common.{◌≡◌, ℕ, ◌+◌, ◌≤◌, ◌^◌, inl, inr, List, [], ◌∷◌, ◌++◌, length, Option, Some, None, Result, Ok, Err, refl, sym, ap, ap₂, subst, ◌∙◌, arith}
 use Rattle.std.specs.Prelude.{IfSome, IfOk}
 use Rattle.std.specs.Result.{IfErr}
 use Rattle.yds_model.specs.Fields.{Fault}
@@ -26,7 +26,7 @@ use Rattle.yds_trace_reading.specs.declared.stopped.Stopped.TheVariants as stops
 use Rattle.yds_trace_reading.specs.LineFault.{InForm, AtLine, at_line, in_form, past_of, in_text, line_fault, line_fault_of, line_fault_after}
 use Rattle.yds_trace_reading.specs.Taken.{IsTaken, IsNotTaken, IsKnown, IsNotKnown}
 use Rattle.yds_trace_reading.specs.Reading.{IsEndOfSome, IsRead, IsTooLong, IsStopped}
-use Rattle.yds_trace_reading.proofs.Giving.{AreGiven, AreFirst, AreAll, counts_on, taken_bytes, none_given, one_given, first_given, past_behind, number_of_last, all_given, number_at_end, told_in_text, number_given, said_given}
+use Rattle.yds_trace_reading.proofs.Giving.{AreGiven, AreFirst, AreAll, before_all, counts_on, taken_bytes, none_given, one_given, first_given, past_behind, number_of_last, all_given, number_at_end, told_in_text, number_given, said_given}
 
 -- the first fault of the lines so far is that of all lines
 fault_stays : (asked : Asked) (more past : List Said) (found : ℕ × Cause) → first_fault asked past ≡ Some found → first_fault asked (more ++ past) ≡ Some found
@@ -44,8 +44,7 @@ pub record IsAhead (asked : Asked) (input : Option (List ℕ)) (pass : Pass) (or
   pub sound : first_fault asked (said_in given) ≡ None
 
 pub at_begin : (asked : Asked) (left : Option (List ℕ)) (pass : Pass) (ordering : Ordering)
-    → ordering ≡ record { reader = record { left = []; text = []; ended = true; number = 0; taken = 0 }; lines = 0; waiting = []; given = None; stop = None }
-    → IsAt asked [] pass → IsAhead asked left pass ordering left 0
+    → ordering ≡ before_all → IsAt asked [] pass → IsAhead asked left pass ordering left 0
 at_begin asked left pass ordering is stands = record { given = []; known = none_given left ordering is; many = refl; stands = stands; sound = refl }
 
 -- with a line more

@@ -1,9 +1,14 @@
 -- Small traces, and near misses: what they tell of the thread 7. The last line stands first.
-use Rattle.yds_model.proofs.Common.{◌≡◌, ℕ, List, [], ◌∷◌, codes, refl}
+use Rattle.yds_model.proofs.Common.{◌≡◌, ℕ, List, [], ◌∷◌, Some, None, codes, refl}
 use Rattle.yds_kernel.specs.declared.state.State.TheVariants as states
 use Rattle.yds_kernel.specs.declared.loss.Since.TheVariants as since
 use Rattle.yds_kernel.specs.Event.{Thread, Switch, WakeUp, Happening, Said, Stamped, Lost}
+use Rattle.yds_kernel.specs.Text.{Trace}
+use Rattle.yds_kernel_order.specs.Order.{in_order}
+use Rattle.yds_trace.specs.declared.fault.Cause.TheVariants as causes
+use Rattle.yds_trace_reading.specs.LineFault.{AtLine}
 use Rattle.yds_trace_threads.specs.Acts.{Act, acts}
+use Rattle.yds_trace_threads.specs.Faults.{line_fault}
 use Rattle.yds_trace_threads.specs.Threads.{threads_of, own, name_of, ran_in, switches_in, wake_ups_in}
 
 abbrev idle : Thread
@@ -74,3 +79,19 @@ renamed = refl
 -- in the order in which they come first, without the idle one
 in_order_of_coming : threads_of (acts (at 0 160 (Switch seven states.GoesOn eight) ∷ comes 100 ∷ [])) ≡ 7 ∷ 8 ∷ []
 in_order_of_coming = refl
+
+-- # Lines out of order
+
+abbrev saying : List Said → Trace
+saying said = record { said = said; fault = None }
+
+abbrev woken : ℕ → Said
+woken time = at 0 time (WakeUp seven)
+
+-- Two lines changed places: neither is refused.
+exchanged : line_fault (in_order (saying (woken 1001 ∷ woken 1000 ∷ []))) ≡ None
+exchanged = refl
+
+-- The second one is before the first one by a nanosecond more than a millisecond: it is refused, at its place in order of time.
+too_far_back : line_fault (in_order (saying (woken 5000000 ∷ woken 3999999 ∷ []))) ≡ Some (AtLine 2 causes.TimeGoesBack)
+too_far_back = refl

@@ -1,5 +1,5 @@
 -- What a pass over some lines shows of the whole trace.
-use Rattle.yds_model.proofs.Common.{◌≡◌, ℕ, ◌+◌, ◌≤◌, ◌^◌, inl, inr, List, [], ◌∷◌, ◌++◌, length, Option, Some, None, true, Result, Ok, Err, refl, sym, ap, ap₂, subst, ◌∙◌, arith}
+use Rattle.yds_model.proofs.Common.{◌≡◌, ℕ, ◌+◌, ◌≤◌, ◌^◌, inl, inr, List, [], ◌∷◌, ◌++◌, length, Option, Some, None, Result, Ok, Err, refl, sym, ap, ap₂, subst, ◌∙◌, arith}
 use Rattle.std.specs.Prelude.{IfSome, IfOk, Vec}
 use Rattle.std.specs.Result.{IfErr}
 use Rattle.std.specs.declared.alloc.Global.{Global}
@@ -19,7 +19,7 @@ use Rattle.yds_trace.specs.declared.fault.Cause.{Cause}
 use Rattle.yds_trace.specs.Faults.{numbered}
 use Rattle.yds_trace_reading.specs.LineFault.{InForm, AtLine, at_line, in_form, past_of, in_text}
 use Rattle.yds_trace_reading.specs.Reading.{IsTooLong}
-use Rattle.yds_trace_reading.proofs.Giving.{AreGiven, AreFirst, AreAll, counts_on, taken_bytes, none_given, one_given, number_given, said_given, first_given, past_behind, number_of_last, all_given, number_at_end, told_in_text}
+use Rattle.yds_trace_reading.proofs.Giving.{AreGiven, AreFirst, AreAll, before_all, counts_on, taken_bytes, none_given, one_given, number_given, said_given, first_given, past_behind, number_of_last, all_given, number_at_end, told_in_text}
 use Rattle.yds_trace_threads.specs.declared.halt.Halt.{Halt}
 use Rattle.yds_trace_threads.specs.declared.halt.Halt.TheVariants as halts
 use Rattle.yds_trace_threads.specs.declared.tally.Tally.{Tally}
@@ -44,8 +44,7 @@ pub record IsAhead (input : Option (List ℕ)) (tally : Tally) (ordering : Order
   pub sound : first_fault (said_in given) ≡ None
 
 pub at_begin : (left : Option (List ℕ)) (tally : Tally) (ordering : Ordering)
-    → ordering ≡ record { reader = record { left = []; text = []; ended = true; number = 0; taken = 0 }; lines = 0; waiting = []; given = None; stop = None }
-    → IsTally [] tally → IsAhead left tally ordering left 0
+    → ordering ≡ before_all → IsTally [] tally → IsAhead left tally ordering left 0
 at_begin left tally ordering is stands = record { given = []; known = none_given left ordering is; many = refl; stands = stands; sound = refl }
 
 -- with a line more

@@ -4,7 +4,6 @@ use Rattle.std.specs.List.{list_any, slice_index_or}
 use Rattle.indexmap.specs.IndexSet.{IsUnique}
 use Rattle.yds_kernel.specs.Event.{Said, Stamped, Lost, Nothing}
 use Rattle.yds_kernel.specs.Parts.{capped}
-use Rattle.yds_trace.specs.declared.fault.Cause.{Cause}
 use Rattle.yds_trace.specs.declared.limits.TheConstants.{MAX_PROCESSOR}
 use Rattle.yds_trace.specs.Past.{last_time}
 use Rattle.yds_trace.specs.Faults.{has_stamp}

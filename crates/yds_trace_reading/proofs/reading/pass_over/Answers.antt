@@ -1,7 +1,7 @@
 use Rattle.yds_model.proofs.Common.{◌∙◌, arith, refl, err_from_is_err_and}
 use Rattle.yds_kernel_order.specs.Order.{said_in}
 use Rattle.yds_trace.specs.Views.{asked_read}
-use Rattle.yds_trace_reading.proofs.Giving.{counts_on, none_left}
+use Rattle.yds_trace_reading.proofs.Giving.{counts_on, none_left, none_said}
 use Rattle.yds_trace_reading.proofs.Passing.{at_begin, one_more, not_taken, not_formed, known_whole, read_whole, stopped_whole, too_many_bytes, too_many_lines}
 use Rattle.yds_trace_reading.proofs.Draining.{rest_same, rest_of}
 use Rattle.yds_trace_reading.proofs.reading.pass_over.Goals as goal
@@ -50,6 +50,16 @@ pub returns-in-End-clause-known : goal.returns-in-End-clause-known
 returns-in-End-clause-known g c =
     known_whole (asked_read c.args.asked) _ _ c.loop-lines.reader _ _ _ c.loop-lines.invariant.ahead
     (c.end.ensures.known (asked_read c.args.asked) (said_in c.loop-lines.invariant.ahead.given) c.loop-lines.invariant.ahead.stands)
+
+pub returns-in_err-take_line-in-Line-clause-read : goal.returns-in_err-take_line-in-Line-clause-read
+returns-in_err-take_line-in-Line-clause-read g c =
+    let told = err_from_is_err_and c.from_residual-in_err-take_line-in-Line.result c.from_residual-in_err-take_line-in-Line.ensures.1 in
+    rw told.1 (none_said (g.S.Source.left c.args.source.now))
+
+pub returns-in_err-take_line-in-Line-clause-none_left : goal.returns-in_err-take_line-in-Line-clause-none_left
+returns-in_err-take_line-in-Line-clause-none_left g c =
+    let told = err_from_is_err_and c.from_residual-in_err-take_line-in-Line.result c.from_residual-in_err-take_line-in-Line.ensures.1 in
+    rw told.1 (none_said (g.S.Source.left c.args.source.now))
 
 -- # What is left
 

@@ -14,5 +14,5 @@ pub returns-in-Err-Fault-clause-refused : goal.returns-in-Err-Fault-clause-refus
 returns-in-Err-Fault-clause-refused c = λ asked past at. (
   c.number-number.ensures,
   subst (λ (said : Said). said_fault asked past said ≡ Some c.in-Err-Fault.cause) c.said.ensures
-  (rw c.in-Err-Fault.field-0-is at (c.in-Err-Fault.ensures.refused asked past 0 at)),
+      (rw c.in-Err-Fault.field-0-is at (c.in-Err-Fault.ensures.refused asked past 0 at)),
 )

@@ -1,6 +1,6 @@
 use Rattle.yds_model.proofs.Common.{◌∙◌, arith, refl, err_from_is_err_and}
 use Rattle.yds_kernel_order.specs.Order.{said_in}
-use Rattle.yds_trace_reading.proofs.Giving.{counts_on, none_left}
+use Rattle.yds_trace_reading.proofs.Giving.{counts_on, none_left, none_said}
 use Rattle.yds_trace_reading.proofs.Draining.{rest_same, rest_of}
 use Rattle.yds_trace_threads.proofs.Passing.{at_begin, one_more, not_taken, not_formed, made_whole, halted_whole, too_many_bytes, too_many_lines}
 use Rattle.yds_trace_threads.proofs.driver.read_table.Goals as goal
@@ -48,6 +48,16 @@ returns-clause-halted g c = too_many_lines _ _ _ _ _ c.loop-lines.invariant.ahea
 pub returns-in-TooLong-clause-halted : goal.returns-in-TooLong-clause-halted
 returns-in-TooLong-clause-halted g c =
     too_many_bytes _ _ _ _ _ _ _ c.loop-lines.invariant.ahead c.in-TooLong.ensures.counts c.in-TooLong.ensures.advances.counted
+
+pub returns-in_err-take_line-in-Line-clause-made : goal.returns-in_err-take_line-in-Line-clause-made
+returns-in_err-take_line-in-Line-clause-made g c =
+    let told = err_from_is_err_and c.from_residual-in_err-take_line-in-Line.result c.from_residual-in_err-take_line-in-Line.ensures.1 in
+    rw told.1 (none_said (g.S.Source.left c.args.source.now))
+
+pub returns-in_err-take_line-in-Line-clause-none_left : goal.returns-in_err-take_line-in-Line-clause-none_left
+returns-in_err-take_line-in-Line-clause-none_left g c =
+    let told = err_from_is_err_and c.from_residual-in_err-take_line-in-Line.result c.from_residual-in_err-take_line-in-Line.ensures.1 in
+    rw told.1 (none_said (g.S.Source.left c.args.source.now))
 
 -- # What is left
 
