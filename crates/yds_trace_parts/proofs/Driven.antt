@@ -241,8 +241,13 @@ pub too_many_lines : (asked : Asked) (strict : Bool) (input : Option (List ℕ))
 too_many_lines asked strict None telling old before count written now ahead all = tt
 too_many_lines asked strict (Some bytes) telling old before count written now ahead all =
     endless asked strict bytes telling old before count written now ahead
-    (inr (omega (arith, all, ahead.many, length-said_in ahead.given,
-    as_many bytes (said_in ahead.given) (front_some bytes old before ahead.given ahead.known))))
+    (inr (omega (
+      arith,
+      all,
+      ahead.many,
+      length-said_in ahead.given,
+      as_many bytes (said_in ahead.given) (front_some bytes old before ahead.given ahead.known),
+    )))
 
 -- # What a part needs
 

@@ -54,12 +54,14 @@ const PART: &[u8] = b"# part 1: jobs 1 to 1, from 100 to 1100, shift 100, the la
 /// A job of a trace whose third line, of this processor, stands a line too late: it wakes the thread that the second one gives
 /// processor 0. This line stands behind the others.
 fn late(alloc: Global, processor: u16, last: &str) -> Result<Vec<u8>, AllocError> {
-    let text = format!(in alloc; "\
+    let text = format!(in alloc;
+        "\
   <idle>-0 [000] d..2. 5.000000: cpu_frequency: state=1000000 cpu_id=0
   <idle>-0 [000] d..2. 5.001000: sched_switch: prev_comm=swapper prev_pid=0 prev_prio=120 prev_state=R ==> next_comm=t next_pid=7 next_prio=120
   <idle>-0 [{processor}] d..2. 5.000990: sched_waking: comm=t pid=7 prio=120 target_cpu=000
   t-7 [000] d..2. 5.003000: sched_switch: prev_comm=t prev_pid=7 prev_prio=120 prev_state=S ==> next_comm=swapper next_pid=0 next_prio=120
-{last}")?;
+{last}"
+    )?;
     Ok(text.into_bytes())
 }
 
