@@ -20,12 +20,14 @@ pub record AreGiven (input : Option (List ℕ)) (ordering : Ordering) (left : Op
   pub in_order : IfSome input (λ bytes. IsOrderOf bytes ordering given left)
   pub counts : Counts input left 0 ordering.reader.taken
 
+-- What was counted since the begin, and then by one step, is counted since the begin.
 pub counts_on : (input before now : Option (List ℕ)) (old new : ℕ) → Counts input before 0 old → Counts before now old new → Counts input now 0 new
 counts_on None before now old new first second = tt
 counts_on (Some bytes) None now old new first second = absurd first
 counts_on (Some bytes) (Some rest) None old new first second = absurd second
 counts_on (Some bytes) (Some rest) (Some more) old new first second = omega (arith, first, second)
 
+-- No more bytes were taken than the input has.
 pub taken_bytes : (bytes : List ℕ) (left : Option (List ℕ)) (taken : ℕ) → Counts (Some bytes) left 0 taken → taken ≤ length bytes
 taken_bytes bytes None taken counts = absurd counts
 taken_bytes bytes (Some rest) taken counts = omega (arith, counts)
@@ -47,13 +49,16 @@ before_all = record {
   stop = None;
 }
 
+-- It gave no line of what its source has left.
 first_of_all : (left : Option (List ℕ)) → AreGiven left before_all left []
 first_of_all None = record { last = refl; in_order = tt; counts = tt }
 first_of_all (Some bytes) = record { last = refl; in_order = first_order bytes before_all refl refl refl refl refl; counts = refl }
 
+-- The same of a reader that is as a new one.
 pub none_given : (left : Option (List ℕ)) (ordering : Ordering) → ordering ≡ before_all → AreGiven left ordering left []
 none_given left ordering is = subst (λ (begin : Ordering). AreGiven left begin left []) (sym is) (first_of_all left)
 
+-- With the line that a step gives.
 pub one_given : (input : Option (List ℕ)) (old new : Ordering) (before left : Option (List ℕ)) (given : List Placed) (faults_before faults_now : ℕ)
     → AreGiven input old before given → (gives : GivesLine old new before left faults_before faults_now) → Counts before left old.reader.taken new.reader.taken
     → AreGiven input new left (gives.line ∷ given)
@@ -68,10 +73,11 @@ one_given (Some bytes) old new before left given faults_before faults_now known 
   counts = counts_on (Some bytes) before left old.reader.taken new.reader.taken known.counts counts;
 }
 
--- the line that was given
+-- the number of the line that was given
 pub number_given : (ordering : Ordering) (line : Placed) → ordering.given ≡ Some line → number_now ordering ≡ line.number
 number_given ordering line is = ap (λ (given : Option Placed). elim given as (λ _. ℕ) [ None ↦ ordering.lines | Some one ↦ one.number ]) is
 
+-- and what it says
 pub said_given : (ordering : Ordering) (line : Placed) → ordering.given ≡ Some line → said_now ordering ≡ line.said
 said_given ordering line is = ap (λ (given : Option Placed). elim given as (λ _. Said) [ None ↦ Nothing | Some one ↦ one.said ]) is
 
@@ -81,9 +87,11 @@ said_given ordering line is = ap (λ (given : Option Placed). elim given as (λ 
 abbrev pub AreFirst : List ℕ → List Placed → Type 0
 AreFirst bytes given = Behind 0 (placed_of (trace_of bytes)) given
 
+-- What was given is the first of it.
 pub first_given : (bytes : List ℕ) (ordering : Ordering) (left : Option (List ℕ)) (given : List Placed) → AreGiven (Some bytes) ordering left given → AreFirst bytes given
 first_given bytes ordering left given known = given_front bytes ordering given left known.last known.in_order
 
+-- What the input says in order of time is what they say, and then what the lines behind them say.
 pub past_behind : (bytes : List ℕ) (given : List Placed) (first : AreFirst bytes given) → past_of (order_of bytes) ≡ said_in first.behind ++ said_in given
 past_behind bytes given first =
     past_in_order (trace_of bytes) ∙ ap said_in first.parts ∙ said_behind first.behind given
@@ -96,10 +104,12 @@ number_of_last bytes line given first =
 
 -- # All lines of the input
 
+-- In order of time these are all lines of the input, the last one first, and this is the fault of form behind them.
 pub record AreAll (bytes : List ℕ) (given : List Placed) (fault : Option (Fault Reason)) : Type 0 where
   pub past : past_of (order_of bytes) ≡ said_in given
   pub form : (order_of bytes).fault ≡ fault
 
+-- So it is where the order of the input has just these lines.
 pub all_given : (bytes : List ℕ) (given : List Placed) (lines : ℕ) (fault : Option (Fault Reason)) → whole_order (trace_of bytes) ≡ record { placed = given; lines = lines; fault = fault }
     → AreAll bytes given fault
 all_given bytes given lines fault is = record {
