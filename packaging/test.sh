@@ -23,8 +23,9 @@
 # Then the static programs answer in a root that has nothing but themselves. Two builds in two folders have to be the same
 # bytes, and so those of the sources' archive. Each log is kept in build/packages-test.
 #
-# It needs root, debootstrap, and the network for the roots (MIRROR names another one of Debian). HOUR=1 types the manual's trace of
-# an hour, too. The last line is 'N passed, M failed'; the exit status is 1 where M isn't 0. What is missing is named, and counts as failed.
+# It needs root, debootstrap, and the network for the roots (MIRROR names another one of Debian). The roots take some 4.5 GB, and the
+# one that is tried up to 2 GB more. HOUR=1 types the manual's trace of an hour, too. Each step tells its seconds. The last line is
+# 'N passed, M failed'; the exit status is 1 where M isn't 0. What is missing is named, and counts as failed.
 
 . "$(dirname "$0")/common.sh"
 needs debootstrap debootstrap chroot coreutils unshare util-linux dpkg-deb dpkg git git
