@@ -3,7 +3,7 @@ use Rattle.yds_model.proofs.Common.{◌≡◌, List, [], ◌∷◌, reverse, fal
 use Rattle.std.specs.Fmt.{digits}
 use Rattle.yds_kernel.specs.Event.{Said}
 use Rattle.yds_trace.specs.declared.reason.Reason.TheVariants as reasons
-use Rattle.yds_trace.specs.Asked.{Asked}
+use Rattle.yds_trace.specs.Asked.{Same, Listed, Asked}
 use Rattle.yds_trace_document.specs.declared.fault.DocumentFault.{DocumentFault}
 use Rattle.yds_trace_document.specs.declared.fault.DocumentFault.TheVariants as faults
 use Rattle.yds_trace_document.specs.Settled.{settled_of}
@@ -17,7 +17,7 @@ fault asked lines = limit_fault false (settled_of asked (reverse lines))
 
 -- no speed is told
 abbrev without_start : Asked
-without_start = record asked { start = None }
+without_start = record asked { start = Listed [] }
 
 -- The first job was there when the trace began, and two ran at a speed that isn't known.
 abbrev three_jobs : List Said
@@ -51,11 +51,11 @@ late_at_unknown_speed = refl
 abbrev long_job : List Said
 long_job = woken 1000 ∷ comes 0 1000 ∷ sleeps 0 3000 ∷ []
 
-too_much_work : fault (record asked { unit = 1000; start = Some 1000000 }) long_job ≡ Some (faults.WorkTooGreat 0 2000000 2)
+too_much_work : fault (record asked { unit = 1000; start = Same 1000000 }) long_job ≡ Some (faults.WorkTooGreat 0 2000000 2)
 unfolding digits
 too_much_work = refl
 
 -- Near miss: in the unit that is told the work is the greatest that a job may have.
-in_that_unit : fault (record asked { unit = 2000; start = Some 1000000 }) long_job ≡ None
+in_that_unit : fault (record asked { unit = 2000; start = Same 1000000 }) long_job ≡ None
 unfolding digits
 in_that_unit = refl

@@ -133,7 +133,7 @@ at_last place asked strict past (processor ∷ more) =
     let rest = last_pieces asked strict past more in
     at_both place piece.text piece.halt rest.text rest.halt (at_part place here strict past (cut_after here past) None) (at_last place asked strict past more)
 
-if_jobless : (place : ℕ) (jobless : Bool) → IsAtPlace place (if jobless then Some (OfDocument None 1 faults.NoJob) else None)
+if_jobless : (place : ℕ) (jobless : Bool) → IsAtPlace place (if jobless then Some (OfDocument None 1 faults.NoJobAnywhere) else None)
 if_jobless place true = tt
 if_jobless place false = tt
 
