@@ -1,13 +1,15 @@
-use Rattle.yds_model.proofs.Common.{◌≡◌, ◌∙◌, ℕ, List, sym, subst, Option, Some, None, Ok}
+use Rattle.yds_model.proofs.Common.{◌≡◌, ◌∙◌, ℕ, List, refl, sym, subst, Option, Some, None, Result, Ok}
 use Rattle.std.specs.Prelude.{IfSome}
 use Rattle.yds_model.specs.declared.status.Status.{Status}
 use Rattle.yds_model.specs.declared.status.Status.TheVariants as statuses
 use Rattle.yds_trace.specs.Views.{asked_read}
 use Rattle.yds_trace_words.specs.declared.request.Request.{Request as RequestMade}
-use Rattle.yds_trace_words.specs.Request.{Request, ReadTrace, request_of, IsFit, IsFitRequest}
+use Rattle.yds_trace_words.specs.Request.{Request, ShowHelp, ReadTrace, request_of, IsFit, IsFitRequest}
+use Rattle.yds_trace_words.specs.Texts.{help_text}
 use Rattle.yds_trace_words.specs.Views.{words_of, request_read}
+use Rattle.yds_trace_words.specs.Words.{WordFault}
 use Rattle.yds_trace_run.specs.FaultText.{memory_text}
-use Rattle.yds_trace_run.specs.Endings.{Writes, IsDelivered}
+use Rattle.yds_trace_run.specs.Endings.{IsText, Writes, IsDelivered}
 use Rattle.yds_trace_run.proofs.Told.{ends_alone}
 use Rattle.yds_trace_run.proofs.Worth.{nothing_late, read_again, faithful, whole}
 use Rattle.yds_trace_run.proofs.running.run.Goals as goal
@@ -72,3 +74,23 @@ pub returns-in-Err-Memory-clause-answer : goal.returns-in-Err-Memory-clause-answ
 returns-in-Err-Memory-clause-answer g c =
     memory_writes g.K.Sink.written g.K.Sink.flushed g.K.Sink.flushes g.K.Sink.faults (words_of c.args.words.now) (g.S.Source.left c.args.source.now) c.deliver-in-Err-Memory.result
     c.args.sink.now c.deliver-in-Err-Memory.new.sink c.deliver-in-Err-Memory.ensures
+
+-- Where the words ask for it, that is the text of `--help`.
+help_writes : {K : Type 0} (written : K → Option (List ℕ)) (flushed : K → Option ℕ) (flushes faults : K → ℕ) (words : List (List ℕ)) (input : Option (List ℕ)) (ended : Status)
+    (old new : K) → request_of words ≡ Ok ShowHelp → IsDelivered written flushed flushes faults help_text statuses.Done ended old new
+    → IfSome input (λ bytes. Writes (request_of words) bytes ended (written old) (written new) (flushed new))
+help_writes written flushed flushes faults words None ended old new asks delivered = tt
+help_writes written flushed flushes faults words (Some bytes) ended old new asks delivered =
+    record {
+      text = help_text;
+      status = statuses.Done;
+      is_text = subst (λ (request : Result Request WordFault). IsText request bytes help_text statuses.Done) (sym asks) (refl, refl);
+      outcome = delivered.outcome;
+    }
+
+pub returns-in-Ok-Help-clause-answer : goal.returns-in-Ok-Help-clause-answer
+returns-in-Ok-Help-clause-answer g c =
+    help_writes g.K.Sink.written g.K.Sink.flushed g.K.Sink.flushes g.K.Sink.faults (words_of c.args.words.now) (g.S.Source.left c.args.source.now) c.deliver.result
+    c.args.sink.now c.deliver.new.sink
+    (subst (λ (made : RequestMade). request_of (words_of c.args.words.now) ≡ Ok (request_read made)) c.in-Ok-Help.field-0-is c.in-Ok-Help.ensures.request)
+    c.deliver.ensures
