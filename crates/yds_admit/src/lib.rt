@@ -26,6 +26,3 @@ mod state;
 
 pub use admission::{Admission, admit};
 pub use refusal::Refusal;
-
-#[cfg(test)]
-mod tests;

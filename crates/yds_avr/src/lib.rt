@@ -10,6 +10,3 @@ mod rate;
 mod roster;
 
 pub use average_rate::{avr, avr_timetable};
-
-#[cfg(test)]
-mod tests;

@@ -15,6 +15,3 @@ mod piece;
 pub use certificate::Certificate;
 pub use level::Level;
 pub use piece::Piece;
-
-#[cfg(test)]
-mod tests;

@@ -14,6 +14,3 @@ mod span;
 mod spreading;
 
 pub use contraction::Contraction;
-
-#[cfg(test)]
-mod tests;

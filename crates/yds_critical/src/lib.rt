@@ -11,6 +11,3 @@ mod search;
 
 pub use interval::Interval;
 pub use search::critical;
-
-#[cfg(test)]
-mod tests;

@@ -12,6 +12,3 @@ mod excess;
 
 pub use bends::{Break, curve};
 pub use excess::least_above;
-
-#[cfg(test)]
-mod tests;

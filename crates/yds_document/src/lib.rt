@@ -42,6 +42,3 @@ pub use line_buffer::LineBuffer;
 pub use printing::{print, write_mixed};
 pub use reader::read_document;
 pub use yds_model::Reason;
-
-#[cfg(test)]
-mod tests;

@@ -28,6 +28,3 @@ pub use policy::{Policy, Setting};
 pub use policy_run::{PolicyRun, PolicyTimetable, run_policy, serve_policy};
 pub use queue::Queue;
 pub use yds_timetable::Share;
-
-#[cfg(test)]
-mod tests;

@@ -18,6 +18,3 @@ pub use first_and_last::{first_release, horizon, last_deadline};
 pub use stretch::{Stretch, stretches};
 pub use timeline::Timeline;
 pub use window::Window;
-
-#[cfg(test)]
-mod tests;

@@ -17,6 +17,3 @@ pub use lowest_terms::in_lowest_terms;
 pub use mixed::{Amount, Mixed, Moment};
 pub use moments::is_before;
 pub use ratio::{Ratio, Speed};
-
-#[cfg(test)]
-mod tests;

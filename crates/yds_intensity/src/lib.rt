@@ -11,6 +11,3 @@ mod sweeping;
 
 pub use deadline_order::order;
 pub use sweeping::{Sum, sums, sweep};
-
-#[cfg(test)]
-mod tests;

@@ -11,6 +11,3 @@ mod quotient;
 mod walk;
 
 pub use optimal_available::{oa, oa_timetable};
-
-#[cfg(test)]
-mod tests;

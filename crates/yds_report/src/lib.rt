@@ -13,6 +13,3 @@ mod reporting;
 
 pub use json_text::{json, reports_are_read};
 pub use reporting::report;
-
-#[cfg(test)]
-mod tests;

@@ -14,6 +14,3 @@ mod split;
 
 pub use fault::RoundFault;
 pub use rounding::{Rounded, fault_of, round};
-
-#[cfg(test)]
-mod tests;

@@ -14,8 +14,3 @@ mod running;
 
 pub use on_bytes::run_on_bytes;
 pub use running::run;
-
-#[cfg(test)]
-mod tests;
-#[cfg(test)]
-mod worked_rows;

@@ -14,6 +14,3 @@ mod table;
 pub use fault::TableFault;
 pub use table::Table;
 pub use yds_hull::Point;
-
-#[cfg(test)]
-mod tests;

@@ -19,6 +19,3 @@ pub use fraction::mixed;
 pub use line::{Line, LineIter, lines};
 pub use spelling::{name, number, number_from, number_of};
 pub use yds_model::NumberFault;
-
-#[cfg(test)]
-mod tests;

@@ -19,6 +19,3 @@ pub use laws::stages_make_a_plan;
 pub use planning::{stages, textbook};
 pub use stage::Stage;
 pub use window::{have_work, is_within};
-
-#[cfg(test)]
-mod tests;

@@ -1,6 +1,7 @@
-use super::*;
+//! Tests of `yds_table`.
 use std::test::Fail;
 use yds_fraction::Speed;
+use yds_table::{Point, Table, TableFault};
 
 #[test]
 fn a_table_with_a_point_above_its_hull(rt: HostRuntime) -> Result<(), Fail> {

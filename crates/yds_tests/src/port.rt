@@ -1,7 +1,11 @@
-use super::*;
+//! Tests of `yds_port`.
 use std::io;
 use std::io::{Read, Write};
 use std::test::Fail;
+use yds_port::{
+    Flushed, Given, MemorySink, MemorySource, ReadAllFault, Sink, StdSink, StdSource, SteadySource,
+    WriteFault, read_all, write_all,
+};
 
 /// A reader that gives so many bytes and then errors; a writer that takes no byte, and whose second
 /// flush errors.

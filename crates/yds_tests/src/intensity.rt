@@ -1,5 +1,6 @@
-use super::*;
+//! Tests of `yds_intensity`.
 use std::test::Fail;
+use yds_intensity::{Sum, order, sums, sweep};
 use yds_model::JobRow;
 
 /// Three jobs, of which the first has the latest deadline and the others share one.

@@ -1,5 +1,6 @@
-use super::*;
+//! Tests of `yds_edf`.
 use std::test::Fail;
+use yds_edf::{Queue, fill, lay};
 use yds_events::Stretch;
 use yds_fraction::Moment;
 use yds_model::JobRow;

@@ -1,10 +1,10 @@
 //! One table of refusals, a document that is read and printed again, and one with an answer.
-use crate::{DocFault, Document, Reason, print, read_document, write_mixed};
 use std::alloc::Global;
 use std::hash::RandomState;
 use std::process::Abort;
 use std::test::Fail;
 use yds_certificate::Certificate;
+use yds_document::{DocFault, Document, Reason, print, read_document, write_mixed};
 use yds_fraction::{Amount, Moment};
 use yds_model::limits::MAX_BYTES;
 use yds_port::MemorySink;

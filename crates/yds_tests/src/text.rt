@@ -1,8 +1,8 @@
 //! One table: the places and texts of a small input, and what fields spell.
 ghost use Rattle.std.specs.Prelude.{◌≤◌, length};
 
-use crate::{Field, NumberFault, lines, mixed, name, number, number_from};
 use std::test::Fail;
+use yds_text::{Field, NumberFault, lines, mixed, name, number, number_from};
 
 fn field(text: &[u8]) -> Field<'_>
     requires { length text.now ≤ 100 }

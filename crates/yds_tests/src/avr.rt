@@ -1,5 +1,6 @@
-use super::*;
+//! Tests of `yds_avr`.
 use std::test::Fail;
+use yds_avr::avr;
 use yds_fraction::{Amount, Moment};
 use yds_model::JobRow;
 

@@ -1,5 +1,6 @@
-use super::*;
+//! Tests of `yds_events`.
 use std::test::Fail;
+use yds_events::{Timeline, events, stretches};
 use yds_model::JobRow;
 
 /// Jobs from 4 to 6, from 0 to 12 and from 2 to 6 cut the time from 0 to 12 at 2, 4 and 6.

@@ -1,8 +1,9 @@
+//! Tests of `yds_certificate`.
 ghost use Rattle.std.specs.Prelude.{◌≡◌, ◌≤◌, []};
 
-use super::*;
 use std::alloc::Global;
 use std::test::Fail;
+use yds_certificate::{Certificate, Level, Piece};
 use yds_fraction::Speed;
 
 fn level(alloc: Global, work: u64, length: u64) -> Level

@@ -1,6 +1,7 @@
-use super::*;
+//! Tests of `yds_fraction`.
 use std::cmp::Ordering;
 use std::test::Fail;
+use yds_fraction::{Amount, Moment, Speed, gcd, in_lowest_terms, lcm_within};
 
 #[test]
 fn divides_by_hand(rt: HostRuntime) {

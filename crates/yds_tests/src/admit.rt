@@ -1,5 +1,6 @@
-use super::*;
+//! Tests of `yds_admit`.
 use std::test::Fail;
+use yds_admit::{Refusal, admit};
 use yds_fraction::{Amount, Moment};
 use yds_model::JobRow;
 

@@ -1,7 +1,8 @@
-use super::*;
+//! Tests of `yds_oa`.
 use std::test::Fail;
 use yds_fraction::{Amount, Moment};
 use yds_model::JobRow;
+use yds_oa::oa;
 
 /// Jobs a 0 3 2 and b 1 2 1: on the grid 6 no quotient is rounded, and on the grid 1 that at 0 is.
 #[test]

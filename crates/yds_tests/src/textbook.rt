@@ -1,7 +1,7 @@
+//! Tests of `yds_textbook`.
 ghost use Rattle.std.specs.Prelude.{◌<◌};
 ghost use Rattle.yds_model.specs.Job.{IsJob};
 
-use crate::planning::{stages, textbook};
 use std::alloc::Global;
 use std::process::Abort;
 use std::test::Fail;
@@ -10,6 +10,7 @@ use yds_model::JobRow;
 use yds_model::limits::MAX_JOBS;
 use yds_plan::plan;
 use yds_search::Group;
+use yds_textbook::{stages, textbook};
 use yds_timetable::Share;
 
 fn row(release: u32, deadline: u32, work: u32) -> JobRow

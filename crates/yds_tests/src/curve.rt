@@ -1,10 +1,10 @@
 //! The curve of three levels and of one, worked by hand.
 ghost use Rattle.std.specs.Prelude.{◌≡◌, ◌≤◌, []};
 
-use crate::{curve, least_above};
 use std::alloc::Global;
 use std::test::Fail;
 use yds_certificate::{Certificate, Level};
+use yds_curve::{curve, least_above};
 use yds_fraction::Speed;
 
 fn level(alloc: Global, work: u64, length: u64) -> Level

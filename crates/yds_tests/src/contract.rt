@@ -1,5 +1,6 @@
-use super::*;
+//! Tests of `yds_contract`.
 use std::test::Fail;
+use yds_contract::Contraction;
 use yds_fraction::{Amount, Moment, Speed};
 use yds_model::limits::MAX_TIME;
 use yds_slots::Slot;

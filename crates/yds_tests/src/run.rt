@@ -1,4 +1,4 @@
-use super::*;
+//! Tests of `yds_run`.
 use crate::worked_rows::{
     ADMISSIONS, COMPARISONS, CURVES_AND_JSON, EXPANSIONS, OVER_BROKEN_STREAMS, POLICIES,
     REPORTS_AND_TRIALS, ROUNDINGS, ROWS,
@@ -11,6 +11,7 @@ use std::random::RandomSource;
 use std::test::Fail;
 use yds_model::{Memory, Status};
 use yds_port::{MemorySink, MemorySource, read_all};
+use yds_run::{run, run_on_bytes};
 
 const ONE_JOB: &[u8] = b"job a 0 4 8\n";
 

@@ -1,5 +1,6 @@
-use super::*;
+//! Tests of `yds_critical`.
 use std::test::Fail;
+use yds_critical::{Interval, critical};
 use yds_model::JobRow;
 
 /// The first has no jobs. In the second c is the densest. In the third two intervals of one speed begin together; the

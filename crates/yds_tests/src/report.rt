@@ -1,13 +1,13 @@
 //! The report of the levels of three jobs, of two and of none, worked by hand.
 ghost use Rattle.std.specs.Prelude.{◌≡◌, ◌≤◌, []};
 
-use crate::{json, report};
 use std::alloc::Global;
 use std::hash::RandomState;
 use std::test::Fail;
 use yds_certificate::{Certificate, Level};
 use yds_document::read_document;
 use yds_port::MemorySink;
+use yds_report::{json, report};
 
 fn level(alloc: Global, work: u64, length: u64) -> Level
     requires some { 1 ≤ work }

@@ -1,9 +1,10 @@
-use super::*;
+//! Tests of `yds_round`.
 use std::test::Fail;
 use yds_fraction::Amount;
 use yds_model::JobRow;
 use yds_model::limits::MAX_JOBS;
 use yds_plan::plan;
+use yds_round::{RoundFault, round};
 use yds_table::{Point, Table};
 
 /// Of two jobs from 0 to 3 with works 2 and 5 the first runs at the speed 4 until 1/2, and the second at 2.
