@@ -1,6 +1,6 @@
 -- What a trace lacks, or says that a reader should know, beside the jobs: four counts of its lines, within what is asked for.
 use Rattle.std.specs.Prelude.{ℕ, suc, ◌-◌, List, [], ◌∷◌, Bool, true, false, not, ◌==◌, ◌&&◌, nat_lt, if◌then◌else◌, Option, Some, None, is_none}
-use Rattle.yds_kernel.specs.Event.{Thread, Happening, Switch, Marker, Event, Said, Stamped, Lost, Nothing}
+use Rattle.yds_kernel.specs.Event.{Thread, Happening, Switch, Marker, Said, Stamped, Lost, Nothing}
 use Rattle.yds_kernel.specs.Parts.{capped}
 use Rattle.yds_trace.specs.declared.tally.Pause.{Pause}
 use Rattle.yds_trace.specs.declared.tally.Tally.{Tally}

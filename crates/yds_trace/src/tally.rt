@@ -1,5 +1,5 @@
 //! What a trace lacks, counted line by line.
-ghost use Rattle.std.specs.Prelude.{◌≡◌, ℕ, List, [], ◌∷◌, Option, None, OnOk};
+ghost use Rattle.std.specs.Prelude.{◌≡◌, ℕ, List, [], ◌∷◌, Option, None, ◌&&◌, OnOk};
 ghost use Rattle.yds_kernel.specs.Event.{Thread, Said, Stamped, Lost};
 ghost use Rattle.yds_kernel.specs.Parts.{capped};
 ghost use Rattle.yds_kernel.specs.Views.{event_read};
@@ -83,15 +83,16 @@ impl Tallied {
             → first ≡ first_in tasks (event_read event.now).happening → second ≡ second_in tasks (event_read event.now).happening
             → IsTallied from to tasks lines self.old → OnOk result (IsTallied from to tasks (Stamped (event_read event.now) ∷ lines) self.new) }
     {
-        let asked_for = is_after_from(from, event.time) && is_before_to(to, event.time);
-        let lacks = asked_for && lacks_switch(&self.came, event, first);
-        let marked = asked_for && is_marker(event);
+        let asked_for = is_asked_for(from, to, event.time);
+        let lacks = asks_for_switch(asked_for, &self.came, event, first);
+        let marked = asks_for_marker(asked_for, event);
+        let lasted = pause_before(from, to, past, event.time);
         self.tally.losses = one_more(behind_loss, self.tally.losses);
         self.tally.missing = one_more(lacks, self.tally.missing);
         self.tally.markers = one_more(marked, self.tally.markers);
-        let lasted = pause_before(from, to, past, event.time);
         self.tally.pause = longer(self.tally.pause, past.last, lasted);
-        come(&mut self.came, event, second)
+        come(&mut self.came, event, second)?;
+        Ok(())
     }
 
     /// Takes a line without a stamp which says that events were lost.
@@ -125,6 +126,29 @@ fn one_more(test: bool, number: u64) -> u64
     } else {
         number
     }
+}
+
+/// Whether a time is from `from` to `to`.
+fn is_asked_for(from: Option<u64>, to: Option<u64>, time: u64) -> bool
+    ensures { result ≡ spec.is_asked_for from to time }
+{
+    is_after_from(from, time) && is_before_to(to, time)
+}
+
+/// Whether a switch of other threads is missing before this event, which is asked for.
+fn asks_for_switch(asked_for: bool, came: &[Option<u64>], event: &Event<'_>, first: Whose) -> bool
+    ensures { (tasks : List asking.Task) (lines : List Said) → HaveCome tasks lines came.now
+        → first ≡ first_in tasks (event_read event.now).happening
+        → result ≡ (asked_for && spec.lacks_switch tasks lines (event_read event.now).processor (event_read event.now).happening) }
+{
+    asked_for && lacks_switch(came, event, first)
+}
+
+/// Whether a program wrote it, and it is asked for.
+fn asks_for_marker(asked_for: bool, event: &Event<'_>) -> bool
+    ensures { result ≡ (asked_for && spec.is_marker (event_read event.now).happening) }
+{
+    asked_for && is_marker(event)
 }
 
 /// Whether a switch of other threads is missing before this event.
