@@ -22,7 +22,7 @@ fn up_to_here(in_parts: bool) -> &'static [u8]
 fn put_lack(
     alloc: Global,
     in_parts: bool,
-    what: &[u8],
+    what: &'static [u8],
     number: u64,
     text: &mut Vec<u8>,
 ) -> Result<(), Memory>
