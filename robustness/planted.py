@@ -65,7 +65,7 @@ MISTAKES = [
     Mistake("a_missing_switch_of_a_task_counted", "yds_trace/src/tally.rt", (
         ("Some(pid) => pid != first.pid && first.number.is_none(),", "Some(pid) => pid != first.pid,"),)),
     Mistake("a_marker_behind_to_counted", "yds_trace/src/tally.rt", (("    asked_for && is_marker(event)", "    asked_for == asked_for && is_marker(event)"),)),
-    Mistake("a_pause_of_just_a_second_told", "yds_trace_text/src/tally.rt", (("if pause.lasted <= SECOND {", "if pause.lasted < SECOND {"),)),
+    Mistake("a_pause_of_just_a_second_told", "yds_trace_text/src/tally.rt", (("    pause.lasted > SECOND", "    pause.lasted >= SECOND"),)),
     Mistake("a_missing_switch_passed_over", "yds_trace/src/known.rt", (
         ("        find_awake(alloc, leaving.time, &mut self.jobs)?;\n        mark_last(&mut self.jobs);\n",
          "        find_awake(alloc, leaving.time, &mut self.jobs)?;\n"),)),

@@ -15,7 +15,7 @@ use Rattle.yds_trace.specs.WrittenTime.{Units, written_time, runs_end}
 use Rattle.yds_trace.specs.Document.{named, Judged, judged, judged_of, judged_from, all_judged, began_before, jobs_of, shares_of, stands, written_end, written_name, written_runs}
 use Rattle.yds_trace_laws.proofs.Ordered.{filter-all, in_order-all, append-all, map-all}
 use Rattle.yds_trace_document.specs.Settled.{Settled, judged_by_task}
-use Rattle.yds_trace_text.specs.Text.{told, comment, nine_digits, six_digits, in_seconds, in_milliseconds, behind_point, counted, head_line, cycles, units_line, reason_text, behind_deadline, signed_time, window_text, how_late, without_runs_comment, late_kind, standing_comment, late_comment, first_begin, begin_later, end_comment, begins_comment, end_earlier, end_is_told, ends_comment, shown_comments, every_reason, is_left_out_for, first_name, last_name, Group, group_of, group_for, groups_of_task, has_jobs, groups_of, all_groups, most_first, one_left_out, some_left_out, group_comment, is_cut_off, cut_off_comment, left_out_comments, short_stretches, is_or_are, some_short, short_comment, length_of, wake_ups_of, most_woken, woken_comment, wake_up_comment, known_begins, mean_distance, distance_comment, unit_comment, deadline_comment, apart_comment, task_unit_comments, all_unit_comments, shown_byte, other_comment, left_out_text, its_or_their, late_without, without_runs_text, up_to_here, lack_comment, no_line_text, is_long, pause_comment, tally_comments, last_line, comments_text}
+use Rattle.yds_trace_text.specs.Text.{told, comment, nine_digits, six_digits, in_seconds, in_milliseconds, behind_point, counted, head_line, cycles, units_line, reason_text, behind_deadline, signed_time, window_text, how_late, without_runs_comment, late_kind, standing_comment, late_comment, first_begin, begin_later, end_comment, begins_comment, end_earlier, end_is_told, ends_comment, shown_comments, every_reason, is_left_out_for, first_name, last_name, Group, group_of, group_for, groups_of_task, has_jobs, groups_of, all_groups, most_first, one_left_out, some_left_out, group_comment, is_cut_off, cut_off_comment, left_out_comments, short_stretches, is_or_are, some_short, short_comment, length_of, wake_ups_of, most_woken, woken_comment, wake_up_comment, known_begins, mean_distance, distance_comment, unit_comment, deadline_comment, apart_comment, task_unit_comments, all_unit_comments, shown_byte, other_comment, left_out_text, its_or_their, late_without, without_runs_text, up_to_here, lack_comment, no_line_text, is_long, long_comment, pause_comment, tally_comments, last_line, comments_text}
 use Rattle.yds_texts.proofs.Brought.{Leads, Leads-nil, Leads-append, Leads-comment}
 use Rattle.yds_trace_again.specs.Laws.{AreLabelled}
 use Rattle.yds_trace_again.proofs.Plain.{is_other, is_other_true, Plain, plain_all, plain_append, plain_told, plain_if, plain_drop, plain_decimal, name_plain}
@@ -339,8 +339,7 @@ lack_silent P in_parts what number plain =
 
 pause_silent : (P : List Entry → Type 0) (in_parts : Bool) (pause : Pause) → Silent P (pause_comment in_parts pause)
 pause_silent P in_parts pause =
-    silent_if P (is_long pause)
-    (comment (no_line_text in_parts ∷ in_seconds pause.lasted ∷ codes " s, from " ∷ in_seconds pause.since ∷ codes " s on: did the clock jump?" ∷ [])) []
+    silent_if P (is_long pause) (long_comment in_parts pause) []
     (silent_comment P
     (no_line_text in_parts ∷ in_seconds pause.lasted ∷ codes " s, from " ∷ in_seconds pause.since ∷ codes " s on: did the clock jump?" ∷ [])
     (plain_if in_parts (codes "up to here, no line for ") (codes "no line for ") refl refl, (plain_seconds pause.lasted, (refl, (plain_seconds pause.since, (refl, tt))))))

@@ -383,10 +383,12 @@ no_line_text in_parts = if in_parts then codes "up to here, no line for " else c
 abbrev pub is_long : Pause → Bool
 is_long pause = nat_lt 1000000000 pause.lasted
 
+abbrev pub long_comment : Bool → Pause → List ℕ
+long_comment in_parts pause =
+    comment (no_line_text in_parts ∷ in_seconds pause.lasted ∷ codes " s, from " ∷ in_seconds pause.since ∷ codes " s on: did the clock jump?" ∷ [])
+
 abbrev pub pause_comment : Bool → Pause → List ℕ
-pause_comment in_parts pause =
-    if is_long pause then comment (no_line_text in_parts ∷ in_seconds pause.lasted ∷ codes " s, from " ∷ in_seconds pause.since
-    ∷ codes " s on: did the clock jump?" ∷ []) else []
+pause_comment in_parts pause = if is_long pause then long_comment in_parts pause else []
 
 abbrev pub tally_comments : Bool → Tally → List ℕ
 tally_comments in_parts tally =

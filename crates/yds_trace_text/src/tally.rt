@@ -54,13 +54,28 @@ fn no_line_text(in_parts: bool) -> &'static [u8]
     }
 }
 
-/// The longest time without a line, if it is longer than a second.
+/// Whether a time without a line is longer than a second.
+fn is_long(pause: Pause) -> bool
+    ensures { result ≡ spec.is_long pause }
+{
+    pause.lasted > SECOND
+}
+
+/// The longest time without a line, if it is long.
 fn put_pause(alloc: Global, in_parts: bool, pause: Pause, text: &mut Vec<u8>) -> Result<(), Memory>
     ensures { OnOk result (text.new.items ≡ text.old.items ++ spec.pause_comment in_parts pause) }
 {
-    if pause.lasted <= SECOND {
-        return Ok(());
+    if is_long(pause) {
+        put_long(alloc, in_parts, pause, text)
+    } else {
+        Ok(())
     }
+}
+
+/// A long time without a line.
+fn put_long(alloc: Global, in_parts: bool, pause: Pause, text: &mut Vec<u8>) -> Result<(), Memory>
+    ensures { OnOk result (text.new.items ≡ text.old.items ++ spec.long_comment in_parts pause) }
+{
     let lasted = in_seconds(alloc, pause.lasted)?;
     let since = in_seconds(alloc, pause.since)?;
     put_comment(
