@@ -788,12 +788,56 @@ SHOWN: List[Callable[[Drawing], None]] = [
 ]
 
 
+LACKING = (anything, starving, moving, missing, fronted, no_speed, torn, wrong_units, often_woken, at_run)
+STAMP = re.compile(rb"(?<= )([0-9]+)\.([0-9]{1,9})(?=: )")
+
+
+def drop_others(it: Drawing, draw: random.Random) -> None:
+    """Switches of other threads are missing."""
+    for _ in range(draw.choice([1, 2, 3])):
+        found = [place for place in it.places(b"sched_switch:") if not any(name in it.lines[place] for name in it.listed)]
+        if found and len(it.lines) > 1:
+            del it.lines[draw.choice(found)]
+
+
+def stamp_of(line: bytes) -> Optional[int]:
+    """A line's time."""
+    mark = STAMP.search(line)
+    return int(mark[1]) * 10**9 + int(mark[2].ljust(9, b"0")) if mark else None
+
+
+def later_by(line: bytes, more: int) -> bytes:
+    """The line with a later stamp."""
+    time = (stamp_of(line) or 0) + more
+    return STAMP.sub(lambda mark: (b"%d.%09d" % (time // 10**9, time % 10**9))[: mark.end() - mark.start(2) - 9 or None], line, count=1)
+
+
+def jump(it: Drawing, draw: random.Random) -> None:
+    """The clock jumps ahead before a line, to a second behind the line before it, or to later than that."""
+    at = draw.randrange(len(it.lines)) if draw.random() < 0.5 else max(0, len(it.lines) - draw.choice([1, 1, 2, 3]))
+    before, after = (stamp_of(line) for line in it.lines[at - 1 : at + 1]) if at > 0 else (None, None)
+    if before is not None and after is not None and before <= after:
+        more = 10**9 - (after - before) + it.grain * draw.choice([0, 1, 1, 10**6, 60 * 10**6])
+        it.lines[at:] = [line if stamp_of(line) is None else later_by(line, more) for line in it.lines[at:]]
+
+
+def with_lacks(seed: int, number: int, it: Drawing) -> None:
+    """Of some traces switches of other threads are missing, and in some the clock jumps."""
+    draw = random.Random(f"lacks {seed} {number}")
+    if draw.random() < 0.3:
+        drop_others(it, draw)
+    if draw.random() < 0.4:
+        jump(it, draw)
+
+
 def drawn(seed: int, number: int) -> Drawn:
     """The trace of this number."""
     draw = random.Random(f"{seed} {number}")
     show = SHOWN[number % len(SHOWN)]
     it = Drawing(draw, show is not anything)
     show(it)
+    if show in LACKING:
+        with_lacks(seed, number, it)
     trace = it.ends.join(it.lines) + (it.last_end if it.lines else b"")
     return Drawn(show.__name__, it.form, with_more(seed, number, with_parts(seed, number, it.words())), trace)
 

@@ -10,8 +10,9 @@ from dataclasses import dataclass, field, replace
 from typing import Dict, List, NamedTuple, Optional, Set, Tuple
 
 from second import (
-    Asked, Document, Follower, Job, Judged, Line, MOST_PROCESSOR, MOST_TEXT, MOST_TIME, Shown, Span, Stretch, Thread, Told, Watch, Wrong, as_bytes,
-    in_order, is_loss, is_stamped, judge_jobs, line_fault, milliseconds, ordered, share_of, shown_by, unseen_task, within,
+    Asked, Document, Follower, Job, Judged, Line, MOST_PROCESSOR, MOST_TEXT, MOST_TIME, Shown, Span, Stretch, Tally, Thread, Told, Watch, Wrong,
+    as_bytes, in_order, is_asked_for, is_loss, is_missing, is_stamped, judge_jobs, line_fault, milliseconds, ordered, share_of, shown_by, unseen_task,
+    within,
 )
 
 
@@ -134,6 +135,9 @@ class Parts:
 
     def __post_init__(self) -> None:
         self.lines, self.counted = Kept(self.asked), Kept(self.asked)
+        self.tally = Tally()
+        self.came: Dict[int, Thread] = {}
+        self.before: Optional[int] = None
         self.threads: Dict[int, int] = {}
         self.seen: Set[int] = set()
         self.followers = [Follower(self.asked, number) for number in range(len(self.asked.tasks))]
@@ -241,6 +245,7 @@ class Parts:
         if cause is not None:
             raise line_fault(in_text, cause)
         counted = self.counts(line)
+        self.tally = self.tally_with(line)
         self.is_torn = not is_stamped(line) and (self.is_torn or self.is_lost_within(line))
         tasks = [self.asked.task_of(thread) for thread in line.threads]
         self.seen.update(task for task in tasks if task is not None)
@@ -253,6 +258,30 @@ class Parts:
             self.take_counted(counted)
         self.lines.take(line)
         self.number += 1
+
+    def tally_with(self, line: Line) -> Tally:
+        """What the lines lack with the next one, but that they may end here. Who came last is kept along, and the last time that is asked for."""
+        tally, came = self.tally, self.came.get(line.processor)
+        if is_stamped(line) and (self.is_torn or self.is_lost_within(line)) and (self.asked.begin is None or self.asked.begin < line.time):
+            tally = tally._replace(losses=tally.losses + 1)
+        if is_loss(line):
+            self.came.clear()
+        elif line.kind == "switch":
+            self.came[line.processor] = line.threads[1]
+        if not is_asked_for(line, self.asked):
+            return tally
+        if line.kind == "switch" and is_missing(line.threads[0], came, self.asked):
+            tally = tally._replace(missing=tally.missing + 1)
+        if line.kind == "marker":
+            tally = tally._replace(markers=tally.markers + 1)
+        if self.before is not None and line.time - self.before > tally.longest:
+            tally = tally._replace(longest=line.time - self.before, since=self.before)
+        self.before = line.time
+        return tally
+
+    def tally_here(self) -> Tally:
+        """What the lines lack, where they end here."""
+        return self.tally._replace(losses=self.tally.losses + self.is_torn)
 
     def take_counted(self, line: Line) -> None:
         """The next line that counts."""
@@ -392,7 +421,7 @@ class Parts:
         begins = [one.job.begin for one in in_order(by_task)]
         shift = max(begins[0] - origin, 0) // asked.unit if begins else 0
         zero = origin + shift * asked.unit
-        document = Document(by_task, zero, asked, tuple(within(self.others(cut), max(cut.boundary, zero), until)))
+        document = Document(by_task, zero, asked, tuple(within(self.others(cut), max(cut.boundary, zero), until)), self.tally_here())
         name = f"part {cut.parts + 1} of processor {processor}" if asked.everywhere else f"part {cut.parts + 1}"
         self.check(document, name, asked.everywhere or cut.parts > 0)
         text = self.head(document, processor, cut, shift, until is None) + document.text()

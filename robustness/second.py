@@ -330,7 +330,7 @@ def asked_by(words: List[str]) -> Asked:
 
 
 class Line(NamedTuple):
-    """What a line says: `switch`, `wake`, `speed`, `loss`, `other`, or, without a stamp, `lost`, `begin` or `nothing`."""
+    """What a line says: `switch`, `wake`, `speed`, `loss`, `marker`, `other`, or, without a stamp, `lost`, `begin` or `nothing`."""
 
     kind: str
     processor: int = 0
@@ -369,7 +369,7 @@ def line_of(said: bytes) -> Line:
     if kind == "speed":
         of, khz = word[4].split(b" ")
         return Line(kind, processor, time, of=int(of), khz=int(khz))
-    return Line("loss" if kind == "loss" else "other", processor, time)
+    return Line(kind if kind in ("loss", "marker") else "other", processor, time)
 
 
 FORMS = {
@@ -607,6 +607,12 @@ def just_lost(lines: List[Line], asked: Asked) -> bool:
     return False
 
 
+def is_place_of_loss(line: Line, lines: List[Line], asked: Asked) -> bool:
+    """An event, within what is asked for, before which events were lost."""
+    own = line.kind == "loss" and (asked.end is None or lost_since(line, lines) < asked.end)
+    return is_stamped(line) and (asked.begin is None or asked.begin < line.time) and (own or just_lost(lines, asked))
+
+
 def cause_of(line: Line, lines: List[Line], asked: Asked) -> Optional[str]:
     """What a line is refused for behind these lines."""
     if not is_stamped(line):
@@ -618,9 +624,7 @@ def cause_of(line: Line, lines: List[Line], asked: Asked) -> Optional[str]:
     fault = threads_fault(line, lines, asked)
     if fault is not None:
         return fault
-    own = line.kind == "loss" and (asked.end is None or lost_since(line, lines) < asked.end)
-    torn = not asked.cut and (asked.begin is None or asked.begin < line.time) and (own or just_lost(lines, asked))
-    return "lost" if torn else None
+    return "lost" if not asked.cut and is_place_of_loss(line, lines, asked) else None
 
 
 def read_lines(trace: bytes, asked: Asked) -> List[Line]:
@@ -1009,11 +1013,61 @@ def milliseconds(time: int) -> str:
     return f"{time // 10**6}.{time % 10**6:06d}"
 
 
-class Document:
-    """A document of these jobs, each judged, with this time 0, and who else had the processor."""
+class Tally(NamedTuple):
+    """What a trace lacks: places where events were lost, switches of other threads that are missing, lines that programs wrote, and the
+    longest time between two lines with a stamp, with its begin."""
 
-    def __init__(self, by_task: List[List[Judged]], zero: int, asked: Asked, others: Tuple[Span, ...] = ()) -> None:
-        self.asked, self.by_task, self.zero, self.others = asked, by_task, zero, others
+    losses: int = 0
+    missing: int = 0
+    markers: int = 0
+    longest: int = 0
+    since: int = 0
+
+    def lines(self, in_parts: bool) -> Iterator[str]:
+        """The comments. In parts more may follow."""
+        here = ", up to here" if in_parts else ""
+        whats = ("places where events were lost", "switches of other threads that are missing", "lines that programs wrote into the trace")
+        for what, number in zip(whats, self):
+            if number:
+                yield f"# {what}{here}: {number}"
+        if self.longest > 10**9:
+            told = ["up to here"] if in_parts else []
+            told.append(f"no line for {self.longest // 10**9}.{self.longest % 10**9:09d} s")
+            yield f"# {', '.join(told)}, from {self.since // 10**9}.{self.since % 10**9:09d} s on: did the clock jump?"
+
+
+def is_asked_for(line: Line, asked: Asked) -> bool:
+    """Whether it has a stamp, from `from` to `to`."""
+    return is_stamped(line) and (asked.begin is None or asked.begin <= line.time) and (asked.end is None or line.time <= asked.end)
+
+
+def is_missing(left: Thread, came: Optional[Thread], asked: Asked) -> bool:
+    """Whether who leaves isn't who came last, and neither is a task."""
+    return came is not None and came.pid != left.pid and asked.task_of(came) is None and asked.task_of(left) is None
+
+
+def came_last(processor: int, past: List[Line]) -> Optional[Thread]:
+    """Who came to a processor by its last switch since events were lost."""
+    switches = [line for line in since_loss(past) if line.kind == "switch" and line.processor == processor]
+    return switches[-1].threads[1] if switches else None
+
+
+def tally_of(lines: List[Line], asked: Asked) -> Tally:
+    """What these lines lack."""
+    losses = sum(is_place_of_loss(line, lines[:at], asked) for at, line in enumerate(lines)) + just_lost(lines, asked)
+    own = [(at, line) for at, line in enumerate(lines) if is_asked_for(line, asked)]
+    missing = sum(is_missing(line.threads[0], came_last(line.processor, lines[:at]), asked) for at, line in own if line.kind == "switch")
+    markers = sum(line.kind == "marker" for _, line in own)
+    pauses = [(after.time - before.time, before.time) for (_, before), (_, after) in zip(own, own[1:])]
+    longest, since = max(pauses, key=lambda pause: pause[0], default=(0, 0))
+    return Tally(losses, missing, markers, longest, since)
+
+
+class Document:
+    """A document of these jobs, each judged, with this time 0, who else had the processor, and what the trace lacks."""
+
+    def __init__(self, by_task: List[List[Judged]], zero: int, asked: Asked, others: Tuple[Span, ...] = (), tally: Tally = Tally()) -> None:
+        self.asked, self.by_task, self.zero, self.others, self.tally = asked, by_task, zero, others, tally
         self.judged = in_order(by_task)
         self.rows: List[Tuple[Judged, int, int, int]] = []
         for one in self.judged:
@@ -1158,6 +1212,7 @@ class Document:
         for task, mine in zip(asked.tasks, self.by_task):
             yield from self.wrong_units(task, mine)
         yield from self.other_threads()
+        yield from self.tally.lines(asked.in_parts)
         out = sum(1 for one in self.judged if one.reason and one.late is None)
         bare = sum(1 for one in self.judged if one.reason and one.late is not None)
         late = f", {bare} late without {'its' if bare == 1 else 'their'} runs" if bare else ""
@@ -1261,4 +1316,4 @@ def whole_document(trace: bytes, asked: Asked) -> Document:
     lines = read_lines(trace, asked)
     by_task = judge(lines, asked)
     zero = zero_of(by_task, lines, asked)
-    return Document(by_task, zero, asked, tuple(within(spans_of(lines, asked), zero)))
+    return Document(by_task, zero, asked, tuple(within(spans_of(lines, asked), zero)), tally_of(lines, asked))

@@ -76,6 +76,7 @@ WANTED = [
     "a name with a byte that isn't shown", "a name that is cut short", "another thread within one unit of time", "another thread at time 0",
     "comment late", "comment late, without its runs", "comment late in a run", "comment late by less", "comment late on another processor", "comment not ended", "comment begins", "comment ends",
     "comment left out", "comment stretch", "comment wake", "comment the deadline of", "comment APART of", "comment part", "comment other",
+    "comment places where events were lost", "comment switches of other threads", "comment lines that programs wrote", "comment no line for",
     "out of order: neighbours of two processors", "out of order: 2 to 63 places", "out of order: 64 places", "out of order: 65 places",
     "out of order: a millisecond", "out of order: a nanosecond more", "out of order: behind one of its stamp", "out of order: over a loss",
     "out of order: beside a loss", "out of order: over --from", "out of order: over --to", "out of order: too far, behind --to",
@@ -155,8 +156,8 @@ def in_job(one: Judged, unit: int) -> Iterator[str]:
 
 def in_text(text: str) -> Iterator[str]:
     """Which comments a document has."""
-    kinds = "part|other|late, without its runs|late on another processor|late by less|late in a run|late|not ended|begins|ends|left out|[0-9]+ stretch|[0-9]+ wake|the deadline of|APART of"
-    for mark in re.finditer(f"^# ({kinds})", text, re.M):
+    kinds = "part|other|late, without its runs|late on another processor|late by less|late in a run|late|not ended|begins|ends|left out|[0-9]+ stretch|[0-9]+ wake|the deadline of|APART of|places where events were lost|switches of other threads|lines that programs wrote|no line for"
+    for mark in re.finditer(f"^# (?:up to here, )?({kinds})", text, re.M):
         yield "comment " + re.sub("[0-9]+ ", "", mark[1])
 
 

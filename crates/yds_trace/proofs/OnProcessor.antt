@@ -268,6 +268,7 @@ lines_on asked processor past lines is = record {
   lost = is.lost;
   woken = is.woken ∙ sym (has_wake_up_on asked processor past);
   as_many = is.as_many;
+  tallied = is.tallied;
   seen = λ number within. is.seen number within ∙ ap is_some (sym (pid_before_on asked processor number past));
 }
 
@@ -292,4 +293,5 @@ shown_on asked processor past boundary later shown within is = record {
   others = others_shown_on asked processor past boundary later _ within is.others;
   first = is.first;
   last = is.last;
+  tally = is.tally;
 }

@@ -284,6 +284,7 @@ shown_shared asked past boundary shown alone is = record {
   others = is.others;
   first = is.first;
   last = is.last;
+  tally = is.tally;
 }
 
 share_task : (asked : Asked) (past : List Said) (boundary number : ℕ) (shown own : ShownTask) → Shares asked shown own →
@@ -305,9 +306,9 @@ share_task asked past boundary number shown own shares is = record {
 pub shared_all : (asked : Asked) (past : List Said) (boundary : ℕ) (shown own : Shown) → length own.tasks.items ≡ length shown.tasks.items →
     ((number : ℕ) (default was : ShownTask) → number < length shown.tasks.items →
     Shares asked (get_or shown.tasks.items number was) (get_or own.tasks.items number default)) →
-    map span_read own.others.items ≡ map span_read shown.others.items → own.first ≡ shown.first → own.last ≡ shown.last →
+    map span_read own.others.items ≡ map span_read shown.others.items → own.first ≡ shown.first → own.last ≡ shown.last → own.tally ≡ shown.tally →
     IsShown asked past boundary shown → IsShared asked past boundary own
-shared_all asked past boundary shown own many each others first last is = record {
+shared_all asked past boundary shown own many each others first last tally is = record {
   as_many = many ∙ is.as_many;
   tasks = λ number default within.
       share_task asked past boundary number (get_or shown.tasks.items number default) (get_or own.tasks.items number default)
@@ -315,4 +316,5 @@ shared_all asked past boundary shown own many each others first last is = record
   others = ap (filter (goes_behind boundary)) others ∙ is.others;
   first = first ∙ is.first;
   last = last ∙ is.last;
+  tally = tally ∙ is.tally;
 }

@@ -9,6 +9,7 @@ use Rattle.yds_trace.specs.Past.{first_time, last_time}
 use Rattle.yds_trace.specs.Jobs.{Job}
 use Rattle.yds_trace.specs.Document.{shares_of}
 use Rattle.yds_trace.specs.Others.{others_of}
+use Rattle.yds_trace.specs.Tally.{tally_of}
 use Rattle.yds_trace.specs.Views.{job_read, asked_read, span_read}
 
 -- the jobs of these tasks, from this number on, as the processor's document has them
@@ -26,3 +27,4 @@ pub record IsEnded (asked : Asked) (past : List Said) (ended : EndedKept) : Type
   pub others : map span_read ended.others.items ≡ others_of asked past
   pub first : ended.first ≡ first_time 0 past
   pub last : ended.last ≡ last_time past
+  pub tally : ended.tally ≡ tally_of asked past

@@ -78,10 +78,13 @@ lost_just_before to (Nothing ∷ past) = lost_just_before to past
 abbrev pub tells_loss : Option ℕ → Event → List Said → Bool
 tells_loss to event past = is_loss event.happening && is_within_to to (lost_since event.processor since.ItsLastLine past)
 
--- events were lost before this line, within what is asked for, and the trace is to be whole there
+-- A place where events were lost, within what is asked for: an event behind `from` before which events are said to be lost since a time before `to`.
+abbrev pub is_behind_loss : Option ℕ → Option ℕ → List Said → Event → Bool
+is_behind_loss from to past event = is_behind_from from event.time && (lost_just_before to past || tells_loss to event past)
+
+-- such a place, where the trace is to be whole
 abbrev pub is_torn : Asked → List Said → Event → Bool
-is_torn asked past event =
-    not asked.cut_losses && is_behind_from asked.from event.time && (lost_just_before asked.to past || tells_loss asked.to event past)
+is_torn asked past event = not asked.cut_losses && is_behind_loss asked.from asked.to past event
 
 -- # How many lines tell of the tasks
 

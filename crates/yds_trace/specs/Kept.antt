@@ -1,7 +1,7 @@
 -- What a pass keeps of the lines so far, and when that stands for them.
-use Rattle.std.specs.Prelude.{◌≡◌, ℕ, ◌<◌, ◌≤◌, List, [], ◌∷◌, ◌++◌, map, length, reverse, Bool, false, Some, None, option_map, unwrap_or, is_some, vec_len}
+use Rattle.std.specs.Prelude.{◌≡◌, ℕ, ◌<◌, ◌≤◌, List, [], ◌∷◌, ◌++◌, map, length, reverse, Bool, false, if◌then◌else◌, Option, Some, None, option_map, unwrap_or, is_some, is_none, vec_len}
 use Rattle.std.specs.List.{slice_index_or, All}
-use Rattle.yds_kernel.specs.Event.{Said}
+use Rattle.yds_kernel.specs.Event.{Thread, Said}
 use Rattle.yds_kernel.specs.Parts.{capped}
 use Rattle.yds_trace.specs.declared.kept.Kept.{Kept as Amount}
 use Rattle.yds_trace.specs.declared.limits.TheConstants.{MAX_TOUCHES}
@@ -10,13 +10,15 @@ use Rattle.yds_trace.specs.declared.past.Past.{Past as PastKept}
 use Rattle.yds_trace.specs.declared.followed.Followed.{Followed}
 use Rattle.yds_trace.specs.declared.counted.Counted.{Counted}
 use Rattle.yds_trace.specs.declared.lines.Lines.{Lines}
+use Rattle.yds_trace.specs.declared.tally.Tallied.{Tallied}
 use Rattle.yds_trace.specs.declared.others.Others.{Others as OthersKept}
 use Rattle.yds_trace.specs.declared.pass.Pass.{Pass}
-use Rattle.yds_trace.specs.Asked.{StartSpeed, Start, start_in, Asked}
+use Rattle.yds_trace.specs.Asked.{Task, StartSpeed, Start, start_in, Asked, task_of}
 use Rattle.yds_trace.specs.Past.{first_time, last_time, last_time_on, whole_since, has_switched, up_to, speed_after}
 use Rattle.yds_trace.specs.Jobs.{Job, Known, known_after}
 use Rattle.yds_trace.specs.Document.{began_before}
 use Rattle.yds_trace.specs.Faults.{pid_before, lost_just_before, touched, has_stamp, has_wake_up}
+use Rattle.yds_trace.specs.Tally.{losses_before, missing_switches, markers, longest_pause}
 use Rattle.yds_trace.specs.Others.{Span, who_has, shortened, other_of, spans_after, others_from}
 use Rattle.yds_trace.specs.Parts.{waiting_from, stretches_of}
 use Rattle.yds_trace.specs.Views.{jobs_listed, known_read, asked_read, another_read, going_read, span_read}
@@ -93,11 +95,28 @@ pub record IsCounted (asked : Asked) (counting : List Said) (counted : Counted) 
 
 -- # All lines
 
+-- the number of who came to a processor, where that is no task
+abbrev pub unlisted : List Task → Option Thread → Option ℕ
+unlisted tasks None = None
+unlisted tasks (Some thread) = if is_none (task_of tasks thread) then Some thread.pid else None
+
+abbrev pub HaveCome : List Task → List Said → List (Option ℕ) → Type 0
+HaveCome tasks past came = (processor : ℕ) → slice_index_or came processor None ≡ unlisted tasks (who_has processor past)
+
+-- what is counted of these lines, but for the end of the trace
+pub record IsTallied (from to : Option ℕ) (tasks : List Task) (past : List Said) (kept : Tallied) : Type 0 where
+  pub came : HaveCome tasks past kept.came.items
+  pub losses : kept.tally.losses ≡ capped (losses_before from to past)
+  pub missing : kept.tally.missing ≡ capped (missing_switches from to tasks past)
+  pub markers : kept.tally.markers ≡ capped (markers from to past)
+  pub pause : kept.tally.pause ≡ longest_pause from to past
+
 pub record IsLines (asked : Asked) (past : List Said) (lines : Lines) : Type 0 where
   pub times : IsPast asked.start past lines.past
   pub lost : lines.lost ≡ lost_just_before asked.to past
   pub woken : lines.woken ≡ has_wake_up asked past
   pub as_many : vec_len lines.seen ≡ length asked.tasks
+  pub tallied : IsTallied asked.from asked.to asked.tasks past lines.tallied
   pub seen : (number : ℕ) → number < length asked.tasks → slice_index_or lines.seen.items number false ≡ is_some (pid_before asked number past)
 
 -- # A pass

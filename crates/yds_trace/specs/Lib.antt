@@ -6,6 +6,7 @@ pub mod Late
 pub mod WrittenTime
 pub mod Document
 pub mod Faults
+pub mod Tally
 pub mod Parts
 pub mod Views
 pub mod Ended

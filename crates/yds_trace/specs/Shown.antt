@@ -10,6 +10,7 @@ use Rattle.yds_trace.specs.Jobs.{Job}
 use Rattle.yds_trace.specs.Document.{jobs_of, shares_of, began_before}
 use Rattle.yds_trace.specs.Others.{goes_behind, others_from}
 use Rattle.yds_trace.specs.Parts.{last_begin_of}
+use Rattle.yds_trace.specs.Tally.{tally_of}
 use Rattle.yds_trace.specs.Views.{job_read, span_read}
 
 -- Of the task of this number each of these jobs is shown, in order of begin, but for the first ones, which begin before the boundary.
@@ -29,6 +30,7 @@ pub record AreShown (jobs : ℕ → List Job) (asked : Asked) (past : List Said)
   pub others : filter (goes_behind boundary) (map span_read shown.others.items) ≡ others_from asked past boundary
   pub first : shown.first ≡ first_time 0 past
   pub last : shown.last ≡ last_time past
+  pub tally : shown.tally ≡ tally_of asked past
 
 -- all that they ran
 abbrev pub IsShown : Asked → List Said → ℕ → Shown → Type 0

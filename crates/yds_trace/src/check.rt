@@ -16,7 +16,8 @@ use crate::cut::Cut;
 use crate::fault::Cause;
 use crate::find::{Found, find};
 use crate::limits::{MAX_PROCESSOR, MAX_TIME};
-use crate::lines::{Lines, is_before_to, is_behind_from, is_within_to};
+use crate::lines::Lines;
+use crate::within::is_before_to;
 use yds_kernel::{Event, Happening, Said, Since};
 
 /// What an event is refused for, whatever stands before it.
@@ -43,32 +44,12 @@ pub(crate) fn check_processor(processor: u64) -> Result<(), Cause>
     Ok(())
 }
 
-/// Whether events were lost before an event, within what is asked for.
+/// Whether events were lost before an event, and the trace is to be whole.
 fn is_torn(asked: &Asked, lines: &Lines, event: &Event<'_>) -> bool
     ensures { (past : List trace.Said) → IsLines (asked_read asked.now) past lines.now
         → result ≡ spec.is_torn (asked_read asked.now) past (event_read event.now) }
 {
-    !asked.cut_losses
-        && is_behind_from(asked.from, event.time)
-        && (lines.lost || tells_loss(asked, lines, event))
-}
-
-/// Whether an event tells of a loss since a time before `to`.
-fn tells_loss(asked: &Asked, lines: &Lines, event: &Event<'_>) -> bool
-    ensures { (past : List trace.Said) → IsLines (asked_read asked.now) past lines.now
-        → result ≡ spec.tells_loss asked.now.to (event_read event.now) past }
-{
-    match event.happening {
-        Happening::Loss => is_within_to(
-            asked.to,
-            lines.past.lost_since(event.processor, Since::ItsLastLine),
-        ),
-        Happening::Switch { .. }
-        | Happening::WakeUp(_)
-        | Happening::Speed { .. }
-        | Happening::Marker
-        | Happening::Other => false,
-    }
+    !asked.cut_losses && lines.is_behind_loss(asked.from, asked.to, event)
 }
 
 /// What an event is refused for that stands where it may.

@@ -15,6 +15,7 @@ use crate::jobs::run_last;
 use crate::known::Known;
 use crate::others::Span;
 use crate::past::Past;
+use crate::tally::Tally;
 use std::alloc::Global;
 use yds_model::Memory;
 
@@ -33,6 +34,8 @@ pub struct Ended {
     pub first: u64,
     /// The time of its last line with a stamp, in nanoseconds; 0 where there is none.
     pub last: u64,
+    /// What its lines lack.
+    pub tally: Tally,
 }
 
 /// What still has its processor, standing there, has had it until this time.

@@ -28,6 +28,8 @@ mod refused;
 mod share;
 mod shown;
 mod step;
+mod tally;
+mod within;
 
 pub use asked::{Asked, Start, StartSpeed, Task, Which};
 pub use cut::{Cut, NO_CUT};
@@ -46,3 +48,4 @@ pub use reason::Reason;
 pub use refused::Refused;
 pub use share::has_run_on;
 pub use shown::{Shown, ShownTask};
+pub use tally::{Pause, Tally};

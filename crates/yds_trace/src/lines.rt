@@ -3,7 +3,8 @@ ghost use Rattle.std.specs.Prelude.{◌≡◌, ℕ, ◌<◌, List, [], ◌∷◌
 ghost use Rattle.yds_kernel.specs.Event.{Said, Stamped, Lost};
 ghost use Rattle.yds_kernel.specs.Views.{event_read};
 ghost use Rattle.yds_trace.specs.Asked as asking;
-ghost use Rattle.yds_trace.specs.Faults.{processors_fault, lost_just_before, has_wake_up, unseen_from};
+ghost use Rattle.yds_trace.specs.Faults.{processors_fault, lost_just_before, tells_loss, is_behind_loss, has_wake_up, unseen_from};
+ghost use Rattle.yds_trace.specs.Tally.{tally_of};
 ghost use Rattle.yds_trace.specs.Kept.{IsLines};
 ghost use Rattle.yds_trace.specs.Steps.{first_in, second_in};
 ghost use Rattle.yds_trace.specs.Views.{asked_read};
@@ -11,6 +12,8 @@ ghost use Rattle.yds_trace.specs.Views.{asked_read};
 use crate::asked::Asked;
 use crate::past::Past;
 use crate::step::Whose;
+use crate::tally::{Tallied, Tally};
+use crate::within::{is_behind_from, is_within_to};
 use std::alloc::Global;
 use yds_kernel::{Event, Happening, Since};
 use yds_model::Memory;
@@ -23,6 +26,8 @@ pub(crate) struct Lines {
     pub lost: bool,
     /// Whether a wake-up of a task is among them.
     pub woken: bool,
+    /// What they lack.
+    pub tallied: Tallied,
     /// Whether a line names the task.
     pub seen: Vec<bool>,
 }
@@ -36,6 +41,7 @@ impl Lines {
             past: Past::new(alloc, &asked.start)?,
             lost: false,
             woken: false,
+            tallied: Tallied::new(alloc),
             seen: vec![in alloc; false; asked.tasks.len()]?,
         })
     }
@@ -43,16 +49,27 @@ impl Lines {
     /// Takes an event.
     pub(crate) fn take(
         &mut self,
+        asked: &Asked,
         event: &Event<'_>,
         first: Whose,
         second: Whose,
     ) -> Result<(), Memory>
         requires { processors_fault (event_read event.now) ≡ None }
-        ensures { (asked : asking.Asked) (past : List Said) → IsLines asked past self.old
-            → first ≡ first_in asked.tasks (event_read event.now).happening
-            → second ≡ second_in asked.tasks (event_read event.now).happening
-            → OnOk result (IsLines asked (Stamped (event_read event.now) ∷ past) self.new) }
+        ensures { (past : List Said) → IsLines (asked_read asked.now) past self.old
+            → first ≡ first_in (asked_read asked.now).tasks (event_read event.now).happening
+            → second ≡ second_in (asked_read asked.now).tasks (event_read event.now).happening
+            → OnOk result (IsLines (asked_read asked.now) (Stamped (event_read event.now) ∷ past) self.new) }
     {
+        let behind_loss = self.is_behind_loss(asked.from, asked.to, event);
+        self.tallied.take(
+            asked.from,
+            asked.to,
+            behind_loss,
+            &self.past,
+            event,
+            first,
+            second,
+        )?;
         self.past.take(event)?;
         self.lost = false;
         self.woken = self.is_woken(event, first);
@@ -67,7 +84,46 @@ impl Lines {
             → IsLines asked (Lost processor since ∷ past) self.new }
     {
         self.lost = self.are_lost(to, processor, since);
+        self.tallied.lose();
         self.past.lose();
+    }
+
+    /// Whether events were lost before an event, within what is asked for.
+    pub(crate) fn is_behind_loss(
+        &self,
+        from: Option<u64>,
+        to: Option<u64>,
+        event: &Event<'_>,
+    ) -> bool
+        ensures { (asked : asking.Asked) (past : List Said) → IsLines asked past self.now → asked.to ≡ to
+            → result ≡ is_behind_loss from to past (event_read event.now) }
+    {
+        is_behind_from(from, event.time) && (self.lost || self.tells_loss(to, event))
+    }
+
+    /// Whether an event tells of a loss since a time before `to`.
+    fn tells_loss(&self, to: Option<u64>, event: &Event<'_>) -> bool
+        ensures { (asked : asking.Asked) (past : List Said) → IsLines asked past self.now
+            → result ≡ tells_loss to (event_read event.now) past }
+    {
+        match event.happening {
+            Happening::Loss => is_within_to(
+                to,
+                self.past.lost_since(event.processor, Since::ItsLastLine),
+            ),
+            Happening::Switch { .. }
+            | Happening::WakeUp(_)
+            | Happening::Speed { .. }
+            | Happening::Marker
+            | Happening::Other => false,
+        }
+    }
+
+    /// What they lack, where the trace ends here.
+    pub(crate) fn tally(&self) -> Tally
+        ensures { (asked : asking.Asked) (past : List Said) → IsLines asked past self.now → result ≡ tally_of asked past }
+    {
+        self.tallied.tally(self.lost)
     }
 
     /// Whether a wake-up of a task is among the lines up to this event.
@@ -119,35 +175,5 @@ fn mark(seen: &mut Vec<bool>, number: Option<usize>)
         && number < seen.len()
     {
         seen[number] = true;
-    }
-}
-
-/// Whether a time is before `to`.
-pub(crate) fn is_within_to(to: Option<u64>, time: u64) -> bool
-    ensures { result ≡ asking.is_within_to to time }
-{
-    match to {
-        Some(to) => time < to,
-        None => true,
-    }
-}
-
-/// Whether a time is not after `to`.
-pub(crate) fn is_before_to(to: Option<u64>, time: u64) -> bool
-    ensures { result ≡ asking.is_before_to to time }
-{
-    match to {
-        Some(to) => time <= to,
-        None => true,
-    }
-}
-
-/// Whether a time is after `from`.
-pub(crate) fn is_behind_from(from: Option<u64>, time: u64) -> bool
-    ensures { result ≡ asking.is_behind_from from time }
-{
-    match from {
-        Some(from) => from < time,
-        None => true,
     }
 }

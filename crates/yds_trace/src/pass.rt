@@ -98,6 +98,7 @@ impl Pass {
             others,
             first: lines.past.first.unwrap_or(0),
             last: lines.past.last,
+            tally: lines.tally(),
         })
     }
 
@@ -155,6 +156,7 @@ impl Pass {
             others,
             first: self.lines.past.first.unwrap_or(0),
             last: self.lines.past.last,
+            tally: self.lines.tally(),
         })
     }
 
@@ -219,7 +221,7 @@ impl Pass {
         let (first, second) = (first.whose(), second.whose());
         self.counted
             .count(alloc, &self.asked, &self.lines, event, first, second)?;
-        self.lines.take(event, first, second)?;
+        self.lines.take(&self.asked, event, first, second)?;
         Ok(())
     }
 

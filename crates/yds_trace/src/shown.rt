@@ -17,6 +17,7 @@ use crate::jobs::{copied, last_begin};
 use crate::others::{Span, copied as copied_spans};
 use crate::past::Past;
 use crate::share::share_each;
+use crate::tally::Tally;
 use std::alloc::Global;
 use yds_model::Memory;
 
@@ -43,6 +44,8 @@ pub struct Shown {
     pub first: u64,
     /// The time of its last line with a stamp, in nanoseconds; 0 where there is none.
     pub last: u64,
+    /// What its lines lack.
+    pub tally: Tally,
 }
 
 impl ShownTask {
@@ -78,6 +81,7 @@ impl Shown {
             others,
             first: self.first,
             last: self.last,
+            tally: self.tally,
         }))
     }
 }

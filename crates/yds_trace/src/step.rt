@@ -1,6 +1,10 @@
 //! What an event is to each task.
 
-ghost use Rattle.std.specs.Prelude.{◌≡◌};
+ghost use Rattle.std.specs.Prelude.{◌≡◌, List, Some};
+ghost use Rattle.yds_kernel.specs.Event.{Thread};
+ghost use Rattle.yds_trace.specs.Asked.{Task};
+ghost use Rattle.yds_trace.specs.Steps.{whose};
+ghost use Rattle.yds_trace.specs.Kept.{unlisted};
 ghost use Rattle.yds_trace.specs.Following.{is_at, place_of};
 
 use crate::job::{Leaving, Standing};
@@ -78,4 +82,16 @@ pub(crate) struct Whose {
     pub number: Option<usize>,
     /// The thread's number.
     pub pid: u64,
+}
+
+impl Whose {
+    /// The thread's number, where it is no task.
+    pub(crate) fn unlisted(self) -> Option<u64>
+        ensures { (tasks : List Task) (thread : Thread) → self ≡ whose tasks thread → result ≡ unlisted tasks (Some thread) }
+    {
+        match self.number {
+            Some(_) => None,
+            None => Some(self.pid),
+        }
+    }
 }

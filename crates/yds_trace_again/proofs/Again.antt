@@ -27,12 +27,12 @@ text_leads : (asked : Asked) (settled : Settled) → ArePlain asked.tasks settle
 text_leads asked settled plain fit =
     let before : List Entry → Type 0 = SaysWith [] no_document in
     let after : List Entry → Type 0 = SaysWith (1 ∷ []) (document_read settled.document) in
-    Leads-append before after after (head_line asked.processor settled.units ++ units_line settled.units ++ document_text settled) (comments_text asked.tasks settled)
+    Leads-append before after after (head_line asked.processor settled.units ++ units_line settled.units ++ document_text settled) (comments_text asked settled)
     (Leads-append before before after (head_line asked.processor settled.units ++ units_line settled.units) (document_text settled)
     (Leads-append before before before (head_line asked.processor settled.units) (units_line settled.units)
     (head_silent before asked.processor settled.units) (units_silent before settled.units))
     (rows_lead settled.document.jobs settled.document.runs fit))
-    (comments_silent after asked.tasks settled plain)
+    (comments_silent after asked settled plain)
 
 -- The text of what is settled is read as its document, also behind comments.
 pub reads : (front : List ℕ) (asked : Asked) (settled : Settled) → Silent (SaysWith [] no_document) front → ArePlain asked.tasks settled.by_task settled.judged →
@@ -50,8 +50,8 @@ reads front asked settled silent plain fit short =
 -- # The laws
 
 pub some_are_read_again : SomeAreReadAgain
-some_are_read_again asked strict past units test others fit labelled time none_before none short =
-    let settled : Settled = settled_where asked past units test others in
+some_are_read_again asked strict past units test others tally fit labelled time none_before none short =
+    let settled : Settled = settled_where asked past units test others tally in
     reads [] asked settled (Leads-nil (SaysWith [] no_document)) (some_plain asked past test labelled)
     (fits asked units (filter test (all_judged asked past)) fit labelled (those_are_some asked past units test labelled time none_before) (passes_limits strict settled none)) short
 

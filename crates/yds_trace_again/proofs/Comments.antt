@@ -5,6 +5,8 @@ use Rattle.yds_kernel.specs.Parts.{capped}
 use Rattle.yds_trace.specs.declared.job.Stretch.{Stretch}
 use Rattle.yds_trace.specs.declared.reason.Reason.{Reason}
 use Rattle.yds_trace.specs.declared.reason.Reason.TheVariants as reasons
+use Rattle.yds_trace.specs.declared.tally.Pause.{Pause}
+use Rattle.yds_trace.specs.declared.tally.Tally.{Tally}
 use Rattle.yds_trace.specs.Asked.{Task, no_task, Asked, task_at}
 use Rattle.yds_trace.specs.Jobs.{Job}
 use Rattle.yds_trace.specs.Late.{is_open}
@@ -13,7 +15,7 @@ use Rattle.yds_trace.specs.WrittenTime.{Units, written_time, runs_end}
 use Rattle.yds_trace.specs.Document.{named, Judged, judged, judged_of, judged_from, all_judged, began_before, jobs_of, shares_of, stands, written_end, written_name, written_runs}
 use Rattle.yds_trace_laws.proofs.Ordered.{filter-all, in_order-all, append-all, map-all}
 use Rattle.yds_trace_document.specs.Settled.{Settled, judged_by_task}
-use Rattle.yds_trace_text.specs.Text.{told, comment, nine_digits, six_digits, in_seconds, in_milliseconds, behind_point, counted, head_line, cycles, units_line, reason_text, behind_deadline, signed_time, window_text, how_late, without_runs_comment, late_kind, standing_comment, late_comment, first_begin, begin_later, end_comment, begins_comment, end_earlier, end_is_told, ends_comment, shown_comments, every_reason, is_left_out_for, first_name, last_name, Group, group_of, group_for, groups_of_task, has_jobs, groups_of, all_groups, most_first, one_left_out, some_left_out, group_comment, is_cut_off, cut_off_comment, left_out_comments, short_stretches, is_or_are, some_short, short_comment, length_of, wake_ups_of, most_woken, woken_comment, wake_up_comment, known_begins, mean_distance, distance_comment, unit_comment, deadline_comment, apart_comment, task_unit_comments, all_unit_comments, shown_byte, other_comment, left_out_text, its_or_their, late_without, without_runs_text, last_line, comments_text}
+use Rattle.yds_trace_text.specs.Text.{told, comment, nine_digits, six_digits, in_seconds, in_milliseconds, behind_point, counted, head_line, cycles, units_line, reason_text, behind_deadline, signed_time, window_text, how_late, without_runs_comment, late_kind, standing_comment, late_comment, first_begin, begin_later, end_comment, begins_comment, end_earlier, end_is_told, ends_comment, shown_comments, every_reason, is_left_out_for, first_name, last_name, Group, group_of, group_for, groups_of_task, has_jobs, groups_of, all_groups, most_first, one_left_out, some_left_out, group_comment, is_cut_off, cut_off_comment, left_out_comments, short_stretches, is_or_are, some_short, short_comment, length_of, wake_ups_of, most_woken, woken_comment, wake_up_comment, known_begins, mean_distance, distance_comment, unit_comment, deadline_comment, apart_comment, task_unit_comments, all_unit_comments, shown_byte, other_comment, left_out_text, its_or_their, late_without, without_runs_text, up_to_here, lack_comment, no_line_text, is_long, long_comment, pause_comment, tally_comments, last_line, comments_text}
 use Rattle.yds_texts.proofs.Brought.{Leads, Leads-nil, Leads-append, Leads-comment}
 use Rattle.yds_trace_again.specs.Laws.{AreLabelled}
 use Rattle.yds_trace_again.proofs.Plain.{is_other, is_other_true, Plain, plain_all, plain_append, plain_told, plain_if, plain_drop, plain_decimal, name_plain}
@@ -325,6 +327,36 @@ others_silent : (P : List Entry → Type 0) (units : Units) (spans : List Span) 
 others_silent P units [] = Leads-nil P
 others_silent P units (span ∷ spans) = silent_both P (other_comment units span) (flat_map (other_comment units) spans) (other_silent P units span) (others_silent P units spans)
 
+-- # What the trace lacks
+
+plain_here : (in_parts : Bool) → Plain (up_to_here in_parts)
+plain_here in_parts = plain_if in_parts (codes ", up to here") [] refl refl
+
+lack_silent : (P : List Entry → Type 0) (in_parts : Bool) (what : List ℕ) (number : ℕ) → Plain what → Silent P (lack_comment in_parts what number)
+lack_silent P in_parts what number plain =
+    silent_if P (number == 0) [] (comment (what ∷ up_to_here in_parts ∷ codes ": " ∷ decimal number ∷ [])) (Leads-nil P)
+    (silent_comment P (what ∷ up_to_here in_parts ∷ codes ": " ∷ decimal number ∷ []) (plain, (plain_here in_parts, (refl, (plain_decimal number, tt)))))
+
+pause_silent : (P : List Entry → Type 0) (in_parts : Bool) (pause : Pause) → Silent P (pause_comment in_parts pause)
+pause_silent P in_parts pause =
+    silent_if P (is_long pause) (long_comment in_parts pause) []
+    (silent_comment P
+    (no_line_text in_parts ∷ in_seconds pause.lasted ∷ codes " s, from " ∷ in_seconds pause.since ∷ codes " s on: did the clock jump?" ∷ [])
+    (plain_if in_parts (codes "up to here, no line for ") (codes "no line for ") refl refl, (plain_seconds pause.lasted, (refl, (plain_seconds pause.since, (refl, tt))))))
+    (Leads-nil P)
+
+tally_silent : (P : List Entry → Type 0) (in_parts : Bool) (tally : Tally) → Silent P (tally_comments in_parts tally)
+tally_silent P in_parts tally =
+    let losses : List ℕ = lack_comment in_parts (codes "places where events were lost") tally.losses in
+    let missing : List ℕ = lack_comment in_parts (codes "switches of other threads that are missing") tally.missing in
+    let markers : List ℕ = lack_comment in_parts (codes "lines that programs wrote into the trace") tally.markers in
+    let two : Silent P (losses ++ missing) =
+    silent_both P losses missing (lack_silent P in_parts (codes "places where events were lost") tally.losses refl)
+    (lack_silent P in_parts (codes "switches of other threads that are missing") tally.missing refl) in
+    let three : Silent P (losses ++ missing ++ markers) =
+    silent_both P (losses ++ missing) markers two (lack_silent P in_parts (codes "lines that programs wrote into the trace") tally.markers refl) in
+    silent_both P (losses ++ missing ++ markers) (pause_comment in_parts tally.pause) three (pause_silent P in_parts tally.pause)
+
 -- # The last line
 
 last_silent : (P : List Entry → Type 0) (settled : Settled) → Silent P (last_line settled)
@@ -406,8 +438,9 @@ some_plain asked past test labelled =
 
 -- # All comments
 
-pub comments_silent : (P : List Entry → Type 0) (tasks : List Task) (settled : Settled) → ArePlain tasks settled.by_task settled.judged → Silent P (comments_text tasks settled)
-comments_silent P tasks settled plain =
+pub comments_silent : (P : List Entry → Type 0) (asked : Asked) (settled : Settled) → ArePlain asked.tasks settled.by_task settled.judged → Silent P (comments_text asked settled)
+comments_silent P asked settled plain =
+    let tasks : List Task = asked.tasks in
     let late : List ℕ = flat_map (late_comment settled.units) settled.judged in
     let shown : List ℕ = flat_map (shown_comments settled.units) settled.judged in
     let left : List ℕ = left_out_comments tasks settled.by_task settled.judged in
@@ -425,4 +458,7 @@ comments_silent P tasks settled plain =
     let others : List ℕ = flat_map (other_comment settled.units) settled.others in
     let seven : Silent P (late ++ shown ++ left ++ short ++ woken ++ units ++ others) =
     silent_both P (late ++ shown ++ left ++ short ++ woken ++ units) others six (others_silent P settled.units settled.others) in
-    silent_both P (late ++ shown ++ left ++ short ++ woken ++ units ++ others) (last_line settled) seven (last_silent P settled)
+    let lacks : List ℕ = tally_comments asked.in_parts settled.tally in
+    let eight : Silent P (late ++ shown ++ left ++ short ++ woken ++ units ++ others ++ lacks) =
+    silent_both P (late ++ shown ++ left ++ short ++ woken ++ units ++ others) lacks seven (tally_silent P asked.in_parts settled.tally) in
+    silent_both P (late ++ shown ++ left ++ short ++ woken ++ units ++ others ++ lacks) (last_line settled) eight (last_silent P settled)

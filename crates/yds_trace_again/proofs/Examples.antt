@@ -3,6 +3,7 @@ use Rattle.yds_model.proofs.Common.{◌≡◌, ℕ, true, false, List, [], ◌�
 use Rattle.yds_model.specs.declared.reason.Reason.TheVariants as reasons
 use Rattle.yds_kernel.specs.declared.state.State.TheVariants as states
 use Rattle.yds_kernel.specs.Event.{Thread, Happening, Switch, WakeUp, Said, Stamped}
+use Rattle.yds_trace.specs.Tally.{tally_of}
 use Rattle.yds_trace.specs.Asked.{Asked, Named, Same}
 use Rattle.yds_trace.specs.declared.job.Stretch.{Stretch}
 use Rattle.yds_trace.specs.WrittenTime.{Units, Run, written_time}
@@ -111,7 +112,7 @@ left_out_on_0 = refl
 abbrev late_units : Units
 late_units = record { zero = 2000; time = 10; speed = 1 }
 
-begun_before : reading (settled_text asked (settled_where asked lines late_units (λ one. true) [])) ≡ Err (record { line = 3; column = 11; reason = reasons.EmptyWindow })
+begun_before : reading (settled_text asked (settled_where asked lines late_units (λ one. true) [] (tally_of asked lines))) ≡ Err (record { line = 3; column = 11; reason = reasons.EmptyWindow })
 unfolding digits comment unit_comment
 begun_before = refl
 

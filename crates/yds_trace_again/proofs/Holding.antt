@@ -30,5 +30,5 @@ in_each told (one ∷ all) (suc i) d within = on_the_right (told one) (flat_map 
 -- the law
 pub late_jobs_are_named : LateJobsAreNamed
 late_jobs_are_named asked settled i d within =
-    on_the_right _ _ _ (on_the_left _ _ _ (on_the_left _ _ _ (on_the_left _ _ _ (on_the_left _ _ _ (on_the_left _ _ _ (on_the_left _ _ _ (on_the_left _ _ _
-    (in_each (late_comment settled.units) settled.judged i d within))))))))
+    on_the_right _ _ _ (on_the_left _ _ _ (on_the_left _ _ _ (on_the_left _ _ _ (on_the_left _ _ _ (on_the_left _ _ _ (on_the_left _ _ _ (on_the_left _ _ _ (on_the_left _ _ _
+    (in_each (late_comment settled.units) settled.judged i d within)))))))))

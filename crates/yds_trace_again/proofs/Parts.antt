@@ -3,6 +3,7 @@ use Rattle.yds_model.proofs.Common.{◌≡◌, ◌∙◌, ℕ, ◌+◌, ◌-◌,
 use Rattle.yds_kernel.specs.Event.{Said}
 use Rattle.yds_kernel.specs.Parts.{capped}
 use Rattle.yds_trace.specs.declared.cut.Cut.{Cut}
+use Rattle.yds_trace.specs.declared.tally.Tally.{Tally}
 use Rattle.yds_trace.specs.Asked.{Task, Asked, IsAsked, is_after_from}
 use Rattle.yds_trace.specs.Past.{first_time}
 use Rattle.yds_trace.specs.Faults.{first_fault}
@@ -127,16 +128,16 @@ part_some asked past cut until fit labelled none =
     (subst (NoneBefore units) (sym (part_is asked past cut until)) (part_not_before asked past cut until fit none)))
 
 -- a part without a job passes each limit
-part_limits : (asked : Asked) (strict : Bool) (cut : Cut) (units : Units) (by_task : List (List Judged)) (part : List Judged) (others : List Span) →
-    part_limit_fault asked strict cut (settled_in units by_task part others) ≡ None → PassesLimits (document_in units part).jobs (document_in units part).runs
-part_limits asked strict cut units by_task part others none = by ((asked.everywhere || nat_lt 0 cut.parts) && (length (document_in units part).jobs == 0)) refl none
+part_limits : (asked : Asked) (strict : Bool) (cut : Cut) (units : Units) (by_task : List (List Judged)) (part : List Judged) (others : List Span) (tally : Tally) →
+    part_limit_fault asked strict cut (settled_in units by_task part others tally) ≡ None → PassesLimits (document_in units part).jobs (document_in units part).runs
+part_limits asked strict cut units by_task part others tally none = by ((asked.everywhere || nat_lt 0 cut.parts) && (length (document_in units part).jobs == 0)) refl none
   where
     by : (b : Bool) → ((asked.everywhere || nat_lt 0 cut.parts) && (length (document_in units part).jobs == 0)) ≡ b →
-        (if b then (if strict then missed_fault part else None) else limit_fault strict (settled_in units by_task part others)) ≡ None →
+        (if b then (if strict then missed_fault part else None) else limit_fault strict (settled_in units by_task part others tally)) ≡ None →
         PassesLimits (document_in units part).jobs (document_in units part).runs
     by true is none =
         no_jobs (document_in units part).jobs (and_parts (asked.everywhere || nat_lt 0 cut.parts) (length (document_in units part).jobs == 0) is).1
-    by false is none = passes_limits strict (settled_in units by_task part others) none
+    by false is none = passes_limits strict (settled_in units by_task part others tally) none
 
 plain_windows : (cut : Cut) → Plain (windows_text cut)
 plain_windows cut = plain_if (nat_lt cut.boundary cut.due) (codes ", windows open") [] refl refl
@@ -202,5 +203,5 @@ parts_are_read_again asked strict past cut until fit labelled none limits short 
     (part_silent (SaysWith [] no_document) asked cut (is_none until) (shift_of asked past part) settled.document.jobs)
     (part_plain asked past cut until labelled)
     (fits asked settled.units part fit labelled (part_some asked past cut until fit labelled none)
-    (part_limits asked strict cut settled.units (part_by_task asked past cut until) part settled.others limits))
+    (part_limits asked strict cut settled.units (part_by_task asked past cut until) part settled.others settled.tally limits))
     short

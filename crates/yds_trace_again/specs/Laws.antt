@@ -4,6 +4,7 @@ use Rattle.std.specs.List.{All, AllPairs}
 use Rattle.yds_model.specs.declared.limits.TheConstants.{MAX_INPUT}
 use Rattle.yds_model.specs.Spelling.{is_name}
 use Rattle.yds_kernel.specs.Event.{Said}
+use Rattle.yds_trace.specs.declared.tally.Tally.{Tally}
 use Rattle.yds_trace.specs.Asked.{Task, Asked, IsAsked}
 use Rattle.yds_trace.specs.declared.cut.Cut.{Cut}
 use Rattle.yds_trace.specs.Faults.{first_fault}
@@ -25,18 +26,18 @@ pub record AreLabelled (tasks : List Task) : Type 0 where
   pub different : AllPairs (λ task other. task.label ≢ other.label) tasks
 
 -- what is settled of the jobs that pass a test, in units of their own
-abbrev pub settled_where : Asked → List Said → Units → (Judged → Bool) → List Span → Settled
-settled_where asked past units test others =
-    settled_in units (map (filter test) (judged_by_task asked past 0 asked.tasks)) (filter test (all_judged asked past)) others
+abbrev pub settled_where : Asked → List Said → Units → (Judged → Bool) → List Span → Tally → Settled
+settled_where asked past units test others tally =
+    settled_in units (map (filter test) (judged_by_task asked past 0 asked.tasks)) (filter test (all_judged asked past)) others tally
 
 -- The text of some of a trace's jobs is read again as their document, where that passes no limit, and none of them that stands as it is begins
 -- before time 0.
 abbrev pub SomeAreReadAgain : Type 0
-SomeAreReadAgain = (asked : Asked) (strict : Bool) (past : List Said) (units : Units) (test : Judged → Bool) (others : List Span) →
+SomeAreReadAgain = (asked : Asked) (strict : Bool) (past : List Said) (units : Units) (test : Judged → Bool) (others : List Span) (tally : Tally) →
     IsAsked asked → AreLabelled asked.tasks → units.time ≡ asked.unit → NoneBefore units (filter test (all_judged asked past)) →
-    limit_fault strict (settled_where asked past units test others) ≡ None →
-    length (settled_text asked (settled_where asked past units test others)) ≤ MAX_INPUT →
-    IsReadAs (settled_where asked past units test others).document (settled_text asked (settled_where asked past units test others))
+    limit_fault strict (settled_where asked past units test others tally) ≡ None →
+    length (settled_text asked (settled_where asked past units test others tally)) ≤ MAX_INPUT →
+    IsReadAs (settled_where asked past units test others tally).document (settled_text asked (settled_where asked past units test others tally))
 
 -- The text of a trace's document that passes no limit is read again.
 abbrev pub ReadAgain : Type 0

@@ -2,6 +2,8 @@
 use Rattle.yds_model.proofs.Common.{◌≡◌, ℕ, ◌+◌, ◌*◌, List, max, ◌∙◌, ap, ap₂, Option, unwrap_or, filter_map}
 use Rattle.yds_kernel.specs.Event.{Said}
 use Rattle.yds_trace.specs.declared.cut.Cut.{Cut}
+use Rattle.yds_trace.specs.declared.tally.Tally.{Tally}
+use Rattle.yds_trace.specs.Tally.{tally_of}
 use Rattle.yds_trace.specs.Asked.{Asked}
 use Rattle.yds_trace.specs.Past.{first_time}
 use Rattle.yds_trace.specs.WrittenTime.{Units}
@@ -14,10 +16,10 @@ use Rattle.yds_trace_document.specs.Part.{whole_zero, shift_from, shift_of, shif
 use Rattle.yds_trace_document.proofs.Same.{jobs_same, runs_same, built}
 use Rattle.yds_trace_document.proofs.Waits.{part_in_order}
 
-capped_same : (units : Units) (by_task : List (List Judged)) (judged : List Judged) (others : List Span) →
-    capped_in units by_task judged others ≡ with_capped_works (settled_in units by_task judged others)
-capped_same units by_task judged others =
-    ap₂ (built units by_task judged others) (jobs_same units judged)
+capped_same : (units : Units) (by_task : List (List Judged)) (judged : List Judged) (others : List Span) (tally : Tally) →
+    capped_in units by_task judged others tally ≡ with_capped_works (settled_in units by_task judged others tally)
+capped_same units by_task judged others tally =
+    ap₂ (built units by_task judged others tally) (jobs_same units judged)
     (ap all_runs (jobs_same units judged)
     ∙ ap (in_order (λ (placed : Placed). placed.run.from)) (runs_same 0 (filter_map (written_of units) judged)))
 
@@ -43,16 +45,18 @@ others_same asked past cut until first shift boundary judged others is are so at
     ∙ ap₂ (λ (origin units : ℕ). spans_within (max cut.boundary (origin + units * asked.unit)) until (others_from asked past cut.boundary))
     (zero_same asked past first is) (so ∙ shift_same asked past cut until first judged is are)
 
-abbrev made_of : Asked → List (List Judged) → List Span → List Judged → ℕ → ℕ → Settled
-made_of asked by_task others judged origin shift = with_capped_works (settled_in (shifted origin asked shift) by_task judged others)
+abbrev made_of : Asked → List (List Judged) → List Span → Tally → List Judged → ℕ → ℕ → Settled
+made_of asked by_task others tally judged origin shift = with_capped_works (settled_in (shifted origin asked shift) by_task judged others tally)
 
 pub part_same : (asked : Asked) (past : List Said) (cut : Cut) (until : Option ℕ) (first shift : ℕ) (by_task : List (List Judged)) (judged : List Judged)
-    (others : List Span) → first ≡ first_time 0 past → by_task ≡ part_by_task asked past cut until → judged ≡ part_until asked past cut until →
+    (others : List Span) (tally : Tally) → first ≡ first_time 0 past → by_task ≡ part_by_task asked past cut until → judged ≡ part_until asked past cut until →
     shift ≡ shift_from (unwrap_or asked.from first) asked.unit judged → others ≡ others_until asked past cut until →
-    capped_in (shifted (unwrap_or asked.from first) asked shift) by_task judged others ≡ with_capped_works (part_of asked past cut until)
-part_same asked past cut until first shift by_task judged others is lists are so told =
-    capped_same (shifted (unwrap_or asked.from first) asked shift) by_task judged others
-    ∙ ap₂ (λ (l : List (List Judged)) (spans : List Span). made_of asked l spans judged (unwrap_or asked.from first) shift) lists told
-    ∙ ap (λ (part : List Judged). made_of asked (part_by_task asked past cut until) (others_until asked past cut until) part (unwrap_or asked.from first) shift) are
-    ∙ ap₂ (made_of asked (part_by_task asked past cut until) (others_until asked past cut until) (part_until asked past cut until))
+    tally ≡ tally_of asked past →
+    capped_in (shifted (unwrap_or asked.from first) asked shift) by_task judged others tally ≡ with_capped_works (part_of asked past cut until)
+part_same asked past cut until first shift by_task judged others tally is lists are so told lacks =
+    capped_same (shifted (unwrap_or asked.from first) asked shift) by_task judged others tally
+    ∙ ap₂ (λ (l : List (List Judged)) (spans : List Span). made_of asked l spans tally judged (unwrap_or asked.from first) shift) lists told
+    ∙ ap (λ (lack : Tally). made_of asked (part_by_task asked past cut until) (others_until asked past cut until) lack judged (unwrap_or asked.from first) shift) lacks
+    ∙ ap (λ (part : List Judged). made_of asked (part_by_task asked past cut until) (others_until asked past cut until) (tally_of asked past) part (unwrap_or asked.from first) shift) are
+    ∙ ap₂ (made_of asked (part_by_task asked past cut until) (others_until asked past cut until) (tally_of asked past) (part_until asked past cut until))
     (zero_same asked past first is) (so ∙ shift_same asked past cut until first judged is are)

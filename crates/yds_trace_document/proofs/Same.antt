@@ -6,6 +6,8 @@ use Rattle.yds_kernel.specs.Event.{Said}
 use Rattle.yds_trace.specs.declared.ended.Ended.{Ended as EndedKept}
 use Rattle.yds_trace.specs.declared.reason.Reason.{Reason}
 use Rattle.yds_trace.specs.declared.reason.Reason.TheVariants as reasons
+use Rattle.yds_trace.specs.declared.tally.Tally.{Tally}
+use Rattle.yds_trace.specs.Tally.{tally_of}
 use Rattle.yds_trace.specs.Asked.{Task, Asked, no_task, task_at, is_after_from}
 use Rattle.yds_trace.specs.Past.{first_time, last_time}
 use Rattle.yds_trace.specs.Jobs.{Job}
@@ -113,19 +115,19 @@ pub runs_same : (place : ℕ) (jobs : List Written) →
 runs_same place [] = refl
 runs_same place (job ∷ jobs) = ap (λ (more : List Placed). placed_runs (place, job) ++ more) (runs_same (place + 1) jobs)
 
-abbrev pub built : Units → List (List Judged) → List Judged → List Span → List Written → List Placed → Settled
-built units by_task judged others jobs runs =
-    record { units = units; by_task = by_task; judged = judged; document = record { jobs = jobs; runs = runs }; others = others }
+abbrev pub built : Units → List (List Judged) → List Judged → List Span → Tally → List Written → List Placed → Settled
+built units by_task judged others tally jobs runs =
+    record { units = units; by_task = by_task; judged = judged; document = record { jobs = jobs; runs = runs }; others = others; tally = tally }
 
-built_same : (units units' : Units) (by_task by_task' : List (List Judged)) (judged judged' : List Judged) (others others' : List Span)
-    (jobs jobs' : List Written) (runs runs' : List Placed) → units ≡ units' → by_task ≡ by_task' → judged ≡ judged' → others ≡ others' →
-    jobs ≡ jobs' → runs ≡ runs' → built units by_task judged others jobs runs ≡ built units' by_task' judged' others' jobs' runs'
-built_same units units' by_task by_task' judged judged' others others' jobs jobs' runs runs' a b c d e f = cc
+built_same : (units units' : Units) (by_task by_task' : List (List Judged)) (judged judged' : List Judged) (others others' : List Span) (tally tally' : Tally)
+    (jobs jobs' : List Written) (runs runs' : List Placed) → units ≡ units' → by_task ≡ by_task' → judged ≡ judged' → others ≡ others' → tally ≡ tally' →
+    jobs ≡ jobs' → runs ≡ runs' → built units by_task judged others tally jobs runs ≡ built units' by_task' judged' others' tally' jobs' runs'
+built_same units units' by_task by_task' judged judged' others others' tally tally' jobs jobs' runs runs' a b c d e f g = cc
 
-settled_same : (asked : Asked) (past : List Said) (first : ℕ) (by_task : List (List Judged)) (others : List Span) → first ≡ first_time 0 past →
-    by_task ≡ judged_by_task asked past 0 asked.tasks → others ≡ others_of asked past →
-    settled_at asked first by_task others ≡ with_capped_works (settled_of asked past)
-settled_same asked past first by_task others begins are told =
+settled_same : (asked : Asked) (past : List Said) (first : ℕ) (by_task : List (List Judged)) (others : List Span) (tally : Tally) → first ≡ first_time 0 past →
+    by_task ≡ judged_by_task asked past 0 asked.tasks → others ≡ others_of asked past → tally ≡ tally_of asked past →
+    settled_at asked first by_task others tally ≡ with_capped_works (settled_of asked past)
+settled_same asked past first by_task others tally begins are told lacks =
     let in_line : in_order begin_of (together by_task) ≡ all_judged asked past =
     ap (in_order begin_of) (ap together are ∙ together_same asked past 0 asked.tasks) in
     let units : units_at asked first (in_order begin_of (together by_task)) ≡ units_of asked past =
@@ -141,23 +143,23 @@ settled_same asked past first by_task others begins are told =
     built_same (units_at asked first (in_order begin_of (together by_task))) (units_of asked past)
     by_task (judged_by_task asked past 0 asked.tasks)
     (in_order begin_of (together by_task)) (all_judged asked past)
-    (spans_within (units_at asked first (in_order begin_of (together by_task))).zero None others) (spans_within (time_zero asked past) None (others_of asked past))
+    (spans_within (units_at asked first (in_order begin_of (together by_task))).zero None others) (spans_within (time_zero asked past) None (others_of asked past)) tally (tally_of asked past)
     (capped_jobs (units_at asked first (in_order begin_of (together by_task))) (in_order begin_of (together by_task)))
     (map with_capped_work (written_jobs asked past))
     (all_runs (capped_jobs (units_at asked first (in_order begin_of (together by_task))) (in_order begin_of (together by_task))))
     (all_runs (written_jobs asked past)) units are in_line
-    (ap₂ (λ (made : Units) (spans : List Span). spans_within made.zero None spans) units told) jobs runs
+    (ap₂ (λ (made : Units) (spans : List Span). spans_within made.zero None spans) units told) lacks jobs runs
 
 pub kept_same : (ended : EndedKept) (asked : Asked) (past : List Said) (by_task : List (List Judged)) (others : List Span) → IsEnded asked past ended →
     by_task ≡ judged_tasks (within_of (asked_read ended.asked) ended.last) 0 (asked_read ended.asked).tasks (map in_order_of_begin ended.jobs.items) →
     others ≡ map span_read ended.others.items →
-    settled_at (asked_read ended.asked) ended.first by_task others ≡ with_capped_works (settled_of asked past)
+    settled_at (asked_read ended.asked) ended.first by_task others ended.tally ≡ with_capped_works (settled_of asked past)
 kept_same ended asked past by_task others is are told =
-    ap (λ (a : Asked). settled_at a ended.first by_task others) is.same_asked
-    ∙ settled_same asked past ended.first by_task others is.first
+    ap (λ (a : Asked). settled_at a ended.first by_task others ended.tally) is.same_asked
+    ∙ settled_same asked past ended.first by_task others ended.tally is.first
     (are
     ∙ ap (λ (a : Asked). judged_tasks (within_of a ended.last) 0 a.tasks (map in_order_of_begin ended.jobs.items)) is.same_asked
     ∙ ap (λ (last : ℕ). judged_tasks (within_of asked last) 0 asked.tasks (map in_order_of_begin ended.jobs.items)) is.last
     ∙ ap (judged_tasks (within_of asked (last_time past)) 0 asked.tasks) is.jobs
     ∙ tasks_same asked past [] asked.tasks refl)
-    (told ∙ is.others)
+    (told ∙ is.others) is.tally

@@ -15,6 +15,7 @@ use Rattle.yds_trace.specs.Asked.{Task, Asked, is_after_from}
 use Rattle.yds_trace.specs.Jobs.{Job}
 use Rattle.yds_trace.specs.Views.{job_read}
 use Rattle.yds_trace.specs.Others.{Span, spans_within}
+use Rattle.yds_trace.specs.declared.tally.Tally.{Tally}
 use Rattle.yds_trace.specs.Parts.{begins_from}
 use Rattle.yds_trace.specs.Late.{due, is_open, late_by}
 use Rattle.yds_trace.specs.WrittenTime.{Units, Run, before}
@@ -157,24 +158,25 @@ capped_of units judged = capped_option (written_of units judged)
 abbrev pub capped_jobs : Units → List Judged → List Written
 capped_jobs units judged = filter_map (capped_of units) judged
 
--- what is kept of these jobs in these units: of each task, and in order of begin; and who else had the processor
-abbrev pub capped_in : Units → List (List Judged) → List Judged → List Span → Settled
-capped_in units by_task judged others = record {
+-- What is kept of these jobs in these units: of each task, and in order of begin; who else had the processor, and what the trace lacks.
+abbrev pub capped_in : Units → List (List Judged) → List Judged → List Span → Tally → Settled
+capped_in units by_task judged others tally = record {
   units = units;
   by_task = by_task;
   judged = judged;
   document = record { jobs = capped_jobs units judged; runs = all_runs (capped_jobs units judged) };
   others = others;
+  tally = tally;
 }
 
 -- of these spans those from time 0 on
-abbrev pub capped_from : Units → List (List Judged) → List Judged → List Span → Settled
-capped_from units by_task judged others = capped_in units by_task judged (spans_within units.zero None others)
+abbrev pub capped_from : Units → List (List Judged) → List Judged → List Span → Tally → Settled
+capped_from units by_task judged others tally = capped_in units by_task judged (spans_within units.zero None others) tally
 
 -- what is kept of these judged jobs and spans
-abbrev pub settled_at : Asked → ℕ → List (List Judged) → List Span → Settled
-settled_at asked first by_task others =
-    capped_from (units_at asked first (in_order begin_of (together by_task))) by_task (in_order begin_of (together by_task)) others
+abbrev pub settled_at : Asked → ℕ → List (List Judged) → List Span → Tally → Settled
+settled_at asked first by_task others tally =
+    capped_from (units_at asked first (in_order begin_of (together by_task))) by_task (in_order begin_of (together by_task)) others tally
 
 abbrev pub within_of : Asked → ℕ → Within
 within_of asked last = record { processor = asked.processor; from = asked.from; to = asked.to; last = last }

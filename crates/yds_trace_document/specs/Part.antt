@@ -8,6 +8,8 @@ use Rattle.yds_trace.specs.WrittenTime.{Units}
 use Rattle.yds_trace.specs.Document.{Judged, judged_of, written_of, all_runs}
 use Rattle.yds_trace.specs.declared.cut.Cut.{Cut}
 use Rattle.yds_trace.specs.Others.{Span, spans_within, others_from}
+use Rattle.yds_trace.specs.declared.tally.Tally.{Tally}
+use Rattle.yds_trace.specs.Tally.{tally_of}
 use Rattle.yds_trace.specs.Parts.{begins_from, of_part, part_until}
 use Rattle.yds_trace_document.specs.declared.fault.DocumentFault.{DocumentFault}
 use Rattle.yds_trace_document.specs.Settled.{Settled}
@@ -51,8 +53,8 @@ others_until asked past cut until =
     spans_within (max cut.boundary (part_units asked past (part_until asked past cut until)).zero) until (others_from asked past cut.boundary)
 
 -- these jobs in these units
-abbrev pub settled_in : Units → List (List Judged) → List Judged → List Span → Settled
-settled_in units by_task part others = record {
+abbrev pub settled_in : Units → List (List Judged) → List Judged → List Span → Tally → Settled
+settled_in units by_task part others tally = record {
   units = units;
   by_task = by_task;
   judged = part;
@@ -61,13 +63,14 @@ settled_in units by_task part others = record {
     runs = all_runs (filter_map (written_of units) part);
   };
   others = others;
+  tally = tally;
 }
 
--- what is settled of the part that ends at this time, or of the last one
+-- What is settled of the part that ends at this time, or of the last one. What the trace lacks is counted from its begin.
 abbrev pub part_of : Asked → List Said → Cut → Option ℕ → Settled
 part_of asked past cut until =
     settled_in (part_units asked past (part_until asked past cut until)) (part_by_task asked past cut until)
-    (part_until asked past cut until) (others_until asked past cut until)
+    (part_until asked past cut until) (others_until asked past cut until) (tally_of asked past)
 
 -- # Limits
 

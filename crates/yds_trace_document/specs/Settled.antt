@@ -4,6 +4,8 @@ use Rattle.yds_kernel.specs.Event.{Said}
 use Rattle.yds_kernel.specs.Parts.{capped}
 use Rattle.yds_trace.specs.Asked.{Task, Asked}
 use Rattle.yds_trace.specs.Others.{Span, spans_within, others_of}
+use Rattle.yds_trace.specs.declared.tally.Tally.{Tally}
+use Rattle.yds_trace.specs.Tally.{tally_of}
 use Rattle.yds_trace.specs.WrittenTime.{Units}
 use Rattle.yds_trace.specs.Document.{Judged, judged_of, all_judged, time_zero, units_of, Written, Document, document_of}
 
@@ -21,6 +23,8 @@ pub record Settled : Type 0 where
   pub document : Document
   -- who else had the processor while a job waited, from time 0 on
   pub others : List Span
+  -- what the trace lacks
+  pub tally : Tally
 
 abbrev pub settled_of : Asked → List Said → Settled
 settled_of asked past = record {
@@ -29,6 +33,7 @@ settled_of asked past = record {
   judged = all_judged asked past;
   document = document_of asked past;
   others = spans_within (time_zero asked past) None (others_of asked past);
+  tally = tally_of asked past;
 }
 
 -- A work beyond 64 bits is kept as the greatest one of 64 bits, which the limits refuse.

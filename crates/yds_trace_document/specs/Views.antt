@@ -94,6 +94,7 @@ settled_read settled = record {
   judged = judged_list settled.judged.items;
   document = record { jobs = written_list settled.jobs.items; runs = placed_list settled.runs.items };
   others = map other_read settled.others.items;
+  tally = settled.tally;
 }
 
 -- how many jobs have this reason, of those that were counted

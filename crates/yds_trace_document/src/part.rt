@@ -23,7 +23,7 @@ use crate::settlement::{Settled, in_order_of_begins, settled_in};
 use crate::units::Units;
 use std::alloc::Global;
 use yds_model::Memory;
-use yds_trace::{Asked, Shown, ShownTask, Task};
+use yds_trace::{Asked, Shown, ShownTask, Tally, Task};
 
 /// What is settled of a part.
 #[derive(Debug, Drop)]
@@ -44,6 +44,8 @@ pub struct Waiting<'a> {
     pub boundary: u64,
     /// Who else had the processor behind it while a job waited, in order of time. The first may have had it since before.
     pub others: Vec<Other<'a>>,
+    /// What the trace lacks up to here.
+    pub tally: Tally,
 }
 
 /// What becomes of the jobs that wait: they begin at the boundary or later. The only error is want of memory.
@@ -65,6 +67,7 @@ pub fn judge_waiting<'a>(
         judged,
         boundary,
         others,
+        tally: shown.tally,
     })
 }
 
@@ -237,6 +240,6 @@ pub fn settle_part<'a>(
     };
     let start = waiting.boundary.max(units.zero);
     let others = all_within(alloc, start, until, &waiting.others)?;
-    let settled = settled_in(alloc, units, by_task, judged, others)?;
+    let settled = settled_in(alloc, units, by_task, judged, others, waiting.tally)?;
     Ok(Part { settled, shift })
 }

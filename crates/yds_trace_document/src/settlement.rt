@@ -19,7 +19,7 @@ use crate::units::Units;
 use crate::written::{Written, written_jobs};
 use std::alloc::Global;
 use yds_model::Memory;
-use yds_trace::{Asked, Ended, Job, Task};
+use yds_trace::{Asked, Ended, Job, Tally, Task};
 
 /// What is settled of the jobs at a trace's end: what becomes of each, and the document of those that are written.
 #[derive(Debug, Drop)]
@@ -35,6 +35,8 @@ pub struct Settled<'a> {
     pub runs: Vec<Placed>,
     /// Who else had the processor while a job waited, from time 0 on, in order of time.
     pub others: Vec<Other<'a>>,
+    /// What the trace lacks.
+    pub tally: Tally,
 }
 
 /// What is settled of the jobs at a trace's end. The only error is want of memory.
@@ -51,7 +53,14 @@ pub fn settle<'a>(alloc: Global, ended: &'a Ended) -> Result<Settled<'a>, Memory
     };
     let by_task = judge_tasks(alloc, within, &ended.asked.tasks, &ended.jobs)?;
     let others = all_lent(alloc, &ended.others)?;
-    settled_from(alloc, &ended.asked, ended.first, by_task, &others)
+    settled_from(
+        alloc,
+        &ended.asked,
+        ended.first,
+        by_task,
+        &others,
+        ended.tally,
+    )
 }
 
 /// The document of these jobs, and who else had the processor from time 0 on.
@@ -61,15 +70,16 @@ fn settled_from<'a>(
     first: u64,
     by_task: Vec<Vec<Judged<'a>>>,
     others: &[Other<'a>],
+    tally: Tally,
 ) -> Result<Settled<'a>, Memory>
     requires has_unit { 1 ≤ asked.now.unit }
     requires has_speed_unit { 1 ≤ asked.now.khz }
-    ensures { IfOk result (λ settled. settled_read settled ≡ kept.settled_at (asked_read asked.now) first (judged_lists by_task.entry.items) (map other_read others.now)) }
+    ensures { IfOk result (λ settled. settled_read settled ≡ kept.settled_at (asked_read asked.now) first (judged_lists by_task.entry.items) (map other_read others.now) tally) }
 {
     let judged = in_order_of_begins(alloc, &by_task)?;
     let units = units_of(asked, first, &judged);
     let others = all_within(alloc, units.zero, None, others)?;
-    settled_in(alloc, units, by_task, judged, others)
+    settled_in(alloc, units, by_task, judged, others, tally)
 }
 
 /// What is written of these jobs in these units.
@@ -79,8 +89,9 @@ pub(crate) fn settled_in<'a>(
     by_task: Vec<Vec<Judged<'a>>>,
     judged: Vec<Judged<'a>>,
     others: Vec<Other<'a>>,
+    tally: Tally,
 ) -> Result<Settled<'a>, Memory>
-    ensures { IfOk result (λ settled. settled_read settled ≡ kept.capped_in (units_read units) (judged_lists by_task.entry.items) (judged_list judged.entry.items) (map other_read others.entry.items)) }
+    ensures { IfOk result (λ settled. settled_read settled ≡ kept.capped_in (units_read units) (judged_lists by_task.entry.items) (judged_list judged.entry.items) (map other_read others.entry.items) tally) }
 {
     let jobs = written_jobs(alloc, units, &judged)?;
     let runs = placed_in_order(alloc, &jobs)?;
@@ -91,6 +102,7 @@ pub(crate) fn settled_in<'a>(
         jobs,
         runs,
         others,
+        tally,
     })
 }
 

@@ -8,4 +8,5 @@ mod LimitExamples
 mod FaultExamples
 mod PartExamples
 mod ToldExamples
+mod TallyExamples
 mod ProcessorExamples

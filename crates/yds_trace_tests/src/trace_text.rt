@@ -1,7 +1,9 @@
 //! What no clause says: that the text of some jobs is the one that was written by hand, and that each allocation may fail.
 use std::alloc::{AllocError, Global};
 use std::test::Fail;
-use yds_trace::{Asked, Cut, End, Ended, Job, Shown, ShownTask, Span, Start, Stretch, Task, Which};
+use yds_trace::{
+    Asked, Cut, End, Ended, Job, Pause, Shown, ShownTask, Span, Start, Stretch, Tally, Task, Which,
+};
 use yds_trace_document::{DocumentFault, is_plain, is_plain_shown, judge_waiting, settle_part};
 use yds_trace_text::{NoText, document_text, part_text};
 
@@ -25,6 +27,10 @@ run t.1 200 320 100
 # left out: t.3 (ran on another processor)
 # 2 stretches within one unit of time, 0.004001 ms together, are in no run
 # 2 wake-ups came while their job was open, the most of t.1: 2
+# places where events were lost: 3
+# switches of other threads that are missing: 448
+# lines that programs wrote into the trace: 12
+# no line for 60.001000000 s, from 100.001000000 s on: did the clock jump?
 # 4 jobs written, 1 left out, 1 late without its runs
 ";
 
@@ -39,6 +45,10 @@ ticks 1
 # left out: t.3 (ran on another processor)
 # 1 stretch within one unit of time, 0.000001 ms together, is in no run
 # other sh-9 0 20
+# places where events were lost, up to here: 3
+# switches of other threads that are missing, up to here: 448
+# lines that programs wrote into the trace, up to here: 12
+# up to here, no line for 60.001000000 s, from 100.001000000 s on: did the clock jump?
 # 1 job written, 1 left out
 ";
 
@@ -51,6 +61,10 @@ job t.3 0 100 1000
 ticks 1
 run t.3 0 10 100
 # other sh-9 0 20
+# places where events were lost, up to here: 3
+# switches of other threads that are missing, up to here: 448
+# lines that programs wrote into the trace, up to here: 12
+# up to here, no line for 60.001000000 s, from 100.001000000 s on: did the clock jump?
 # 1 job written, none left out
 ";
 
@@ -64,6 +78,28 @@ run t.0@0 0 50 100
 # other k?w-9 0 5
 # 1 job written, none left out
 ";
+
+/// What a trace lacks.
+const TALLY: Tally = Tally {
+    losses: 3,
+    missing: 448,
+    markers: 12,
+    pause: Pause {
+        since: 100_001_000_000,
+        lasted: 60_001_000_000,
+    },
+};
+
+/// What one lacks that is whole, and in which no line came for a second.
+const NOTHING: Tally = Tally {
+    losses: 0,
+    missing: 0,
+    markers: 0,
+    pause: Pause {
+        since: 100_001_000_000,
+        lasted: 1_000_000_000,
+    },
+};
 
 /// A stretch at 1,000,000 kHz from a time to another one, both counted from `BEGIN`.
 fn stretch(processor: u64, from: u32, to: u32) -> Stretch {
@@ -135,6 +171,7 @@ fn ended(alloc: Global, jobs: Vec<Job>) -> Result<Ended, AllocError> {
         others: Vec::new(alloc),
         first: BEGIN - 1,
         last: BEGIN + 20_000_000,
+        tally: TALLY,
     })
 }
 
@@ -196,6 +233,7 @@ fn what_a_job_ran_on_a_processor_has_its_number(rt: HostRuntime) -> Result<(), F
     share.shared = true;
     let mut ended = ended(alloc, vec![in alloc; share]?)?;
     ended.others = spans(alloc)?;
+    ended.tally = NOTHING;
     assert!(rt; is_plain(&ended));
     match document_text(alloc, &ended, false) {
         Ok(text) => assert_eq!(rt; text.as_slice(), SHARE),
@@ -249,6 +287,7 @@ fn shown(alloc: Global) -> Result<Shown, AllocError> {
         others,
         first: BEGIN - 1,
         last: BEGIN + 20_000_000,
+        tally: TALLY,
     })
 }
 
@@ -277,7 +316,8 @@ fn part(
 #[test]
 fn the_text_of_a_part_is_the_one_written_by_hand(rt: HostRuntime) -> Result<(), Fail> {
     let alloc = rt.alloc();
-    let words = asked(alloc)?;
+    let mut words = asked(alloc)?;
+    words.in_parts = true;
     let known = shown(alloc)?;
     match part(alloc, &words, &known, None) {
         Ok(text) => assert_eq!(rt; text.as_slice(), PART),
@@ -292,6 +332,7 @@ fn a_part_of_a_processor_has_the_jobs_that_ran_there(rt: HostRuntime) -> Result<
     let mut words = asked(alloc)?;
     words.processor = 1;
     words.everywhere = true;
+    words.in_parts = true;
     let known = shown(alloc)?;
     match part(alloc, &words, &known, None) {
         Ok(text) => assert_eq!(rt; text.as_slice(), PART_OF_ONE),

@@ -8,6 +8,8 @@ use Rattle.yds_kernel.specs.Parts.{capped}
 use Rattle.yds_trace.specs.declared.job.Stretch.{Stretch}
 use Rattle.yds_trace.specs.declared.reason.Reason.{Reason}
 use Rattle.yds_trace.specs.declared.reason.Reason.TheVariants as reasons
+use Rattle.yds_trace.specs.declared.tally.Pause.{Pause}
+use Rattle.yds_trace.specs.declared.tally.Tally.{Tally}
 use Rattle.yds_trace.specs.Asked.{Task, Asked}
 use Rattle.yds_trace.specs.Jobs.{Job}
 use Rattle.yds_trace.specs.Late.{is_open}
@@ -364,6 +366,37 @@ other_comment units span =
     if nat_lt (written_time units span.from) (written_time units span.to)
     then span_comment span (written_time units span.from) (written_time units span.to) else []
 
+-- # What the trace lacks
+
+-- Told in parts, each part tells what was counted from the trace's begin up to the line behind which it was written.
+abbrev pub up_to_here : Bool → List ℕ
+up_to_here in_parts = if in_parts then codes ", up to here" else []
+
+abbrev pub lack_comment : Bool → List ℕ → ℕ → List ℕ
+lack_comment in_parts what number =
+    if number == 0 then [] else comment (what ∷ up_to_here in_parts ∷ codes ": " ∷ decimal number ∷ [])
+
+abbrev pub no_line_text : Bool → List ℕ
+no_line_text in_parts = if in_parts then codes "up to here, no line for " else codes "no line for "
+
+-- more than a second
+abbrev pub is_long : Pause → Bool
+is_long pause = nat_lt 1000000000 pause.lasted
+
+abbrev pub long_comment : Bool → Pause → List ℕ
+long_comment in_parts pause =
+    comment (no_line_text in_parts ∷ in_seconds pause.lasted ∷ codes " s, from " ∷ in_seconds pause.since ∷ codes " s on: did the clock jump?" ∷ [])
+
+abbrev pub pause_comment : Bool → Pause → List ℕ
+pause_comment in_parts pause = if is_long pause then long_comment in_parts pause else []
+
+abbrev pub tally_comments : Bool → Tally → List ℕ
+tally_comments in_parts tally =
+    lack_comment in_parts (codes "places where events were lost") tally.losses
+    ++ lack_comment in_parts (codes "switches of other threads that are missing") tally.missing
+    ++ lack_comment in_parts (codes "lines that programs wrote into the trace") tally.markers
+    ++ pause_comment in_parts tally.pause
+
 -- # The last line
 
 abbrev pub is_without_runs : Judged → Bool
@@ -393,19 +426,20 @@ abbrev pub document_text : Settled → List ℕ
 document_text settled =
     flat_map job_text settled.document.jobs ++ ticks_text ++ flat_map (run_text (map name_of settled.document.jobs)) settled.document.runs
 
-abbrev pub comments_text : List Task → Settled → List ℕ
-comments_text tasks settled =
+abbrev pub comments_text : Asked → Settled → List ℕ
+comments_text asked settled =
     flat_map (late_comment settled.units) settled.judged
     ++ flat_map (shown_comments settled.units) settled.judged
-    ++ left_out_comments tasks settled.by_task settled.judged
+    ++ left_out_comments asked.tasks settled.by_task settled.judged
     ++ short_comment (short_stretches settled.units settled.judged)
     ++ wake_up_comment settled.judged
-    ++ all_unit_comments tasks settled.by_task
+    ++ all_unit_comments asked.tasks settled.by_task
     ++ flat_map (other_comment settled.units) settled.others
+    ++ tally_comments asked.in_parts settled.tally
     ++ last_line settled
 
 abbrev pub settled_text : Asked → Settled → List ℕ
-settled_text asked settled = head_line asked.processor settled.units ++ units_line settled.units ++ document_text settled ++ comments_text asked.tasks settled
+settled_text asked settled = head_line asked.processor settled.units ++ units_line settled.units ++ document_text settled ++ comments_text asked settled
 
 abbrev pub text_of : Asked → List Said → List ℕ
 text_of asked past = settled_text asked (settled_of asked past)

@@ -18,6 +18,7 @@ mod others;
 mod part;
 mod rows;
 mod short;
+mod tally;
 mod woken;
 mod writing;
 mod wrong_unit;

@@ -22,6 +22,7 @@ use crate::left_out::put_left_out;
 use crate::others::put_all_others;
 use crate::rows::{names_of, put_jobs, put_runs};
 use crate::short::put_short_stretches;
+use crate::tally::put_tally;
 use crate::woken::put_wake_ups;
 use crate::wrong_unit::put_all_wrong_units;
 use std::alloc::Global;
@@ -95,7 +96,7 @@ pub(crate) fn put_settled(
     put_head(alloc, asked.processor, settled.units, text)?;
     put_units(alloc, settled.units, text)?;
     put_document(alloc, settled, text)?;
-    put_comments(alloc, &asked.tasks, settled, text)
+    put_comments(alloc, asked, settled, text)
 }
 
 /// The lines of the jobs and of the runs.
@@ -111,14 +112,14 @@ fn put_document(alloc: Global, settled: &Settled<'_>, text: &mut Vec<u8>) -> Res
 /// The comments.
 fn put_comments(
     alloc: Global,
-    tasks: &[Task],
+    asked: &Asked,
     settled: &Settled<'_>,
     text: &mut Vec<u8>,
 ) -> Result<(), Memory>
-    ensures { OnOk result (text.new.items ≡ text.old.items ++ spec.comments_text (map task_read tasks.now) (settled_read settled.now)) }
+    ensures { OnOk result (text.new.items ≡ text.old.items ++ spec.comments_text (asked_read asked.now) (settled_read settled.now)) }
 {
-    put_job_comments(alloc, tasks, settled, text)?;
-    put_more_comments(alloc, tasks, settled, text)
+    put_job_comments(alloc, &asked.tasks, settled, text)?;
+    put_more_comments(alloc, asked, settled, text)
 }
 
 /// The first ones, on jobs: on late ones, on begins and ends that no run shows, and on those that are left out.
@@ -138,38 +139,42 @@ fn put_job_comments(
     put_left_out(alloc, tasks, &settled.by_task, &settled.judged, text)
 }
 
-/// The others, on all jobs together, on units that may be wrong and on who else had the processor; and the line that counts.
+/// The others, on all jobs together, on units that may be wrong, on who else had the processor and on what the trace lacks; and
+/// the line that counts.
 fn put_more_comments(
     alloc: Global,
-    tasks: &[Task],
+    asked: &Asked,
     settled: &Settled<'_>,
     text: &mut Vec<u8>,
 ) -> Result<(), Memory>
     ensures { OnOk result (text.new.items ≡ text.old.items
         ++ spec.short_comment (spec.short_stretches (settled_read settled.now).units (settled_read settled.now).judged)
         ++ spec.wake_up_comment (settled_read settled.now).judged
-        ++ spec.all_unit_comments (map task_read tasks.now) (settled_read settled.now).by_task
+        ++ spec.all_unit_comments (asked_read asked.now).tasks (settled_read settled.now).by_task
         ++ flat_map (spec.other_comment (settled_read settled.now).units) (settled_read settled.now).others
+        ++ spec.tally_comments asked.now.in_parts settled.now.tally
         ++ spec.last_line (settled_read settled.now)) }
 {
     put_short_stretches(alloc, settled.units, &settled.judged, text)?;
     put_wake_ups(alloc, &settled.judged, text)?;
-    put_last_comments(alloc, tasks, settled, text)
+    put_last_comments(alloc, asked, settled, text)
 }
 
-/// The last ones: on units that may be wrong, on who else had the processor, and how many jobs there are.
+/// The last ones: on units that may be wrong, on who else had the processor, on what the trace lacks, and how many jobs there are.
 fn put_last_comments(
     alloc: Global,
-    tasks: &[Task],
+    asked: &Asked,
     settled: &Settled<'_>,
     text: &mut Vec<u8>,
 ) -> Result<(), Memory>
     ensures { OnOk result (text.new.items ≡ text.old.items
-        ++ spec.all_unit_comments (map task_read tasks.now) (settled_read settled.now).by_task
+        ++ spec.all_unit_comments (asked_read asked.now).tasks (settled_read settled.now).by_task
         ++ flat_map (spec.other_comment (settled_read settled.now).units) (settled_read settled.now).others
+        ++ spec.tally_comments asked.now.in_parts settled.now.tally
         ++ spec.last_line (settled_read settled.now)) }
 {
-    put_all_wrong_units(alloc, tasks, &settled.by_task, text)?;
+    put_all_wrong_units(alloc, &asked.tasks, &settled.by_task, text)?;
     put_all_others(alloc, settled.units, &settled.others, text)?;
+    put_tally(alloc, asked.in_parts, settled.tally, text)?;
     put_last(alloc, settled, text)
 }

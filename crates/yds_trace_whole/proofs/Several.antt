@@ -202,7 +202,7 @@ made_ticks asked past cut until =
     let head : List ℕ = head_line asked.processor part.settled.units in
     let units : List ℕ = units_line part.settled.units in
     let runs : List ℕ = flat_map (run_text (map name_of jobs)) part.settled.document.runs in
-    let comments : List ℕ = comments_text asked.tasks part.settled in
+    let comments : List ℕ = comments_text asked part.settled in
     record {
       front = first ++ ((head ++ units) ++ flat_map job_text jobs);
       behind = runs ++ comments;

@@ -23,4 +23,5 @@ returns c past cut at is =
           ∙ ap (filter (goes_behind c.args.boundary)) (c.in_ok-all_lent.ensures ∙ ap (λ (spans : List SpanKept). map span_read spans) c.deref-2.ensures.value)
           ∙ is.others
           ∙ ap (others_from asked past) (sym at);
+      tally = is.tally;
     }

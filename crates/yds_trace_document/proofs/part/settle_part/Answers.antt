@@ -38,8 +38,8 @@ returns c past cut is are =
       settled =
           c.in_ok-settled.ensures
           ∙ ap (λ (origin : ℕ). capped_in (shifted origin asked c.shift_from-shift.result) (judged_lists c.in_ok-by_task.by_task.items)
-          (judged_list c.in_ok-judged.judged.items) (map other_read c.in_ok-others.others.items)) c.unwrap_or-zero.ensures
+          (judged_list c.in_ok-judged.judged.items) (map other_read c.in_ok-others.others.items) c.args.waiting.tally) c.unwrap_or-zero.ensures
           ∙ part_same asked past cut c.args.until c.args.first c.shift_from-shift.result (judged_lists c.in_ok-by_task.by_task.items)
-          (judged_list c.in_ok-judged.judged.items) (map other_read c.in_ok-others.others.items) is lists line shift others;
+          (judged_list c.in_ok-judged.judged.items) (map other_read c.in_ok-others.others.items) c.args.waiting.tally is lists line shift others are.tally;
       shift = shift ∙ shift_same asked past cut c.args.until c.args.first (judged_list c.in_ok-judged.judged.items) is line;
     }

@@ -3,19 +3,22 @@ use Rattle.yds_kernel.specs.Views.{happening_read}
 use Rattle.yds_trace.specs.declared.step.Whose.{Whose}
 use Rattle.yds_trace.specs.Asked.{is_number}
 use Rattle.yds_trace.specs.Faults.{pid_before}
+use Rattle.yds_trace.specs.Views.{start_read, asked_read}
 use Rattle.yds_trace.proofs.Seeing.{seen_more}
 use Rattle.yds_trace.proofs.lines.Lines.take.Goals as goal
 
 pub returns : goal.returns
-returns c = λ asked past is first second. record {
-  times = c.in_ok-take.ensures asked.start past is.times;
+returns c = λ past is first second. record {
+  times = c.in_ok-take-2.ensures (start_read c.args.asked.now.start) past is.times;
   lost = refl;
-  woken = c.is_woken-self.ensures asked past is.woken first;
+  woken = c.is_woken-self.ensures (asked_read c.args.asked.now) past is.woken first;
   as_many = c.mark-2.ensures.many ∙ c.mark.ensures.many ∙ is.as_many;
+  tallied = c.in_ok-take.ensures (start_read c.args.asked.now.start) (asked_read c.args.asked.now).tasks past is.times
+      (c.is_behind_loss-behind_loss.ensures (asked_read c.args.asked.now) past is refl) first second is.tallied;
   seen = λ number within.
       c.mark-2.ensures.each number (omega (arith, is.as_many, c.mark.ensures.many))
       ∙ ap (λ (b : Bool). is_number number c.args.second.number || b) (c.mark.ensures.each number (omega (arith, is.as_many)))
       ∙ ap (λ (b : Bool). is_number number c.args.second.number || (is_number number c.args.first.number || b)) (is.seen number within)
-      ∙ ap₂ (λ (one other : Whose). is_number number other.number || (is_number number one.number || is_some (pid_before asked number past))) first second
-      ∙ sym (seen_more asked number (happening_read c.args.event.now.happening) (pid_before asked number past));
+      ∙ ap₂ (λ (one other : Whose). is_number number other.number || (is_number number one.number || is_some (pid_before (asked_read c.args.asked.now) number past))) first second
+      ∙ sym (seen_more (asked_read c.args.asked.now) number (happening_read c.args.event.now.happening) (pid_before (asked_read c.args.asked.now) number past));
 }

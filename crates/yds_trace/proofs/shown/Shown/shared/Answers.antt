@@ -12,4 +12,4 @@ returns c = λ past boundary is.
     (omega (arith, c.in_ok-tasks.ensures.many, c.in_ok-tasks.tasks.ok.0, ap length c.deref.ensures.value))
     (λ number default was within.
     let whole = rw c.deref.ensures.value at (c.in_ok-tasks.ensures.each number default was) in whole within)
-    (c.in_ok-others.ensures ∙ ap (map span_read) c.deref-2.ensures.value) refl refl is
+    (c.in_ok-others.ensures ∙ ap (map span_read) c.deref-2.ensures.value) refl refl refl is

@@ -1,0 +1,14 @@
+use Rattle.std.proofs.Common.{arith, refl}
+use Rattle.std.proofs.lemmas.Grind.{common_steps}
+use Rattle.yds_trace.specs.Views.{asked_read}
+use Rattle.yds_trace.proofs.lines.Lines.new.Goals as goal
+
+pub returns : goal.returns
+returns c = record {
+  times = c.in_ok-new.ensures;
+  lost = refl;
+  woken = refl;
+  as_many = grind (arith, common_steps);
+  tallied = c.new-2.ensures c.args.asked.now.from c.args.asked.now.to (asked_read c.args.asked.now).tasks;
+  seen = λ number within. grind (arith, common_steps);
+}

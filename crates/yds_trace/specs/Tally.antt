@@ -1,0 +1,93 @@
+-- What a trace lacks, or says that a reader should know, beside the jobs: four counts of its lines, within what is asked for.
+use Rattle.std.specs.Prelude.{ℕ, suc, ◌-◌, List, [], ◌∷◌, Bool, true, false, not, ◌==◌, ◌&&◌, nat_lt, if◌then◌else◌, Option, Some, None, is_none}
+use Rattle.yds_kernel.specs.Event.{Thread, Happening, Switch, Marker, Said, Stamped, Lost, Nothing}
+use Rattle.yds_kernel.specs.Parts.{capped}
+use Rattle.yds_trace.specs.declared.tally.Pause.{Pause}
+use Rattle.yds_trace.specs.declared.tally.Tally.{Tally}
+use Rattle.yds_trace.specs.Asked.{Task, Asked, task_of, is_before_to, is_after_from}
+use Rattle.yds_trace.specs.Past.{last_time}
+use Rattle.yds_trace.specs.Faults.{lost_just_before, is_behind_loss, has_stamp}
+use Rattle.yds_trace.specs.Others.{who_has}
+
+-- at a time from `from` to `to`
+abbrev pub is_asked_for : Option ℕ → Option ℕ → ℕ → Bool
+is_asked_for from to time = is_after_from from time && is_before_to to time
+
+-- so many, and one more where the test holds
+abbrev pub one_more : Bool → ℕ → ℕ
+one_more test number = if test then suc number else number
+
+-- # Places where events were lost
+
+abbrev pub losses_before : Option ℕ → Option ℕ → List Said → ℕ
+losses_before from to [] = 0
+losses_before from to (Stamped event ∷ past) = one_more (is_behind_loss from to past event) (losses_before from to past)
+losses_before from to (Lost processor reach ∷ past) = losses_before from to past
+losses_before from to (Nothing ∷ past) = losses_before from to past
+
+-- The end of the trace is one too, where events are said to be lost just before.
+abbrev pub losses : Option ℕ → Option ℕ → List Said → ℕ
+losses from to past = one_more (lost_just_before to past) (losses_before from to past)
+
+-- # Switches that are missing
+
+-- Who leaves a processor isn't who came to it by its last switch since events were lost, and neither is a task that is asked for.
+abbrev pub came_unseen : List Task → Option Thread → Thread → Bool
+came_unseen tasks None previous = false
+came_unseen tasks (Some came) previous = not (came.pid == previous.pid) && is_none (task_of tasks came) && is_none (task_of tasks previous)
+
+-- before this one another switch of the processor is missing
+abbrev pub lacks_switch : List Task → List Said → ℕ → Happening → Bool
+lacks_switch tasks past processor (Switch previous state next) = came_unseen tasks (who_has processor past) previous
+lacks_switch tasks past processor _ = false
+
+abbrev pub missing_switches : Option ℕ → Option ℕ → List Task → List Said → ℕ
+missing_switches from to tasks [] = 0
+missing_switches from to tasks (Stamped event ∷ past) =
+    one_more (is_asked_for from to event.time && lacks_switch tasks past event.processor event.happening) (missing_switches from to tasks past)
+missing_switches from to tasks (Lost processor reach ∷ past) = missing_switches from to tasks past
+missing_switches from to tasks (Nothing ∷ past) = missing_switches from to tasks past
+
+-- # Lines that programs wrote
+
+abbrev pub is_marker : Happening → Bool
+is_marker Marker = true
+is_marker _ = false
+
+abbrev pub markers : Option ℕ → Option ℕ → List Said → ℕ
+markers from to [] = 0
+markers from to (Stamped event ∷ past) = one_more (is_asked_for from to event.time && is_marker event.happening) (markers from to past)
+markers from to (Lost processor reach ∷ past) = markers from to past
+markers from to (Nothing ∷ past) = markers from to past
+
+-- # The longest time without a line
+
+-- The time since the line with a stamp before this one, where both are asked for.
+abbrev pub pause_before : Option ℕ → Option ℕ → List Said → ℕ → ℕ
+pause_before from to past time =
+    if has_stamp past && is_after_from from (last_time past) && is_before_to to time then time - last_time past else 0
+
+-- the longer one of two, or else the one before
+abbrev pub longer : Pause → ℕ → ℕ → Pause
+longer before since lasted = if nat_lt before.lasted lasted then record { since = since; lasted = lasted } else before
+
+abbrev pub no_pause : Pause
+no_pause = record { since = 0; lasted = 0 }
+
+-- The longest time between a line with a stamp and the one before it, and when it began: the first of equal ones.
+abbrev pub longest_pause : Option ℕ → Option ℕ → List Said → Pause
+longest_pause from to [] = no_pause
+longest_pause from to (Stamped event ∷ past) = longer (longest_pause from to past) (last_time past) (pause_before from to past event.time)
+longest_pause from to (Lost processor reach ∷ past) = longest_pause from to past
+longest_pause from to (Nothing ∷ past) = longest_pause from to past
+
+-- # All four
+
+-- Beyond 64 bits none is counted.
+abbrev pub tally_of : Asked → List Said → Tally
+tally_of asked past = record {
+  losses = capped (losses asked.from asked.to past);
+  missing = capped (missing_switches asked.from asked.to asked.tasks past);
+  markers = capped (markers asked.from asked.to past);
+  pause = longest_pause asked.from asked.to past;
+}

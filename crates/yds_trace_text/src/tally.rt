@@ -1,0 +1,124 @@
+//! Comments on what the trace lacks.
+ghost use Rattle.std.specs.Prelude.{◌≡◌, ◌++◌, OnOk};
+ghost use Rattle.yds_trace_text.specs.Text as spec;
+
+use crate::bytes::put_comment;
+use crate::numbers::{decimal, in_seconds};
+use std::alloc::Global;
+use yds_model::Memory;
+use yds_trace::{Pause, Tally};
+
+/// A second, in nanoseconds.
+const SECOND: u64 = 1_000_000_000;
+
+/// That more may follow behind a part, in words.
+fn up_to_here(in_parts: bool) -> &'static [u8]
+    ensures { result.now ≡ spec.up_to_here in_parts }
+{
+    if in_parts { b", up to here" } else { b"" }
+}
+
+/// How many of these there are, if there are any.
+fn put_lack(
+    alloc: Global,
+    in_parts: bool,
+    what: &'static [u8],
+    number: u64,
+    text: &mut Vec<u8>,
+) -> Result<(), Memory>
+    ensures { OnOk result (text.new.items ≡ text.old.items ++ spec.lack_comment in_parts what.now number) }
+{
+    if number == 0 {
+        return Ok(());
+    }
+    let digits = decimal(alloc, number)?;
+    put_comment(
+        &[
+            what,
+            up_to_here(in_parts),
+            b": ".as_slice(),
+            digits.as_slice(),
+        ],
+        text,
+    )
+}
+
+/// How the comment on a long time without a line begins.
+fn no_line_text(in_parts: bool) -> &'static [u8]
+    ensures { result.now ≡ spec.no_line_text in_parts }
+{
+    if in_parts {
+        b"up to here, no line for "
+    } else {
+        b"no line for "
+    }
+}
+
+/// Whether a time without a line is longer than a second.
+fn is_long(pause: Pause) -> bool
+    ensures { result ≡ spec.is_long pause }
+{
+    pause.lasted > SECOND
+}
+
+/// The longest time without a line, if it is long.
+fn put_pause(alloc: Global, in_parts: bool, pause: Pause, text: &mut Vec<u8>) -> Result<(), Memory>
+    ensures { OnOk result (text.new.items ≡ text.old.items ++ spec.pause_comment in_parts pause) }
+{
+    if is_long(pause) {
+        put_long(alloc, in_parts, pause, text)
+    } else {
+        Ok(())
+    }
+}
+
+/// A long time without a line.
+fn put_long(alloc: Global, in_parts: bool, pause: Pause, text: &mut Vec<u8>) -> Result<(), Memory>
+    ensures { OnOk result (text.new.items ≡ text.old.items ++ spec.long_comment in_parts pause) }
+{
+    let lasted = in_seconds(alloc, pause.lasted)?;
+    let since = in_seconds(alloc, pause.since)?;
+    put_comment(
+        &[
+            no_line_text(in_parts),
+            lasted.as_slice(),
+            b" s, from ".as_slice(),
+            since.as_slice(),
+            b" s on: did the clock jump?".as_slice(),
+        ],
+        text,
+    )
+}
+
+/// The comments on what the trace lacks.
+pub(crate) fn put_tally(
+    alloc: Global,
+    in_parts: bool,
+    tally: Tally,
+    text: &mut Vec<u8>,
+) -> Result<(), Memory>
+    ensures { OnOk result (text.new.items ≡ text.old.items ++ spec.tally_comments in_parts tally) }
+{
+    put_lack(
+        alloc,
+        in_parts,
+        b"places where events were lost",
+        tally.losses,
+        text,
+    )?;
+    put_lack(
+        alloc,
+        in_parts,
+        b"switches of other threads that are missing",
+        tally.missing,
+        text,
+    )?;
+    put_lack(
+        alloc,
+        in_parts,
+        b"lines that programs wrote into the trace",
+        tally.markers,
+        text,
+    )?;
+    put_pause(alloc, in_parts, tally.pause, text)
+}
