@@ -20,6 +20,7 @@ use Rattle.yds_trace_parts.specs.declared.halt.Halt.TheVariants as kept
 use Rattle.yds_trace_parts.specs.declared.telling.Telling.{Telling}
 use Rattle.yds_trace_parts.specs.Told.{Halt, InForm, Told, at_line, end_halt, piece_unless, with_piece, last_pieces, no_job_halt, last_piece, told_last, told_after, told_at_end, told_of, by_number, told_in_text}
 use Rattle.yds_trace_parts.specs.Telling.{halt_read, IsHaltFor, IsTelling, IsEnd, at_number}
+use Rattle.yds_trace_parts.specs.Flushing.{count_on, times_told}
 use Rattle.yds_trace_parts.specs.Driving.{WritesSome, WritesTold, Writes}
 use Rattle.yds_trace_parts.specs.Laws.{Begins}
 use Rattle.yds_trace_parts.proofs.Growing.{begins_on, lines_begin, end_begins, halted, end_halted, nothing_more, halting_text}
@@ -35,6 +36,12 @@ pub record IsBehind (asked : Asked) (strict : Bool) (input : Option (List ℕ)) 
   pub many : length given ≡ count
   pub stands : IsTelling asked strict (said_in given) telling
   pub appended : Appends old now (told_after asked strict (said_in given)).text
+
+-- and the count of flushes behind them
+pub record IsCounted (asked : Asked) (strict : Bool) (input : Option (List ℕ)) (telling : Telling) (ordering : Ordering) (left : Option (List ℕ)) (count : ℕ)
+    (old now : Option (List ℕ)) (before after : ℕ) : Type 0 where
+  pub behind : IsBehind asked strict input telling ordering left count old now
+  pub counted : after ≡ count_on (times_told asked strict (said_in behind.given)) before
 
 -- # The trace, by some of its lines
 
@@ -125,6 +132,11 @@ end_goes : (asked : Asked) (strict : Bool) (past : List Said) (form : Option (Fa
     told_at_end asked strict past form (record { text = text; halt = halt }) ≡ told_last asked strict past text (end_halt asked past form)
 end_goes asked strict past form text None is = refl
 end_goes asked strict past form text (Some found) is = cc
+
+-- all of them
+pub lines_whole : (bytes : List ℕ) (given : List Placed) (lines : ℕ) (form : Option (Fault Reason)) →
+    whole_order (trace_of bytes) ≡ record { placed = given; lines = lines; fault = form } → past_of (order_of bytes) ≡ said_in given
+lines_whole bytes given lines form is = ap (λ (order : Order). past_of (trace_by order)) is ∙ reverse-reverse (said_in given)
 
 -- what is told of a trace of these lines, which were all taken, and then of this line
 told_whole : (asked : Asked) (strict : Bool) (bytes : List ℕ) (given : List Placed) (lines : ℕ) (form : Option (Fault Reason)) →

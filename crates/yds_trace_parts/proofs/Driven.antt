@@ -27,17 +27,21 @@ use Rattle.yds_trace_parts.specs.Told.{Halt, Told, at_line, last_piece, line_hal
 use Rattle.yds_trace_parts.specs.declared.limits.TheConstants.{MOST_LINES}
 use Rattle.yds_trace_parts.specs.Plain.{IsGranted, IsOfSome, IsPlainPass, HasRoom}
 use Rattle.yds_trace_parts.specs.Telling.{IsHaltFor, IsTelling, IsEnd, Adds, at_number}
+use Rattle.yds_trace_parts.specs.Flushing.{count_behind}
 use Rattle.yds_trace_parts.specs.Driving.{IsEndless, WritesSome, Writes}
 use Rattle.yds_trace_parts.specs.Laws.{Begins}
-use Rattle.yds_trace_parts.proofs.Ahead.{IsBehind, IsFront, front_of, begins_told, some_written, line_halts, form_halts, end_halts, all_told}
+use Rattle.yds_trace_parts.proofs.Ahead.{IsBehind, IsCounted, IsFront, front_of, begins_told, some_written, line_halts, form_halts, end_halts, all_told}
+use Rattle.yds_trace_parts.proofs.Flushed.{counted_more}
 
 -- # Before the first line
 
-pub at_begin : (asked : Asked) (strict : Bool) (left : Option (List ℕ)) (telling : Telling) (ordering : Ordering) (written : Option (List ℕ)) →
+pub at_begin : (asked : Asked) (strict : Bool) (left : Option (List ℕ)) (telling : Telling) (ordering : Ordering) (written : Option (List ℕ)) (flushes : ℕ) →
     ordering ≡ record { reader = record { left = []; text = []; ended = true; number = 0; taken = 0 }; lines = 0; waiting = []; given = None; stop = None } →
-    IsTelling asked strict [] telling → IsBehind asked strict left telling ordering left 0 written written
-at_begin asked strict left telling ordering written is stands =
-    record { given = []; known = none_given left ordering is; many = refl; stands = stands; appended = Appends-nil written }
+    IsTelling asked strict [] telling → IsCounted asked strict left telling ordering left 0 written written flushes flushes
+at_begin asked strict left telling ordering written flushes is stands = record {
+  behind = record { given = []; known = none_given left ordering is; many = refl; stands = stands; appended = Appends-nil written };
+  counted = refl;
+}
 
 -- nothing was read or written
 pub nothing_written : (asked : Asked) (strict : Bool) (input : Option (List ℕ)) (written : Option (List ℕ)) →
@@ -54,21 +58,25 @@ nothing_written asked strict (Some bytes) written = record {
 -- # A line more
 
 pub one_more : (asked : Asked) (strict : Bool) (input : Option (List ℕ)) (telling next : Telling) (old new : Ordering) (before left : Option (List ℕ))
-    (count faults_before faults_now : ℕ) (written mid now : Option (List ℕ)) (piece : List ℕ) →
-    (ahead : IsBehind asked strict input telling old before count written mid) → GivesLine old new before left faults_before faults_now →
-    Counts before left old.reader.taken new.reader.taken → IsTelling asked strict (said_now new ∷ said_in ahead.given) next →
-    Adds asked strict (said_in ahead.given) (said_now new ∷ said_in ahead.given) piece → Appends mid now piece →
-    IsBehind asked strict input next new left (count + 1) written now
-one_more asked strict input telling next old new before left count faults_before faults_now written mid now piece ahead gives counts stands added put =
+    (count faults_before faults_now : ℕ) (written mid now : Option (List ℕ)) (piece : List ℕ) (first middle last : ℕ) →
+    (told : IsCounted asked strict input telling old before count written mid first middle) → GivesLine old new before left faults_before faults_now →
+    Counts before left old.reader.taken new.reader.taken → IsTelling asked strict (said_now new ∷ said_in told.behind.given) next →
+    Adds asked strict (said_in told.behind.given) (said_now new ∷ said_in told.behind.given) piece → Appends mid now piece → last ≡ count_behind piece middle →
+    IsCounted asked strict input next new left (count + 1) written now first last
+one_more asked strict input telling next old new before left count faults_before faults_now written mid now piece first middle last told gives counts stands added put behind =
+    let ahead = told.behind in
     let says = said_given new gives.line gives.is_last in
     let past = said_in ahead.given in
     record {
-      given = gives.line ∷ ahead.given;
-      known = one_given input old new before left ahead.given faults_before faults_now ahead.known gives counts;
-      many = omega (arith, ahead.many);
-      stands = subst (λ (said : Said). IsTelling asked strict (said ∷ past) next) says stands;
-      appended = subst (λ (said : Said). Appends written now (told_after asked strict (said ∷ past)).text) says
-          (subst (Appends written now) (sym added) (Appends-trans written mid now (told_after asked strict past).text piece ahead.appended put));
+      behind = record {
+        given = gives.line ∷ ahead.given;
+        known = one_given input old new before left ahead.given faults_before faults_now ahead.known gives counts;
+        many = omega (arith, ahead.many);
+        stands = subst (λ (said : Said). IsTelling asked strict (said ∷ past) next) says stands;
+        appended = subst (λ (said : Said). Appends written now (told_after asked strict (said ∷ past)).text) says
+            (subst (Appends written now) (sym added) (Appends-trans written mid now (told_after asked strict past).text piece ahead.appended put));
+      };
+      counted = counted_more asked strict new gives.line past piece first middle last says added told.counted behind;
     }
 
 -- # A line that isn't taken

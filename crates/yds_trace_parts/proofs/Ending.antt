@@ -2,12 +2,15 @@
 use Rattle.yds_model.proofs.Common.{◌≡◌, ℕ, ◌<◌, List, [], Bool, Option, Some, None, Result, Ok, Err, refl, subst, arith}
 use Rattle.std.specs.Prelude.{⊤, IfSome}
 use Rattle.yds_port.specs.Count.{Rose}
+use Rattle.yds_kernel_order.specs.Order.{order_of}
 use Rattle.yds_trace.specs.Asked.{Asked}
+use Rattle.yds_trace_reading.specs.LineFault.{past_of}
 use Rattle.yds_trace_reading.specs.Reading.{IsRest}
 use Rattle.yds_trace_parts.specs.declared.halt.Halt.{Halt as HaltKept}
 use Rattle.yds_trace_parts.specs.declared.halt.Halt.TheVariants as kept
 use Rattle.yds_trace_parts.specs.Told.{Halt}
 use Rattle.yds_trace_parts.specs.Telling.{IsHaltFor}
+use Rattle.yds_trace_parts.specs.Flushing.{count_on, times_told, IsFlushedSince}
 use Rattle.yds_trace_parts.specs.Driving.{Writes, Tells}
 
 -- # Neither a read nor a write failed
@@ -46,17 +49,18 @@ not_written halt answer P own is same = let one : halt ≡ kept.WriteFault = cc 
 -- It halts for a reason of its own.
 pub tells_halt : {S K : Type 0} (left : S → Option (List ℕ)) (read : S → ℕ) (written : K → Option (List ℕ)) (flushed : K → Option ℕ) (flushes wrote : K → ℕ)
     (asked : Asked) (strict : Bool) (halt : HaltKept) (source from : S) (sink to : K) → IsOwn halt → read from ≡ read source → wrote to ≡ wrote sink →
-    flushed to ≡ flushed sink → flushes to ≡ flushes sink → IfSome (left source) (λ input. Writes asked strict input (Err halt) (written sink) (written to)) →
+    IsFlushedSince written flushed sink to → (times : ℕ) → flushes to ≡ count_on times (flushes sink) → IfSome (left source) (λ input. Writes asked strict input (Err halt) (written sink) (written to)) →
     IsRest (left source) (left from) → Tells left read written flushed flushes wrote asked strict (Err halt) source from sink to
-tells_halt left read written flushed flushes wrote asked strict halt source from sink to own same_read same_wrote same_flushed same_flushes told rest = record {
+tells_halt left read written flushed flushes wrote asked strict halt source from sink to own same_read same_wrote all times counted told rest = record {
   source_later = omega (arith, same_read);
   sink_later = omega (arith, same_wrote);
   no_fault = tt;
   read_fault = not_read halt (Err halt) _ own refl;
   write_fault = not_written halt (Err halt) _ own refl;
   sink_rose = not_rose (wrote sink) (wrote to) _ same_wrote;
-  flushed_stays = same_flushed;
-  flushes_stay = same_flushes;
+  all_flushed = λ other. all;
+  flushed_so_often = λ other. (times, counted);
+  flushed_behind_each = none_of (left source);
   told = told;
   none_left = none_of (left source);
   rest = rest;
@@ -68,17 +72,18 @@ later_rose first second third same rose = subst (λ (n : ℕ). Rose n third) sam
 -- A read failed.
 pub tells_read_fault : {S K : Type 0} (left : S → Option (List ℕ)) (read : S → ℕ) (written : K → Option (List ℕ)) (flushed : K → Option ℕ) (flushes wrote : K → ℕ)
     (asked : Asked) (strict : Bool) (source from : S) (sink to : K) (before : ℕ) → before ≡ read source → Rose before (read from) → wrote to ≡ wrote sink →
-    flushed to ≡ flushed sink → flushes to ≡ flushes sink → IfSome (left source) (λ input. Writes asked strict input (Err kept.ReadFault) (written sink) (written to)) →
+    IsFlushedSince written flushed sink to → (times : ℕ) → flushes to ≡ count_on times (flushes sink) → IfSome (left source) (λ input. Writes asked strict input (Err kept.ReadFault) (written sink) (written to)) →
     IsRest (left source) (left from) → Tells left read written flushed flushes wrote asked strict (Err kept.ReadFault) source from sink to
-tells_read_fault left read written flushed flushes wrote asked strict source from sink to before same_read rose same_wrote same_flushed same_flushes told rest = record {
+tells_read_fault left read written flushed flushes wrote asked strict source from sink to before same_read rose same_wrote all times counted told rest = record {
   source_later = omega (arith, same_read, rose.0);
   sink_later = omega (arith, same_wrote);
   no_fault = tt;
   read_fault = λ _. later_rose (read source) before (read from) same_read rose;
   write_fault = λ same. cc;
   sink_rose = not_rose (wrote sink) (wrote to) _ same_wrote;
-  flushed_stays = same_flushed;
-  flushes_stay = same_flushes;
+  all_flushed = λ other. all;
+  flushed_so_often = λ other. (times, counted);
+  flushed_behind_each = none_of (left source);
   told = told;
   none_left = none_of (left source);
   rest = rest;
@@ -87,17 +92,18 @@ tells_read_fault left read written flushed flushes wrote asked strict source fro
 -- A write failed.
 pub tells_write_fault : {S K : Type 0} (left : S → Option (List ℕ)) (read : S → ℕ) (written : K → Option (List ℕ)) (flushed : K → Option ℕ) (flushes wrote : K → ℕ)
     (asked : Asked) (strict : Bool) (source from : S) (sink to : K) (before : ℕ) → before ≡ wrote sink → Rose before (wrote to) → read from ≡ read source →
-    flushed to ≡ flushed sink → flushes to ≡ flushes sink → IfSome (left source) (λ input. Writes asked strict input (Err kept.WriteFault) (written sink) (written to)) →
+    IfSome (left source) (λ input. Writes asked strict input (Err kept.WriteFault) (written sink) (written to)) →
     IsRest (left source) (left from) → Tells left read written flushed flushes wrote asked strict (Err kept.WriteFault) source from sink to
-tells_write_fault left read written flushed flushes wrote asked strict source from sink to before same_wrote rose same_read same_flushed same_flushes told rest = record {
+tells_write_fault left read written flushed flushes wrote asked strict source from sink to before same_wrote rose same_read told rest = record {
   source_later = omega (arith, same_read);
   sink_later = omega (arith, same_wrote, rose.0);
   no_fault = tt;
   read_fault = λ same. cc;
   write_fault = λ _. later_rose (wrote sink) before (wrote to) same_wrote rose;
   sink_rose = λ _. refl;
-  flushed_stays = same_flushed;
-  flushes_stay = same_flushes;
+  all_flushed = λ other. absurd (other refl);
+  flushed_so_often = λ other. absurd (other refl);
+  flushed_behind_each = none_of (left source);
   told = told;
   none_left = none_of (left source);
   rest = rest;
@@ -106,18 +112,21 @@ tells_write_fault left read written flushed flushes wrote asked strict source fr
 -- All of it was told.
 pub tells_all : {S K : Type 0} (left : S → Option (List ℕ)) (read : S → ℕ) (written : K → Option (List ℕ)) (flushed : K → Option ℕ) (flushes wrote : K → ℕ)
     (asked : Asked) (strict : Bool) (source from : S) (sink to : K) → read from ≡ read source → wrote to ≡ wrote sink →
-    flushed to ≡ flushed sink → flushes to ≡ flushes sink → IfSome (left source) (λ input. Writes asked strict input (Ok tt) (written sink) (written to)) →
+    (times : ℕ) → flushes to ≡ count_on times (flushes sink) →
+    IfSome (left source) (λ input. flushes to ≡ count_on (times_told asked strict (past_of (order_of input))) (flushes sink)) →
+    IfSome (left source) (λ input. Writes asked strict input (Ok tt) (written sink) (written to)) →
     IfSome (left source) (λ input. left from ≡ Some []) → IsRest (left source) (left from) →
     Tells left read written flushed flushes wrote asked strict (Ok tt) source from sink to
-tells_all left read written flushed flushes wrote asked strict source from sink to same_read same_wrote same_flushed same_flushes told none rest = record {
+tells_all left read written flushed flushes wrote asked strict source from sink to same_read same_wrote times counted each told none rest = record {
   source_later = omega (arith, same_read);
   sink_later = omega (arith, same_wrote);
   no_fault = same_read;
   read_fault = λ same. cc;
   write_fault = λ same. cc;
   sink_rose = not_rose (wrote sink) (wrote to) _ same_wrote;
-  flushed_stays = same_flushed;
-  flushes_stay = same_flushes;
+  all_flushed = tt;
+  flushed_so_often = λ other. (times, counted);
+  flushed_behind_each = each;
   told = told;
   none_left = none;
   rest = rest;

@@ -10,6 +10,7 @@ pub mod Unseen
 pub mod Still
 pub mod Behind
 pub mod Taking
+pub mod Flushed
 pub mod Driven
 pub mod Plain
 pub mod Ending

@@ -1,5 +1,5 @@
 -- What becomes of the bytes of a source that is told in parts.
-use Rattle.std.specs.Prelude.{◌≡◌, ℕ, ◌+◌, ◌^◌, ◌<◌, ◌≤◌, ◌⊎◌, List, [], ◌++◌, length, Bool, Option, Some, None, Result, Ok, Err, IfSome, OnOk}
+use Rattle.std.specs.Prelude.{◌≡◌, ◌≢◌, ℕ, ◌+◌, ◌^◌, ◌<◌, ◌≤◌, ◌⊎◌, List, [], ◌++◌, length, Bool, Option, Some, None, Result, Ok, Err, IfSome, OnOk, IfErr}
 use Rattle.std.specs.Io.KnownBytes.{Appends}
 use Rattle.yds_port.specs.Count.{Rose}
 use Rattle.yds_port.specs.Sink.{AppendsFront}
@@ -14,6 +14,7 @@ use Rattle.yds_trace_parts.specs.declared.halt.Halt.TheVariants as kept
 use Rattle.yds_trace_parts.specs.declared.limits.TheConstants.{MOST_LINES}
 use Rattle.yds_trace_parts.specs.Told.{told_after, told_in_text}
 use Rattle.yds_trace_parts.specs.Telling.{halt_read}
+use Rattle.yds_trace_parts.specs.Flushing.{count_on, times_told, IsFlushedSince}
 
 -- Its bytes are as many as 64 bits count, but for one buffer; or its lines are as many as are told.
 abbrev pub IsEndless : List ℕ → Type 0
@@ -49,8 +50,9 @@ pub record Tells {S K : Type 0} (left : S → Option (List ℕ)) (read : S → �
   pub read_fault : result ≡ Err kept.ReadFault → Rose (read source) (read from)
   pub write_fault : result ≡ Err kept.WriteFault → Rose (wrote sink) (wrote to)
   pub sink_rose : wrote sink < wrote to → result ≡ Err kept.WriteFault
-  pub flushed_stays : flushed to ≡ flushed sink
-  pub flushes_stay : flushes to ≡ flushes sink
+  pub all_flushed : IfErr result (λ halt. halt ≢ kept.WriteFault → IsFlushedSince written flushed sink to)
+  pub flushed_so_often : result ≢ Err kept.WriteFault → (times : ℕ) × (flushes to ≡ count_on times (flushes sink))
+  pub flushed_behind_each : IfSome (left source) (λ input. OnOk result (flushes to ≡ count_on (times_told asked strict (past_of (order_of input))) (flushes sink)))
   pub told : IfSome (left source) (λ input. Writes asked strict input result (written sink) (written to))
   pub none_left : IfSome (left source) (λ input. OnOk result (left from ≡ Some []))
   pub rest : IsRest (left source) (left from)

@@ -1,18 +1,21 @@
 //! A source of lines and a sink of parts.
-ghost use Rattle.std.specs.Prelude.{◌≡◌, ◌≢◌, ◌+◌, ◌≤◌, ◌<◌, List, [], ◌∷◌, Bool, Err, None, Some, IfSome, IfOk, IfErr, OnOk, length};
+ghost use Rattle.std.specs.Prelude.{◌≡◌, ◌≢◌, ◌+◌, ◌≤◌, ◌<◌, ℕ, List, [], ◌∷◌, Bool, Err, None, Some, IfSome, IfOk, IfErr, OnOk, length};
 ghost use Rattle.yds_port.specs.Count.{Rose};
 ghost use Rattle.yds_kernel.specs.Event as trace;
 ghost use Rattle.yds_kernel.specs.Parts.{or_else};
+ghost use Rattle.yds_kernel_order.specs.Order.{order_of};
 ghost use Rattle.yds_kernel_order.specs.Ordering.{number_now, said_now};
 ghost use Rattle.yds_trace.specs.Asked as asking;
 ghost use Rattle.yds_trace.specs.Faults.{whole_fault};
 ghost use Rattle.yds_trace.specs.Kept.{told_to_forget};
 ghost use Rattle.yds_trace.specs.Parts as parts;
 ghost use Rattle.yds_trace.specs.Views.{asked_read};
+ghost use Rattle.yds_trace_reading.specs.LineFault.{past_of};
 ghost use Rattle.yds_trace_reading.specs.Reading.{IsReadOut};
 ghost use Rattle.yds_trace_parts.specs.Plain.{HasRoom, IsGranted, IsPlainPass};
 ghost use Rattle.yds_trace_parts.specs.Telling.{IsTelling, IsHaltFor, IsEnd, Adds, at_number};
 ghost use Rattle.yds_trace_parts.specs.Told.{told_after, at_line, last_piece};
+ghost use Rattle.yds_trace_parts.specs.Flushing.{count_on, times_told, IsFlushedSince, PassesOn};
 ghost use Rattle.yds_trace_parts.specs.Driving.{Writes, Tells};
 
 use crate::halt::Halt;
@@ -20,12 +23,14 @@ use crate::limits::MOST_LINES;
 use crate::telling::Telling;
 use std::alloc::Global;
 use yds_kernel_order::{OrderedReader, Step};
-use yds_port::{Sink, Source, write_all};
+use yds_port::{Flushed, Sink, Source, write_all};
 use yds_trace::Asked;
 use yds_trace_reading::drain;
 
-/// Reads a trace in one pass and writes its parts, each as soon as it is whole. The sink isn't flushed. Where it ends before the
-/// trace does, the source is still read to its end, so that whoever writes into it isn't stopped; not so where a write failed.
+/// Reads a trace in one pass and writes its parts, each as soon as it is whole, and flushes the sink behind them, so that who follows
+/// a trace has each part then. The last parts, behind the trace's end, aren't flushed. A flush that fails is a failed write. Where it
+/// ends before the trace does, the source is still read to its end, so that whoever writes into it isn't stopped; not so where a
+/// write failed.
 pub fn tell_parts<S: Source, K: Sink>(
     alloc: Global,
     asked: Asked,
@@ -40,8 +45,11 @@ pub fn tell_parts<S: Source, K: Sink>(
     ensures read_fault { result ≡ Err Halt.ReadFault → Rose (S.faults source.old) (S.faults source.new) }
     ensures write_fault { result ≡ Err Halt.WriteFault → Rose (K.faults sink.old) (K.faults sink.new) }
     ensures sink_rose { K.faults sink.old < K.faults sink.new → result ≡ Err Halt.WriteFault }
-    ensures flushed_stays { K.flushed sink.new ≡ K.flushed sink.old }
-    ensures flushes_stay { K.flushes sink.new ≡ K.flushes sink.old }
+    // Where it ends before the trace does, all that was written is flushed: each read may be the one that fails.
+    ensures all_flushed { IfErr result (λ halt. halt ≢ Halt.WriteFault → IsFlushedSince K.written K.flushed sink.old sink.new) }
+    ensures flushed_so_often { result ≢ Err Halt.WriteFault → (times : ℕ) × (K.flushes sink.new ≡ count_on times (K.flushes sink.old)) }
+    ensures flushed_behind_each { IfSome (S.left source.old) (λ input.
+        OnOk result (K.flushes sink.new ≡ count_on (times_told (asked_read asked) strict (past_of (order_of input))) (K.flushes sink.old))) }
     ensures told { IfSome (S.left source.old) (λ input. Writes (asked_read asked) strict input result (K.written sink.old) (K.written sink.new)) }
     ensures none_left { IfSome (S.left source.old) (λ input. OnOk result (S.left source.new ≡ Some [])) }
     ensures read_out { result ≢ Err Halt.WriteFault
@@ -74,7 +82,7 @@ fn tell<S: Source, K: Sink>(
         match reader.advance(source) {
             Step::Line => {
                 let pieces = take_line(alloc, &reader, lines + 1, &mut telling)?;
-                write_all(sink, &pieces)?;
+                pass_on(&pieces, sink)?;
             }
             Step::End => {
                 let text = end(alloc, &reader, lines, &mut telling)?;
@@ -88,6 +96,20 @@ fn tell<S: Source, K: Sink>(
         }
     }
     Err(Halt::Endless)
+}
+
+/// Writes the texts of parts that are whole and flushes the sink behind them. Without a text the sink is left as it is.
+fn pass_on<K: Sink>(text: &[u8], sink: &mut K) -> Result<(), Halt>
+    ensures { PassesOn K.written K.flushed K.flushes K.faults text.now result sink.old sink.new }
+{
+    if text.is_empty() {
+        return Ok(());
+    }
+    write_all(sink, text)?;
+    match sink.flush() {
+        Flushed::Done => Ok(()),
+        Flushed::Failed => Err(Halt::WriteFault),
+    }
 }
 
 /// Takes the line that was given last, at this place in order of time. It gives the texts of the parts that are whole with it, or

@@ -1,5 +1,5 @@
 -- From what was told in parts to what was written.
-use Rattle.yds_model.proofs.Common.{◌≡◌, ◌≢◌, ℕ, ◌<◌, ◌≤◌, ◌⊎◌, inl, inr, List, [], ◌++◌, append_assoc, append-nil, Bool, true, Option, Some, None, Ok, Err, refl, sym, ap, subst, ◌∙◌, arith, cases_lt}
+use Rattle.yds_model.proofs.Common.{◌≡◌, ◌≢◌, ℕ, zero, suc, ◌<◌, ◌≤◌, ◌⊎◌, inl, inr, List, [], ◌++◌, append_assoc, append-nil, Bool, true, Option, Some, None, Ok, Err, refl, sym, ap, subst, ◌∙◌, arith, cases_lt, le_refl}
 use Rattle.std.specs.Prelude.{IfSome}
 use Rattle.std.specs.Io.KnownBytes.{Appends}
 use Rattle.std.proofs.KnownBytes.{Appends-trans}
@@ -7,11 +7,14 @@ use Rattle.yds_model.specs.declared.status.Status.{Status}
 use Rattle.yds_model.specs.declared.status.Status.TheVariants as statuses
 use Rattle.yds_port.specs.Count.{Rose, next_count}
 use Rattle.yds_port.specs.Sink.{AppendsFront}
+use Rattle.yds_kernel_order.specs.Order.{order_of}
 use Rattle.yds_trace.specs.Asked.{Asked}
+use Rattle.yds_trace_reading.specs.LineFault.{past_of}
 use Rattle.yds_trace_reading.specs.Reading.{IsReadOut}
 use Rattle.yds_trace_parts.specs.declared.halt.Halt.{Halt as HaltKept}
 use Rattle.yds_trace_parts.specs.declared.halt.Halt.TheVariants as halts
 use Rattle.yds_trace_parts.specs.Told.{Halt, InForm, AtLine, OfDocument, OfText, NoPlace, told_after, told_in_text}
+use Rattle.yds_trace_parts.specs.Flushing.{count_on, times_told}
 use Rattle.yds_trace_parts.specs.Driving.{WritesSome, Writes as WritesParts}
 use Rattle.yds_trace_words.specs.Request.{ReadTrace}
 use Rattle.yds_trace_run.specs.FaultText.{halt_text, too_long_text, memory_text, read_fault_text}
@@ -144,6 +147,32 @@ module _ (asked : Asked) (strict : Bool) (bytes : List ℕ) (in_parts : asked.in
         failed_so (told_in_text asked strict bytes).halt ended (written old) (written new) (flushed new) refl tells.0
         (subst (λ (one : K). AppendsFront (told_in_text asked strict bytes).text (written old) (written one)) (sym tells.1) drives)
 
+-- # Flushes
+
+grows : (count : ℕ) → next_count count ≤ next_count (next_count count)
+grows count = grind arith
+
+-- Behind whatever number of flushes one more is one more than before them, but at the last value.
+once_more : (times count : ℕ) → next_count count ≤ next_count (count_on times count)
+once_more zero count = le_refl (next_count count)
+once_more (suc times) count = omega (arith, once_more times count, grows (count_on times count))
+
+pub once_behind : (old mid new times : ℕ) → mid ≡ count_on times old → new ≡ next_count mid → new ≡ next_count (count_on times old)
+once_behind old mid new times first last = last ∙ ap next_count first
+
+-- behind all parts of a trace that was told to its end
+pub flushed_last : (asked : Asked) (strict : Bool) (input : Option (List ℕ)) (ended : Status) (old mid new : ℕ)
+    → IfSome input (λ bytes. mid ≡ count_on (times_told asked strict (past_of (order_of bytes))) old) → (ended ≢ statuses.WriteFault → new ≡ next_count mid)
+    → IfSome input (λ bytes. ended ≡ statuses.Done → new ≡ next_count (count_on (times_told asked strict (past_of (order_of bytes))) old))
+flushed_last asked strict None ended old mid new each last = tt
+flushed_last asked strict (Some bytes) ended old mid new each last = λ done.
+    once_behind old mid new (times_told asked strict (past_of (order_of bytes))) each
+    (last (λ failed. let both : statuses.Done ≡ statuses.WriteFault = sym done ∙ failed in absurd cc))
+
+pub never_done : {P : List ℕ → Type 0} (input : Option (List ℕ)) (ended : Status) → ended ≢ statuses.Done → IfSome input (λ bytes. ended ≡ statuses.Done → P bytes)
+never_done None ended other = tt
+never_done (Some bytes) ended other = λ done. absurd (other done)
+
 -- # Halts
 
 write_failed : (halt : HaltKept) → (halt ≡ halts.WriteFault) ⊎ (halt ≢ halts.WriteFault)
@@ -202,16 +231,17 @@ module _ {K : Type 0} (written : K → Option (List ℕ)) (flushed : K → Optio
     | inr not_less ↦ omega (arith, later, not_less)
   ]
 
-  -- what comes behind the parts, where none of their writes failed
-  pub delivered_behind : (text : List ℕ) (status ended : Status) (old mid new : K) → faults old ≤ faults mid → (faults old < faults mid → ⊥) → flushes mid ≡ flushes old
-      → IsDelivered written flushed flushes faults text status ended mid new → IsEnded written flushed flushes faults ended old new
-  delivered_behind text status ended old mid new later never stays delivered =
+  -- what comes behind the parts, where none of their writes and flushes failed
+  pub delivered_behind : (text : List ℕ) (status ended : Status) (times : ℕ) (old mid new : K) → faults old ≤ faults mid → (faults old < faults mid → ⊥)
+      → flushes mid ≡ count_on times (flushes old) → IsDelivered written flushed flushes faults text status ended mid new → IsEnded written flushed flushes faults ended old new
+  delivered_behind text status ended times old mid new later never counted delivered =
       let same : faults mid ≡ faults old = same_count (faults old) (faults mid) later never in
       record {
         later = subst (λ (count : ℕ). count ≤ faults new) same delivered.later;
         counted = λ failed. subst (λ (count : ℕ). Rose count (faults new)) same (delivered.counted failed);
         told = λ more. delivered.told (subst (λ (count : ℕ). count < faults new) (sym same) more);
-        flushed_once = λ whole. delivered.flushed_once whole ∙ ap next_count stays;
+        flushed = λ whole. subst (λ (count : ℕ). next_count (flushes old) ≤ count) (sym (once_behind (flushes old) (flushes mid) (flushes new) times counted (delivered.flushed_once whole)))
+            (once_more times (flushes old));
       }
 
   other_halt : (halt : HaltKept) (ended : Status) (mid new : K) → halt ≢ halts.WriteFault → TellsHalt written flushed flushes faults halt ended mid new
@@ -227,19 +257,19 @@ module _ {K : Type 0} (written : K → Option (List ℕ)) (flushed : K → Optio
   other_halt halts.Memory ended mid new other tells = tells
 
   pub halted_ended : (halt : HaltKept) (ended : Status) (old mid new : K) → faults old ≤ faults mid → (halt ≡ halts.WriteFault → Rose (faults old) (faults mid))
-      → (faults old < faults mid → halt ≡ halts.WriteFault) → flushes mid ≡ flushes old → TellsHalt written flushed flushes faults halt ended mid new
-      → IsEnded written flushed flushes faults ended old new
-  halted_ended halt ended old mid new later counted told stays tells = elim (write_failed halt) [
+      → (faults old < faults mid → halt ≡ halts.WriteFault) → (halt ≢ halts.WriteFault → (times : ℕ) × (flushes mid ≡ count_on times (flushes old)))
+      → TellsHalt written flushed flushes faults halt ended mid new → IsEnded written flushed flushes faults ended old new
+  halted_ended halt ended old mid new later counted told often tells = elim (write_failed halt) [
     | inl failed ↦
         let nothing = subst (λ (one : HaltKept). TellsHalt written flushed flushes faults one ended mid new) failed tells in
         record {
           later = subst (λ (one : K). faults old ≤ faults one) (sym nothing.1) later;
           counted = λ _. subst (λ (one : K). Rose (faults old) (faults one)) (sym nothing.1) (counted failed);
           told = λ _. nothing.0;
-          flushed_once = λ whole. absurd (whole nothing.0);
+          flushed = λ whole. absurd (whole nothing.0);
         }
     | inr other ↦
-        delivered_behind (halted_text halt) (halted_status halt) ended old mid new later (λ more. other (told more)) stays (other_halt halt ended mid new other tells)
+        delivered_behind (halted_text halt) (halted_status halt) ended (often other).0 old mid new later (λ more. other (told more)) (often other).1 (other_halt halt ended mid new other tells)
   ]
 
   -- # How it ends

@@ -4,7 +4,7 @@ use Rattle.std.specs.Prelude.{IfSome}
 use Rattle.std.specs.Io.KnownBytes.{Appends, Keeps}
 use Rattle.yds_model.specs.declared.status.Status.{Status}
 use Rattle.yds_model.specs.declared.status.Status.TheVariants as statuses
-use Rattle.yds_port.specs.Count.{Rose}
+use Rattle.yds_port.specs.Count.{Rose, next_count}
 use Rattle.yds_trace_reading.specs.declared.stopped.Stopped.{Stopped}
 use Rattle.yds_trace_reading.specs.LineFault.{LineFault, InForm, AtLine}
 use Rattle.yds_trace_reading.specs.Reading.{IsReadOut}
@@ -18,7 +18,7 @@ use Rattle.yds_trace_run.specs.FaultText.{fault_text, too_long_text, memory_text
 use Rattle.yds_trace_run.specs.Endings.{Outcome, Writes, IsDelivered, IsEnded, Leaves, TellsStop, stopped_of, stopped_text, stopped_status}
 use Rattle.yds_trace_run.proofs.Told.{ends_alone}
 use Rattle.yds_trace_run.proofs.Left.{not_done, leaves_as_stopped, leaves_failed}
-use Rattle.yds_trace_run.proofs.Parted.{outcome_more, delivered_behind}
+use Rattle.yds_trace_run.proofs.Parted.{outcome_more, delivered_behind, once_behind}
 
 keeps_none : (old mid : Option (List ℕ)) → Keeps old mid → Appends old mid []
 keeps_none None mid kept = tt
@@ -124,10 +124,10 @@ module _ {K : Type 0} (written : K → Option (List ℕ)) (flushed : K → Optio
     later = subst (λ (one : K). faults old ≤ faults one) (sym tells.1) later;
     counted = λ _. subst (λ (one : K). Rose (faults old) (faults one)) (sym tells.1) (counted refl);
     told = λ _. tells.0;
-    flushed_once = λ whole. absurd (whole tells.0);
+    flushed = λ whole. absurd (whole tells.0);
   }
   stop_ended (Some stopped) ended old mid new later counted told stays tells =
-      delivered_behind written flushed flushes faults (stopped_text stopped) (stopped_status stopped) ended old mid new later
+      delivered_behind written flushed flushes faults (stopped_text stopped) (stopped_status stopped) ended 0 old mid new later
       (λ more. let none : Some stopped ≡ None = told more in absurd cc) stays tells
 
   pub no_threads_ended : (halt : Halt) (ended : Status) (old mid new : K) → faults old ≤ faults mid → (halt ≡ halts.WriteFault → Rose (faults old) (faults mid))
@@ -135,6 +135,15 @@ module _ {K : Type 0} (written : K → Option (List ℕ)) (flushed : K → Optio
       → IsEnded written flushed flushes faults ended old new
   no_threads_ended halt ended old mid new later counted told stays tells =
       stop_ended (stopped_of halt) ended old mid new later (λ none. counted (write_failed halt none)) (λ more. ap stopped_of (told more)) stays tells
+
+  stop_once : (stopped : Option Stopped) (ended : Status) (old mid new : K) → flushes mid ≡ flushes old → TellsStop written flushed flushes faults stopped ended mid new
+      → ended ≢ statuses.WriteFault → flushes new ≡ next_count (flushes old)
+  stop_once None ended old mid new stays tells whole = absurd (whole tells.0)
+  stop_once (Some stopped) ended old mid new stays tells whole = once_behind (flushes old) (flushes mid) (flushes new) 0 stays (tells.flushed_once whole)
+
+  pub no_threads_once : (halt : Halt) (ended : Status) (old mid new : K) → flushes mid ≡ flushes old → TellsStop written flushed flushes faults (stopped_of halt) ended mid new
+      → ended ≢ statuses.WriteFault → flushes new ≡ next_count (flushes old)
+  no_threads_once halt ended old mid new stays tells whole = stop_once (stopped_of halt) ended old mid new stays tells whole
 
   stop_not_done : (stopped : Option Stopped) (ended : Status) (mid new : K) → TellsStop written flushed flushes faults stopped ended mid new → ended ≢ statuses.Done
   stop_not_done None ended mid new tells done = let both : statuses.WriteFault ≡ statuses.Done = sym tells.0 ∙ done in absurd cc

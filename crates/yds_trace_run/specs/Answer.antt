@@ -119,3 +119,8 @@ abbrev pub ReadsInput : Result Request WordFault → Type 0
 ReadsInput (Ok (ReadTrace asked strict)) = Unit {0}
 ReadsInput (Ok ListThreads) = Unit {0}
 ReadsInput _ = ⊥
+
+-- a trace is to be told in parts
+abbrev pub TellsParts : Result Request WordFault → Type 0
+TellsParts (Ok (ReadTrace asked strict)) = asked.in_parts ≡ true
+TellsParts _ = ⊥

@@ -60,12 +60,12 @@ pub record IsDelivered {K : Type 0} (written : K → Option (List ℕ)) (flushed
   pub told : faults old < faults new → ended ≡ statuses.WriteFault
   pub flushed_once : ended ≢ statuses.WriteFault → flushes new ≡ next_count (flushes old)
 
--- what each run does to the sink
+-- what each run does to the sink: what it wrote is flushed behind it, and in parts also before
 pub record IsEnded {K : Type 0} (written : K → Option (List ℕ)) (flushed : K → Option ℕ) (flushes faults : K → ℕ) (ended : Status) (old new : K) : Type 0 where
   pub later : faults old ≤ faults new
   pub counted : ended ≡ statuses.WriteFault → Rose (faults old) (faults new)
   pub told : faults old < faults new → ended ≡ statuses.WriteFault
-  pub flushed_once : ended ≢ statuses.WriteFault → flushes new ≡ next_count (flushes old)
+  pub flushed : ended ≢ statuses.WriteFault → next_count (flushes old) ≤ flushes new
 
 -- What a run over a trace that ended so leaves of this input: nothing, or where the trace was refused, what was left at a failed read or of
 -- as many bytes as 64 bits count.

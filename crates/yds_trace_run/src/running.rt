@@ -8,8 +8,9 @@ ghost use Rattle.yds_trace_words.specs.Request.{request_of, ReadTrace, ListThrea
 ghost use Rattle.yds_trace_words.specs.Views.{words_of};
 ghost use Rattle.yds_trace_reading.specs.LineFault.{past_of};
 ghost use Rattle.yds_trace_document.specs.Kept.{IsPlain};
+ghost use Rattle.yds_trace_parts.specs.Flushing.{count_on, times_told};
 ghost use Rattle.yds_trace.specs.Views.{asked_read};
-ghost use Rattle.yds_trace_run.specs.Answer.{ReadsInput};
+ghost use Rattle.yds_trace_run.specs.Answer.{ReadsInput, TellsParts};
 ghost use Rattle.yds_trace_run.specs.Endings.{Writes, IsEnded, IsDelivered, Tells, TellsHalt, TellsStop, Leaves, stopped_of, stopped_text, stopped_status};
 ghost use Rattle.yds_trace_run.specs.Worth.{HidesNothing, IsReadSo, IsFaithfulSo, IsWholeSo};
 
@@ -31,7 +32,8 @@ use yds_trace_threads as threads;
 use yds_trace_threads::tell_threads;
 use yds_trace_words::{HELP, LINE_BYTES, NoRequest, Request, VERSION, fault_line, read_words};
 
-/// Runs what the words ask for: reads the source to its end in one pass, writes the text and flushes the sink, once.
+/// Runs what the words ask for: reads the source to its end in one pass, writes the text and flushes the sink: once behind the text, and
+/// in parts also behind each line with which parts are whole, so that who follows a trace has each part then.
 ///
 /// - `Done`: the text of a document, of all parts of a trace, of its threads, of `--help` or of `--version` was written whole.
 /// - `Usage`: the words can't be taken. The source isn't read.
@@ -67,7 +69,11 @@ pub fn run<S: Source, K: Sink>(
     ensures unread { ¬ ReadsInput (request_of (words_of words.now)) → source.new ≡ source.old }
     ensures read_to_its_end { ReadsInput (request_of (words_of words.now))
         → IfSome (S.left source.old) (λ input. Leaves result input (S.left source.new) (S.faults source.old) (S.faults source.new)) }
-    ensures flushed_once { result ≢ Status.WriteFault → K.flushes sink.new ≡ next_count (K.flushes sink.old) }
+    ensures flushed { result ≢ Status.WriteFault → next_count (K.flushes sink.old) ≤ K.flushes sink.new }
+    ensures flushed_once { ¬ TellsParts (request_of (words_of words.now)) → result ≢ Status.WriteFault → K.flushes sink.new ≡ next_count (K.flushes sink.old) }
+    ensures flushed_behind_each { (asked : asking.Asked) (strict : Bool) → request_of (words_of words.now) ≡ Ok (ReadTrace asked strict) → asked.in_parts ≡ true
+        → IfSome (S.left source.old) (λ input. result ≡ Status.Done
+        → K.flushes sink.new ≡ next_count (count_on (times_told asked strict (past_of (order_of input))) (K.flushes sink.old))) }
 
     // What was written is one of the texts for the words and all bytes of the source: the document with its status, or why there is none.
     ensures answer { IfSome (S.left source.old) (λ input.
@@ -120,6 +126,9 @@ fn run_trace<S: Source, K: Sink>(
     ensures no_fault_passed_over { result ≡ Status.Done → S.faults source.new ≡ S.faults source.old }
     ensures read_to_its_end { IfSome (S.left source.old) (λ input. Leaves result input (S.left source.new) (S.faults source.old) (S.faults source.new)) }
     ensures sink { IsEnded K.written K.flushed K.flushes K.faults result sink.old sink.new }
+    ensures flushed_once { asked.in_parts ≡ false → result ≢ Status.WriteFault → K.flushes sink.new ≡ next_count (K.flushes sink.old) }
+    ensures flushed_behind_each { asked.in_parts ≡ true → IfSome (S.left source.old) (λ input. result ≡ Status.Done
+        → K.flushes sink.new ≡ next_count (count_on (times_told (asked_read asked) strict (past_of (order_of input))) (K.flushes sink.old))) }
     ensures answer { IfSome (S.left source.old) (λ input.
         Writes (Ok (ReadTrace (asked_read asked) strict)) input result (K.written sink.old) (K.written sink.new) (K.flushed sink.new)) }
 {
@@ -145,6 +154,7 @@ fn run_whole<S: Source, K: Sink>(
     ensures no_fault_passed_over { result ≡ Status.Done → S.faults source.new ≡ S.faults source.old }
     ensures read_to_its_end { IfSome (S.left source.old) (λ input. Leaves result input (S.left source.new) (S.faults source.old) (S.faults source.new)) }
     ensures sink { IsEnded K.written K.flushed K.flushes K.faults result sink.old sink.new }
+    ensures flushed_once { result ≢ Status.WriteFault → K.flushes sink.new ≡ next_count (K.flushes sink.old) }
     ensures answer { IfSome (S.left source.old) (λ input.
         Writes (Ok (ReadTrace (asked_read asked) strict)) input result (K.written sink.old) (K.written sink.new) (K.flushed sink.new)) }
 {
@@ -169,6 +179,8 @@ fn run_in_parts<S: Source, K: Sink>(
     ensures no_fault_passed_over { result ≡ Status.Done → S.faults source.new ≡ S.faults source.old }
     ensures read_to_its_end { IfSome (S.left source.old) (λ input. Leaves result input (S.left source.new) (S.faults source.old) (S.faults source.new)) }
     ensures sink { IsEnded K.written K.flushed K.flushes K.faults result sink.old sink.new }
+    ensures flushed_behind_each { IfSome (S.left source.old) (λ input. result ≡ Status.Done
+        → K.flushes sink.new ≡ next_count (count_on (times_told (asked_read asked) strict (past_of (order_of input))) (K.flushes sink.old))) }
     ensures answer { IfSome (S.left source.old) (λ input.
         Writes (Ok (ReadTrace (asked_read asked) strict)) input result (K.written sink.old) (K.written sink.new) (K.flushed sink.new)) }
 {
@@ -190,6 +202,7 @@ fn run_threads<S: Source, K: Sink>(
     ensures no_fault_passed_over { result ≡ Status.Done → S.faults source.new ≡ S.faults source.old }
     ensures read_to_its_end { IfSome (S.left source.old) (λ input. Leaves result input (S.left source.new) (S.faults source.old) (S.faults source.new)) }
     ensures sink { IsEnded K.written K.flushed K.flushes K.faults result sink.old sink.new }
+    ensures flushed_once { result ≢ Status.WriteFault → K.flushes sink.new ≡ next_count (K.flushes sink.old) }
     ensures answer { IfSome (S.left source.old) (λ input.
         Writes (Ok ListThreads) input result (K.written sink.old) (K.written sink.new) (K.flushed sink.new)) }
 {

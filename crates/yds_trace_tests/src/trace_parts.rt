@@ -120,10 +120,14 @@ fn letter(told: &Result<(), Halt>) -> u8 {
 #[test]
 fn parts_are_written_as_they_are_whole(rt: HostRuntime) -> Result<(), Fail> {
     let alloc = rt.alloc();
-    // The read or the write of this number fails, and the fourth read would tell the end.
+    // The read of this number fails, or the write or flush. The fourth read would tell the end. The first part is written, then
+    // flushed, and the last one is written.
     let cases = [
         (0, 0, b'.', BOTH),
+        (0, 1, b'w', b"".as_slice()),
         (0, 2, b'w', FIRST),
+        (0, 3, b'w', FIRST),
+        (0, 4, b'.', BOTH),
         (4, 0, b'r', FIRST),
         (1, 0, b'r', b"".as_slice()),
     ];

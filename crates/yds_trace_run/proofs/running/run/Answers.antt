@@ -1,13 +1,18 @@
-use Rattle.yds_model.proofs.Common.{◌≡◌, ◌∙◌, ℕ, List, refl, sym, subst, Option, Some, None, Result, Ok}
-use Rattle.std.specs.Prelude.{IfSome}
+use Rattle.yds_model.proofs.Common.{◌≡◌, ◌∙◌, ℕ, List, refl, sym, subst, Option, Some, None, Result, Ok, true, false_from_ne_true}
+use Rattle.std.specs.Prelude.{⊤, IfSome}
 use Rattle.yds_model.specs.declared.status.Status.{Status}
 use Rattle.yds_model.specs.declared.status.Status.TheVariants as statuses
+use Rattle.yds_port.specs.Count.{next_count}
+use Rattle.yds_kernel_order.specs.Order.{order_of}
 use Rattle.yds_trace.specs.Views.{asked_read}
+use Rattle.yds_trace_reading.specs.LineFault.{past_of}
+use Rattle.yds_trace_parts.specs.Flushing.{count_on, times_told}
 use Rattle.yds_trace_words.specs.declared.request.Request.{Request as RequestMade}
 use Rattle.yds_trace_words.specs.Request.{Request, ShowHelp, ReadTrace, request_of, IsFit, IsFitRequest}
 use Rattle.yds_trace_words.specs.Texts.{help_text}
 use Rattle.yds_trace_words.specs.Views.{words_of, request_read}
 use Rattle.yds_trace_words.specs.Words.{WordFault}
+use Rattle.yds_trace_run.specs.Answer.{TellsParts}
 use Rattle.yds_trace_run.specs.FaultText.{memory_text}
 use Rattle.yds_trace_run.specs.Endings.{IsText, Writes, IsDelivered}
 use Rattle.yds_trace_run.proofs.Told.{ends_alone}
@@ -61,6 +66,26 @@ returns-in-Ok-Trace-clause-whole g c = λ done asked strict same.
     c.run_trace.result (subst IsFit one fit) done
     (subst (λ (request : Request). IfSome (g.S.Source.left c.args.source.now) (λ input. Writes (Ok request) input c.run_trace.result (g.K.Sink.written c.args.sink.now)
     (g.K.Sink.written c.run_trace.new.sink) (g.K.Sink.flushed c.run_trace.new.sink))) both c.run_trace.ensures.answer)
+
+-- Where the trace isn't told in parts, it is flushed once.
+pub returns-in-Ok-Trace-clause-flushed_once : goal.returns-in-Ok-Trace-clause-flushed_once
+returns-in-Ok-Trace-clause-flushed_once g c = λ whole.
+    let made = subst (λ (made : RequestMade). request_of (words_of c.args.words.now) ≡ Ok (request_read made)) c.in-Ok-Trace.field-0-is c.in-Ok-Trace.ensures.request in
+    c.run_trace.ensures.flushed_once (false_from_ne_true (λ in_parts. whole (subst TellsParts (sym made) in_parts)))
+
+-- what is said of how often the sink is flushed for a trace that is told in parts
+abbrev FlushesEach : Request → Option (List ℕ) → Status → ℕ → ℕ → Type 0
+FlushesEach (ReadTrace asked strict) input ended old new = asked.in_parts ≡ true
+    → IfSome input (λ bytes. ended ≡ statuses.Done → new ≡ next_count (count_on (times_told asked strict (past_of (order_of bytes))) old))
+FlushesEach other input ended old new = ⊤
+
+pub returns-in-Ok-Trace-clause-flushed_behind_each : goal.returns-in-Ok-Trace-clause-flushed_behind_each
+returns-in-Ok-Trace-clause-flushed_behind_each g c = λ asked strict same.
+    let made = subst (λ (made : RequestMade). request_of (words_of c.args.words.now) ≡ Ok (request_read made)) c.in-Ok-Trace.field-0-is c.in-Ok-Trace.ensures.request in
+    let joined : Ok (ReadTrace (asked_read c.in-Ok-Trace.asked) c.in-Ok-Trace.strict) ≡ Ok (ReadTrace asked strict) = sym made ∙ same in
+    let both : ReadTrace (asked_read c.in-Ok-Trace.asked) c.in-Ok-Trace.strict ≡ ReadTrace asked strict = cc in
+    subst (λ (request : Request). FlushesEach request (g.S.Source.left c.args.source.now) c.run_trace.result (g.K.Sink.flushes c.args.sink.now) (g.K.Sink.flushes c.run_trace.new.sink))
+    both c.run_trace.ensures.flushed_behind_each
 
 -- Where memory ran out before the trace was read, nothing was written but that.
 memory_writes : {K : Type 0} (written : K → Option (List ℕ)) (flushed : K → Option ℕ) (flushes faults : K → ℕ) (words : List (List ℕ)) (input : Option (List ℕ)) (ended : Status)

@@ -5,7 +5,7 @@ use Rattle.yds_trace_parts.specs.declared.halt.Halt.{Halt as HaltKept}
 use Rattle.yds_trace_parts.specs.declared.halt.Halt.TheVariants as halts
 use Rattle.yds_trace_run.proofs.Left.{leaves_nothing}
 use Rattle.yds_trace_run.proofs.Plain.{granted}
-use Rattle.yds_trace_run.proofs.Parted.{done_writes, halted_writes, delivered_behind, halted_ended, halted_not_done, halted_read_fault, halted_leaves}
+use Rattle.yds_trace_run.proofs.Parted.{done_writes, halted_writes, delivered_behind, halted_ended, halted_not_done, halted_read_fault, halted_leaves, flushed_last, never_done}
 use Rattle.yds_trace_run.proofs.running.run_in_parts.Goals as goal
 
 abbrev done : Result (Unit {0}) HaltKept
@@ -38,14 +38,26 @@ returns-in-Err-clause-answer g c =
 
 pub returns-in-Ok-clause-sink : goal.returns-in-Ok-clause-sink
 returns-in-Ok-clause-sink g c =
-    delivered_behind g.K.Sink.written g.K.Sink.flushed g.K.Sink.flushes g.K.Sink.faults [] statuses.Done c.finish.result c.args.sink.now c.tell_parts.new.sink c.finish.new.sink
-    c.in-Ok.ensures.sink_later (λ more. not_failed halts.WriteFault (c.in-Ok.ensures.sink_rose more)) c.in-Ok.ensures.flushes_stay c.finish.ensures
+    let often = c.in-Ok.ensures.flushed_so_often (not_failed halts.WriteFault) in
+    delivered_behind g.K.Sink.written g.K.Sink.flushed g.K.Sink.flushes g.K.Sink.faults [] statuses.Done c.finish.result often.0 c.args.sink.now c.tell_parts.new.sink c.finish.new.sink
+    c.in-Ok.ensures.sink_later (λ more. not_failed halts.WriteFault (c.in-Ok.ensures.sink_rose more)) often.1 c.finish.ensures
 
 pub returns-in-Err-clause-sink : goal.returns-in-Err-clause-sink
 returns-in-Err-clause-sink g c =
     halted_ended g.K.Sink.written g.K.Sink.flushed g.K.Sink.flushes g.K.Sink.faults c.in-Err.halt c.tell_halt.result c.args.sink.now c.tell_parts.new.sink c.tell_halt.new.sink
     c.in-Err.ensures.sink_later (λ failed. c.in-Err.ensures.write_fault (same_end c.in-Err.halt halts.WriteFault failed)) (λ more. same_halt c.in-Err.halt halts.WriteFault (c.in-Err.ensures.sink_rose more))
-    c.in-Err.ensures.flushes_stay c.tell_halt.ensures
+    (λ other. c.in-Err.ensures.flushed_so_often (λ same. other (same_halt c.in-Err.halt halts.WriteFault same))) c.tell_halt.ensures
+
+-- Behind the last parts there is one flush more.
+pub returns-in-Ok-clause-flushed_behind_each : goal.returns-in-Ok-clause-flushed_behind_each
+returns-in-Ok-clause-flushed_behind_each g c =
+    flushed_last (asked_read c.args.asked) c.args.strict (g.S.Source.left c.args.source.now) c.finish.result (g.K.Sink.flushes c.args.sink.now) (g.K.Sink.flushes c.tell_parts.new.sink)
+    (g.K.Sink.flushes c.finish.new.sink) c.in-Ok.ensures.flushed_behind_each c.finish.ensures.flushed_once
+
+pub returns-in-Err-clause-flushed_behind_each : goal.returns-in-Err-clause-flushed_behind_each
+returns-in-Err-clause-flushed_behind_each g c =
+    never_done (g.S.Source.left c.args.source.now) c.tell_halt.result
+    (halted_not_done g.K.Sink.written g.K.Sink.flushed g.K.Sink.flushes g.K.Sink.faults c.in-Err.halt c.tell_halt.result c.tell_parts.new.sink c.tell_halt.new.sink c.tell_halt.ensures)
 
 pub returns-in-Ok-clause-read_to_its_end : goal.returns-in-Ok-clause-read_to_its_end
 returns-in-Ok-clause-read_to_its_end g c =

@@ -4,8 +4,8 @@ use Rattle.yds_trace_threads.specs.declared.halt.Halt.{Halt}
 use Rattle.yds_trace_threads.specs.declared.halt.Halt.TheVariants as halts
 use Rattle.yds_trace_run.specs.Endings.{stopped_of}
 use Rattle.yds_trace_run.proofs.Left.{leaves_nothing}
-use Rattle.yds_trace_run.proofs.Parted.{delivered_behind}
-use Rattle.yds_trace_run.proofs.Threads.{threads_write, no_threads_write, no_threads_ended, no_threads_not_done, no_threads_read_fault, no_threads_leave}
+use Rattle.yds_trace_run.proofs.Parted.{delivered_behind, once_behind}
+use Rattle.yds_trace_run.proofs.Threads.{threads_write, no_threads_write, no_threads_ended, no_threads_once, no_threads_not_done, no_threads_read_fault, no_threads_leave}
 use Rattle.yds_trace_run.proofs.running.run_threads.Goals as goal
 
 abbrev done : Result (Unit {0}) Halt
@@ -35,7 +35,7 @@ returns-in-Err-clause-answer g c =
 
 pub returns-in-Ok-clause-sink : goal.returns-in-Ok-clause-sink
 returns-in-Ok-clause-sink g c =
-    delivered_behind g.K.Sink.written g.K.Sink.flushed g.K.Sink.flushes g.K.Sink.faults [] statuses.Done c.finish.result c.args.sink.now c.tell_threads.new.sink c.finish.new.sink
+    delivered_behind g.K.Sink.written g.K.Sink.flushed g.K.Sink.flushes g.K.Sink.faults [] statuses.Done c.finish.result 0 c.args.sink.now c.tell_threads.new.sink c.finish.new.sink
     c.in-Ok.ensures.sink_later (λ more. not_failed halts.WriteFault (c.in-Ok.ensures.sink_rose more)) c.in-Ok.ensures.flushes_stay c.finish.ensures
 
 pub returns-in-Err-clause-sink : goal.returns-in-Err-clause-sink
@@ -43,6 +43,16 @@ returns-in-Err-clause-sink g c =
     no_threads_ended g.K.Sink.written g.K.Sink.flushed g.K.Sink.flushes g.K.Sink.faults c.in-Err.halt c.tell_no_threads.result c.args.sink.now c.tell_threads.new.sink
     c.tell_no_threads.new.sink c.in-Err.ensures.sink_later (λ failed. c.in-Err.ensures.write_fault (same_end c.in-Err.halt halts.WriteFault failed))
     (λ more. same_halt c.in-Err.halt halts.WriteFault (c.in-Err.ensures.sink_rose more)) c.in-Err.ensures.flushes_stay c.tell_no_threads.ensures
+
+pub returns-in-Ok-clause-flushed_once : goal.returns-in-Ok-clause-flushed_once
+returns-in-Ok-clause-flushed_once g c = λ whole.
+    once_behind (g.K.Sink.flushes c.args.sink.now) (g.K.Sink.flushes c.tell_threads.new.sink) (g.K.Sink.flushes c.finish.new.sink) 0 c.in-Ok.ensures.flushes_stay
+    (c.finish.ensures.flushed_once whole)
+
+pub returns-in-Err-clause-flushed_once : goal.returns-in-Err-clause-flushed_once
+returns-in-Err-clause-flushed_once g c =
+    no_threads_once g.K.Sink.written g.K.Sink.flushed g.K.Sink.flushes g.K.Sink.faults c.in-Err.halt c.tell_no_threads.result c.args.sink.now c.tell_threads.new.sink
+    c.tell_no_threads.new.sink c.in-Err.ensures.flushes_stay c.tell_no_threads.ensures
 
 pub returns-in-Ok-clause-read_to_its_end : goal.returns-in-Ok-clause-read_to_its_end
 returns-in-Ok-clause-read_to_its_end g c =
