@@ -18,4 +18,5 @@ mod texts;
 pub use fault::{NoRequest, Place, Reason, WordFault};
 pub use limits::{MAX_LABEL, MAX_SPEEDS, MAX_TASKS, MAX_UNIT};
 pub use request::{Request, read_words};
+pub use setting::files;
 pub use texts::{HELP, LINE_BYTES, VERSION, fault_line, push_shown};
