@@ -10,7 +10,7 @@ use yds_trace_words::{LINE_BYTES, push_shown};
 
 /// The comment that tells what a read that failed was of, and the line that no reader of documents takes. It is made on the stack.
 pub fn read_fault_line(unread: Unread<'_>) -> ArrayString<LINE_BYTES>
-    ensures { result.bytes ≡ spec.read_fault_text (spec.unread_read unread) }
+    ensures { result.bytes ≡ spec.read_fault_text (spec.unread_read unread.entry) }
 {
     let mut line = ArrayString::new();
     line.push_str("# ");
@@ -22,7 +22,7 @@ pub fn read_fault_line(unread: Unread<'_>) -> ArrayString<LINE_BYTES>
 /// What it was of, and what to do.
 fn push_unread(unread: Unread<'_>, line: &mut ArrayString<LINE_BYTES>)
     requires { array_string_len line.old ≤ 2 }
-    ensures text { line.new.bytes ≡ line.old.bytes ++ spec.unread_text (spec.unread_read unread) }
+    ensures text { line.new.bytes ≡ line.old.bytes ++ spec.unread_text (spec.unread_read unread.entry) }
     ensures short { array_string_len line.new ≤ 260 }
 {
     match unread {
