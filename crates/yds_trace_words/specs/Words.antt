@@ -135,6 +135,15 @@ files_of [] = []
 files_of (word ∷ []) = last_file (word_of word)
 files_of (word ∷ next ∷ words) = files_from (word_of word) (next ∷ words) (files_of (next ∷ words)) (files_of words)
 
+-- Standard input where there is none.
+abbrev pub or_standard_input : List (List ℕ) → List (List ℕ)
+or_standard_input [] = codes "-" ∷ []
+or_standard_input (file ∷ files) = file ∷ files
+
+-- what the trace is read from
+abbrev pub inputs_of : List (List ℕ) → List (List ℕ)
+inputs_of words = or_standard_input (files_of words)
+
 -- # Settings
 
 -- the value that this is set to

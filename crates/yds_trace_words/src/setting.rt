@@ -2,7 +2,7 @@
 ghost use Rattle.std.specs.Prelude.{◌≡◌, ◌==◌, ◌++◌, map, true, false, option_map, MatchOption, IfOk};
 ghost use Rattle.std.specs.List.{list_any, before_first, after_first};
 ghost use Rattle.yds_trace_words.specs.Words as spec;
-ghost use Rattle.yds_trace_words.specs.Words.{settings_of, files_of, value_of, other_than, given_twice};
+ghost use Rattle.yds_trace_words.specs.Words.{settings_of, files_of, inputs_of, value_of, other_than, given_twice};
 ghost use Rattle.yds_trace_words.specs.Views.{words_of, setting_read, settings_read, names_read, Reads, IsWord};
 
 use crate::fault::{NoRequest, Reason, WordFault};
@@ -67,9 +67,19 @@ pub(crate) fn settings<'a>(
     Ok(settings)
 }
 
-/// The files that the words name, in their order, as texts: a word that doesn't begin with a hyphen or is just that, and each one
-/// behind `--`.
-pub fn files<'a>(alloc: Global, words: &'a [String]) -> Result<Vec<&'a str>, Memory>
+/// What the trace is read from: the files that the words name, in their order, or a hyphen for standard input where there is none.
+pub fn inputs<'a>(alloc: Global, words: &'a [String]) -> Result<Vec<&'a str>, Memory>
+    ensures { IfOk result (λ inputs. names_read inputs ≡ inputs_of (words_of words.now)) }
+{
+    let mut inputs = files(alloc, words)?;
+    if inputs.is_empty() {
+        inputs.push("-")?;
+    }
+    Ok(inputs)
+}
+
+/// The files that the words name, in their order: a word that doesn't begin with a hyphen or is just that, and each one behind `--`.
+fn files<'a>(alloc: Global, words: &'a [String]) -> Result<Vec<&'a str>, Memory>
     ensures { IfOk result (λ files. names_read files ≡ files_of (words_of words.now)) }
 {
     let mut files = Vec::new(alloc);
