@@ -71,11 +71,13 @@ pub(crate) fn settings<'a>(
 pub fn inputs<'a>(alloc: Global, words: &'a [String]) -> Result<Vec<&'a str>, Memory>
     ensures { IfOk result (λ inputs. names_read inputs ≡ inputs_of (words_of words.now)) }
 {
-    let mut inputs = files(alloc, words)?;
-    if inputs.is_empty() {
-        inputs.push("-")?;
+    let files = files(alloc, words)?;
+    if !files.is_empty() {
+        return Ok(files);
     }
-    Ok(inputs)
+    let mut input = Vec::new(alloc);
+    input.push("-")?;
+    Ok(input)
 }
 
 /// The files that the words name, in their order: a word that doesn't begin with a hyphen or is just that, and each one behind `--`.
