@@ -11,6 +11,9 @@ left out; in parts each of them. What is held:
   word. (Bytes that turn one number or name into another make another trace, which no reader can tell.)
 - what is written is what the second reading of trace.py says of the broken bytes, with its status.
 - a status that isn't 0 comes with the line `failed`, and `yds_cli audit` refuses what was written.
+- the same is written of the broken bytes in several files, cut at ends of lines, one of them perhaps standard input, with
+  the other words among them. Where a file that another one follows is cut within a line, the status is 4, the comment
+  names that file, and before it stands nothing, or in parts a front of what is written of all.
 
 YDS_TRACE and YDS_CLI are the built programs (build/yds_trace and build/yds_cli). The last line is 'N passed, M failed';
 the exit status is 1 where M isn't 0.
@@ -21,6 +24,7 @@ import random
 import re
 import subprocess
 import sys
+import tempfile
 from collections import Counter
 from pathlib import Path
 from typing import List, Tuple
@@ -60,16 +64,38 @@ def broken(draw: random.Random, trace: bytes) -> bytes:
     return b"\n".join(way(draw, lines)) + b"\n"
 
 
-class Programs:
-    """The two programs."""
+def cut(draw: random.Random, trace: bytes, within: bool) -> List[bytes]:
+    """The trace in two to four pieces, cut at ends of lines, or the first one within a line."""
+    ends = [place + 1 for place, byte in enumerate(trace) if byte == 10]
+    places = sorted(draw.choice([0, *ends]) for _ in range(draw.choice([1, 1, 2, 3])))
+    if within:
+        places = [draw.choice([place for place in range(1, len(trace)) if trace[place - 1] != 10]), len(trace)]
+    return [trace[begin:end] for begin, end in zip([0, *places], [*places, len(trace)])]
 
-    def __init__(self, tracer: str, program: str) -> None:
-        self.tracer, self.program = tracer, program
+
+class Programs:
+    """The two programs, and a folder for files."""
+
+    def __init__(self, tracer: str, program: str, folder: str) -> None:
+        self.tracer, self.program, self.folder = tracer, program, folder
 
     def read(self, words: List[str], trace: bytes) -> Tuple[bytes, int]:
         """What yds_trace writes, and its status."""
         done = subprocess.run([self.tracer, *words], input=trace, capture_output=True, check=False)
         return done.stdout, done.returncode
+
+    def read_files(self, draw: random.Random, words: List[str], pieces: List[bytes]) -> Tuple[bytes, int, List[str]]:
+        """The same of a trace in pieces, each a file, and one of them perhaps standard input; and the names of these."""
+        names, given = [], b""
+        for number, piece in enumerate(pieces):
+            names.append(f"{self.folder}/{number}")
+            Path(names[-1]).write_bytes(piece)
+        if draw.random() < 0.3:
+            at = draw.randrange(len(pieces))
+            names[at], given = "-", pieces[at]
+        behind = draw.randrange(len(names) + 1)
+        done = subprocess.run([self.tracer, *names[:behind], *words, *names[behind:]], input=given, capture_output=True, check=False)
+        return done.stdout, done.returncode, names
 
     def audit(self, document: bytes) -> bytes:
         """What `yds_cli audit` says of it."""
@@ -97,6 +123,25 @@ def fault_of(programs: Programs, words: List[str], trace: bytes, said: Told, was
     return ""
 
 
+def fault_in_files(programs: Programs, draw: random.Random, words: List[str], trace: bytes, said: Told) -> str:
+    """What isn't as it should be with the answer to the trace in files, of which the second reading says this of all bytes."""
+    if "--help" in words or "--version" in words or said.status == 2:
+        return ""
+    written, status, _ = programs.read_files(draw, words, cut(draw, trace, False))
+    if (written, status) != (as_bytes(said.text), said.status):
+        return "another answer in files"
+    written, status, names = programs.read_files(draw, words, cut(draw, trace, True))
+    comment = f"# file 1 ({names[0][:64]}): it ends within a line, and another file stands behind it; give whole files\nfailed\n".encode()
+    if said.status == 3 and (written, status) == (as_bytes(said.text), said.status):
+        return ""  # A line before the cut is refused.
+    if status != 4 or not written.endswith(comment):
+        return "a file that ends within a line isn't told"
+    before = written[: -len(comment)]
+    if before and not (b"# part " in before and as_bytes(said.text).startswith(before)):
+        return "another front before the comment on a file"
+    return ""
+
+
 def unbroken(seed: int, number: int) -> Tuple[str, List[str], bytes]:
     """The trace of this number: what it is, its words and its text."""
     if number % 100 == 99:
@@ -110,7 +155,13 @@ def main(given: List[str]) -> int:
     """Breaks the traces. Gives the exit status."""
     seed = int(given[0]) if given else 1
     many = int(given[1]) if len(given) > 1 else 1_000
-    programs = Programs(given[2] if len(given) > 2 else "build/yds_trace", given[3] if len(given) > 3 else "build/yds_cli")
+    tracer, program = given[2] if len(given) > 2 else "build/yds_trace", given[3] if len(given) > 3 else "build/yds_cli"
+    with tempfile.TemporaryDirectory(prefix="broken-") as folder:
+        return tried(Programs(tracer, program, folder), seed, many)
+
+
+def tried(programs: Programs, seed: int, many: int) -> int:
+    """Breaks as many traces. Gives the exit status."""
     counts: "Counter[str]" = Counter()
     passed = failed = 0
     for number in range(many):
@@ -123,7 +174,7 @@ def main(given: List[str]) -> int:
         for _ in range(BREAKS):
             trace = broken(draw, whole)
             said = told(words, trace)
-            fault = fault_of(programs, words, trace, said, was_yes)
+            fault = fault_of(programs, words, trace, said, was_yes) or fault_in_files(programs, draw, words, trace, said)
             counts[f"broken, status {said.status}"] += 1
             passed, failed = passed + int(not fault), failed + int(bool(fault))
             if fault:

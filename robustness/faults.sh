@@ -3,7 +3,7 @@
 # how they end.
 #
 #   sh robustness/faults.sh [PART ..]      parts: memory reads writes random streams, of yds_cli; trace-memory trace-reads trace-writes
-#                                          trace-streams, of yds_trace; all without one
+#                                          trace-streams trace-files, of yds_trace; all without one
 #
 # Environment: YDS, YDS_TRACE (the programs; build/yds_cli-dynamic and build/yds_trace-dynamic beside this folder, of the same object
 # files as build/yds_cli and build/yds_trace: only a dynamic program can be broken so), CC (cc). It needs a C compiler and glibc: preload.c stands between the program and the C library. The last
@@ -383,16 +383,81 @@ printf whole >"$out"; exit "$(cat "$work/status")"'
 	trace_stream "10,000,000 empty lines in little memory" 3 "# line 10000000: ${no_line#*: }" 'ulimit -v 40000; yes "" | head -n 10000000 | "$YDS_TRACE" --tasks decode:20 >"$out"'
 	trace_stream "a word that isn't text" 7 "$not_text" '"$YDS_TRACE" "$(printf "\\377")" <"$trace" >"$out"'
 	trace_stream "a second word that isn't text" 7 "$not_text" '"$YDS_TRACE" --tasks "$(printf "a\\200")" <"$trace" >"$out"'
-	trace_stream "a word of 100,000 letters" 2 "# $(head -c 64 /dev/zero | tr '\0' a): no such word; --help lists them
+	trace_stream "a word of 100,000 letters" 2 "# -$(head -c 63 /dev/zero | tr '\0' a): no such word; --help lists them
 failed
-" '"$YDS_TRACE" "$(head -c 100000 /dev/zero | tr "\\0" a)" <"$trace" >"$out"'
+" '"$YDS_TRACE" "-$(head -c 100000 /dev/zero | tr "\\0" a)" <"$trace" >"$out"'
 	trace_stream "an input in pieces of one byte" 0 "$short" 'dd bs=1 status=none <"$trace" | "$YDS_TRACE" --tasks decode:20,audio:10 >"$out"'
 	trace_stream "a stack of 64 KB" 0 "" 'ulimit -s 64; "$YDS_TRACE" --tasks decode:20 <"$long" >"$work/small"'
 	trace_stream "too little memory for a long document" 6 "$no_memory
 " 'ulimit -v 4000; "$YDS_TRACE" --tasks decode:20 <"$long" >"$out"'
 }
 
-parts=${*:-memory reads writes random streams trace-memory trace-reads trace-writes trace-streams}
+# unread NUMBER NAME CAUSE: the two lines on a file that can't be read.
+unread() { printf '# file %s (%s): %s\nfailed\n.' "$1" "$2" "$3"; }
+# trace_files NAME STATUS LINES COMMAND: as trace_stream, with what stands in two lines, in a folder of files.
+trace_files() {
+	lines=${3%.}
+	(cd "$work/files" && true) && trace_stream "files: $1" "$2" "$lines" "cd \"\$files\" && $4 >\"\$out\""
+}
+test_trace_files() {
+	export YDS_TRACE
+	mkdir -p "$work/files/folder"
+	files=$work/files
+	export files
+	head -n 4 "$work/short" >"$files/one"
+	tail -n +5 "$work/short" >"$files/two"
+	head -c -1 "$files/one" >"$files/cut"
+	head -c -1 "$files/two" >"$files/last-cut"
+	: >"$files/empty"
+	cp "$files/two" "$files/--two"
+	cp "$work/long" "$files/long"
+	closed="it can't be opened; see that it is there and may be read"
+	broken="it couldn't be read to its end; give it anew, or leave it out if it is a folder"
+	torn="it ends within a line, and another file stands behind it; give whole files"
+	task="--tasks decode:20,audio:10"
+	short=$("$YDS_TRACE" --tasks decode:20,audio:10 <"$work/short")"
+."
+	trace_files "one" 0 "$short" "\"\$YDS_TRACE\" $task \"$work/short\" <&-"
+	trace_files "two, the words behind them" 0 "$short" "\"\$YDS_TRACE\" one two $task"
+	trace_files "two, the words between them" 0 "$short" "\"\$YDS_TRACE\" one $task two"
+	trace_files "empty ones, and a device that gives nothing" 0 "$short" "\"\$YDS_TRACE\" $task empty one /dev/null empty two empty"
+	trace_files "standard input for the second" 0 "$short" "\"\$YDS_TRACE\" $task one - <two"
+	trace_files "standard input for the first" 0 "$short" "\"\$YDS_TRACE\" - $task two <one"
+	trace_files "standard input twice, which is at its end then" 0 "$short" "\"\$YDS_TRACE\" one - - $task <two"
+	trace_files "a name that begins with hyphens" 0 "$short" "\"\$YDS_TRACE\" $task -- one --two"
+	trace_files "a last one without a line feed" 0 "$short" "\"\$YDS_TRACE\" $task one last-cut"
+	trace_files "a pipe in the place of a file" 0 "$short" "cat two | \"\$YDS_TRACE\" $task one /dev/stdin"
+	trace_files "one that isn't there" 4 "$(unread 1 none "$closed")" "\"\$YDS_TRACE\" $task none"
+	trace_files "a second one that isn't there" 4 "$(unread 2 none "$closed")" "\"\$YDS_TRACE\" $task one none two"
+	trace_files "a folder" 4 "$(unread 2 folder "$broken")" "\"\$YDS_TRACE\" $task one folder two"
+	trace_files "an empty name" 4 "$(unread 1 "" "$closed")" "\"\$YDS_TRACE\" $task ''"
+	trace_files "one that ends within a line" 4 "$(unread 2 cut "$torn")" "\"\$YDS_TRACE\" $task empty cut two"
+	trace_files "one that ends within a line, before an empty one" 4 "$(unread 1 last-cut "$torn")" "\"\$YDS_TRACE\" $task last-cut empty"
+	trace_files "standard input that ends within a line" 4 "$(unread 1 - "$torn")" "\"\$YDS_TRACE\" $task - two <cut"
+	trace_files "standard input that is closed" 4 "$no_input
+." "\"\$YDS_TRACE\" $task one - <&-"
+	trace_files "a name with a line feed and signs of a terminal" 4 "$(unread 1 'a?failed?[2J?b' "$closed")" "\"\$YDS_TRACE\" $task \"\$(printf 'a\\nfailed\\033[2J\\rb')\""
+	trace_files "a name of 1,000 letters" 4 "$(unread 1 "$(head -c 64 /dev/zero | tr '\0' a)" "$closed")" "\"\$YDS_TRACE\" $task \$(head -c 1000 /dev/zero | tr '\\0' a)"
+	trace_files "twice the same" 3 "# line 13: its time is before that of an earlier line, by more than a millisecond, behind more than 64 lines, or over lost events; sort the lines by their times
+failed
+." "\"\$YDS_TRACE\" $task \"$work/short\" \"$work/short\""
+	trace_files "words with a mistake" 2 "# --nonsense: no such word; --help lists them
+failed
+." "\"\$YDS_TRACE\" none --nonsense"
+	trace_files "--help, which reads none" 0 "$("$YDS_TRACE" --help)
+." "\"\$YDS_TRACE\" none --help"
+	trace_files "parts that were whole before one that isn't there" 0 "parts, and the last
+." "\"\$YDS_TRACE\" --parts --tasks decode:20 long none >parts; [ \$? = 4 ] && [ \$(grep -c '^# part' parts) -gt 1 ] && tail -n 1 parts | grep -qx failed && echo 'parts, and the last'"
+	if [ "$(id -u)" != 0 ]; then
+		cp "$files/one" "$files/shut"
+		chmod 000 "$files/shut"
+		trace_files "one that may not be read" 4 "$(unread 1 shut "$closed")" "\"\$YDS_TRACE\" $task shut two"
+	else
+		echo "one that may not be read: not tried, since root may read each"
+	fi
+}
+
+parts=${*:-memory reads writes random streams trace-memory trace-reads trace-writes trace-streams trace-files}
 for part in $parts; do
 	case $part in
 	trace-*) needed=$YDS_TRACE ;;

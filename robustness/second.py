@@ -165,11 +165,11 @@ def decimal(text: str, places: int, most: int) -> Optional[int]:
 
 
 def parted(text: str, sign: str) -> List[str]:
-    """The texts between signs that have no backslash before them. A backslash of a sign stays with it."""
+    """The texts between signs that have no backslash before them. A backslash stays with what it makes a letter."""
     parts, at = [""], 0
     while at < len(text):
         pair = text[at : at + 2]
-        if pair[0] == "\\" and pair[1:] in (",", ":", "="):
+        if pair[0] == "\\" and pair[1:] in (",", ":", "=", "\\"):
             parts[-1] += pair
             at += 2
             continue
@@ -182,8 +182,8 @@ def parted(text: str, sign: str) -> List[str]:
 
 
 def plain(text: str) -> str:
-    """A text with each sign without its backslash."""
-    return re.sub(r"\\([,:=])", r"\1", text)
+    """A text with each sign, and each backslash, without the backslash that makes it a letter."""
+    return re.sub(r"\\([,:=\\])", r"\1", text)
 
 
 def once(text: str, sign: str) -> Tuple[str, Optional[str]]:
@@ -252,11 +252,15 @@ def speeds_in(text: str) -> Dict[int, int]:
 
 
 def settings(words: List[str]) -> List[Tuple[str, str]]:
-    """What is set, in the order of the words."""
+    """What is set, in the order of the words. A word that doesn't begin with a hyphen is a file, which sets nothing."""
     found: List[Tuple[str, str]] = []
     rest = list(words)
     while rest:
         word = rest.pop(0)
+        if word == "--":
+            break
+        if not word.startswith("-") or word == "-":
+            continue
         name, equals, value = word.partition("=")
         if equals and name not in VALUES:
             raise word_fault(name, "needless" if name in FLAGS else "unknown")

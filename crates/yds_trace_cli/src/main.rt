@@ -1,7 +1,8 @@
-//! The program `yds_trace`: it takes the words of the command line, and runs over standard input and standard output.
+//! The program `yds_trace`: it takes the words of the command line, and runs over the files that they name, or over standard input,
+//! and standard output.
 //!
-//! It stands on `yds_trace_run`, whose `run` does what the words ask for and answers with a status, and on `yds_port` for the two
-//! streams. It carries the promise that the program ends with the number of that status, and where the words can't be taken, as
+//! It stands on `yds_trace_run`, whose `run` does what the words ask for and answers with a status, on `yds_trace_words` for which
+//! words are files, on `yds_trace_files`, which reads these one behind the other, and on `yds_port` for the streams. It carries the promise that the program ends with the number of that status, and where the words can't be taken, as
 //! where one isn't text, with that of want of memory or with `NO_WORDS`. Then too the last line is `failed`, so that no reader of
 //! documents takes the output for one. Nothing is written to standard error.
 #![tactic(auto)]
@@ -12,8 +13,10 @@ ghost use Rattle.yds_model.specs.Status.{status_code};
 ghost use Rattle.yds_trace_cli.specs.Codes.{code_without_words};
 ghost use Rattle.yds_trace_cli.specs.Telling.{Tells, text_without_words};
 
+mod disk;
 mod small_writes;
 
+use disk::Disk;
 use small_writes::SmallWrites;
 use std::hash::RandomState;
 use std::io::{BufWriter, ErrorKind};
@@ -21,8 +24,10 @@ use std::process::ExitCode;
 use std::random::RandomSource;
 use std::{env, io};
 use yds_model::Status;
-use yds_port::{Flushed, Sink, StdSink, StdSource, write_all};
+use yds_port::{Flushed, Sink, StdSink, write_all};
+use yds_trace_files::Files;
 use yds_trace_run::run;
+use yds_trace_words::inputs;
 
 /// How many bytes of the output are gathered before they are written, at most.
 const OUTPUT_BUFFER: usize = 65_536;
@@ -30,7 +35,7 @@ const OUTPUT_BUFFER: usize = 65_536;
 /// The exit status where the words can't be taken, as where one isn't text. It is the number after those of `Status`.
 const NO_WORDS: u8 = 7;
 
-/// Takes the words from the environment, runs over standard input and standard output, and ends with the run's status.
+/// Takes the words from the environment, runs over the files that they name and standard output, and ends with the run's status.
 fn main(rt: HostRuntime) -> ExitCode {
     let ended = run_words(&rt).map_err(|error| error.kind());
     let mut sink = StdSink::new(rt.stdout());
@@ -92,14 +97,17 @@ fn tell<K: Sink>(text: &[u8], code: u8, sink: &mut K) -> u8
     }
 }
 
-/// Runs over standard input, and over standard output with a buffer before it, which is given small pieces and which `run` flushes.
+/// Runs over the files that the words name, or standard input, one open at a time, and over standard output with a buffer before it,
+/// which is given small pieces and which `run` flushes.
 fn run_words(rt: &HostRuntime) -> io::Result<Status> {
     let line: Vec<String> = env::args(rt)?.collect(rt.alloc())?;
     let output = BufWriter::with_capacity(rt.alloc(), OUTPUT_BUFFER, rt.stdout())?;
-    let mut source = StdSource::new(rt.stdin());
+    let words = words_of(&line);
+    let names = inputs(rt.alloc(), words).map_err(|_error| io::Error::from(ErrorKind::OutOfMemory))?;
+    let mut source = Files::new(Disk::new(rt), &names);
     let mut sink = SmallWrites::new(StdSink::new(output));
     let keys = drawn_keys(rt)?;
-    Ok(run(rt.alloc(), keys, words_of(&line), &mut source, &mut sink))
+    Ok(run(rt.alloc(), keys, words, &mut source, &mut sink))
 }
 
 /// The keys that threads are looked up with, drawn anew in each run, so that nobody can choose threads that are slow to look up.

@@ -17,8 +17,9 @@ use Rattle.yds_trace_parts.specs.Told.{Halt, InForm, AtLine, OfDocument, OfText,
 use Rattle.yds_trace_parts.specs.Flushing.{count_on, times_told}
 use Rattle.yds_trace_parts.specs.Driving.{WritesSome, Writes as WritesParts}
 use Rattle.yds_trace_words.specs.Request.{ReadTrace}
-use Rattle.yds_trace_run.specs.FaultText.{halt_text, too_long_text, memory_text, read_fault_text}
+use Rattle.yds_trace_run.specs.FaultText.{halt_text, too_long_text, memory_text}
 use Rattle.yds_trace_run.specs.Answer.{IsTold, IsUncounted, WasWritten, EndsWith}
+use Rattle.yds_trace_files.specs.Unread.{Unread, read_fault_text}
 use Rattle.yds_trace_run.specs.Endings.{Outcome, Writes, IsDelivered, IsEnded, Leaves, TellsHalt, halted_text, halted_status}
 use Rattle.yds_trace_run.proofs.Left.{leaves_read_out, leaves_failed}
 
@@ -75,10 +76,10 @@ module _ (asked : Asked) (strict : Bool) (bytes : List ℕ) (in_parts : asked.in
   }
 
   -- a text with this status, behind what was told
-  refused_so : (halt : Halt) (ended : Status) (old mid new : Option (List ℕ)) (flushed : Option ℕ) → (told_in_text asked strict bytes).halt ≡ Some halt
+  refused_so : (unread : Unread) (halt : Halt) (ended : Status) (old mid new : Option (List ℕ)) (flushed : Option ℕ) → (told_in_text asked strict bytes).halt ≡ Some halt
       → Appends old mid (told_in_text asked strict bytes).text → Outcome ended (halt_text halt) statuses.Refused mid new flushed
-      → Writes (Ok (ReadTrace asked strict)) bytes ended old new flushed
-  refused_so halt ended old mid new flushed first before behind = record {
+      → Writes unread (Ok (ReadTrace asked strict)) bytes ended old new flushed
+  refused_so unread halt ended old mid new flushed first before behind = record {
     text = (told_in_text asked strict bytes).text ++ halt_text halt;
     status = statuses.Refused;
     is_text = inl (told_so ((told_in_text asked strict bytes).text ++ halt_text halt) statuses.Refused (record { halt = halt; first = first; says = refl }));
@@ -86,15 +87,15 @@ module _ (asked : Asked) (strict : Bool) (bytes : List ℕ) (in_parts : asked.in
   }
 
   -- A write failed: a front of all that is told.
-  failed_so : (halt : Option Halt) (ended : Status) (old new : Option (List ℕ)) (flushed : Option ℕ) → (told_in_text asked strict bytes).halt ≡ halt
-      → ended ≡ statuses.WriteFault → AppendsFront (told_in_text asked strict bytes).text old new → Writes (Ok (ReadTrace asked strict)) bytes ended old new flushed
-  failed_so None ended old new flushed is failed front = record {
+  failed_so : (unread : Unread) (halt : Option Halt) (ended : Status) (old new : Option (List ℕ)) (flushed : Option ℕ) → (told_in_text asked strict bytes).halt ≡ halt
+      → ended ≡ statuses.WriteFault → AppendsFront (told_in_text asked strict bytes).text old new → Writes unread (Ok (ReadTrace asked strict)) bytes ended old new flushed
+  failed_so unread None ended old new flushed is failed front = record {
     text = (told_in_text asked strict bytes).text;
     status = statuses.Done;
     is_text = inl (told_so (told_in_text asked strict bytes).text statuses.Done (record { sound = is; says = refl }));
     outcome = subst (λ (one : Status). Outcome one (told_in_text asked strict bytes).text statuses.Done old new flushed) (sym failed) front;
   }
-  failed_so (Some halt) ended old new flushed is failed front = record {
+  failed_so unread (Some halt) ended old new flushed is failed front = record {
     text = (told_in_text asked strict bytes).text ++ halt_text halt;
     status = statuses.Refused;
     is_text = inl (told_so ((told_in_text asked strict bytes).text ++ halt_text halt) statuses.Refused (record { halt = halt; first = is; says = refl }));
@@ -102,9 +103,9 @@ module _ (asked : Asked) (strict : Bool) (bytes : List ℕ) (in_parts : asked.in
         (front_longer (told_in_text asked strict bytes).text (halt_text halt) old new front);
   }
 
-  done_so : (ended : Status) (old mid new : Option (List ℕ)) (flushed : Option ℕ) → WritesParts asked strict bytes (Ok tt) old mid
-      → Outcome ended [] statuses.Done mid new flushed → Writes (Ok (ReadTrace asked strict)) bytes ended old new flushed
-  done_so ended old mid new flushed drives outcome = record {
+  done_so : (unread : Unread) (ended : Status) (old mid new : Option (List ℕ)) (flushed : Option ℕ) → WritesParts asked strict bytes (Ok tt) old mid
+      → Outcome ended [] statuses.Done mid new flushed → Writes unread (Ok (ReadTrace asked strict)) bytes ended old new flushed
+  done_so unread ended old mid new flushed drives outcome = record {
     text = (told_in_text asked strict bytes).text;
     status = statuses.Done;
     is_text = inl (told_so (told_in_text asked strict bytes).text statuses.Done (record { sound = drives.told; says = refl }));
@@ -113,38 +114,38 @@ module _ (asked : Asked) (strict : Bool) (bytes : List ℕ) (in_parts : asked.in
   }
 
   module _ {K : Type 0} (written : K → Option (List ℕ)) (flushed : K → Option ℕ) (flushes faults : K → ℕ) where
-    halted_so : (halt : HaltKept) (ended : Status) (old mid new : K) → WritesParts asked strict bytes (Err halt) (written old) (written mid)
-        → TellsHalt written flushed flushes faults halt ended mid new → Writes (Ok (ReadTrace asked strict)) bytes ended (written old) (written new) (flushed new)
-    halted_so (halts.InForm number fault) ended old mid new drives tells =
-        refused_so (InForm (record { line = number; column = fault.column; reason = fault.reason })) ended (written old) (written mid) (written new) (flushed new) drives.told drives.appended tells.outcome
-    halted_so (halts.AtLine number cause) ended old mid new drives tells =
-        refused_so (AtLine number cause) ended (written old) (written mid) (written new) (flushed new) drives.told drives.appended tells.outcome
-    halted_so (halts.Limit processor part fault) ended old mid new drives tells =
-        refused_so (OfDocument processor part fault) ended (written old) (written mid) (written new) (flushed new) drives.told drives.appended tells.outcome
-    halted_so (halts.TooLong processor part) ended old mid new drives tells =
-        refused_so (OfText processor part) ended (written old) (written mid) (written new) (flushed new) drives.told drives.appended tells.outcome
-    halted_so (halts.NoPlace name begin late) ended old mid new drives tells =
-        refused_so (NoPlace name.items begin late) ended (written old) (written mid) (written new) (flushed new) drives.told drives.appended tells.outcome
-    halted_so halts.Endless ended old mid new drives tells = record {
+    halted_so : (unread : Unread) (halt : HaltKept) (ended : Status) (old mid new : K) → WritesParts asked strict bytes (Err halt) (written old) (written mid)
+        → TellsHalt written flushed flushes faults unread halt ended mid new → Writes unread (Ok (ReadTrace asked strict)) bytes ended (written old) (written new) (flushed new)
+    halted_so unread (halts.InForm number fault) ended old mid new drives tells =
+        refused_so unread (InForm (record { line = number; column = fault.column; reason = fault.reason })) ended (written old) (written mid) (written new) (flushed new) drives.told drives.appended tells.outcome
+    halted_so unread (halts.AtLine number cause) ended old mid new drives tells =
+        refused_so unread (AtLine number cause) ended (written old) (written mid) (written new) (flushed new) drives.told drives.appended tells.outcome
+    halted_so unread (halts.Limit processor part fault) ended old mid new drives tells =
+        refused_so unread (OfDocument processor part fault) ended (written old) (written mid) (written new) (flushed new) drives.told drives.appended tells.outcome
+    halted_so unread (halts.TooLong processor part) ended old mid new drives tells =
+        refused_so unread (OfText processor part) ended (written old) (written mid) (written new) (flushed new) drives.told drives.appended tells.outcome
+    halted_so unread (halts.NoPlace name begin late) ended old mid new drives tells =
+        refused_so unread (NoPlace name.items begin late) ended (written old) (written mid) (written new) (flushed new) drives.told drives.appended tells.outcome
+    halted_so unread halts.Endless ended old mid new drives tells = record {
       text = (told_after asked strict drives.1.past).text ++ too_long_text;
       status = statuses.Refused;
       is_text = inr (record { long = subst (λ (b : Bool). IsUncounted b bytes) (sym in_parts) drives.0; refused = refl; ends = ends_so (written old) (written mid) too_long_text drives.1 });
       outcome = outcome_more ended (told_after asked strict drives.1.past).text too_long_text statuses.Refused (written old) (written mid) (written new) (flushed new) drives.1.appended tells.outcome;
     }
-    halted_so halts.ReadFault ended old mid new drives tells = record {
-      text = (told_after asked strict drives.past).text ++ read_fault_text;
+    halted_so unread halts.ReadFault ended old mid new drives tells = record {
+      text = (told_after asked strict drives.past).text ++ (read_fault_text unread);
       status = statuses.ReadFault;
-      is_text = ends_so (written old) (written mid) read_fault_text drives;
-      outcome = outcome_more ended (told_after asked strict drives.past).text read_fault_text statuses.ReadFault (written old) (written mid) (written new) (flushed new) drives.appended tells.outcome;
+      is_text = ends_so (written old) (written mid) (read_fault_text unread) drives;
+      outcome = outcome_more ended (told_after asked strict drives.past).text (read_fault_text unread) statuses.ReadFault (written old) (written mid) (written new) (flushed new) drives.appended tells.outcome;
     }
-    halted_so halts.Memory ended old mid new drives tells = record {
+    halted_so unread halts.Memory ended old mid new drives tells = record {
       text = (told_after asked strict drives.past).text ++ memory_text;
       status = statuses.Memory;
       is_text = ends_so (written old) (written mid) memory_text drives;
       outcome = outcome_more ended (told_after asked strict drives.past).text memory_text statuses.Memory (written old) (written mid) (written new) (flushed new) drives.appended tells.outcome;
     }
-    halted_so halts.WriteFault ended old mid new drives tells =
-        failed_so (told_in_text asked strict bytes).halt ended (written old) (written new) (flushed new) refl tells.0
+    halted_so unread halts.WriteFault ended old mid new drives tells =
+        failed_so unread (told_in_text asked strict bytes).halt ended (written old) (written new) (flushed new) refl tells.0
         (subst (λ (one : K). AppendsFront (told_in_text asked strict bytes).text (written old) (written one)) (sym tells.1) drives)
 
 -- # Flushes
@@ -209,19 +210,19 @@ status_of_read halts.WriteFault is = absurd cc
 status_of_read halts.Memory is = absurd cc
 
 module _ {K : Type 0} (written : K → Option (List ℕ)) (flushed : K → Option ℕ) (flushes faults : K → ℕ) where
-  pub done_writes : (asked : Asked) (strict : Bool) (input : Option (List ℕ)) (ended : Status) (old mid new : K) → asked.in_parts ≡ true
+  pub done_writes : (unread : Unread) (asked : Asked) (strict : Bool) (input : Option (List ℕ)) (ended : Status) (old mid new : K) → asked.in_parts ≡ true
       → IfSome input (λ bytes. WritesParts asked strict bytes (Ok tt) (written old) (written mid)) → IsDelivered written flushed flushes faults [] statuses.Done ended mid new
-      → IfSome input (λ bytes. Writes (Ok (ReadTrace asked strict)) bytes ended (written old) (written new) (flushed new))
-  done_writes asked strict None ended old mid new in_parts drives delivered = tt
-  done_writes asked strict (Some bytes) ended old mid new in_parts drives delivered =
-      done_so asked strict bytes in_parts ended (written old) (written mid) (written new) (flushed new) drives delivered.outcome
+      → IfSome input (λ bytes. Writes unread (Ok (ReadTrace asked strict)) bytes ended (written old) (written new) (flushed new))
+  done_writes unread asked strict None ended old mid new in_parts drives delivered = tt
+  done_writes unread asked strict (Some bytes) ended old mid new in_parts drives delivered =
+      done_so asked strict bytes in_parts unread ended (written old) (written mid) (written new) (flushed new) drives delivered.outcome
 
-  pub halted_writes : (asked : Asked) (strict : Bool) (input : Option (List ℕ)) (halt : HaltKept) (ended : Status) (old mid new : K) → asked.in_parts ≡ true
-      → IfSome input (λ bytes. WritesParts asked strict bytes (Err halt) (written old) (written mid)) → TellsHalt written flushed flushes faults halt ended mid new
-      → IfSome input (λ bytes. Writes (Ok (ReadTrace asked strict)) bytes ended (written old) (written new) (flushed new))
-  halted_writes asked strict None halt ended old mid new in_parts drives tells = tt
-  halted_writes asked strict (Some bytes) halt ended old mid new in_parts drives tells =
-      halted_so asked strict bytes in_parts written flushed flushes faults halt ended old mid new drives tells
+  pub halted_writes : (unread : Unread) (asked : Asked) (strict : Bool) (input : Option (List ℕ)) (halt : HaltKept) (ended : Status) (old mid new : K) → asked.in_parts ≡ true
+      → IfSome input (λ bytes. WritesParts asked strict bytes (Err halt) (written old) (written mid)) → TellsHalt written flushed flushes faults unread halt ended mid new
+      → IfSome input (λ bytes. Writes unread (Ok (ReadTrace asked strict)) bytes ended (written old) (written new) (flushed new))
+  halted_writes unread asked strict None halt ended old mid new in_parts drives tells = tt
+  halted_writes unread asked strict (Some bytes) halt ended old mid new in_parts drives tells =
+      halted_so asked strict bytes in_parts written flushed flushes faults unread halt ended old mid new drives tells
 
   -- # What becomes of the sink
 
@@ -244,24 +245,24 @@ module _ {K : Type 0} (written : K → Option (List ℕ)) (flushed : K → Optio
             (once_more times (flushes old));
       }
 
-  other_halt : (halt : HaltKept) (ended : Status) (mid new : K) → halt ≢ halts.WriteFault → TellsHalt written flushed flushes faults halt ended mid new
-      → IsDelivered written flushed flushes faults (halted_text halt) (halted_status halt) ended mid new
-  other_halt halts.WriteFault ended mid new other tells = absurd (other refl)
-  other_halt (halts.InForm number fault) ended mid new other tells = tells
-  other_halt (halts.AtLine number cause) ended mid new other tells = tells
-  other_halt (halts.Limit processor part fault) ended mid new other tells = tells
-  other_halt (halts.TooLong processor part) ended mid new other tells = tells
-  other_halt (halts.NoPlace name begin late) ended mid new other tells = tells
-  other_halt halts.Endless ended mid new other tells = tells
-  other_halt halts.ReadFault ended mid new other tells = tells
-  other_halt halts.Memory ended mid new other tells = tells
+  other_halt : (unread : Unread) (halt : HaltKept) (ended : Status) (mid new : K) → halt ≢ halts.WriteFault → TellsHalt written flushed flushes faults unread halt ended mid new
+      → IsDelivered written flushed flushes faults (halted_text unread halt) (halted_status halt) ended mid new
+  other_halt unread halts.WriteFault ended mid new other tells = absurd (other refl)
+  other_halt unread (halts.InForm number fault) ended mid new other tells = tells
+  other_halt unread (halts.AtLine number cause) ended mid new other tells = tells
+  other_halt unread (halts.Limit processor part fault) ended mid new other tells = tells
+  other_halt unread (halts.TooLong processor part) ended mid new other tells = tells
+  other_halt unread (halts.NoPlace name begin late) ended mid new other tells = tells
+  other_halt unread halts.Endless ended mid new other tells = tells
+  other_halt unread halts.ReadFault ended mid new other tells = tells
+  other_halt unread halts.Memory ended mid new other tells = tells
 
-  pub halted_ended : (halt : HaltKept) (ended : Status) (old mid new : K) → faults old ≤ faults mid → (halt ≡ halts.WriteFault → Rose (faults old) (faults mid))
+  pub halted_ended : (unread : Unread) (halt : HaltKept) (ended : Status) (old mid new : K) → faults old ≤ faults mid → (halt ≡ halts.WriteFault → Rose (faults old) (faults mid))
       → (faults old < faults mid → halt ≡ halts.WriteFault) → (halt ≢ halts.WriteFault → (times : ℕ) × (flushes mid ≡ count_on times (flushes old)))
-      → TellsHalt written flushed flushes faults halt ended mid new → IsEnded written flushed flushes faults ended old new
-  halted_ended halt ended old mid new later counted told often tells = elim (write_failed halt) [
+      → TellsHalt written flushed flushes faults unread halt ended mid new → IsEnded written flushed flushes faults ended old new
+  halted_ended unread halt ended old mid new later counted told often tells = elim (write_failed halt) [
     | inl failed ↦
-        let nothing = subst (λ (one : HaltKept). TellsHalt written flushed flushes faults one ended mid new) failed tells in
+        let nothing = subst (λ (one : HaltKept). TellsHalt written flushed flushes faults unread one ended mid new) failed tells in
         record {
           later = subst (λ (one : K). faults old ≤ faults one) (sym nothing.1) later;
           counted = λ _. subst (λ (one : K). Rose (faults old) (faults one)) (sym nothing.1) (counted failed);
@@ -269,35 +270,36 @@ module _ {K : Type 0} (written : K → Option (List ℕ)) (flushed : K → Optio
           flushed = λ whole. absurd (whole nothing.0);
         }
     | inr other ↦
-        delivered_behind (halted_text halt) (halted_status halt) ended (often other).0 old mid new later (λ more. other (told more)) (often other).1 (other_halt halt ended mid new other tells)
+        delivered_behind (halted_text unread halt) (halted_status halt) ended (often other).0 old mid new later (λ more. other (told more)) (often other).1
+            (other_halt unread halt ended mid new other tells)
   ]
 
   -- # How it ends
 
-  said_so : (halt : HaltKept) (ended : Status) (mid new : K) → TellsHalt written flushed flushes faults halt ended mid new → (ended ≡ halted_status halt) ⊎ (ended ≡ statuses.WriteFault)
-  said_so halt ended mid new tells = elim (write_failed halt) [
-    | inl failed ↦ inr (subst (λ (one : HaltKept). TellsHalt written flushed flushes faults one ended mid new) failed tells).0
-    | inr other ↦ (other_halt halt ended mid new other tells).said
+  said_so : (unread : Unread) (halt : HaltKept) (ended : Status) (mid new : K) → TellsHalt written flushed flushes faults unread halt ended mid new → (ended ≡ halted_status halt) ⊎ (ended ≡ statuses.WriteFault)
+  said_so unread halt ended mid new tells = elim (write_failed halt) [
+    | inl failed ↦ inr (subst (λ (one : HaltKept). TellsHalt written flushed flushes faults unread one ended mid new) failed tells).0
+    | inr other ↦ (other_halt unread halt ended mid new other tells).said
   ]
 
-  pub halted_not_done : (halt : HaltKept) (ended : Status) (mid new : K) → TellsHalt written flushed flushes faults halt ended mid new → ended ≢ statuses.Done
-  halted_not_done halt ended mid new tells done = elim (said_so halt ended mid new tells) [
+  pub halted_not_done : (unread : Unread) (halt : HaltKept) (ended : Status) (mid new : K) → TellsHalt written flushed flushes faults unread halt ended mid new → ended ≢ statuses.Done
+  halted_not_done unread halt ended mid new tells done = elim (said_so unread halt ended mid new tells) [
     | inl same ↦ status_not_done halt (sym same ∙ done)
     | inr failed ↦ let both : statuses.WriteFault ≡ statuses.Done = sym failed ∙ done in absurd cc
   ]
 
-  pub halted_read_fault : (halt : HaltKept) (ended : Status) (mid new : K) → TellsHalt written flushed flushes faults halt ended mid new → ended ≡ statuses.ReadFault → halt ≡ halts.ReadFault
-  halted_read_fault halt ended mid new tells fault = elim (said_so halt ended mid new tells) [
+  pub halted_read_fault : (unread : Unread) (halt : HaltKept) (ended : Status) (mid new : K) → TellsHalt written flushed flushes faults unread halt ended mid new → ended ≡ statuses.ReadFault → halt ≡ halts.ReadFault
+  halted_read_fault unread halt ended mid new tells fault = elim (said_so unread halt ended mid new tells) [
     | inl same ↦ status_of_read halt (sym same ∙ fault)
     | inr failed ↦ let both : statuses.WriteFault ≡ statuses.ReadFault = sym failed ∙ fault in absurd cc
   ]
 
-  pub halted_leaves : (input left : Option (List ℕ)) (halt : HaltKept) (ended : Status) (mid new : K) (faults_before faults_now : ℕ)
-      → (halt ≢ halts.WriteFault → IfSome input (λ bytes. IsReadOut bytes left faults_before faults_now)) → TellsHalt written flushed flushes faults halt ended mid new
+  pub halted_leaves : (unread : Unread) (input left : Option (List ℕ)) (halt : HaltKept) (ended : Status) (mid new : K) (faults_before faults_now : ℕ)
+      → (halt ≢ halts.WriteFault → IfSome input (λ bytes. IsReadOut bytes left faults_before faults_now)) → TellsHalt written flushed flushes faults unread halt ended mid new
       → IfSome input (λ bytes. Leaves ended bytes left faults_before faults_now)
-  halted_leaves input left halt ended mid new faults_before faults_now out tells = elim (write_failed halt) [
+  halted_leaves unread input left halt ended mid new faults_before faults_now out tells = elim (write_failed halt) [
     | inl failed ↦
-        let nothing = subst (λ (one : HaltKept). TellsHalt written flushed flushes faults one ended mid new) failed tells in
+        let nothing = subst (λ (one : HaltKept). TellsHalt written flushed flushes faults unread one ended mid new) failed tells in
         leaves_failed input left ended faults_before faults_now nothing.0
-    | inr other ↦ leaves_read_out input left ended faults_before faults_now (halted_not_done halt ended mid new tells) (out other)
+    | inr other ↦ leaves_read_out input left ended faults_before faults_now (halted_not_done unread halt ended mid new tells) (out other)
   ]

@@ -18,6 +18,7 @@ use Rattle.yds_trace_words.specs.Request.{Request, ShowHelp, ShowVersion, ReadTr
 use Rattle.yds_trace_run.specs.Fault.{OfLine, of_line, document_fault, fault_of}
 use Rattle.yds_trace_run.specs.FaultText.{fault_text, memory_text}
 use Rattle.yds_trace_run.specs.Answer.{IsTold, IsUncounted, WasWritten, StandsBefore, EndsWith}
+use Rattle.yds_trace_files.specs.Unread.{Unread}
 use Rattle.yds_trace_run.specs.Endings.{IsText, Writes, IsDelivered, Tells, IsTextOfLines, stopped_text, stopped_status}
 
 -- # Ends that aren't of the trace
@@ -54,53 +55,53 @@ line_told : (asked : Asked) (strict : Bool) (bytes : List ℕ) (fault : LineFaul
     → IsTold false asked strict bytes (fault_text (OfLine fault)) statuses.Refused
 line_told asked strict bytes fault is = record { fault = OfLine fault; first = stopped_fault asked strict bytes fault is; says = refl }
 
-stopped_is : (asked : Asked) (strict : Bool) (bytes : List ℕ) (stopped : Stopped) → asked.in_parts ≡ false → IsStopped asked bytes stopped
-    → IsText (Ok (ReadTrace asked strict)) bytes (stopped_text stopped) (stopped_status stopped)
-stopped_is asked strict bytes (stops.InForm number fault) whole is =
+stopped_is : (unread : Unread) (asked : Asked) (strict : Bool) (bytes : List ℕ) (stopped : Stopped) → asked.in_parts ≡ false → IsStopped asked bytes stopped
+    → IsText unread (Ok (ReadTrace asked strict)) bytes (stopped_text unread stopped) (stopped_status stopped)
+stopped_is unread asked strict bytes (stops.InForm number fault) whole is =
     let line : LineFault = InForm (record { line = number; column = fault.column; reason = fault.reason }) in
     inl (in_one asked strict bytes (fault_text (OfLine line)) statuses.Refused whole (line_told asked strict bytes line is))
-stopped_is asked strict bytes (stops.AtLine number cause) whole is =
+stopped_is unread asked strict bytes (stops.AtLine number cause) whole is =
     inl (in_one asked strict bytes (fault_text (OfLine (AtLine number cause))) statuses.Refused whole (line_told asked strict bytes (AtLine number cause) is))
-stopped_is asked strict bytes stops.TooLong whole is = inr (record { long = subst (λ (b : Bool). IsUncounted b bytes) (sym whole) is; refused = refl; ends = ends_alone (Ok (ReadTrace asked strict)) bytes (stopped_text stops.TooLong) })
-stopped_is asked strict bytes stops.ReadFault whole is = ends_alone (Ok (ReadTrace asked strict)) bytes (stopped_text stops.ReadFault)
-stopped_is asked strict bytes stops.Memory whole is = ends_alone (Ok (ReadTrace asked strict)) bytes (stopped_text stops.Memory)
+stopped_is unread asked strict bytes stops.TooLong whole is = inr (record { long = subst (λ (b : Bool). IsUncounted b bytes) (sym whole) is; refused = refl; ends = ends_alone (Ok (ReadTrace asked strict)) bytes (stopped_text unread stops.TooLong) })
+stopped_is unread asked strict bytes stops.ReadFault whole is = ends_alone (Ok (ReadTrace asked strict)) bytes (stopped_text unread stops.ReadFault)
+stopped_is unread asked strict bytes stops.Memory whole is = ends_alone (Ok (ReadTrace asked strict)) bytes (stopped_text unread stops.Memory)
 
-pub stopped_writes : {K : Type 0} (written : K → Option (List ℕ)) (flushed : K → Option ℕ) (flushes faults : K → ℕ) (asked : Asked) (strict : Bool) (input : Option (List ℕ)) (stopped : Stopped)
+pub stopped_writes : (unread : Unread) {K : Type 0} (written : K → Option (List ℕ)) (flushed : K → Option ℕ) (flushes faults : K → ℕ) (asked : Asked) (strict : Bool) (input : Option (List ℕ)) (stopped : Stopped)
     (ended : Status) (old new : K) → asked.in_parts ≡ false → IfSome input (λ bytes. IsStopped asked bytes stopped)
-    → IsDelivered written flushed flushes faults (stopped_text stopped) (stopped_status stopped) ended old new
-    → IfSome input (λ bytes. Writes (Ok (ReadTrace asked strict)) bytes ended (written old) (written new) (flushed new))
-stopped_writes written flushed flushes faults asked strict None stopped ended old new whole is delivered = tt
-stopped_writes written flushed flushes faults asked strict (Some bytes) stopped ended old new whole is delivered =
-    record { text = stopped_text stopped; status = stopped_status stopped; is_text = stopped_is asked strict bytes stopped whole is; outcome = delivered.outcome }
+    → IsDelivered written flushed flushes faults (stopped_text unread stopped) (stopped_status stopped) ended old new
+    → IfSome input (λ bytes. Writes unread (Ok (ReadTrace asked strict)) bytes ended (written old) (written new) (flushed new))
+stopped_writes unread written flushed flushes faults asked strict None stopped ended old new whole is delivered = tt
+stopped_writes unread written flushed flushes faults asked strict (Some bytes) stopped ended old new whole is delivered =
+    record { text = stopped_text unread stopped; status = stopped_status stopped; is_text = stopped_is unread asked strict bytes stopped whole is; outcome = delivered.outcome }
 
 -- # What was read
 
-told_is : (asked : Asked) (strict : Bool) (bytes : List ℕ) (text : List ℕ) (status : Status) → asked.in_parts ≡ false → line_fault_of asked bytes ≡ None
-    → IsTextOfLines asked strict (past_of (order_of bytes)) text status → IsText (Ok (ReadTrace asked strict)) bytes text status
-told_is asked strict bytes text statuses.Done whole sound is =
+told_is : (unread : Unread) (asked : Asked) (strict : Bool) (bytes : List ℕ) (text : List ℕ) (status : Status) → asked.in_parts ≡ false → line_fault_of asked bytes ≡ None
+    → IsTextOfLines asked strict (past_of (order_of bytes)) text status → IsText unread (Ok (ReadTrace asked strict)) bytes text status
+told_is unread asked strict bytes text statuses.Done whole sound is =
     inl (in_one asked strict bytes text statuses.Done whole (record { sound = sound; fits = is.0; says = is.1 }))
-told_is asked strict bytes text statuses.Refused whole sound is =
+told_is unread asked strict bytes text statuses.Refused whole sound is =
     inl (in_one asked strict bytes text statuses.Refused whole (record {
       fault = is.0;
       first = ap (λ (line : Option LineFault). or_else (of_line line) (document_fault asked strict (past_of (order_of bytes)))) sound ∙ is.1;
       says = is.2;
     }))
-told_is asked strict bytes text statuses.Memory whole sound is =
+told_is unread asked strict bytes text statuses.Memory whole sound is =
     subst (λ (one : List ℕ). EndsWith (Ok (ReadTrace asked strict)) bytes one memory_text) (sym is) (ends_alone (Ok (ReadTrace asked strict)) bytes memory_text)
-told_is asked strict bytes text statuses.No whole sound is = absurd is
-told_is asked strict bytes text statuses.Usage whole sound is = absurd is
-told_is asked strict bytes text statuses.ReadFault whole sound is = absurd is
-told_is asked strict bytes text statuses.WriteFault whole sound is = absurd is
+told_is unread asked strict bytes text statuses.No whole sound is = absurd is
+told_is unread asked strict bytes text statuses.Usage whole sound is = absurd is
+told_is unread asked strict bytes text statuses.ReadFault whole sound is = absurd is
+told_is unread asked strict bytes text statuses.WriteFault whole sound is = absurd is
 
-pub told_writes : {K : Type 0} (written : K → Option (List ℕ)) (flushed : K → Option ℕ) (flushes faults : K → ℕ) (asked : Asked) (strict : Bool) (input : Option (List ℕ)) (known : Ended)
+pub told_writes : (unread : Unread) {K : Type 0} (written : K → Option (List ℕ)) (flushed : K → Option ℕ) (flushes faults : K → ℕ) (asked : Asked) (strict : Bool) (input : Option (List ℕ)) (known : Ended)
     (ended : Status) (old new : K) → asked.in_parts ≡ false → IfSome input (λ bytes. IsRead asked bytes known) → Tells written flushed flushes faults known strict ended old new
-    → IfSome input (λ bytes. Writes (Ok (ReadTrace asked strict)) bytes ended (written old) (written new) (flushed new))
-told_writes written flushed flushes faults asked strict None known ended old new whole is tells = tt
-told_writes written flushed flushes faults asked strict (Some bytes) known ended old new whole is tells =
+    → IfSome input (λ bytes. Writes unread (Ok (ReadTrace asked strict)) bytes ended (written old) (written new) (flushed new))
+told_writes unread written flushed flushes faults asked strict None known ended old new whole is tells = tt
+told_writes unread written flushed flushes faults asked strict (Some bytes) known ended old new whole is tells =
     record {
       text = tells.text;
       status = tells.status;
-      is_text = told_is asked strict bytes tells.text tells.status whole (ap (in_text bytes) is.sound) (tells.says asked (past_of (order_of bytes)) is.known);
+      is_text = told_is unread asked strict bytes tells.text tells.status whole (ap (in_text bytes) is.sound) (tells.says asked (past_of (order_of bytes)) is.known);
       outcome = tells.delivered.outcome;
     }
 

@@ -30,6 +30,7 @@ use Rattle.yds_trace_reading.specs.LineFault.{past_of}
 use Rattle.yds_trace_parts.specs.Told.{Halt, told_of, by_number}
 use Rattle.yds_trace_words.specs.Request.{ReadTrace, IsFit}
 use Rattle.yds_trace_run.specs.Answer.{AreParts, IsTold}
+use Rattle.yds_trace_files.specs.Unread.{Unread}
 use Rattle.yds_trace_run.specs.Endings.{IsText, Outcome, Writes}
 use Rattle.yds_trace_laws.proofs.Processors.{jobs_are_the_same, each_job_belongs, shares_are_the_whole, only_its_own, none_has_moved}
 use Rattle.yds_trace_whole.specs.Parts.{written_parts}
@@ -48,23 +49,23 @@ told_late asked past text fit is = λ feasible i d within by late. (
 
 -- # What a run that is done wrote
 
-done_so : (asked : Asked) (strict : Bool) (bytes text : List ℕ) (status : Status) → statuses.Done ≡ status → IsText (Ok (ReadTrace asked strict)) bytes text status
+done_so : (unread : Unread) (asked : Asked) (strict : Bool) (bytes text : List ℕ) (status : Status) → statuses.Done ≡ status → IsText unread (Ok (ReadTrace asked strict)) bytes text status
     → IsTold asked.in_parts asked strict bytes text statuses.Done
-done_so asked strict bytes text status done is = elim (subst (λ (s : Status). IsText (Ok (ReadTrace asked strict)) bytes text s) (sym done) is) [
+done_so unread asked strict bytes text status done is = elim (subst (λ (s : Status). IsText unread (Ok (ReadTrace asked strict)) bytes text s) (sym done) is) [
   | inl told ↦ told
   | inr much ↦ let other : statuses.Done ≡ statuses.Refused = much.refused in absurd cc
 ]
 
 -- What holds of each text that is told holds of what it wrote.
-done_holds : (Q : List ℕ → List ℕ → Type 0) (asked : Asked) (strict : Bool)
+done_holds : (unread : Unread) (Q : List ℕ → List ℕ → Type 0) (asked : Asked) (strict : Bool)
     → ((bytes text : List ℕ) → IsTold asked.in_parts asked strict bytes text statuses.Done → Q bytes text)
     → (input old new : Option (List ℕ)) (flushed : Option ℕ) (ended : Status) → ended ≡ statuses.Done
-    → IfSome input (λ bytes. Writes (Ok (ReadTrace asked strict)) bytes ended old new flushed)
+    → IfSome input (λ bytes. Writes unread (Ok (ReadTrace asked strict)) bytes ended old new flushed)
     → IfSome input (λ bytes. (text : List ℕ) × Appends old new text × Q bytes text)
-done_holds Q asked strict each None old new flushed ended done writes = tt
-done_holds Q asked strict each (Some bytes) old new flushed ended done writes =
+done_holds unread Q asked strict each None old new flushed ended done writes = tt
+done_holds unread Q asked strict each (Some bytes) old new flushed ended done writes =
     let whole = subst (λ (s : Status). Outcome s writes.text writes.status old new flushed) done writes.outcome in
-    (writes.text, whole.whole, each bytes writes.text (done_so asked strict bytes writes.text writes.status whole.said writes.is_text))
+    (writes.text, whole.whole, each bytes writes.text (done_so unread asked strict bytes writes.text writes.status whole.said writes.is_text))
 
 labelled : (tasks : List Task) → All (λ task. is_label task.label ≡ true) tasks → AllPairs (λ task other. task.label ≢ other.label) tasks → AreLabelled tasks
 labelled tasks labels different = record {
@@ -112,11 +113,11 @@ hides_nothing true asked strict input text fit told =
     let parts = told_parts asked strict input text told in
     nothing_is_late_anywhere asked (past_of (order_of input)) fit.plain parts.sound parts.keeps
 
-pub nothing_late : (asked : Asked) (strict : Bool) (input old new : Option (List ℕ)) (flushed : Option ℕ) (ended : Status) → IsFit asked → ended ≡ statuses.Done
-    → IfSome input (λ bytes. Writes (Ok (ReadTrace asked strict)) bytes ended old new flushed)
+pub nothing_late : (unread : Unread) (asked : Asked) (strict : Bool) (input old new : Option (List ℕ)) (flushed : Option ℕ) (ended : Status) → IsFit asked → ended ≡ statuses.Done
+    → IfSome input (λ bytes. Writes unread (Ok (ReadTrace asked strict)) bytes ended old new flushed)
     → IfSome input (λ bytes. (text : List ℕ) × Appends old new text × HidesNothing asked.in_parts asked (past_of (order_of bytes)) text)
-nothing_late asked strict input old new flushed ended fit done writes =
-    done_holds (λ bytes text. HidesNothing asked.in_parts asked (past_of (order_of bytes)) text) asked strict
+nothing_late unread asked strict input old new flushed ended fit done writes =
+    done_holds unread (λ bytes text. HidesNothing asked.in_parts asked (past_of (order_of bytes)) text) asked strict
     (λ bytes text told. hides_nothing asked.in_parts asked strict bytes text fit told) input old new flushed ended done writes
 
 -- # It is read again
@@ -145,23 +146,23 @@ read_so : (in_parts : Bool) (asked : Asked) (strict : Bool) (input text : List �
 read_so false asked strict input text fit told = document_again asked strict (past_of (order_of input)) text fit told.fits told.says
 read_so true asked strict input text fit told = parts_read_again asked strict (past_of (order_of input)) text fit (told_parts asked strict input text told)
 
-pub read_again : (asked : Asked) (strict : Bool) (input old new : Option (List ℕ)) (flushed : Option ℕ) (ended : Status) → IsFit asked → ended ≡ statuses.Done
-    → IfSome input (λ bytes. Writes (Ok (ReadTrace asked strict)) bytes ended old new flushed)
+pub read_again : (unread : Unread) (asked : Asked) (strict : Bool) (input old new : Option (List ℕ)) (flushed : Option ℕ) (ended : Status) → IsFit asked → ended ≡ statuses.Done
+    → IfSome input (λ bytes. Writes unread (Ok (ReadTrace asked strict)) bytes ended old new flushed)
     → IfSome input (λ bytes. (text : List ℕ) × Appends old new text × IsReadSo asked.in_parts asked (past_of (order_of bytes)) text)
-read_again asked strict input old new flushed ended fit done writes =
-    done_holds (λ bytes text. IsReadSo asked.in_parts asked (past_of (order_of bytes)) text) asked strict
+read_again unread asked strict input old new flushed ended fit done writes =
+    done_holds unread (λ bytes text. IsReadSo asked.in_parts asked (past_of (order_of bytes)) text) asked strict
     (λ bytes text told. read_so asked.in_parts asked strict bytes text fit told) input old new flushed ended done writes
 
 -- # It is faithful, and whole
 
 -- What holds of the lines of each trace that is told holds of its lines.
-lines_hold : (Q : List ℕ → Type 0) (asked : Asked) (strict : Bool) → ((bytes text : List ℕ) → IsTold asked.in_parts asked strict bytes text statuses.Done → Q bytes)
+lines_hold : (unread : Unread) (Q : List ℕ → Type 0) (asked : Asked) (strict : Bool) → ((bytes text : List ℕ) → IsTold asked.in_parts asked strict bytes text statuses.Done → Q bytes)
     → (input old new : Option (List ℕ)) (flushed : Option ℕ) (ended : Status) → ended ≡ statuses.Done
-    → IfSome input (λ bytes. Writes (Ok (ReadTrace asked strict)) bytes ended old new flushed) → IfSome input Q
-lines_hold Q asked strict each None old new flushed ended done writes = tt
-lines_hold Q asked strict each (Some bytes) old new flushed ended done writes =
+    → IfSome input (λ bytes. Writes unread (Ok (ReadTrace asked strict)) bytes ended old new flushed) → IfSome input Q
+lines_hold unread Q asked strict each None old new flushed ended done writes = tt
+lines_hold unread Q asked strict each (Some bytes) old new flushed ended done writes =
     let whole = subst (λ (s : Status). Outcome s writes.text writes.status old new flushed) done writes.outcome in
-    each bytes writes.text (done_so asked strict bytes writes.text writes.status whole.said writes.is_text)
+    each bytes writes.text (done_so unread asked strict bytes writes.text writes.status whole.said writes.is_text)
 
 faithful_so : (in_parts : Bool) (asked : Asked) (strict : Bool) (input text : List ℕ) → IsFit asked → IsTold in_parts asked strict input text statuses.Done
     → IsFaithfulSo in_parts asked (past_of (order_of input))
@@ -173,10 +174,10 @@ faithful_so true asked strict input text fit told =
     let processor = get_or (processors_of asked past) i d in
     parts_are_faithful (on processor asked) past (fit_on processor asked fit.plain) (sound_on processor asked past parts.sound) (all_parts_are_kept asked past parts.keeps i d within)
 
-pub faithful : (asked : Asked) (strict : Bool) (input old new : Option (List ℕ)) (flushed : Option ℕ) (ended : Status) → IsFit asked → ended ≡ statuses.Done
-    → IfSome input (λ bytes. Writes (Ok (ReadTrace asked strict)) bytes ended old new flushed) → IfSome input (λ bytes. IsFaithfulSo asked.in_parts asked (past_of (order_of bytes)))
-faithful asked strict input old new flushed ended fit done writes =
-    lines_hold (λ bytes. IsFaithfulSo asked.in_parts asked (past_of (order_of bytes))) asked strict
+pub faithful : (unread : Unread) (asked : Asked) (strict : Bool) (input old new : Option (List ℕ)) (flushed : Option ℕ) (ended : Status) → IsFit asked → ended ≡ statuses.Done
+    → IfSome input (λ bytes. Writes unread (Ok (ReadTrace asked strict)) bytes ended old new flushed) → IfSome input (λ bytes. IsFaithfulSo asked.in_parts asked (past_of (order_of bytes)))
+faithful unread asked strict input old new flushed ended fit done writes =
+    lines_hold unread (λ bytes. IsFaithfulSo asked.in_parts asked (past_of (order_of bytes))) asked strict
     (λ bytes text told. faithful_so asked.in_parts asked strict bytes text fit told) input old new flushed ended done writes
 
 -- Of a job that moved, no stretch is lost where that is asked for.
@@ -207,8 +208,8 @@ whole_so true asked strict input text fit told =
       belong = each_job_belongs asked past;
     }
 
-pub whole : (asked : Asked) (strict : Bool) (input old new : Option (List ℕ)) (flushed : Option ℕ) (ended : Status) → IsFit asked → ended ≡ statuses.Done
-    → IfSome input (λ bytes. Writes (Ok (ReadTrace asked strict)) bytes ended old new flushed) → IfSome input (λ bytes. IsWholeSo asked.in_parts asked (past_of (order_of bytes)))
-whole asked strict input old new flushed ended fit done writes =
-    lines_hold (λ bytes. IsWholeSo asked.in_parts asked (past_of (order_of bytes))) asked strict
+pub whole : (unread : Unread) (asked : Asked) (strict : Bool) (input old new : Option (List ℕ)) (flushed : Option ℕ) (ended : Status) → IsFit asked → ended ≡ statuses.Done
+    → IfSome input (λ bytes. Writes unread (Ok (ReadTrace asked strict)) bytes ended old new flushed) → IfSome input (λ bytes. IsWholeSo asked.in_parts asked (past_of (order_of bytes)))
+whole unread asked strict input old new flushed ended fit done writes =
+    lines_hold unread (λ bytes. IsWholeSo asked.in_parts asked (past_of (order_of bytes))) asked strict
     (λ bytes text told. whole_so asked.in_parts asked strict bytes text fit told) input old new flushed ended done writes

@@ -23,15 +23,16 @@ use Rattle.yds_trace_parts.specs.declared.halt.Halt.TheVariants as halts
 use Rattle.yds_trace_parts.specs.Told as told
 use Rattle.yds_trace_threads.specs.declared.halt.Halt.{Halt as ThreadsHalt}
 use Rattle.yds_trace_threads.specs.declared.halt.Halt.TheVariants as threads
-use Rattle.yds_trace_run.specs.FaultText.{failed, line_text, fault_text, halt_text, too_long_text, memory_text, read_fault_text}
+use Rattle.yds_trace_run.specs.FaultText.{failed, line_text, fault_text, halt_text, too_long_text, memory_text}
+use Rattle.yds_trace_files.specs.Unread.{Unread, read_fault_text}
 
--- the text with which a run ends so: an answer, or why there is none
-abbrev pub IsText : Result Request WordFault → List ℕ → List ℕ → Status → Type 0
-IsText request input text statuses.Memory = EndsWith request input text memory_text
-IsText request input text statuses.ReadFault = EndsWith request input text read_fault_text
-IsText request input text statuses.WriteFault = ⊥
-IsText request input text statuses.No = ⊥
-IsText request input text status = Answers request input text status
+-- the text with which a run ends so: an answer, or why there is none, after a read that failed of this
+abbrev pub IsText : Unread → Result Request WordFault → List ℕ → List ℕ → Status → Type 0
+IsText unread request input text statuses.Memory = EndsWith request input text memory_text
+IsText unread request input text statuses.ReadFault = EndsWith request input text (read_fault_text unread)
+IsText unread request input text statuses.WriteFault = ⊥
+IsText unread request input text statuses.No = ⊥
+IsText unread request input text status = Answers request input text status
 
 -- the text was written whole and flushed, and the run ended with the text's status
 pub record WritesWhole (ended : Status) (text : List ℕ) (status : Status) (old new : Option (List ℕ)) (flushed : Option ℕ) : Type 0 where
@@ -44,11 +45,11 @@ abbrev pub Outcome : Status → List ℕ → Status → Option (List ℕ) → Op
 Outcome statuses.WriteFault text status old new flushed = AppendsFront text old new
 Outcome ended text status old new flushed = WritesWhole ended text status old new flushed
 
--- what was written is one of the texts for the words and this input
-pub record Writes (request : Result Request WordFault) (input : List ℕ) (ended : Status) (old new : Option (List ℕ)) (flushed : Option ℕ) : Type 0 where
+-- what was written is one of the texts for the words and this input, of which a read that failed was so
+pub record Writes (unread : Unread) (request : Result Request WordFault) (input : List ℕ) (ended : Status) (old new : Option (List ℕ)) (flushed : Option ℕ) : Type 0 where
   pub text : List ℕ
   pub status : Status
-  pub is_text : IsText request input text status
+  pub is_text : IsText unread request input text status
   pub outcome : Outcome ended text status old new flushed
 
 -- A text with this status was delivered to the sink, whose members stand first: whole and flushed, or up to a counted fault.
@@ -76,12 +77,12 @@ Leaves _ input left faults_before faults_now = Unit {0}
 
 -- # Why a trace wasn't read
 
-abbrev pub stopped_text : Stopped → List ℕ
-stopped_text (stops.InForm number fault) = failed (line_text (InForm (record { line = number; column = fault.column; reason = fault.reason })))
-stopped_text (stops.AtLine number cause) = failed (line_text (AtLine number cause))
-stopped_text stops.TooLong = too_long_text
-stopped_text stops.ReadFault = read_fault_text
-stopped_text stops.Memory = memory_text
+abbrev pub stopped_text : Unread → Stopped → List ℕ
+stopped_text unread (stops.InForm number fault) = failed (line_text (InForm (record { line = number; column = fault.column; reason = fault.reason })))
+stopped_text unread (stops.AtLine number cause) = failed (line_text (AtLine number cause))
+stopped_text unread stops.TooLong = too_long_text
+stopped_text unread stops.ReadFault = read_fault_text unread
+stopped_text unread stops.Memory = memory_text
 
 abbrev pub stopped_status : Stopped → Status
 stopped_status (stops.InForm number fault) = statuses.Refused
@@ -93,16 +94,16 @@ stopped_status stops.Memory = statuses.Memory
 -- # Why a trace wasn't told further
 
 -- the comment for it; none where a write failed
-abbrev pub halted_text : Halt → List ℕ
-halted_text (halts.InForm number fault) = halt_text (told.InForm (record { line = number; column = fault.column; reason = fault.reason }))
-halted_text (halts.AtLine number cause) = halt_text (told.AtLine number cause)
-halted_text (halts.Limit processor part fault) = halt_text (told.OfDocument processor part fault)
-halted_text (halts.TooLong processor part) = halt_text (told.OfText processor part)
-halted_text (halts.NoPlace name begin late) = halt_text (told.NoPlace name.items begin late)
-halted_text halts.Endless = too_long_text
-halted_text halts.ReadFault = read_fault_text
-halted_text halts.Memory = memory_text
-halted_text halts.WriteFault = []
+abbrev pub halted_text : Unread → Halt → List ℕ
+halted_text unread (halts.InForm number fault) = halt_text (told.InForm (record { line = number; column = fault.column; reason = fault.reason }))
+halted_text unread (halts.AtLine number cause) = halt_text (told.AtLine number cause)
+halted_text unread (halts.Limit processor part fault) = halt_text (told.OfDocument processor part fault)
+halted_text unread (halts.TooLong processor part) = halt_text (told.OfText processor part)
+halted_text unread (halts.NoPlace name begin late) = halt_text (told.NoPlace name.items begin late)
+halted_text unread halts.Endless = too_long_text
+halted_text unread halts.ReadFault = read_fault_text unread
+halted_text unread halts.Memory = memory_text
+halted_text unread halts.WriteFault = []
 
 abbrev pub halted_status : Halt → Status
 halted_status halts.ReadFault = statuses.ReadFault
@@ -111,9 +112,9 @@ halted_status halts.WriteFault = statuses.WriteFault
 halted_status _ = statuses.Refused
 
 -- The comment was delivered to the sink, whose members stand first. Where a write had failed before, nothing more was done to it.
-abbrev pub TellsHalt : {K : Type 0} → (K → Option (List ℕ)) → (K → Option ℕ) → (K → ℕ) → (K → ℕ) → Halt → Status → K → K → Type 0
-TellsHalt written flushed flushes faults halts.WriteFault ended old new = (ended ≡ statuses.WriteFault) × (new ≡ old)
-TellsHalt written flushed flushes faults halt ended old new = IsDelivered written flushed flushes faults (halted_text halt) (halted_status halt) ended old new
+abbrev pub TellsHalt : {K : Type 0} → (K → Option (List ℕ)) → (K → Option ℕ) → (K → ℕ) → (K → ℕ) → Unread → Halt → Status → K → K → Type 0
+TellsHalt written flushed flushes faults unread halts.WriteFault ended old new = (ended ≡ statuses.WriteFault) × (new ≡ old)
+TellsHalt written flushed flushes faults unread halt ended old new = IsDelivered written flushed flushes faults (halted_text unread halt) (halted_status halt) ended old new
 
 -- # Why a trace's threads weren't told
 
@@ -127,10 +128,10 @@ stopped_of threads.WriteFault = None
 stopped_of threads.Memory = Some stops.Memory
 
 -- The comment was delivered to the sink, whose members stand first. Where a write had failed before, nothing more was done to it.
-abbrev pub TellsStop : {K : Type 0} → (K → Option (List ℕ)) → (K → Option ℕ) → (K → ℕ) → (K → ℕ) → Option Stopped → Status → K → K → Type 0
-TellsStop written flushed flushes faults None ended old new = (ended ≡ statuses.WriteFault) × (new ≡ old)
-TellsStop written flushed flushes faults (Some stopped) ended old new =
-    IsDelivered written flushed flushes faults (stopped_text stopped) (stopped_status stopped) ended old new
+abbrev pub TellsStop : {K : Type 0} → (K → Option (List ℕ)) → (K → Option ℕ) → (K → ℕ) → (K → ℕ) → Unread → Option Stopped → Status → K → K → Type 0
+TellsStop written flushed flushes faults unread None ended old new = (ended ≡ statuses.WriteFault) × (new ≡ old)
+TellsStop written flushed flushes faults unread (Some stopped) ended old new =
+    IsDelivered written flushed flushes faults (stopped_text unread stopped) (stopped_status stopped) ended old new
 
 -- # What is known at a trace's end
 

@@ -147,6 +147,3 @@ too_long_text = failed (codes "the trace has more bytes or lines than are counte
 
 abbrev pub memory_text : List ℕ
 memory_text = failed (codes "out of memory; ask for fewer tasks, or choose a shorter time by --from and --to")
-
-abbrev pub read_fault_text : List ℕ
-read_fault_text = failed (codes "the input couldn't be read to its end; give it anew")

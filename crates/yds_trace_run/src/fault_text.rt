@@ -18,10 +18,6 @@ use yds_trace_words::{LINE_BYTES, MAX_UNIT, push_shown};
 pub(crate) const MEMORY: &[u8] =
     b"# out of memory; ask for fewer tasks, or choose a shorter time by --from and --to\nfailed\n";
 
-/// The text for an input that couldn't be read.
-pub(crate) const READ_FAULT: &[u8] =
-    b"# the input couldn't be read to its end; give it anew\nfailed\n";
-
 /// The text for a trace of as many bytes or lines as are counted.
 pub(crate) const TOO_LONG: &[u8] =
     b"# the trace has more bytes or lines than are counted; give a part of it\nfailed\n";

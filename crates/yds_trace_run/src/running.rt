@@ -12,19 +12,21 @@ ghost use Rattle.yds_trace_parts.specs.Flushing.{count_on, times_told};
 ghost use Rattle.yds_trace.specs.Views.{asked_read};
 ghost use Rattle.yds_trace_run.specs.Answer.{ReadsInput, TellsParts};
 ghost use Rattle.yds_trace_run.specs.Endings.{Writes, IsEnded, IsDelivered, Tells, TellsHalt, TellsStop, Leaves, stopped_of, stopped_text, stopped_status};
+ghost use Rattle.yds_trace_files.specs.Unread.{unread_read};
 ghost use Rattle.yds_trace_run.specs.Worth.{HidesNothing, IsReadSo, IsFaithfulSo, IsWholeSo};
 
 use crate::delivery::deliver;
 use crate::fault_text::{
-    MEMORY, READ_FAULT, TEXT_TOO_LONG, TOO_LONG, cause_line, document_line, form_line,
+    MEMORY, TEXT_TOO_LONG, TOO_LONG, cause_line, document_line, form_line,
     long_part_line, part_line, place_line,
 };
 use arrayvec::ArrayString;
 use std::alloc::Global;
 use std::hash::RandomState;
 use yds_model::Status;
-use yds_port::{Sink, Source};
+use yds_port::Sink;
 use yds_trace::{Asked, Ended};
+use yds_trace_files::{Input, Unread, read_fault_line};
 use yds_trace_parts::{Halt, tell_parts};
 use yds_trace_reading::{Stopped, read_trace};
 use yds_trace_text::{NoText, document_text};
@@ -49,7 +51,7 @@ use yds_trace_words::{HELP, LINE_BYTES, NoRequest, Request, VERSION, fault_line,
 /// The source and the sink need not tell their bytes. Where both do, what was written is what the definitions say of the words and
 /// of all bytes of the source. The code is one for all sources and sinks. Threads are looked up with these keys, on which no
 /// answer depends.
-pub fn run<S: Source, K: Sink>(
+pub fn run<S: Input, K: Sink>(
     alloc: Global,
     keys: RandomState,
     words: &[String],
@@ -77,7 +79,7 @@ pub fn run<S: Source, K: Sink>(
 
     // What was written is one of the texts for the words and all bytes of the source: the document with its status, or why there is none.
     ensures answer { IfSome (S.left source.old) (λ input.
-        Writes (request_of (words_of words.now)) input result (K.written sink.old) (K.written sink.new) (K.flushed sink.new)) }
+        Writes (S.unread source.new) (request_of (words_of words.now)) input result (K.written sink.old) (K.written sink.new) (K.flushed sink.new)) }
 
     // What was written as a document is worth what its reader takes it for: where it is feasible, each job that is known to be late is
     // late by less than a unit of time, and a comment names it.
@@ -113,7 +115,7 @@ pub fn run<S: Source, K: Sink>(
 }
 
 /// Reads a trace and writes its document, or its parts.
-fn run_trace<S: Source, K: Sink>(
+fn run_trace<S: Input, K: Sink>(
     alloc: Global,
     asked: Asked,
     strict: bool,
@@ -130,7 +132,7 @@ fn run_trace<S: Source, K: Sink>(
     ensures flushed_behind_each { asked.in_parts ≡ true → IfSome (S.left source.old) (λ input. result ≡ Status.Done
         → K.flushes sink.new ≡ next_count (count_on (times_told (asked_read asked) strict (past_of (order_of input))) (K.flushes sink.old))) }
     ensures answer { IfSome (S.left source.old) (λ input.
-        Writes (Ok (ReadTrace (asked_read asked) strict)) input result (K.written sink.old) (K.written sink.new) (K.flushed sink.new)) }
+        Writes (S.unread source.new) (Ok (ReadTrace (asked_read asked) strict)) input result (K.written sink.old) (K.written sink.new) (K.flushed sink.new)) }
 {
     if asked.in_parts {
         run_in_parts(alloc, asked, strict, source, sink)
@@ -140,7 +142,7 @@ fn run_trace<S: Source, K: Sink>(
 }
 
 /// Reads a trace and writes its one document.
-fn run_whole<S: Source, K: Sink>(
+fn run_whole<S: Input, K: Sink>(
     alloc: Global,
     asked: Asked,
     strict: bool,
@@ -156,16 +158,16 @@ fn run_whole<S: Source, K: Sink>(
     ensures sink { IsEnded K.written K.flushed K.flushes K.faults result sink.old sink.new }
     ensures flushed_once { result ≢ Status.WriteFault → K.flushes sink.new ≡ next_count (K.flushes sink.old) }
     ensures answer { IfSome (S.left source.old) (λ input.
-        Writes (Ok (ReadTrace (asked_read asked) strict)) input result (K.written sink.old) (K.written sink.new) (K.flushed sink.new)) }
+        Writes (S.unread source.new) (Ok (ReadTrace (asked_read asked) strict)) input result (K.written sink.old) (K.written sink.new) (K.flushed sink.new)) }
 {
     match read_trace(alloc, asked, source) {
         Ok(ended) => tell(alloc, &ended, strict, sink),
-        Err(stopped) => tell_stopped(stopped, sink),
+        Err(stopped) => tell_stopped(stopped, source.unread(), sink),
     }
 }
 
 /// Reads a trace and writes its parts, each as soon as it is whole.
-fn run_in_parts<S: Source, K: Sink>(
+fn run_in_parts<S: Input, K: Sink>(
     alloc: Global,
     asked: Asked,
     strict: bool,
@@ -182,16 +184,16 @@ fn run_in_parts<S: Source, K: Sink>(
     ensures flushed_behind_each { IfSome (S.left source.old) (λ input. result ≡ Status.Done
         → K.flushes sink.new ≡ next_count (count_on (times_told (asked_read asked) strict (past_of (order_of input))) (K.flushes sink.old))) }
     ensures answer { IfSome (S.left source.old) (λ input.
-        Writes (Ok (ReadTrace (asked_read asked) strict)) input result (K.written sink.old) (K.written sink.new) (K.flushed sink.new)) }
+        Writes (S.unread source.new) (Ok (ReadTrace (asked_read asked) strict)) input result (K.written sink.old) (K.written sink.new) (K.flushed sink.new)) }
 {
     match tell_parts(alloc, asked, strict, source, sink) {
         Ok(()) => finish(sink),
-        Err(halt) => tell_halt(&halt, sink),
+        Err(halt) => tell_halt(&halt, source.unread(), sink),
     }
 }
 
 /// Reads a trace and writes the table of its threads.
-fn run_threads<S: Source, K: Sink>(
+fn run_threads<S: Input, K: Sink>(
     alloc: Global,
     keys: RandomState,
     source: &mut S,
@@ -204,28 +206,28 @@ fn run_threads<S: Source, K: Sink>(
     ensures sink { IsEnded K.written K.flushed K.flushes K.faults result sink.old sink.new }
     ensures flushed_once { result ≢ Status.WriteFault → K.flushes sink.new ≡ next_count (K.flushes sink.old) }
     ensures answer { IfSome (S.left source.old) (λ input.
-        Writes (Ok ListThreads) input result (K.written sink.old) (K.written sink.new) (K.flushed sink.new)) }
+        Writes (S.unread source.new) (Ok ListThreads) input result (K.written sink.old) (K.written sink.new) (K.flushed sink.new)) }
 {
     match tell_threads(alloc, keys, source, sink) {
         Ok(()) => finish(sink),
-        Err(halt) => tell_no_threads(halt, sink),
+        Err(halt) => tell_no_threads(halt, source.unread(), sink),
     }
 }
 
 /// Writes why a trace's threads aren't told. Where a write failed nothing more is written.
-fn tell_no_threads<K: Sink>(halt: threads::Halt, sink: &mut K) -> Status
-    ensures { TellsStop K.written K.flushed K.flushes K.faults (stopped_of halt) result sink.old sink.new }
+fn tell_no_threads<K: Sink>(halt: threads::Halt, unread: Unread<'_>, sink: &mut K) -> Status
+    ensures { TellsStop K.written K.flushed K.flushes K.faults (unread_read unread.entry) (stopped_of halt) result sink.old sink.new }
 {
     match halt {
         threads::Halt::WriteFault => Status::WriteFault,
-        threads::Halt::ReadFault => tell_stopped(Stopped::ReadFault, sink),
-        threads::Halt::Memory => tell_stopped(Stopped::Memory, sink),
-        threads::Halt::Endless => tell_stopped(Stopped::TooLong, sink),
+        threads::Halt::ReadFault => tell_stopped(Stopped::ReadFault, unread, sink),
+        threads::Halt::Memory => tell_stopped(Stopped::Memory, unread, sink),
+        threads::Halt::Endless => tell_stopped(Stopped::TooLong, unread, sink),
         threads::Halt::InForm { number, fault } => {
-            tell_stopped(Stopped::InForm { number, fault }, sink)
+            tell_stopped(Stopped::InForm { number, fault }, unread, sink)
         }
         threads::Halt::AtLine { number, cause } => {
-            tell_stopped(Stopped::AtLine { number, cause }, sink)
+            tell_stopped(Stopped::AtLine { number, cause }, unread, sink)
         }
     }
 }
@@ -238,12 +240,12 @@ fn finish<K: Sink>(sink: &mut K) -> Status
 }
 
 /// Writes why a trace isn't told further, behind the parts that were written.
-fn tell_halt<K: Sink>(halt: &Halt, sink: &mut K) -> Status
-    ensures { TellsHalt K.written K.flushed K.flushes K.faults halt.now result sink.old sink.new }
+fn tell_halt<K: Sink>(halt: &Halt, unread: Unread<'_>, sink: &mut K) -> Status
+    ensures { TellsHalt K.written K.flushed K.flushes K.faults (unread_read unread.entry) halt.now result sink.old sink.new }
 {
     match halt {
         Halt::WriteFault => Status::WriteFault,
-        Halt::ReadFault => deliver(READ_FAULT, Status::ReadFault, sink),
+        Halt::ReadFault => deliver(read_fault_line(unread).as_bytes(), Status::ReadFault, sink),
         Halt::Memory => deliver(MEMORY, Status::Memory, sink),
         Halt::Endless => deliver(TOO_LONG, Status::Refused, sink),
         Halt::InForm { number, fault } => refuse(&form_line(*number, *fault), sink),
@@ -266,11 +268,11 @@ fn refuse<K: Sink>(line: &ArrayString<LINE_BYTES>, sink: &mut K) -> Status
 }
 
 /// Writes why a trace wasn't read to what is known at its end.
-fn tell_stopped<K: Sink>(stopped: Stopped, sink: &mut K) -> Status
-    ensures { IsDelivered K.written K.flushed K.flushes K.faults (stopped_text stopped) (stopped_status stopped) result sink.old sink.new }
+fn tell_stopped<K: Sink>(stopped: Stopped, unread: Unread<'_>, sink: &mut K) -> Status
+    ensures { IsDelivered K.written K.flushed K.flushes K.faults (stopped_text (unread_read unread.entry) stopped) (stopped_status stopped) result sink.old sink.new }
 {
     match stopped {
-        Stopped::ReadFault => deliver(READ_FAULT, Status::ReadFault, sink),
+        Stopped::ReadFault => deliver(read_fault_line(unread).as_bytes(), Status::ReadFault, sink),
         Stopped::Memory => deliver(MEMORY, Status::Memory, sink),
         Stopped::TooLong => deliver(TOO_LONG, Status::Refused, sink),
         Stopped::InForm { number, fault } => refuse(&form_line(number, fault), sink),

@@ -14,6 +14,8 @@ mod kernel_text;
 #[cfg(test)]
 mod trace;
 #[cfg(test)]
+mod trace_files;
+#[cfg(test)]
 mod trace_parts;
 #[cfg(test)]
 mod trace_run;

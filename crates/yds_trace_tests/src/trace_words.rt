@@ -2,7 +2,7 @@
 use std::alloc::Global;
 use std::test::Fail;
 use yds_model::Memory;
-use yds_trace_words::{NoRequest, Request, fault_line, read_words};
+use yds_trace_words::{NoRequest, Request, fault_line, inputs, read_words};
 
 /// These words, each up to a blank.
 fn words(alloc: Global, line: &str) -> Result<Vec<String>, Memory> {
@@ -38,8 +38,8 @@ fn words_ask(rt: HostRuntime) -> Result<(), Fail> {
             "Asked { tasks: [Task { label: [97], thread: Named([97]), deadline: 16667000, apart: 2000000 }], processor: 3, unit: 1000, khz: 7, start: Same(600000), from: Some(1500000000), to: Some(9223372036854775807), begin_at_run: true, cut_losses: true, in_parts: true, everywhere: false, moved_parts: false, others: None } true",
         ),
         (
-            "--tasks 7=a\\,b:1,c\\:\\d:0.01",
-            "Asked { tasks: [Task { label: [97, 44, 98], thread: Numbered(7), deadline: 1000000, apart: 0 }, Task { label: [99, 58, 92, 100], thread: Named([99, 58, 92, 100]), deadline: 10000, apart: 0 }], processor: 0, unit: 10000, khz: 10000, start: Listed([]), from: None, to: None, begin_at_run: false, cut_losses: false, in_parts: false, everywhere: false, moved_parts: false, others: None } false",
+            "--tasks 7=a\\,b:1,c\\:\\d\\\\:0.01",
+            "Asked { tasks: [Task { label: [97, 44, 98], thread: Numbered(7), deadline: 1000000, apart: 0 }, Task { label: [99, 58, 92, 100, 92], thread: Named([99, 58, 92, 100, 92]), deadline: 10000, apart: 0 }], processor: 0, unit: 10000, khz: 10000, start: Listed([]), from: None, to: None, begin_at_run: false, cut_losses: false, in_parts: false, everywhere: false, moved_parts: false, others: None } false",
         ),
         (
             "--cpu all --tasks a:1",
@@ -69,8 +69,8 @@ fn words_are_refused_by_name(rt: HostRuntime) -> Result<(), Fail> {
             "# --task: no such word; --help lists them\nfailed\n",
         ),
         (
-            "--tasks a:1 file",
-            "# file: no such word; --help lists them\nfailed\n",
+            "--tasks a:1 file -x",
+            "# -x: no such word; --help lists them\nfailed\n",
         ),
         (
             "--cpu 1 --tasks a:1 --cpu 1",
@@ -171,6 +171,26 @@ fn words_are_refused_by_name(rt: HostRuntime) -> Result<(), Fail> {
     ];
     for (line, want) in cases {
         assert_eq!(rt; asked(rt.alloc(), line)?.as_str(), want, "{line}");
+    }
+    Ok(())
+}
+
+#[test]
+fn words_are_files(rt: HostRuntime) -> Result<(), Fail> {
+    let cases = [
+        ("--tasks a:1 --cpu=3", "-"),
+        ("one --tasks a:1 - two --parts one", "one - two one"),
+        ("--tasks -- -- one --parts --", "one --parts --"),
+    ];
+    for (line, want) in cases {
+        let alloc = rt.alloc();
+        let words = words(alloc, line)?;
+        let mut told = String::new(alloc);
+        for name in inputs(alloc, &words)? {
+            told.push_str(name)?;
+            told.push_str(" ")?;
+        }
+        assert_eq!(rt; told.trim_end(), want, "{line}");
     }
     Ok(())
 }

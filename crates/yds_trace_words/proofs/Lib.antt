@@ -1,5 +1,6 @@
 pub mod Ahead
 pub mod StartExamples
+pub mod FilesExamples
 pub mod Settings
 pub mod Listed
 pub mod Fit

@@ -13,12 +13,16 @@ abbrev pub letter_of : ℕ → Letter
 letter_of byte =
     if byte == 44 then Parting Comma else (if byte == 58 then Parting Colon else (if byte == 61 then Parting Equals else Text byte))
 
--- A backslash before a sign makes it a byte of a text. Before anything else, and at the end, it is a backslash.
+-- a sign, or a backslash
+abbrev pub is_meant : ℕ → Bool
+is_meant byte = is_sign byte || (byte == 92)
+
+-- A backslash before a sign, or before another backslash, makes that a byte of a text. Before anything else, and at the end, it is a backslash.
 abbrev pub letters_of : List ℕ → List Letter
 letters_of [] = []
 letters_of (byte ∷ []) = letter_of byte ∷ []
 letters_of (byte ∷ next ∷ bytes) =
-    if (byte == 92) && is_sign next then Text next ∷ letters_of bytes else letter_of byte ∷ letters_of (next ∷ bytes)
+    if (byte == 92) && is_meant next then Text next ∷ letters_of bytes else letter_of byte ∷ letters_of (next ∷ bytes)
 
 -- whether the letter is this sign
 abbrev pub is_at : Sign → Letter → Bool

@@ -18,7 +18,7 @@ use Rattle.yds_trace_words.specs.declared.letter.Letter.{Letter}
 use Rattle.yds_trace_words.specs.declared.tasks.Called.{Called as CalledKept}
 use Rattle.yds_trace_words.specs.declared.tasks.Times.{Times as TimesKept}
 use Rattle.yds_trace_words.specs.Tasks.{Called, Times}
-use Rattle.yds_trace_words.specs.Words.{WordFault, Setting, Word, Whole, Waits, Wrong}
+use Rattle.yds_trace_words.specs.Words.{WordFault, Setting, Word, Whole, Waits, File, Files, Wrong}
 use Rattle.yds_trace_words.specs.Request.{Request, ShowHelp, ShowVersion, ReadTrace, ListThreads}
 
 abbrev pub words_of : List (String Global) → List (List ℕ)
@@ -50,10 +50,15 @@ Takes view (Err fault) defined = defined ≡ Err (fault_read fault)
 abbrev pub settings_read : Vec SettingKept Global → List Setting
 settings_read settings = map setting_read settings.items
 
+abbrev pub names_read : Vec (Bor (List ℕ)) Global → List (List ℕ)
+names_read names = map (λ (name : Bor (List ℕ)). name.now) names.items
+
 -- the word says what the definition says of it
 abbrev pub IsWord : WordSaid → Word → Type 0
 IsWord (said.Whole setting) defined = defined ≡ Whole (setting_read setting)
 IsWord (said.Waits name) defined = defined ≡ Waits name.now
+IsWord (said.File name) defined = defined ≡ File name.now
+IsWord said.Files defined = defined ≡ Files
 IsWord (said.Wrong fault) defined = defined ≡ Wrong (fault_read fault)
 
 abbrev pub bytes_read : Vec ℕ Global → List ℕ

@@ -28,7 +28,7 @@ pub enum Sign {
     Equals,
 }
 
-/// The letters that these bytes spell: behind a backslash a sign is a byte of a text.
+/// The letters that these bytes spell: behind a backslash a sign, or another backslash, is a byte of a text.
 pub(crate) fn letters(alloc: Global, bytes: &[u8]) -> Result<Vec<Letter>, Memory>
     ensures { IfOk result (λ letters. letters.items ≡ spec.letters_of bytes.now) }
 {
@@ -36,7 +36,7 @@ pub(crate) fn letters(alloc: Global, bytes: &[u8]) -> Result<Vec<Letter>, Memory
     let mut rest = bytes;
     while let [first, others @ ..] = rest {
         match others {
-            [next, behind @ ..] if *first == b'\\' && is_sign(*next) => {
+            [next, behind @ ..] if *first == b'\\' && is_meant(*next) => {
                 letters.push(Letter::Text(*next))?;
                 rest = behind;
             }
@@ -47,6 +47,13 @@ pub(crate) fn letters(alloc: Global, bytes: &[u8]) -> Result<Vec<Letter>, Memory
         }
     }
     Ok(letters)
+}
+
+/// Whether a backslash before it makes it a byte of a text.
+fn is_meant(byte: u8) -> bool
+    ensures { result ≡ spec.is_meant byte }
+{
+    is_sign(byte) || byte == b'\\'
 }
 
 /// Whether the byte is a comma, a colon or an equals sign.

@@ -2,7 +2,8 @@
 //!
 //! It stands on `yds_trace` for what may be asked of a trace, and on `yds_text`, which reads numbers. It carries the promise
 //! that what is made of the words is what the definition of requests says of them, with numbers within their limits, or that
-//! the word which can't be taken is told by its name. Want of memory is the only other answer.
+//! the word which can't be taken is told by its name; and that the trace is read from the files that the definition says. Want of
+//! memory is the only other answer.
 #![tactic(auto)]
 
 mod decimal;
@@ -18,4 +19,5 @@ mod texts;
 pub use fault::{NoRequest, Place, Reason, WordFault};
 pub use limits::{MAX_LABEL, MAX_SPEEDS, MAX_TASKS, MAX_UNIT};
 pub use request::{Request, read_words};
+pub use setting::inputs;
 pub use texts::{HELP, LINE_BYTES, VERSION, fault_line, push_shown};

@@ -1,12 +1,13 @@
 //! The words of the command line, taken apart.
-ghost use Rattle.std.specs.Prelude.{◌≡◌, ◌==◌, map, true, false, option_map, MatchOption};
+ghost use Rattle.std.specs.Prelude.{◌≡◌, ◌==◌, ◌++◌, map, true, false, option_map, MatchOption, IfOk};
 ghost use Rattle.std.specs.List.{list_any, before_first, after_first};
 ghost use Rattle.yds_trace_words.specs.Words as spec;
-ghost use Rattle.yds_trace_words.specs.Words.{settings_of, value_of, other_than, given_twice};
-ghost use Rattle.yds_trace_words.specs.Views.{words_of, setting_read, settings_read, Reads, IsWord};
+ghost use Rattle.yds_trace_words.specs.Words.{settings_of, files_of, inputs_of, value_of, other_than, given_twice};
+ghost use Rattle.yds_trace_words.specs.Views.{words_of, setting_read, settings_read, names_read, Reads, IsWord};
 
 use crate::fault::{NoRequest, Reason, WordFault};
 use std::alloc::Global;
+use yds_model::Memory;
 
 /// What is set, and to which value; a flag's is empty.
 #[derive(Clone, Copy, Debug, PartialEq, Eq)]
@@ -22,6 +23,10 @@ pub enum Word<'a> {
     Whole(Setting<'a>),
     /// A name, whose value is the next word.
     Waits(&'a [u8]),
+    /// A file.
+    File(&'a [u8]),
+    /// All words behind it are files.
+    Files,
     /// Nothing that can be taken.
     Wrong(WordFault<'a>),
 }
@@ -54,15 +59,86 @@ pub(crate) fn settings<'a>(
                 })?;
                 rest = behind;
             }
+            Word::File(_) => rest = others,
+            Word::Files => return Ok(settings),
             Word::Wrong(fault) => return Err(NoRequest::Fault(fault)),
         }
     }
     Ok(settings)
 }
 
+/// What the trace is read from: the files that the words name, in their order, or a hyphen for standard input where there is none.
+pub fn inputs<'a>(alloc: Global, words: &'a [String]) -> Result<Vec<&'a str>, Memory>
+    ensures { IfOk result (λ inputs. names_read inputs ≡ inputs_of (words_of words.now)) }
+{
+    let files = files(alloc, words)?;
+    if !files.is_empty() {
+        return Ok(files);
+    }
+    let mut input = Vec::new(alloc);
+    input.push("-")?;
+    Ok(input)
+}
+
+/// The files that the words name, in their order: a word that doesn't begin with a hyphen or is just that, and each one behind `--`.
+fn files<'a>(alloc: Global, words: &'a [String]) -> Result<Vec<&'a str>, Memory>
+    ensures { IfOk result (λ files. names_read files ≡ files_of (words_of words.now)) }
+{
+    let mut files = Vec::new(alloc);
+    let mut rest = words;
+    while let Some((first, others)) = rest.split_first() {
+        match word_of(first.as_bytes()) {
+            Word::Whole(_) | Word::Wrong(_) => rest = others,
+            Word::Waits(_) => match others.split_first() {
+                Some((_value, behind)) => rest = behind,
+                None => return Ok(files),
+            },
+            Word::File(_) => {
+                files.push(first.as_str())?;
+                rest = others;
+            }
+            Word::Files => return with_all(files, others),
+        }
+    }
+    Ok(files)
+}
+
+/// These files, and all of these words behind them.
+fn with_all<'a>(mut files: Vec<&'a str>, words: &'a [String]) -> Result<Vec<&'a str>, Memory>
+    ensures { IfOk result (λ all. names_read all ≡ names_read files.entry ++ words_of words.now) }
+{
+    for word in words {
+        files.push(word.as_str())?;
+    }
+    Ok(files)
+}
+
 /// What one word says.
 fn word_of(word: &[u8]) -> Word<'_>
     ensures { IsWord result (spec.word_of word.now) }
+{
+    if is_file(word) {
+        Word::File(word)
+    } else if word == b"--".as_slice() {
+        Word::Files
+    } else {
+        option_of(word)
+    }
+}
+
+/// Whether it doesn't begin with a hyphen, or is just that.
+fn is_file(word: &[u8]) -> bool
+    ensures { result ≡ spec.is_file word.now }
+{
+    match word {
+        [first, _, ..] => *first != b'-',
+        [_] | [] => true,
+    }
+}
+
+/// What a word says that is no file.
+fn option_of(word: &[u8]) -> Word<'_>
+    ensures { IsWord result (spec.option_of word.now) }
 {
     let (name, value) = split_at_byte(word, b'=');
     match value {

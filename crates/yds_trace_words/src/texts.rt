@@ -12,7 +12,7 @@ use itoa::Buffer;
 pub const HELP: &[u8] = b"\
 yds_trace: the jobs and runs of tasks on one processor, from a kernel's trace
 
-usage: yds_trace --tasks NAME:DEADLINE[:APART],.. [WORDS] < TRACE > DOCUMENT
+usage: yds_trace --tasks NAME:DEADLINE[:APART],.. [WORDS] [FILE ..] > DOCUMENT
 
 It reads sched_switch, sched_waking, sched_wakeup, sched_wakeup_new and cpu_frequency as text: the kernel's trace file,
 trace-cmd report, perf script, or Perfetto's export. It writes a document, which yds_cli reads: a job begins where its
@@ -20,7 +20,7 @@ thread is woken and ends where that leaves the processor to sleep.
 
   --tasks LIST   the tasks, parted by commas: NAME:DEADLINE or PID=NAME:DEADLINE, in milliseconds from a job's begin.
                  With :APART behind, a wake-up less than so many milliseconds after a job's begin goes on with that job.
-                 A backslash before a comma, a colon or an equals sign makes it a byte of a name
+                 A backslash before a comma, a colon, an equals sign or a backslash makes that a byte of a name
   --tasks ?      writes no document: the threads of the trace, those that ran longest first
   --cpu N        the processor (0)
   --cpu all      each processor, in documents of its own, as with --parts
@@ -39,7 +39,9 @@ thread is woken and ends where that leaves the processor to sleep.
   --help         writes this
   --version      writes the version
 
-A word and its value are two words, or one with an equals sign between them: --cpu 3 or --cpu=3.
+A word and its value are two words, or one with an equals sign between them: --cpu 3 or --cpu=3. A word that doesn't begin
+with a hyphen is a file, and each word behind -- is one. The trace is the files one behind the other, in their order; - is
+standard input, which is read where no file is given. A file that another one follows ends with a line feed, or is empty.
 
 status: 0 done, 2 the words can't be taken, 3 the trace has a fault, 4 the input couldn't be read, 5 the output couldn't be
 written, 6 want of memory, 7 a word isn't text. What is written ends with the line 'failed' for each other than 0 and 5, so

@@ -12,6 +12,7 @@ use Rattle.yds_trace_words.specs.Request.{Request, ShowHelp, ReadTrace, request_
 use Rattle.yds_trace_words.specs.Texts.{help_text}
 use Rattle.yds_trace_words.specs.Views.{words_of, request_read}
 use Rattle.yds_trace_words.specs.Words.{WordFault}
+use Rattle.yds_trace_files.specs.Unread.{Unread}
 use Rattle.yds_trace_run.specs.Answer.{TellsParts}
 use Rattle.yds_trace_run.specs.FaultText.{memory_text}
 use Rattle.yds_trace_run.specs.Endings.{IsText, Writes, IsDelivered}
@@ -26,9 +27,9 @@ returns-in-Ok-Trace-clause-nothing_late g c = λ done asked strict same.
     let both : ReadTrace (asked_read c.in-Ok-Trace.asked) c.in-Ok-Trace.strict ≡ ReadTrace asked strict = cc in
     let one : asked_read c.in-Ok-Trace.asked ≡ asked = cc in
     let fit = subst (λ (made : RequestMade). IsFitRequest (request_read made)) c.in-Ok-Trace.field-0-is c.in-Ok-Trace.ensures.fit in
-    nothing_late asked strict (g.S.Source.left c.args.source.now) (g.K.Sink.written c.args.sink.now) (g.K.Sink.written c.run_trace.new.sink) (g.K.Sink.flushed c.run_trace.new.sink)
+    nothing_late (g.S.Input.unread c.run_trace.new.source) asked strict (g.S.Source.left c.args.source.now) (g.K.Sink.written c.args.sink.now) (g.K.Sink.written c.run_trace.new.sink) (g.K.Sink.flushed c.run_trace.new.sink)
     c.run_trace.result (subst IsFit one fit) done
-    (subst (λ (request : Request). IfSome (g.S.Source.left c.args.source.now) (λ input. Writes (Ok request) input c.run_trace.result (g.K.Sink.written c.args.sink.now)
+    (subst (λ (request : Request). IfSome (g.S.Source.left c.args.source.now) (λ input. Writes (g.S.Input.unread c.run_trace.new.source) (Ok request) input c.run_trace.result (g.K.Sink.written c.args.sink.now)
     (g.K.Sink.written c.run_trace.new.sink) (g.K.Sink.flushed c.run_trace.new.sink))) both c.run_trace.ensures.answer)
 
 pub returns-in-Ok-Trace-clause-read_again : goal.returns-in-Ok-Trace-clause-read_again
@@ -38,9 +39,9 @@ returns-in-Ok-Trace-clause-read_again g c = λ done asked strict same.
     let both : ReadTrace (asked_read c.in-Ok-Trace.asked) c.in-Ok-Trace.strict ≡ ReadTrace asked strict = cc in
     let one : asked_read c.in-Ok-Trace.asked ≡ asked = cc in
     let fit = subst (λ (made : RequestMade). IsFitRequest (request_read made)) c.in-Ok-Trace.field-0-is c.in-Ok-Trace.ensures.fit in
-    read_again asked strict (g.S.Source.left c.args.source.now) (g.K.Sink.written c.args.sink.now) (g.K.Sink.written c.run_trace.new.sink) (g.K.Sink.flushed c.run_trace.new.sink)
+    read_again (g.S.Input.unread c.run_trace.new.source) asked strict (g.S.Source.left c.args.source.now) (g.K.Sink.written c.args.sink.now) (g.K.Sink.written c.run_trace.new.sink) (g.K.Sink.flushed c.run_trace.new.sink)
     c.run_trace.result (subst IsFit one fit) done
-    (subst (λ (request : Request). IfSome (g.S.Source.left c.args.source.now) (λ input. Writes (Ok request) input c.run_trace.result (g.K.Sink.written c.args.sink.now)
+    (subst (λ (request : Request). IfSome (g.S.Source.left c.args.source.now) (λ input. Writes (g.S.Input.unread c.run_trace.new.source) (Ok request) input c.run_trace.result (g.K.Sink.written c.args.sink.now)
     (g.K.Sink.written c.run_trace.new.sink) (g.K.Sink.flushed c.run_trace.new.sink))) both c.run_trace.ensures.answer)
 
 pub returns-in-Ok-Trace-clause-faithful : goal.returns-in-Ok-Trace-clause-faithful
@@ -50,9 +51,9 @@ returns-in-Ok-Trace-clause-faithful g c = λ done asked strict same.
     let both : ReadTrace (asked_read c.in-Ok-Trace.asked) c.in-Ok-Trace.strict ≡ ReadTrace asked strict = cc in
     let one : asked_read c.in-Ok-Trace.asked ≡ asked = cc in
     let fit = subst (λ (made : RequestMade). IsFitRequest (request_read made)) c.in-Ok-Trace.field-0-is c.in-Ok-Trace.ensures.fit in
-    faithful asked strict (g.S.Source.left c.args.source.now) (g.K.Sink.written c.args.sink.now) (g.K.Sink.written c.run_trace.new.sink) (g.K.Sink.flushed c.run_trace.new.sink)
+    faithful (g.S.Input.unread c.run_trace.new.source) asked strict (g.S.Source.left c.args.source.now) (g.K.Sink.written c.args.sink.now) (g.K.Sink.written c.run_trace.new.sink) (g.K.Sink.flushed c.run_trace.new.sink)
     c.run_trace.result (subst IsFit one fit) done
-    (subst (λ (request : Request). IfSome (g.S.Source.left c.args.source.now) (λ input. Writes (Ok request) input c.run_trace.result (g.K.Sink.written c.args.sink.now)
+    (subst (λ (request : Request). IfSome (g.S.Source.left c.args.source.now) (λ input. Writes (g.S.Input.unread c.run_trace.new.source) (Ok request) input c.run_trace.result (g.K.Sink.written c.args.sink.now)
     (g.K.Sink.written c.run_trace.new.sink) (g.K.Sink.flushed c.run_trace.new.sink))) both c.run_trace.ensures.answer)
 
 pub returns-in-Ok-Trace-clause-whole : goal.returns-in-Ok-Trace-clause-whole
@@ -62,9 +63,9 @@ returns-in-Ok-Trace-clause-whole g c = λ done asked strict same.
     let both : ReadTrace (asked_read c.in-Ok-Trace.asked) c.in-Ok-Trace.strict ≡ ReadTrace asked strict = cc in
     let one : asked_read c.in-Ok-Trace.asked ≡ asked = cc in
     let fit = subst (λ (made : RequestMade). IsFitRequest (request_read made)) c.in-Ok-Trace.field-0-is c.in-Ok-Trace.ensures.fit in
-    whole asked strict (g.S.Source.left c.args.source.now) (g.K.Sink.written c.args.sink.now) (g.K.Sink.written c.run_trace.new.sink) (g.K.Sink.flushed c.run_trace.new.sink)
+    whole (g.S.Input.unread c.run_trace.new.source) asked strict (g.S.Source.left c.args.source.now) (g.K.Sink.written c.args.sink.now) (g.K.Sink.written c.run_trace.new.sink) (g.K.Sink.flushed c.run_trace.new.sink)
     c.run_trace.result (subst IsFit one fit) done
-    (subst (λ (request : Request). IfSome (g.S.Source.left c.args.source.now) (λ input. Writes (Ok request) input c.run_trace.result (g.K.Sink.written c.args.sink.now)
+    (subst (λ (request : Request). IfSome (g.S.Source.left c.args.source.now) (λ input. Writes (g.S.Input.unread c.run_trace.new.source) (Ok request) input c.run_trace.result (g.K.Sink.written c.args.sink.now)
     (g.K.Sink.written c.run_trace.new.sink) (g.K.Sink.flushed c.run_trace.new.sink))) both c.run_trace.ensures.answer)
 
 -- Where the trace isn't told in parts, it is flushed once.
@@ -88,34 +89,34 @@ returns-in-Ok-Trace-clause-flushed_behind_each g c = λ asked strict same.
     both c.run_trace.ensures.flushed_behind_each
 
 -- Where memory ran out before the trace was read, nothing was written but that.
-memory_writes : {K : Type 0} (written : K → Option (List ℕ)) (flushed : K → Option ℕ) (flushes faults : K → ℕ) (words : List (List ℕ)) (input : Option (List ℕ)) (ended : Status)
+memory_writes : (unread : Unread) {K : Type 0} (written : K → Option (List ℕ)) (flushed : K → Option ℕ) (flushes faults : K → ℕ) (words : List (List ℕ)) (input : Option (List ℕ)) (ended : Status)
     (old new : K) → IsDelivered written flushed flushes faults memory_text statuses.Memory ended old new
-    → IfSome input (λ bytes. Writes (request_of words) bytes ended (written old) (written new) (flushed new))
-memory_writes written flushed flushes faults words None ended old new delivered = tt
-memory_writes written flushed flushes faults words (Some bytes) ended old new delivered =
+    → IfSome input (λ bytes. Writes unread (request_of words) bytes ended (written old) (written new) (flushed new))
+memory_writes unread written flushed flushes faults words None ended old new delivered = tt
+memory_writes unread written flushed flushes faults words (Some bytes) ended old new delivered =
     record { text = memory_text; status = statuses.Memory; is_text = ends_alone (request_of words) bytes memory_text; outcome = delivered.outcome }
 
 pub returns-in-Err-Memory-clause-answer : goal.returns-in-Err-Memory-clause-answer
 returns-in-Err-Memory-clause-answer g c =
-    memory_writes g.K.Sink.written g.K.Sink.flushed g.K.Sink.flushes g.K.Sink.faults (words_of c.args.words.now) (g.S.Source.left c.args.source.now) c.deliver-in-Err-Memory.result
+    memory_writes (g.S.Input.unread c.args.source.now) g.K.Sink.written g.K.Sink.flushed g.K.Sink.flushes g.K.Sink.faults (words_of c.args.words.now) (g.S.Source.left c.args.source.now) c.deliver-in-Err-Memory.result
     c.args.sink.now c.deliver-in-Err-Memory.new.sink c.deliver-in-Err-Memory.ensures
 
 -- Where the words ask for it, that is the text of `--help`.
-help_writes : {K : Type 0} (written : K → Option (List ℕ)) (flushed : K → Option ℕ) (flushes faults : K → ℕ) (words : List (List ℕ)) (input : Option (List ℕ)) (ended : Status)
+help_writes : (unread : Unread) {K : Type 0} (written : K → Option (List ℕ)) (flushed : K → Option ℕ) (flushes faults : K → ℕ) (words : List (List ℕ)) (input : Option (List ℕ)) (ended : Status)
     (old new : K) → request_of words ≡ Ok ShowHelp → IsDelivered written flushed flushes faults help_text statuses.Done ended old new
-    → IfSome input (λ bytes. Writes (request_of words) bytes ended (written old) (written new) (flushed new))
-help_writes written flushed flushes faults words None ended old new asks delivered = tt
-help_writes written flushed flushes faults words (Some bytes) ended old new asks delivered =
+    → IfSome input (λ bytes. Writes unread (request_of words) bytes ended (written old) (written new) (flushed new))
+help_writes unread written flushed flushes faults words None ended old new asks delivered = tt
+help_writes unread written flushed flushes faults words (Some bytes) ended old new asks delivered =
     record {
       text = help_text;
       status = statuses.Done;
-      is_text = subst (λ (request : Result Request WordFault). IsText request bytes help_text statuses.Done) (sym asks) (refl, refl);
+      is_text = subst (λ (request : Result Request WordFault). IsText unread request bytes help_text statuses.Done) (sym asks) (refl, refl);
       outcome = delivered.outcome;
     }
 
 pub returns-in-Ok-Help-clause-answer : goal.returns-in-Ok-Help-clause-answer
 returns-in-Ok-Help-clause-answer g c =
-    help_writes g.K.Sink.written g.K.Sink.flushed g.K.Sink.flushes g.K.Sink.faults (words_of c.args.words.now) (g.S.Source.left c.args.source.now) c.deliver.result
+    help_writes (g.S.Input.unread c.args.source.now) g.K.Sink.written g.K.Sink.flushed g.K.Sink.flushes g.K.Sink.faults (words_of c.args.words.now) (g.S.Source.left c.args.source.now) c.deliver.result
     c.args.sink.now c.deliver.new.sink
     (subst (λ (made : RequestMade). request_of (words_of c.args.words.now) ≡ Ok (request_read made)) c.in-Ok-Help.field-0-is c.in-Ok-Help.ensures.request)
     c.deliver.ensures

@@ -28,12 +28,12 @@ tell_parts-requires g c = granted (asked_read c.args.asked) c.requires.fit
 
 pub returns-in-Ok-clause-answer : goal.returns-in-Ok-clause-answer
 returns-in-Ok-clause-answer g c =
-    done_writes g.K.Sink.written g.K.Sink.flushed g.K.Sink.flushes g.K.Sink.faults (asked_read c.args.asked) c.args.strict (g.S.Source.left c.args.source.now) c.finish.result
+    done_writes g.K.Sink.written g.K.Sink.flushed g.K.Sink.flushes g.K.Sink.faults (g.S.Input.unread c.tell_parts.new.source) (asked_read c.args.asked) c.args.strict (g.S.Source.left c.args.source.now) c.finish.result
     c.args.sink.now c.tell_parts.new.sink c.finish.new.sink c.requires.in_parts c.in-Ok.ensures.told c.finish.ensures
 
 pub returns-in-Err-clause-answer : goal.returns-in-Err-clause-answer
 returns-in-Err-clause-answer g c =
-    halted_writes g.K.Sink.written g.K.Sink.flushed g.K.Sink.flushes g.K.Sink.faults (asked_read c.args.asked) c.args.strict (g.S.Source.left c.args.source.now) c.in-Err.halt c.tell_halt.result
+    halted_writes g.K.Sink.written g.K.Sink.flushed g.K.Sink.flushes g.K.Sink.faults (g.S.Input.unread c.tell_parts.new.source) (asked_read c.args.asked) c.args.strict (g.S.Source.left c.args.source.now) c.in-Err.halt c.tell_halt.result
     c.args.sink.now c.tell_parts.new.sink c.tell_halt.new.sink c.requires.in_parts c.in-Err.ensures.told c.tell_halt.ensures
 
 pub returns-in-Ok-clause-sink : goal.returns-in-Ok-clause-sink
@@ -44,7 +44,7 @@ returns-in-Ok-clause-sink g c =
 
 pub returns-in-Err-clause-sink : goal.returns-in-Err-clause-sink
 returns-in-Err-clause-sink g c =
-    halted_ended g.K.Sink.written g.K.Sink.flushed g.K.Sink.flushes g.K.Sink.faults c.in-Err.halt c.tell_halt.result c.args.sink.now c.tell_parts.new.sink c.tell_halt.new.sink
+    halted_ended g.K.Sink.written g.K.Sink.flushed g.K.Sink.flushes g.K.Sink.faults (g.S.Input.unread c.tell_parts.new.source) c.in-Err.halt c.tell_halt.result c.args.sink.now c.tell_parts.new.sink c.tell_halt.new.sink
     c.in-Err.ensures.sink_later (λ failed. c.in-Err.ensures.write_fault (same_end c.in-Err.halt halts.WriteFault failed)) (λ more. same_halt c.in-Err.halt halts.WriteFault (c.in-Err.ensures.sink_rose more))
     (λ other. c.in-Err.ensures.flushed_so_often (λ same. other (same_halt c.in-Err.halt halts.WriteFault same))) c.tell_halt.ensures
 
@@ -57,7 +57,7 @@ returns-in-Ok-clause-flushed_behind_each g c =
 pub returns-in-Err-clause-flushed_behind_each : goal.returns-in-Err-clause-flushed_behind_each
 returns-in-Err-clause-flushed_behind_each g c =
     never_done (g.S.Source.left c.args.source.now) c.tell_halt.result
-    (halted_not_done g.K.Sink.written g.K.Sink.flushed g.K.Sink.flushes g.K.Sink.faults c.in-Err.halt c.tell_halt.result c.tell_parts.new.sink c.tell_halt.new.sink c.tell_halt.ensures)
+    (halted_not_done g.K.Sink.written g.K.Sink.flushed g.K.Sink.flushes g.K.Sink.faults (g.S.Input.unread c.tell_parts.new.source) c.in-Err.halt c.tell_halt.result c.tell_parts.new.sink c.tell_halt.new.sink c.tell_halt.ensures)
 
 pub returns-in-Ok-clause-read_to_its_end : goal.returns-in-Ok-clause-read_to_its_end
 returns-in-Ok-clause-read_to_its_end g c =
@@ -65,15 +65,15 @@ returns-in-Ok-clause-read_to_its_end g c =
 
 pub returns-in-Err-clause-read_to_its_end : goal.returns-in-Err-clause-read_to_its_end
 returns-in-Err-clause-read_to_its_end g c =
-    halted_leaves g.K.Sink.written g.K.Sink.flushed g.K.Sink.flushes g.K.Sink.faults (g.S.Source.left c.args.source.now) (g.S.Source.left c.tell_parts.new.source) c.in-Err.halt
+    halted_leaves g.K.Sink.written g.K.Sink.flushed g.K.Sink.flushes g.K.Sink.faults (g.S.Input.unread c.tell_parts.new.source) (g.S.Source.left c.args.source.now) (g.S.Source.left c.tell_parts.new.source) c.in-Err.halt
     c.tell_halt.result c.tell_parts.new.sink c.tell_halt.new.sink _ _
     (λ other. c.in-Err.ensures.read_out (λ same. other (same_halt c.in-Err.halt halts.WriteFault same))) c.tell_halt.ensures
 
 pub returns-in-Err-clause-read_fault : goal.returns-in-Err-clause-read_fault
 returns-in-Err-clause-read_fault g c = λ fault.
-    c.in-Err.ensures.read_fault (same_end c.in-Err.halt halts.ReadFault (halted_read_fault g.K.Sink.written g.K.Sink.flushed g.K.Sink.flushes g.K.Sink.faults c.in-Err.halt c.tell_halt.result
+    c.in-Err.ensures.read_fault (same_end c.in-Err.halt halts.ReadFault (halted_read_fault g.K.Sink.written g.K.Sink.flushed g.K.Sink.flushes g.K.Sink.faults (g.S.Input.unread c.tell_parts.new.source) c.in-Err.halt c.tell_halt.result
     c.tell_parts.new.sink c.tell_halt.new.sink c.tell_halt.ensures fault))
 
 pub returns-in-Err-clause-no_fault_passed_over : goal.returns-in-Err-clause-no_fault_passed_over
 returns-in-Err-clause-no_fault_passed_over g c = λ done.
-    absurd (halted_not_done g.K.Sink.written g.K.Sink.flushed g.K.Sink.flushes g.K.Sink.faults c.in-Err.halt c.tell_halt.result c.tell_parts.new.sink c.tell_halt.new.sink c.tell_halt.ensures done)
+    absurd (halted_not_done g.K.Sink.written g.K.Sink.flushed g.K.Sink.flushes g.K.Sink.faults (g.S.Input.unread c.tell_parts.new.source) c.in-Err.halt c.tell_halt.result c.tell_parts.new.sink c.tell_halt.new.sink c.tell_halt.ensures done)

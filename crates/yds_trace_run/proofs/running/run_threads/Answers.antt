@@ -25,12 +25,12 @@ same_end one other same = cc
 
 pub returns-in-Ok-clause-answer : goal.returns-in-Ok-clause-answer
 returns-in-Ok-clause-answer g c =
-    threads_write g.K.Sink.written g.K.Sink.flushed g.K.Sink.flushes g.K.Sink.faults (g.S.Source.left c.args.source.now) c.finish.result
+    threads_write g.K.Sink.written g.K.Sink.flushed g.K.Sink.flushes g.K.Sink.faults (g.S.Input.unread c.tell_threads.new.source) (g.S.Source.left c.args.source.now) c.finish.result
     c.args.sink.now c.tell_threads.new.sink c.finish.new.sink c.in-Ok.ensures.told c.finish.ensures
 
 pub returns-in-Err-clause-answer : goal.returns-in-Err-clause-answer
 returns-in-Err-clause-answer g c =
-    no_threads_write g.K.Sink.written g.K.Sink.flushed g.K.Sink.flushes g.K.Sink.faults (g.S.Source.left c.args.source.now) c.in-Err.halt c.tell_no_threads.result
+    no_threads_write g.K.Sink.written g.K.Sink.flushed g.K.Sink.flushes g.K.Sink.faults (g.S.Input.unread c.tell_threads.new.source) (g.S.Source.left c.args.source.now) c.in-Err.halt c.tell_no_threads.result
     c.args.sink.now c.tell_threads.new.sink c.tell_no_threads.new.sink c.in-Err.ensures.told c.tell_no_threads.ensures
 
 pub returns-in-Ok-clause-sink : goal.returns-in-Ok-clause-sink
@@ -40,7 +40,7 @@ returns-in-Ok-clause-sink g c =
 
 pub returns-in-Err-clause-sink : goal.returns-in-Err-clause-sink
 returns-in-Err-clause-sink g c =
-    no_threads_ended g.K.Sink.written g.K.Sink.flushed g.K.Sink.flushes g.K.Sink.faults c.in-Err.halt c.tell_no_threads.result c.args.sink.now c.tell_threads.new.sink
+    no_threads_ended g.K.Sink.written g.K.Sink.flushed g.K.Sink.flushes g.K.Sink.faults (g.S.Input.unread c.tell_threads.new.source) c.in-Err.halt c.tell_no_threads.result c.args.sink.now c.tell_threads.new.sink
     c.tell_no_threads.new.sink c.in-Err.ensures.sink_later (λ failed. c.in-Err.ensures.write_fault (same_end c.in-Err.halt halts.WriteFault failed))
     (λ more. same_halt c.in-Err.halt halts.WriteFault (c.in-Err.ensures.sink_rose more)) c.in-Err.ensures.flushes_stay c.tell_no_threads.ensures
 
@@ -51,7 +51,7 @@ returns-in-Ok-clause-flushed_once g c = λ whole.
 
 pub returns-in-Err-clause-flushed_once : goal.returns-in-Err-clause-flushed_once
 returns-in-Err-clause-flushed_once g c =
-    no_threads_once g.K.Sink.written g.K.Sink.flushed g.K.Sink.flushes g.K.Sink.faults c.in-Err.halt c.tell_no_threads.result c.args.sink.now c.tell_threads.new.sink
+    no_threads_once g.K.Sink.written g.K.Sink.flushed g.K.Sink.flushes g.K.Sink.faults (g.S.Input.unread c.tell_threads.new.source) c.in-Err.halt c.tell_no_threads.result c.args.sink.now c.tell_threads.new.sink
     c.tell_no_threads.new.sink c.in-Err.ensures.flushes_stay c.tell_no_threads.ensures
 
 pub returns-in-Ok-clause-read_to_its_end : goal.returns-in-Ok-clause-read_to_its_end
@@ -60,15 +60,15 @@ returns-in-Ok-clause-read_to_its_end g c =
 
 pub returns-in-Err-clause-read_to_its_end : goal.returns-in-Err-clause-read_to_its_end
 returns-in-Err-clause-read_to_its_end g c =
-    no_threads_leave g.K.Sink.written g.K.Sink.flushed g.K.Sink.flushes g.K.Sink.faults (g.S.Source.left c.args.source.now) (g.S.Source.left c.tell_threads.new.source)
+    no_threads_leave g.K.Sink.written g.K.Sink.flushed g.K.Sink.flushes g.K.Sink.faults (g.S.Input.unread c.tell_threads.new.source) (g.S.Source.left c.args.source.now) (g.S.Source.left c.tell_threads.new.source)
     (stopped_of c.in-Err.halt) c.tell_no_threads.result c.tell_threads.new.sink c.tell_no_threads.new.sink _ _ c.in-Err.ensures.read_out c.tell_no_threads.ensures
 
 pub returns-in-Err-clause-read_fault : goal.returns-in-Err-clause-read_fault
 returns-in-Err-clause-read_fault g c = λ fault.
-    c.in-Err.ensures.read_fault (same_end c.in-Err.halt halts.ReadFault (no_threads_read_fault g.K.Sink.written g.K.Sink.flushed g.K.Sink.flushes g.K.Sink.faults c.in-Err.halt
+    c.in-Err.ensures.read_fault (same_end c.in-Err.halt halts.ReadFault (no_threads_read_fault g.K.Sink.written g.K.Sink.flushed g.K.Sink.flushes g.K.Sink.faults (g.S.Input.unread c.tell_threads.new.source) c.in-Err.halt
     c.tell_no_threads.result c.tell_threads.new.sink c.tell_no_threads.new.sink c.tell_no_threads.ensures fault))
 
 pub returns-in-Err-clause-no_fault_passed_over : goal.returns-in-Err-clause-no_fault_passed_over
 returns-in-Err-clause-no_fault_passed_over g c = λ done.
-    absurd (no_threads_not_done g.K.Sink.written g.K.Sink.flushed g.K.Sink.flushes g.K.Sink.faults c.in-Err.halt c.tell_no_threads.result c.tell_threads.new.sink
+    absurd (no_threads_not_done g.K.Sink.written g.K.Sink.flushed g.K.Sink.flushes g.K.Sink.faults (g.S.Input.unread c.tell_threads.new.source) c.in-Err.halt c.tell_no_threads.result c.tell_threads.new.sink
     c.tell_no_threads.new.sink c.tell_no_threads.ensures done)

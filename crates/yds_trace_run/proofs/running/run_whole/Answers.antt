@@ -14,12 +14,12 @@ returns-in-Ok-clause-read_fault g c = λ fault.
 
 pub returns-in-Ok-clause-answer : goal.returns-in-Ok-clause-answer
 returns-in-Ok-clause-answer g c =
-    told_writes g.K.Sink.written g.K.Sink.flushed g.K.Sink.flushes g.K.Sink.faults (asked_read c.args.asked) c.args.strict (g.S.Source.left c.args.source.now) c.in-Ok.ended
+    told_writes (g.S.Input.unread c.read_trace.new.source) g.K.Sink.written g.K.Sink.flushed g.K.Sink.flushes g.K.Sink.faults (asked_read c.args.asked) c.args.strict (g.S.Source.left c.args.source.now) c.in-Ok.ended
     c.tell.result c.args.sink.now c.tell.new.sink c.requires.whole c.in-Ok.ensures.read c.tell.ensures
 
 pub returns-in-Err-clause-answer : goal.returns-in-Err-clause-answer
 returns-in-Err-clause-answer g c =
-    stopped_writes g.K.Sink.written g.K.Sink.flushed g.K.Sink.flushes g.K.Sink.faults (asked_read c.args.asked) c.args.strict (g.S.Source.left c.args.source.now) c.in-Err.stopped
+    stopped_writes (g.S.Input.unread c.read_trace.new.source) g.K.Sink.written g.K.Sink.flushed g.K.Sink.flushes g.K.Sink.faults (asked_read c.args.asked) c.args.strict (g.S.Source.left c.args.source.now) c.in-Err.stopped
     c.tell_stopped.result c.args.sink.now c.tell_stopped.new.sink c.requires.whole c.in-Err.ensures.stopped c.tell_stopped.ensures
 
 pub returns-in-Ok-clause-read_to_its_end : goal.returns-in-Ok-clause-read_to_its_end
