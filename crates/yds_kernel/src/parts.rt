@@ -4,6 +4,7 @@ ghost use Rattle.std.specs.Char.{digit_value};
 ghost use Rattle.std.specs.List.{position_or_len, prefix_len};
 ghost use Rattle.std.specs.Str.{bytes_eq};
 ghost use Rattle.std.specs.Str.Parse.{digits_value};
+ghost use Rattle.memchr.specs.Find.{IsFirstByte, is_byte};
 ghost use Rattle.yds_model.specs.Lines.{is_blank};
 ghost use Rattle.yds_model.specs.Spelling.{is_digit};
 ghost use Rattle.yds_kernel.specs.Form.{only_blanks};
@@ -12,6 +13,7 @@ ghost use Rattle.yds_kernel.specs.Parts.{capped};
 ghost use Rattle.yds_kernel.specs.Views.{Reads};
 
 use crate::limits::{MAX_NUMBER, MAX_U64};
+use memchr::memchr;
 
 /// Whether the bytes begin with this text.
 #[inline(always)]
@@ -36,9 +38,27 @@ fn are_same<const N: usize>(one: &[u8; N], other: &[u8; N]) -> bool
         other.last_chunk::<8>(),
     ) {
         (Some(front), Some(other_front), Some(end), Some(other_end)) if N <= 16 => {
-            *front == *other_front && *end == *other_end
+            are_same_eight(front, other_front) && are_same_eight(end, other_end)
         }
         _ => *one == *other,
+    }
+}
+
+/// The same of eight bytes: four at the front and four at the end.
+#[inline(always)]
+fn are_same_eight(one: &[u8; 8], other: &[u8; 8]) -> bool
+    ensures { result ≡ bytes_eq one.now other.now }
+{
+    match (
+        one.first_chunk::<4>(),
+        other.first_chunk::<4>(),
+        one.last_chunk::<4>(),
+        other.last_chunk::<4>(),
+    ) {
+        (Some(front), Some(other_front), Some(end), Some(other_end)) => {
+            *front == *other_front && *end == *other_end
+        }
+        _ => false,
     }
 }
 
@@ -155,6 +175,32 @@ fn skip_minus(bytes: &[u8]) -> &[u8]
         [b'-', rest @ ..] => rest,
         [] | [_, ..] => bytes,
     }
+}
+
+/// The first place of this byte. It is likely among the first sixteen.
+#[inline(always)]
+pub(crate) fn first_place(byte: u8, bytes: &[u8]) -> Option<usize>
+    ensures { IsFirstByte (is_byte byte) bytes.now result }
+{
+    if let Some(front) = bytes.first_chunk::<16>()
+        && let Some(place) = place_in(byte, front)
+    {
+        return Some(place);
+    }
+    memchr(byte, bytes)
+}
+
+/// The first place of this byte among sixteen.
+#[inline(always)]
+fn place_in(byte: u8, bytes: &[u8; 16]) -> Option<usize>
+    ensures { IsFirstByte (is_byte byte) bytes.now result }
+{
+    for (index, &each) in bytes.iter().enumerate() {
+        if each == byte {
+            return Some(index);
+        }
+    }
+    None
 }
 
 /// Whether nothing but blanks is left.
