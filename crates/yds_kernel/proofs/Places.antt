@@ -1,7 +1,7 @@
 -- What stands at the first of a line's places, as a loop over the places looks for it.
-use Rattle.yds_model.proofs.Common.{◌≡◌, ℕ, zero, suc, ◌+◌, ◌<◌, ◌≤◌, List, [], ◌∷◌, length, codes, get_or, take, drop, Bool, true, false, ◌==◌, ◌&&◌, ◌||◌, nat_le, if◌then◌else◌, Some, None, sym, ap, ◌∙◌, arith, refl, drop_more, drop_all, le_refl, ◌-◌, take_all, length-drop}
+use Rattle.yds_model.proofs.Common.{◌≡◌, ℕ, zero, suc, ◌+◌, ◌<◌, ◌≤◌, List, [], ◌∷◌, length, codes, get_or, take, drop, Bool, true, false, ◌==◌, ◌&&◌, ◌||◌, nat_le, if◌then◌else◌, Some, None, sym, ap, ◌∙◌, arith, refl, drop_more, drop_all, le_refl, ◌-◌, take_all, length-drop, length-take-le, get_or-take}
 use Rattle.std.specs.Str.{bytes_eq}
-use Rattle.memchr.specs.Find.{Nowhere, Passes, is_byte}
+use Rattle.memchr.specs.Find.{Nowhere, NoneBefore, Passes, is_byte}
 use Rattle.yds_kernel.specs.declared.mark.Mark.{Mark}
 use Rattle.yds_kernel.specs.declared.mark.Mark.TheVariants as marks
 use Rattle.yds_kernel.specs.Parts.{or_else, after}
@@ -12,6 +12,16 @@ use Rattle.yds_kernel.specs.Line.{opens, opens_somewhere}
 -- the bytes from a place on, as a slice has them
 pub whole_rest : (text : List ℕ) (place : ℕ) → take (length text - place) (drop place text) ≡ drop place text
 whole_rest text place = take_all (length text - place) (drop place text) (omega (arith, length-drop place text))
+
+-- the first place among the first bytes is the first among all
+pub first_in_front : (test : ℕ → Bool) (bytes : List ℕ) (count k : ℕ) → count ≤ length bytes → NoneBefore (Passes test (take count bytes)) 0 (length (take count bytes)) k → Passes test (take count bytes) k →
+    NoneBefore (Passes test bytes) 0 (length bytes) k × Passes test bytes k
+first_in_front test bytes count k within none found =
+    let below : k < count = omega (arith, none.high, length-take-le count bytes within) in
+    let same : (at : ℕ) → at ≤ k → test (get_or (take count bytes) at 0) ≡ test (get_or bytes at 0) = λ at up_to. ap test (get_or-take count bytes at 0 (omega (arith, up_to, below))) in (
+      record { low = none.low; high = omega (arith, below, within); before = λ at low high yes. none.before at low high (same at (omega (arith, high)) ∙ yes) },
+      sym (same k (le_refl k)) ∙ found,
+    )
 
 -- # Stamps
 

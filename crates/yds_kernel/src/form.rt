@@ -5,9 +5,8 @@ ghost use Rattle.yds_kernel.specs.Views.{Reads, happening_read, marked_read, nam
 
 use crate::event::{Happening, Thread};
 use crate::mark::{Mark, Marked};
-use crate::parts::{after, after_blanks, only_blanks, small_number};
+use crate::parts::{after, after_blanks, first_place, only_blanks, small_number};
 use crate::state::State;
-use memchr::memchr;
 
 /// A thread, up to its mark, and what comes after it.
 #[derive(Clone, Copy)]
@@ -27,7 +26,7 @@ fn first_marked(mark: Mark, bytes: &[u8]) -> Option<(usize, Marked<'_>)>
     ensures within { IfSome result (λ x. x.0 ≤ length bytes.now) }
 {
     let mut place = 0;
-    while let Some(step) = memchr(mark.first_byte(), &bytes[place..]) {
+    while let Some(step) = first_place(mark.first_byte(), &bytes[place..]) {
         place += step;
         if let Some(marked) = mark.at(&bytes[place..]) {
             return Some((place, marked));

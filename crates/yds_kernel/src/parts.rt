@@ -4,6 +4,7 @@ ghost use Rattle.std.specs.Char.{digit_value};
 ghost use Rattle.std.specs.List.{position_or_len, prefix_len};
 ghost use Rattle.std.specs.Str.{bytes_eq};
 ghost use Rattle.std.specs.Str.Parse.{digits_value};
+ghost use Rattle.memchr.specs.Find.{IsFirstByte, is_byte};
 ghost use Rattle.yds_model.specs.Lines.{is_blank};
 ghost use Rattle.yds_model.specs.Spelling.{is_digit};
 ghost use Rattle.yds_kernel.specs.Form.{only_blanks};
@@ -12,6 +13,7 @@ ghost use Rattle.yds_kernel.specs.Parts.{capped};
 ghost use Rattle.yds_kernel.specs.Views.{Reads};
 
 use crate::limits::{MAX_NUMBER, MAX_U64};
+use memchr::memchr;
 
 /// Whether the bytes begin with this text.
 #[inline(always)]
@@ -19,8 +21,44 @@ pub(crate) fn begins<const N: usize>(bytes: &[u8], text: &[u8; N]) -> bool
     ensures { result ≡ (nat_le (length text.now) (length bytes.now) && bytes_eq (take (length text.now) bytes.now) text.now) }
 {
     match bytes.first_chunk::<N>() {
-        Some(front) => *front == *text,
+        Some(front) => are_same(front, text),
         None => false,
+    }
+}
+
+/// Whether two texts of one length are the same. Up to sixteen bytes are eight at the front and eight at the end.
+#[inline(always)]
+fn are_same<const N: usize>(one: &[u8; N], other: &[u8; N]) -> bool
+    ensures { result ≡ bytes_eq one.now other.now }
+{
+    match (
+        one.first_chunk::<8>(),
+        other.first_chunk::<8>(),
+        one.last_chunk::<8>(),
+        other.last_chunk::<8>(),
+    ) {
+        (Some(front), Some(other_front), Some(end), Some(other_end)) if N <= 16 => {
+            are_same_eight(front, other_front) && are_same_eight(end, other_end)
+        }
+        _ => *one == *other,
+    }
+}
+
+/// The same of eight bytes: four at the front and four at the end.
+#[inline(always)]
+fn are_same_eight(one: &[u8; 8], other: &[u8; 8]) -> bool
+    ensures { result ≡ bytes_eq one.now other.now }
+{
+    match (
+        one.first_chunk::<4>(),
+        other.first_chunk::<4>(),
+        one.last_chunk::<4>(),
+        other.last_chunk::<4>(),
+    ) {
+        (Some(front), Some(other_front), Some(end), Some(other_end)) => {
+            *front == *other_front && *end == *other_end
+        }
+        _ => false,
     }
 }
 
@@ -139,6 +177,32 @@ fn skip_minus(bytes: &[u8]) -> &[u8]
     }
 }
 
+/// The first place of this byte. It is likely among the first sixteen.
+#[inline(always)]
+pub(crate) fn first_place(byte: u8, bytes: &[u8]) -> Option<usize>
+    ensures { IsFirstByte (is_byte byte) bytes.now result }
+{
+    if let Some(front) = bytes.first_chunk::<16>()
+        && let Some(place) = place_in(byte, front)
+    {
+        return Some(place);
+    }
+    memchr(byte, bytes)
+}
+
+/// The first place of this byte among sixteen.
+#[inline(always)]
+fn place_in(byte: u8, bytes: &[u8; 16]) -> Option<usize>
+    ensures { IsFirstByte (is_byte byte) bytes.now result }
+{
+    for (index, &each) in bytes.iter().enumerate() {
+        if each == byte {
+            return Some(index);
+        }
+    }
+    None
+}
+
 /// Whether nothing but blanks is left.
 #[inline(always)]
 pub(crate) fn only_blanks(bytes: &[u8]) -> bool
@@ -156,8 +220,42 @@ fn is_blank(byte: u8) -> bool
 }
 
 /// The number that the digits at the front spell, the greatest of 64 bits where it is beyond, and how many digits they are.
-#[inline(always)]
+#[inline(never)]
 fn front_number(bytes: &[u8]) -> (u64, usize)
+    ensures value { result.0 ≡ capped (digits_value 10 (take result.1 bytes.now)) }
+    ensures below { digits_value 10 (take result.1 bytes.now) < 10 ^ result.1 }
+    ensures len { result.1 ≡ prefix_len is_digit bytes.now }
+    ensures within { result.1 ≤ length bytes.now }
+{
+    if let Some(front) = bytes.first_chunk::<8>()
+        && let Some(found) = short_number(front)
+    {
+        return found;
+    }
+    long_number(bytes)
+}
+
+/// The same of bytes that aren't all digits.
+#[inline(always)]
+fn short_number(bytes: &[u8; 8]) -> Option<(u64, usize)>
+    ensures value { IfSome result (λ x. x.0 ≡ digits_value 10 (take x.1 bytes.now)) }
+    ensures below { IfSome result (λ x. x.0 < 10 ^ x.1) }
+    ensures len { IfSome result (λ x. x.1 ≡ prefix_len is_digit bytes.now) }
+    ensures within { IfSome result (λ x. x.1 < 8) }
+{
+    let mut value: u64 = 0;
+    for (index, &byte) in bytes.iter().enumerate() {
+        if !byte.is_ascii_digit() {
+            return Some((value, index));
+        }
+        value = value * 10 + u64::from(byte - b'0');
+    }
+    None
+}
+
+/// The same of any bytes.
+#[inline(never)]
+fn long_number(bytes: &[u8]) -> (u64, usize)
     ensures value { result.0 ≡ capped (digits_value 10 (take result.1 bytes.now)) }
     ensures below { digits_value 10 (take result.1 bytes.now) < 10 ^ result.1 }
     ensures len { result.1 ≡ prefix_len is_digit bytes.now }

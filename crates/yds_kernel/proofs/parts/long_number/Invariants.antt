@@ -1,6 +1,6 @@
 use Rattle.yds_model.proofs.Common.{◌≡◌, ◌+◌, ◌<◌, ◌^◌, take, drop, prefix_len, digits_value, is_digit}
 use Rattle.yds_kernel.specs.Parts.{capped}
-use Rattle.yds_kernel.proofs.parts.front_number.Given as goal
+use Rattle.yds_kernel.proofs.parts.long_number.Given as goal
 
 abbrev pub invariant-loop-index : goal.invariant-loop-index
 invariant-loop-index l = record {
