@@ -7,7 +7,7 @@ from typing import List, Sequence
 from unittest import mock
 
 import second_program
-from called import EXPECTED, Called, call
+from called import EXPECTED, Called, broken, call
 from page_reading import Page
 from yds import page, parts
 from yds._lacking import lack_of
@@ -69,16 +69,19 @@ class CommentTest(unittest.TestCase):
     def test_what_is_none(self) -> None:
         for text in [
             HOLES[2:],
-            HOLES.replace("3", ""),
-            HOLES.replace("3", "-3"),
-            HOLES + " or 4",
             HOLES.replace("events", "jobs"),
             SWITCHES.replace("other", "listed"),
-            CLOCK.replace(" s,", " ms,"),
-            CLOCK[:-1],
-            CLOCK.replace(".001000000 s,", " s,"),
+            MARKERS.replace("programs", "a program"),
+            CLOCK.replace("no line", "a line"),
         ]:
             self.assertIsNone(lack_of(text), text)
+
+    def test_a_broken_number_hides_no_hole(self) -> None:
+        for text in (HOLES, CLOCK):
+            for wrong in broken(text, 2):
+                if wrong.startswith(("# places where events were lost", "# no line for 60")):
+                    with self.subTest(wrong):
+                        self.assertEqual(page_of(document([wrong])).ids["verdict"].attributes["class"], "open")
 
 
 class VerdictTest(unittest.TestCase):

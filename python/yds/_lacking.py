@@ -15,13 +15,13 @@ HOLES = "places where events were lost"
 SWITCHES = "switches of other threads that are missing"
 MARKERS = "lines that programs wrote into the trace"
 CLOCK = "no line for"
-_COUNTED = re.compile(rf"# ({HOLES}|{SWITCHES}|{MARKERS})(, up to here)?: ([0-9]{{1,20}})(?:: .*)?").fullmatch
-_SECONDS = r"([0-9]{1,20}\.[0-9]{9}) s"
-_LINES = re.compile(rb"^# (?:up to here, |places |switches |lines |no line ).*$", re.MULTILINE).findall
+_COUNTED = re.compile(rf"# ({HOLES}|{SWITCHES}|{MARKERS})(, up to here)?(?:: ([0-9]{{1,20}})(?:: .*)?| .*|:.*)?").fullmatch
+_LINES = re.compile(rb"^# (?:up to here, no|places|switches|lines|no line) .*$", re.MULTILINE).findall
 """Lines that may be such comments, of a text of many."""
-_SILENT = re.compile(
-    rf"# (up to here, )?no line for {_SECONDS}, from {_SECONDS} on: did the clock jump\?(?: .*)?"
-).fullmatch
+_SILENT = re.compile(r"# (up to here, )?no line for (.*)").fullmatch
+_LENGTH = re.compile(r"([0-9.]{1,30}) s, from ([0-9.]{1,30}) s on: did the clock jump\?(?: .*)?").fullmatch
+UNREAD = "?"
+"""What is told of a number that can't be read: the comment still tells that something is missing."""
 
 NOT_JUDGED = "whole jobs may have been there"
 NOT_SPENT = "what ran there is in no line"
@@ -60,9 +60,11 @@ def lack_of(text: str) -> Optional[Lack]:
     """
     counted, silent = _COUNTED(text), _SILENT(text)
     if counted is not None:
-        return Lack(counted.group(1), counted.group(3), "", counted.group(2) is not None)
+        return Lack(counted.group(1), counted.group(3) or UNREAD, "", counted.group(2) is not None)
     if silent is not None:
-        return Lack(CLOCK, silent.group(2), silent.group(3), silent.group(1) is not None)
+        length = _LENGTH(silent.group(2))
+        amount, since = (UNREAD, UNREAD) if length is None else length.groups()
+        return Lack(CLOCK, amount, since, silent.group(1) is not None)
     return None
 
 
