@@ -23,6 +23,8 @@ _LENGTH = re.compile(r"([0-9.]{1,30}) s, from ([0-9.]{1,30}) s on: did the clock
 UNREAD = "?"
 """What is told of a number that can't be read: the comment still tells that something is missing."""
 
+AS_FAR = " as far as the trace shows"
+"""Behind the word that says that deadlines were met."""
 NOT_JUDGED = "whole jobs may have been there"
 NOT_SPENT = "what ran there is in no line"
 NOT_WHOLE = "the time of others isn't whole"

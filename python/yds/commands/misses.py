@@ -6,6 +6,7 @@ import sys
 from typing import Callable, Sequence
 
 from yds._comments import workless
+from yds._lacking import AS_FAR
 from yds._program import of_environment
 from yds._text import Fault, counted, lines
 from yds._words import DONE, NO, Command, Files, Given, run
@@ -46,9 +47,6 @@ The verdicts are those of the program that the environment's YDS names, or of th
     statuses="0 every deadline is met of the jobs that the document has; 1 some aren't, the slots have another fault, the document is refused, there is no "
     "job, or a fault in the input; 2 a fault of the words.",
 )
-
-
-AS_FAR = " as far as the trace shows"
 
 
 def main(words: Sequence[str]) -> int:

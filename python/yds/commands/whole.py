@@ -25,12 +25,13 @@ DIR/part-00001.txt. Output: what the program would answer to the long document.
 
 The parts are of one processor. Of several ones, as yds_trace --cpu all writes them, --cpu takes those of one.
 
-Answers of audit and yds-energy can be put together wherever the parts were cut, and those of plan, round, avr, oa,
-check and report where no window is open at a cut. Where windows are open, the lines of compare become lower bounds:
-of the least energy, and of Average Rate's where its run of all jobs rounds nowhere, for which --grid is needed.
+Answers of audit, yds-misses and yds-energy can be put together wherever the parts were cut, and those of plan, round,
+avr, oa, check and report where no window is open at a cut. Where windows are open, the lines of compare become lower
+bounds: of the least energy, and of Average Rate's where its run of all jobs rounds nowhere, for which --grid is needed.
 
 Parts of a trace tell where events were lost, and of a time of which no line tells. Each tells it of the trace up to its
-own end, so what the last one tells holds: it stands in comments above the verdict of audit, and behind energies.
+own end, so what the last one tells holds: it stands in comments above the verdict of audit and above the last line of
+yds-misses, and behind energies.
 
     yds-whole --bounds --spent energies.txt parts/part-*.txt
 
