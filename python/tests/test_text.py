@@ -1,10 +1,12 @@
 """The lines of documents as typed rows, and the places of faults."""
 
 import io
+import tempfile
 import unittest
+from pathlib import Path
 from typing import List
 
-from called import broken
+from called import broken, call
 from yds._heads import MOST_BYTES
 from yds._text import (
     Comment,
@@ -88,6 +90,17 @@ class RowsTest(unittest.TestCase):
         with self.assertRaises(Fault) as raised:
             rows("x" * (MOST_BYTES + 2))
         self.assertEqual(str(raised.exception), f"x.txt, line 1: a line of more than {MOST_BYTES} bytes")
+
+    def test_a_byte_order_mark_is_named(self) -> None:
+        """It may stand before a comment that tells units: passed over, these would be lost."""
+        for front in ("# time unit 10 us\n", "job a 0 4 8\n"):
+            text = b"\xef\xbb\xbf" + front.encode() + b"job b 0 4 8\nticks 1\nrun b 0 4 2\n"
+            for name in ("jobs", "changes", "join"):
+                with tempfile.TemporaryDirectory() as folder:
+                    Path(folder, "a.txt").write_bytes(text)
+                    found = call(name, Path(folder, "a.txt"), *(["-"] if name == "join" else []))
+                self.assertEqual(found.status, 1)
+                self.assertIn("line 1, column 1: a byte order mark, which yds_cli refuses as UnknownKind; take", found.err)
 
     def test_names_that_a_terminal_would_obey(self) -> None:
         self.assertEqual(printable("a\x1b[2J\xb5"), "a?[2J?")

@@ -21,6 +21,7 @@ SIDE = re.compile(
     rb"\S+ (energy %b|time %b %b|rounded %b|too-slow units %b from %b to %b top %b)"
     % (_FRACTION, _NUMBER, _FRACTION, _NUMBER, _FRACTION, _FRACTION, _FRACTION, _NUMBER)
 )
+_MISSED = re.compile(rb"(?:\A|\n)(?:[0-9]+ missed deadlines?|feasible as far as the trace shows)\n\Z|\nfeasible\n\Z").search
 FAMILIES = (("audit", _VERDICT), ("check", _JUDGEMENT), ("report", _REPORT), ("energies", SIDE), ("text", _TEXT))
 
 
@@ -140,12 +141,21 @@ class Answers:
 
     def classify(self) -> None:
         """Finds what command the answers are of. All without points is the answer of none, 'refused no-table'."""
+        if any(map(self._tells_misses, range(len(self.answers)))):
+            self.family = "misses"
+            return
         for place in range(len(self.answers)):
             self._classify(place)
         if self._without_points == len(self.answers):
             self.family = "no-table"
             return
         self.stop_at_faults()
+
+    def _tells_misses(self, place: int) -> bool:
+        """Whether the answer is one of yds-misses. Its bare `feasible` is that of audit, too."""
+        with opened(self.answers[place]) as source:
+            source.seek(max(source.seek(0, 2) - 100, 0))
+            return _MISSED(source.read()) is not None
 
     def _classify(self, place: int) -> None:
         first = next((line for line in lines_of(self.answers[place]) if not line.startswith(b"#")), b"").rstrip(b"\n")

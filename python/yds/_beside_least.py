@@ -113,7 +113,7 @@ def _bar(name: str, side: Side) -> Bar:
 
 def _own(given: Gathered, told: List[str]) -> List[Bar]:
     """What the slots spend, and what one speed would."""
-    reading = _spent.Reading(True)
+    reading = _spent.Reading(True, list(given.idle.ticks))
     try:
         reading.read(Rows(given.lines))
         spent = [(RAN, reading.of_slots())]

@@ -6,9 +6,10 @@ A comment of another form is none of these, and stays a text.
 from __future__ import annotations
 
 import re
-from typing import Dict, List, NamedTuple, Optional, Set, Tuple
+from typing import Callable, Dict, List, NamedTuple, Optional, Set, Tuple
 
 from yds._heads import closing
+from yds._lacking import HOLES, SWITCHES, Lacking
 from yds._text import Comment, counted
 
 LEFT_OUT = "left out"
@@ -205,11 +206,19 @@ def moved_by(job: str, units: int) -> str:
     return f"# deadline moved: {job} by {units}"
 
 
-PARTIAL = r"not due by [0-9]+: |[0-9]+ jobs? (?:was|were) |the work of [0-9]+ jobs? isn't known, since "
+PARTIAL = (
+    r"not due by [0-9]+: |[0-9]+ jobs? (?:was|were) |the work of [0-9]+ jobs? isn't known, since |"
+    rf"{HOLES}(?:, up to here)?: [0-9]+"
+)
 """How a text begins that says of energies that some is in no line, or that work isn't known."""
 OTHERS = "other threads had the processor for "
 """How the text begins that tells for how long, beside energies."""
-BESIDE = PARTIAL + rf"|with [0-9]+ deadlines? moved |{OTHERS}[0-9]+ ticks? "
+IDLE_THREADS = "taken for idle: "
+"""How the text begins that tells of which threads the time counts as idle."""
+BESIDE = (
+    PARTIAL + rf"|with [0-9]+ deadlines? moved |{OTHERS}[0-9]+ ticks? |{SWITCHES}(?:, up to here)?: [0-9]+|"
+    rf"{IDLE_THREADS}"
+)
 """How one begins that is told beside energies, wherever they are shown."""
 
 _NOT_DUE = re.compile(r"# not due by [0-9]+: ").match
@@ -220,7 +229,9 @@ NO_ROOM = "what they spent is in no line, and no plan makes room for them"
 class Missing:
     """What comments tell of energy that is in no line, and of work that isn't known."""
 
-    def __init__(self) -> None:
+    def __init__(self, is_idle: Callable[[OtherSpan], bool] = lambda _: False) -> None:
+        """is_idle says of a span that its thread is taken for idle."""
+        self._is_idle = is_idle
         self.not_due: List[str] = []
         self.left_out = 0
         self.without_runs = 0
@@ -229,10 +240,13 @@ class Missing:
         """The jobs whose deadlines were moved to their ends."""
         self.others = 0
         """For how many ticks other threads had the processor while a job waited."""
+        self.lacking = Lacking()
 
     def take(self, text: str) -> None:
         """Reads a comment."""
         closed = closing(text)
+        if self.lacking.take(text):
+            return
         if closed is not None:
             self.left_out += closed.left_out
         elif _NOT_DUE(text):
@@ -243,7 +257,8 @@ class Missing:
         else:
             moved, span = moved_of(text), other_span(text)
             self.moved |= {moved[0]} if moved is not None else set()
-            self.others += span.end - span.start if span is not None else 0
+            if span is not None and not self._is_idle(span):
+                self.others += span.end - span.start
 
     def told(self) -> List[str]:
         """Comments that say it, of the whole document."""
@@ -258,7 +273,7 @@ class Missing:
             lines.append(with_moved(len(self.moved)))
         if self.others:
             lines.append(f"# {OTHERS}{counted(self.others, 'tick', 'ticks')} while a job waited: {NO_ROOM}")
-        return lines
+        return lines + self.lacking.beside_energy()
 
 
 def left_out_of(number: int) -> str:

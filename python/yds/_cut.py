@@ -60,8 +60,8 @@ class Limits:
     def __init__(self, long: Long, jobs: int) -> None:
         self._long = long
         self._jobs = jobs
-        lines = [*long.units, *long.points, *long.kept]
-        self._bytes = MOST_BYTES - 500 - sum(len(line) + 1 for line in lines)
+        lines = [*long.units, *long.points, *long.kept, *long.lacking.comments(), long.of_trace.first(0)]
+        self._bytes = MOST_BYTES - 700 - sum(len(line) + 1 for line in lines)
 
     def furthest(self, first: int) -> Tuple[int, str]:
         """The end of the most jobs from this one on that a part holds, and what the next one would be too much of."""
@@ -246,7 +246,9 @@ class Writer:
         text = [head.spelled()]
         if long.left_out:
             text.append(b"# left out: levels, pieces and members\n")
+        text.append(long.of_trace.first(shift).encode("latin-1"))
         text += [line + b"\n" for line in long.units]
+        text += [] if last else [line.encode("latin-1") + b"\n" for line in long.lacking.comments()]
         text += [_shifted_job(line, shift) for line in lines] if shift else lines
         text += [line + b"\n" for line in long.points]
         text += [line + b"\n" for line in long.kept] if number == 0 else []
@@ -254,6 +256,7 @@ class Writer:
         ticks = long.ticks or 1
         runs = self._runs.lines(number)
         text += [_shifted_run(line, shift, ticks) for line in runs] if shift else runs
+        text.append(long.of_trace.last(head.jobs, long.jobs, last).encode("latin-1"))
         whole = b"".join(text)
         if len(whole) > MOST_BYTES:
             raise PartsError(f"part {head.number} takes {len(whole)} bytes, above {MOST_BYTES}; give each part fewer jobs")

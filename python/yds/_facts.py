@@ -4,7 +4,7 @@ from __future__ import annotations
 
 from fractions import Fraction
 from math import inf
-from typing import Dict, Iterable, List, NamedTuple, Optional, Set, Tuple
+from typing import Dict, Iterable, List, NamedTuple, Optional, Sequence, Set, Tuple
 
 from yds._at_top import AtTop, at_top
 from yds._beside_least import Asked, Energies, energies
@@ -70,9 +70,18 @@ class Facts(NamedTuple):
         return any(one.hides for one in self.unjudged)
 
 
-def facts(lines: Iterable[Line], answer: Answer, grid: int, microseconds: Optional[int] = None) -> Facts:
-    """What is told of the document of these lines. Fault is raised where it has one, and where it has no job."""
-    given = Gathered(lines)
+def facts(
+    lines: Iterable[Line],
+    answer: Answer,
+    grid: int,
+    microseconds: Optional[int] = None,
+    idle: Sequence[str] = (),
+) -> Facts:
+    """What is told of the document of these lines. Fault is raised where it has one, and where it has no job.
+
+    idle: the names of threads that are taken for idle.
+    """
+    given = Gathered(lines, idle)
     audit = misses(given.lines, answer)
     if audit.status not in (0, 1):
         raise _refusal(given, audit)

@@ -121,6 +121,7 @@ _TABLES: List[Tuple[str, str]] = [
     ("grids", "grid grid:w rounded:w"),
     ("energies", "energy energy:f"),
     *(("verdicts", text) for verdict in _VERDICTS for text in (verdict, f"condition=K1 {verdict}")),
+    ("verdicts", "verdict=feasible as far as the as_far_as=trace shows"),
     ("verdicts", "verdict=accepted"),
     *(("verdicts", f"condition={condition}") for condition in _CONDITIONS),
     ("refusals", "refused line:w column:w reason:t"),

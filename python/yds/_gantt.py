@@ -4,7 +4,9 @@ from __future__ import annotations
 
 from typing import Dict, List, NamedTuple, Optional, Sequence, Set, Tuple, Union
 
+from yds._comments import IDLE_THREADS
 from yds._framed import EDGE, MISSED, SMALL, TEXT, Choice, Frame, Groups, Key, grouped, in_words, shortened_name
+from yds._lacking import NOT_WHOLE, SWITCHES
 from yds._pixels import Columns, Share, Stretch, as_many_as_fit, columns_of, is_narrow, merged, shares, text_width
 from yds._scales import Scale, short, span_told, speed_scale, time_scale
 from yds._text import Fault, counted
@@ -165,7 +167,8 @@ class _Drawing:
         undone = [job.name for job in jobs if job.miss == NOT_DONE]
         late = sorted((job for job in jobs if job.miss == LATE), key=lambda job: -(job.late or 0))
         notes = [self._note("not done", undone), self._note("late", [self._told(job) for job in late])]
-        return [note for note in [*notes, *self._left_out()] if note]
+        lacks = [text[2:] for text in self.document.lacking.beside_verdict()]
+        return [note for note in [*notes, *self._left_out(), *lacks] if note]
 
     def _told(self, job: Window) -> str:
         return f"{job.name} {_by(job)}{span_told(self.document.units, job.late)}" if job.late else job.name
@@ -197,6 +200,15 @@ class _Drawing:
         texts = [f"{name} for {time_scale(self.document.units, sums[name]).told(sums[name])}" for name in longest[:3]]
         more = f" and {counted(len(longest) - 3, 'other', 'others')}" if len(longest) > 3 else ""
         return f"others: {as_many_as_fit(texts, self.choice.width - 190, SMALL)}{more}" if texts else ""
+
+    def of_others(self) -> List[str]:
+        """Which others ran longest, what their time lacks, and who is taken for idle."""
+        document = self.document
+        lacks = document.lacking.told(SWITCHES)
+        idle = [f"{name} for {time_scale(document.units, time).told(time)}" for name, time in document.idle if time]
+        none = [f"{name}, which no comment names" for name, time in document.idle if not time]
+        told = f"{IDLE_THREADS}{'; '.join([*idle, *none])}" if document.idle else ""
+        return [text for text in (self.longest(), lacks and f"{lacks}: {NOT_WHOLE}", told) if text]
 
 
 def _by(one: Union[Window, Absent]) -> str:
@@ -253,7 +265,7 @@ def gantt(document: Timeline, choice: Choice) -> Gantt:
     crosses = drawing.marks([Mark(row, one.window[0], one.late is not None) for one in drawing.absent if one.window])
     are_near = _are_near(deadlines, choice.inner(drawing.left, drawing.right))
     key = _key(not are_near and bool(deadlines), overruns, misses, others, crosses)
-    hints = [drawing.longest()] if others else []
+    hints = drawing.of_others()
     hints += [f"{len(deadlines)} deadlines are too near to be drawn"] if are_near else []
     hints += (
         ["where runs are narrower than a pixel, a bar is as high as the part of its time that ran"] if columns else []

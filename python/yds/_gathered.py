@@ -8,6 +8,8 @@ from fractions import Fraction
 from typing import Dict, Iterable, List, NamedTuple, Optional, Tuple
 
 from yds._comments import Clock, moved_of, other_span
+from yds._idle import Idle
+from yds._lacking import Lacking
 from yds._text import Comment, Fault, Job, Line, Point, Rows, Slot, Ticks, Units
 
 _NUMBER = re.compile(r".+\.([0-9]{1,64})(?:@[0-9]+)?").fullmatch
@@ -67,8 +69,11 @@ class Spans:
 class Gathered:
     """The rows of a document."""
 
-    def __init__(self, lines: Iterable[Line]) -> None:
+    def __init__(self, lines: Iterable[Line], idle: Iterable[str] = ()) -> None:
+        """idle: the names of threads that are taken for idle."""
         self.lines: List[Line] = []
+        self.idle = Idle(idle)
+        self.lacking = Lacking()
         self.jobs: Dict[str, Job] = {}
         self.moved: Dict[str, int] = {}
         """By how many units of time deadlines were moved to the ends of late jobs."""
@@ -124,7 +129,8 @@ class Gathered:
             self.moved[moved[0]] = moved[1]
         if other is None:
             self.comments.append(text)
-        else:
+            self.lacking.take(text)
+        elif not self.idle.takes(other):
             self._others.append((other.start, other.end, f"{other.name}-{other.pid}"))
 
     @property

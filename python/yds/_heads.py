@@ -117,6 +117,51 @@ def closing(text: str) -> Optional[Closing]:
     return Closing(int(found.group(1)), 0 if found.group(2) == "none" else int(found.group(2)))
 
 
+_TIME_UNIT = re.compile(r"time unit ([0-9]{1,12}) us").search
+_FIRST_LINE = re.compile(r"(# CPU [0-9]+ of a kernel trace; time 0 is )([0-9]{1,20})\.([0-9]{9}) s(.*)").fullmatch
+
+
+class OfTrace:
+    """The first and the last line of a trace's document, of which each part has its own."""
+
+    def __init__(self) -> None:
+        self._first = self._last = ""
+        self._unit = 0
+
+    def take(self, text: str) -> bool:
+        """Reads a comment, and says whether it was the first or the last line."""
+        unit = _TIME_UNIT(text)
+        self._unit = self._unit if unit is None else int(unit.group(1))
+        if not self._first and _FIRST_LINE(text) is not None:
+            self._first = text
+        elif not self._last and closing(text) is not None:
+            self._last = text
+        else:
+            return False
+        return True
+
+    def first(self, shift: int) -> str:
+        """The first line of a part whose times are less by the shift; empty where there is none."""
+        found = _FIRST_LINE(self._first)
+        if found is None or (shift and not self._unit):
+            return ""
+        front, seconds, nano, rest = found.groups()
+        now = int(seconds) * 10**9 + int(nano) + shift * self._unit * 1000
+        return f"{front}{now // 10**9}.{now % 10**9:09d} s{rest}\n"
+
+    def last(self, jobs: int, all_jobs: int, is_last: bool) -> str:
+        """The last line of a part with so many of all jobs; empty where there is none.
+
+        What was left out is told in the last part alone, and so are jobs that the line tells and that weren't there.
+        """
+        told = closing(self._last)
+        if told is None:
+            return ""
+        written = max(told.written - all_jobs + jobs, 0) if is_last else jobs
+        rest = self._last.partition(" written, ")[2] if is_last else "none left out"
+        return f"# {written} {'job' if written == 1 else 'jobs'} written, {rest}\n"
+
+
 CUT_SHORT = (
     "the document of a trace begins here, and its last line, as '# 8 jobs written, none left out', isn't there: it is "
     "cut short; look at what wrote it"

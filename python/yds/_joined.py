@@ -6,7 +6,7 @@ import re
 from typing import Dict, List, Tuple
 
 from yds._heads import CUT_SHORT, Unclosed, read_head
-from yds._text import NO, Fault, Line, base, printable
+from yds._text import BYTE_ORDER_MARK, MARKED, NO, Fault, Line, base, printable
 
 KINDS = frozenset("job task horizon slot run ticks point level piece member grid energy".split())
 TIMED = frozenset(["job", "task", "slot", "run"])
@@ -48,6 +48,8 @@ class Joined:
             raise line.fault(f"the input is an answer of no: {printable(line.text)}")
         if kind.startswith("#"):
             self._take_comment(line)
+        elif kind.startswith(BYTE_ORDER_MARK):
+            raise line.fault(MARKED, 0)
         elif kind not in KINDS:
             raise line.fault(f'"{printable(line.text.strip())}" is no line of a document')
         else:

@@ -6,6 +6,7 @@ import tempfile
 from typing import IO, Iterable, Iterator, List, NamedTuple, Optional, Tuple
 
 from yds._heads import MOST_BYTES, MOST_JOBS, MOST_SLOTS, MOST_TIME
+from yds._lacking import Lacking
 from yds._missed import Mended, Miss, Reading, Told
 from yds._program import Answer, of_library
 from yds._text import Fault, Line, Rows, UnitsFault
@@ -25,6 +26,8 @@ class Misses(NamedTuple):
     """The program's status of the document in which all jobs are in time."""
     verdict: str
     """What audit says of it."""
+    lacking: Lacking
+    """What the trace lacks: where events were lost, or no line tells of some time, whole jobs may have been."""
 
 
 def misses(lines: Iterable[Line], answer: Optional[Answer] = None) -> Misses:
@@ -55,7 +58,8 @@ def misses(lines: Iterable[Line], answer: Optional[Answer] = None) -> Misses:
                 status, verdict = _audit(reading, mended, answer)
     missed += told.by_comments(missed)
     held = reading.held
-    return Misses(missed, len(held.jobs), [job.name for job in held.workless()], status, verdict)
+    workless = [job.name for job in held.workless()]
+    return Misses(missed, len(held.jobs), workless, status, verdict, reading.lacking)
 
 
 def _copied(lines: Iterable[Line], kept: IO[bytes]) -> Iterator[Line]:
@@ -72,7 +76,7 @@ def _of_the_faulty(fault: Fault, reading: Reading, rest: Iterable[Line], kept: I
     status, verdict = _audit(reading, kept, answer)
     if not status:
         raise fault
-    return Misses([], len(reading.held.jobs), [], status, verdict)
+    return Misses([], len(reading.held.jobs), [], status, verdict, reading.lacking)
 
 
 def _is_miss(verdict: str) -> bool:
@@ -119,5 +123,5 @@ def _audit_parts(text: IO[bytes], answer: Answer, shift: bool) -> Tuple[int, str
         parts.append(part.text)
         answers.append(found)
     put = whole(parts, answers)
-    verdict = b"".join(put.lines).decode("latin-1").rstrip("\n")
-    return (0 if put.yes else _NO), verdict
+    *_, verdict = put.lines
+    return (0 if put.yes else _NO), verdict.decode("latin-1").rstrip("\n")

@@ -13,7 +13,8 @@ from array import array
 from collections import deque
 from typing import IO, Deque, Dict, Iterable, Iterator, List, NamedTuple, Optional, Tuple, Union
 
-from yds._heads import CUT_SHORT, MOST_BYTES, MOST_TIME, PartsError, Unclosed, read_head
+from yds._heads import CUT_SHORT, MOST_BYTES, MOST_TIME, OfTrace, PartsError, Unclosed, read_head
+from yds._lacking import Lacking
 
 _NUMBER = rb"(0|[1-9][0-9]{0,29})"
 _UNREAD = rb"(?:0|[1-9][0-9]{0,29})"
@@ -142,6 +143,9 @@ class Long:
         self._waiting: List[Waiting] = []
         self._told: Dict[bytes, bytes] = {}
         self._unclosed = Unclosed()
+        self.of_trace = OfTrace()
+        self.lacking = Lacking()
+        """What the trace lacks, which each part has to tell."""
 
     def __enter__(self) -> Long:
         return self
@@ -220,6 +224,9 @@ class Long:
             told = f"the head of part {head.number}, so the input is parts already; give --split"
             raise PartsError(told, number)
         self._unclosed.take(line.decode("latin-1"), number)
+        self.lacking.take(line.decode("latin-1"))
+        if self.of_trace.take(line.decode("latin-1")):
+            return
         for kind, amount, unit in _UNIT.findall(line):
             if self._told.setdefault(kind, amount) != amount:
                 here, before = (f"{number.decode()} {unit.decode()}" for number in (amount, self._told[kind]))

@@ -24,8 +24,8 @@ details { border-top: 1px solid var(--line); margin-top: 1.4rem; padding-top: .6
 summary { cursor: pointer; margin-bottom: .4rem; }
 .caption { margin: .8rem 0 .2rem; }
 .wide { overflow-x: auto; margin: 0 0 .6rem; }
-table { border-collapse: collapse; font-variant-numeric: tabular-nums; }
-th, td { padding: .2rem .5rem; border-bottom: 1px solid var(--line); text-align: right; vertical-align: top;
+table { border-collapse: collapse; font-size: .92rem; font-variant-numeric: tabular-nums; }
+th, td { padding: .2rem .45rem; border-bottom: 1px solid var(--line); text-align: right; vertical-align: top;
   overflow-wrap: normal; }
 td { white-space: nowrap; }
 td .told { display: block; min-width: 14rem; white-space: normal; text-align: left; overflow-wrap: anywhere; }

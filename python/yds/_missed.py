@@ -6,6 +6,7 @@ from typing import Dict, Iterator, List, NamedTuple, Optional, Sequence, Set, Tu
 
 from yds._comments import HIDDEN, LEFT_OUT, LESS_THAN_UNIT, NOT_ENDED, WITHOUT_RUNS, Clock, Ends, Note, moved_of, note_of
 from yds._held import Held, HeldJob, Moment, is_before
+from yds._lacking import Lacking
 from yds._text import Comment, Job, Line, Row, Rows, Slot, Ticks
 
 
@@ -25,6 +26,7 @@ class Reading:
         self.ends = Ends()
         self.ticks = 1
         self.notes: List[Note] = []
+        self.lacking = Lacking()
 
     def rows(self, rows: Rows) -> Iterator[Row]:
         """The rows, passed on once they are read here."""
@@ -36,6 +38,7 @@ class Reading:
         if isinstance(row, Comment):
             self.clock.take(row.text)
             self.ends.take(row.text)
+            self.lacking.take(row.text)
             note, moved = note_of(row.text), moved_of(row.text)
             if note is not None and note.late is not None:
                 self.notes.append(note)

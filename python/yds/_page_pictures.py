@@ -81,7 +81,8 @@ class Pictures:
     def _timeline(self) -> Any:
         """The document as the pictures read it."""
         if self._document is None:
-            document = self._drawn.timeline(Rows(self._facts.given.lines))
+            idle = list(self._facts.given.idle.ticks)
+            document = self._drawn.timeline(Rows(self._facts.given.lines), idle=idle)
             us, khz, uw = self._facts.scale.us, self._facts.scale.khz, self._facts.scale.uw
             units = self._drawn.Units(us and us / 10**6, khz and khz * 1000, uw and uw / 10**6)
             self._document = document._replace(units=units)

@@ -46,7 +46,7 @@ def gantt(picture: Gantt, axes: Any) -> None:
     boxes(axes, [_box_of(bar) for bar, _ in picture.others], OTHERS, zorder=2)
     _others_names(picture, axes)
     _scale_of_speeds(picture, axes, _runs(picture, axes))
-    _strokes(picture.deadlines, axes)
+    _strokes(picture, axes)
     axes.plot(
         [one.time for one in picture.misses],
         [one.row - 0.44 for one in picture.misses],
@@ -95,11 +95,14 @@ def _runs(picture: Gantt, axes: Any) -> Any:
     return found
 
 
-def _strokes(deadlines: Sequence[Mark], axes: Any) -> None:
-    rows = [one.row for one in deadlines]
+def _strokes(picture: Gantt, axes: Any) -> None:
+    """The deadlines. One at an edge of the picture stands a pixel within it, so that all of it is seen."""
+    rows = [one.row for one in picture.deadlines]
     most = max((rows.count(row) for row in set(rows)), default=0)
+    first, end = picture.frame.x
+    a_pixel = (end - first) / width_of(axes)
     axes.vlines(
-        [one.time for one in deadlines],
+        [min(max(one.time, first + a_pixel), end - a_pixel) for one in picture.deadlines],
         [row - 0.4 for row in rows],
         [row + 0.4 for row in rows],
         colors=TEXT,

@@ -25,6 +25,8 @@ class Wanted(NamedTuple):
     title: Optional[str]
     units: Optional[Units]
     choice: Choice
+    idle: Sequence[str] = ()
+    """The names of threads that don't count as others."""
 
     @classmethod
     def read(
@@ -77,7 +79,7 @@ def _part(part: Optional[str]) -> Optional[Range]:
 
 def drawn(kind: str, files: Sequence[str], wanted: Wanted) -> bytes:
     """The bytes of the picture of the files, or of standard input."""
-    drawing = READERS[kind](files, wanted.units)
+    drawing = READERS[kind](files, wanted)
     if wanted.form == "text":
         return _as_text(drawing, wanted)
     from yds._canvas import saved
@@ -100,49 +102,49 @@ def _as_text(drawing: Drawing, wanted: Wanted) -> bytes:
     return "".join(line + "\n" for line in text(drawing.kind, picture, width, height)).encode("utf-8", "replace")
 
 
-Reader = Callable[[Sequence[str], Optional[Units]], Drawing]
+Reader = Callable[[Sequence[str], Wanted], Drawing]
 
 
-def _gantt(files: Sequence[str], units: Optional[Units]) -> Drawing:
+def _gantt(files: Sequence[str], wanted: Wanted) -> Drawing:
     from yds._gantt import gantt
     from yds._timeline import timeline
 
-    read = timeline(Rows(lines(files)), units)
+    read = timeline(Rows(lines(files)), wanted.units, wanted.idle)
     return Drawing("gantt", lambda choice: gantt(read, choice), 960, 0)
 
 
-def _speed(files: Sequence[str], units: Optional[Units]) -> Drawing:
+def _speed(files: Sequence[str], wanted: Wanted) -> Drawing:
     from yds._speeds import speed
     from yds._timeline import timeline
 
     files = files or [STANDARD_INPUT]
-    read = [timeline(Rows(lines([file])), units) for file in files]
+    read = [timeline(Rows(lines([file])), wanted.units) for file in files]
     names = [os.path.splitext(os.path.basename(file))[0] for file in files]
     return Drawing("speed", lambda choice: speed(read, names, choice), 960, 400)
 
 
-def _slack(files: Sequence[str], units: Optional[Units]) -> Drawing:
+def _slack(files: Sequence[str], wanted: Wanted) -> Drawing:
     from yds._slacks import read_slacks, slacks
 
     table = read_slacks(lines(files))
-    return Drawing("slack", lambda choice: slacks(table, units or Units(), choice), 960, 400)
+    return Drawing("slack", lambda choice: slacks(table, wanted.units or Units(), choice), 960, 400)
 
 
-def _curve(files: Sequence[str], units: Optional[Units]) -> Drawing:
+def _curve(files: Sequence[str], wanted: Wanted) -> Drawing:
     from yds._excess import excess, read_breaks
 
     read = read_breaks(Rows(lines(files)))
-    return Drawing("curve", lambda choice: excess(read.breaks, read.points, units or read.units, choice), 720, 440)
+    return Drawing("curve", lambda choice: excess(read.breaks, read.points, wanted.units or read.units, choice), 720, 440)
 
 
-def _energy(files: Sequence[str], units: Optional[Units]) -> Drawing:
+def _energy(files: Sequence[str], wanted: Wanted) -> Drawing:
     from yds._bars import bars, read_energies
 
     read = read_energies(Rows(lines(files)))
-    return Drawing("energy", lambda choice: bars(read, units, choice), 150 * len(read.sides) + 260, 440)
+    return Drawing("energy", lambda choice: bars(read, wanted.units, choice), 150 * len(read.sides) + 260, 440)
 
 
-def _ratios(files: Sequence[str], units: Optional[Units]) -> Drawing:
+def _ratios(files: Sequence[str], wanted: Wanted) -> Drawing:
     from yds._ratios import ratios
     from yds.tables import read_energies
 

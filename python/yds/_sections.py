@@ -8,11 +8,12 @@ from typing import List, NamedTuple, Optional, Sequence, Tuple
 
 from yds._beside_least import LEAST, RAN, Bar, Energies
 from yds._by_task import TaskRow
-from yds._comments import OTHERS, Missing, unknown_works, workless
+from yds._comments import IDLE_THREADS, OTHERS, Missing, unknown_works, workless
 from yds._facts import Facts, Missed
+from yds._lacking import HOLES, NOT_WHOLE, SWITCHES
 from yds._least import judged
 from yds._markup import LINE_FEED, NONE, Markup, Scale, element, exactly, join, number, of_bytes, percent, shown, table
-from yds._text import counted
+from yds._text import counted, printable
 
 MOST_MISSES, MOST_TASKS, MOST_COMMENTS, MOST_UNJUDGED = 200, 100, 200, 100
 WRONG_UNIT = 4
@@ -46,6 +47,10 @@ def verdict_line(facts: Facts) -> Tuple[str, Markup]:
         told = f"{len(missed):,} of {_all_jobs(facts):,} jobs missed {'its deadline' if len(missed) == 1 else 'their deadlines'}"
         return "no", join([told, f", the worst {shown(worst.miss.job)}", lateness(worst, facts.scale)])
     judged_jobs = f"{jobs:,} jobs" if jobs > 1 else "job"
+    if facts.given.lacking.may_hide:
+        holes = "events were lost" if HOLES in facts.given.lacking.found else "no line of the trace tells of some time"
+        told = f"As far as the trace shows, no deadline was missed by the {judged_jobs} that could be judged; {holes}, so others may hide a miss"
+        return "open", Markup(element("span", told))
     if facts.may_hide:
         told = f"No deadline was missed by the {judged_jobs} that could be judged; others may hide a miss"
         return "open", Markup(element("span", told))
@@ -176,7 +181,7 @@ def energies(facts: Facts) -> Markup:
         return element("p", text)
     scale = facts.scale
     parts = [*_sentence(facts, told), _bars(told, scale), _times(facts, told)]
-    beside = [text for text in told.told if not text.startswith(OTHERS)]
+    beside = [text for text in told.told if not text.startswith((OTHERS, SWITCHES, IDLE_THREADS))]
     parts += [element("p", of_bytes(text), class_="told") for text in beside]
     return join([*parts, *_of_others(facts)])
 
@@ -263,12 +268,29 @@ def _times(facts: Facts, told: Energies) -> Markup:
 def _of_others(facts: Facts) -> List[Markup]:
     """For how long other threads had the processor while a job waited, where the document tells it."""
     ran = sum((span.length for span in facts.given.others.all), Fraction(0))
-    if not ran:
-        return []
-    waited = f" {facts.scale.time_unit} while a job waited. "
-    least = "The least is that of these jobs on a processor that has nothing else to do."
-    told = ["Other threads had the processor for ", facts.scale.time(ran), waited, least]
-    return [element("p", *told, class_="told")]
+    found = beside_others(facts)
+    if ran:
+        waited = f" {facts.scale.time_unit} while a job waited. "
+        least = "The least is that of these jobs on a processor that has nothing else to do."
+        told = ["Other threads had the processor for ", facts.scale.time(ran), waited, least]
+        found.insert(0, element("p", *told, class_="told"))
+    return found
+
+
+def beside_others(facts: Facts) -> List[Markup]:
+    """What is said wherever the time of others is told: what of it is missing, and which threads are taken for idle."""
+    lacks = facts.given.lacking.told(SWITCHES)
+    found = [element("p", f"{lacks}: {NOT_WHOLE}.", class_="told")] if lacks else []
+    per = facts.given.ticks or 1
+    for name, ticks in facts.given.idle.ticks.items():
+        head = [IDLE_THREADS, of_bytes(printable(name))]
+        if ticks:
+            length = facts.scale.time(Fraction(ticks, per))
+            rest = [", which had the processor for ", length, f" {facts.scale.time_unit} while a job waited."]
+        else:
+            rest = [", which no comment names."]
+        found.append(element("p", *head, *rest, class_="told"))
+    return found
 
 
 def speeds(facts: Facts) -> Markup:

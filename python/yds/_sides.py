@@ -13,6 +13,7 @@ from typing import Dict, Iterator, List, Optional, Tuple
 
 from yds._answers import SIDE, Answers, printable
 from yds._heads import lines_of
+from yds._lacking import lack_of, of_parts
 from yds._rates import first_rounded
 from yds._spelled import lowest, moved
 from yds._spelling import read_fraction
@@ -46,6 +47,7 @@ class Sides:
         self._grid = grid
         self._sides: Dict[bytes, Side] = {}
         self._comments: List[bytes] = []
+        self._lacking = of_parts(answers.parts).whole()
         self._rounded_parts = 0
         points = [line.split() for line in lines_of(answers.parts[0]) if line.startswith(b"point ")]
         self._speeds = [point[1] for point in points]
@@ -82,6 +84,8 @@ class Sides:
 
     def _take_comment(self, place: int, line: bytes) -> None:
         found = _MISSES.fullmatch(line)
+        if lack_of(line.decode("latin-1")) is not None:
+            return
         if line == _ROUNDED:
             self._rounded_parts += 1
         elif found is not None and found.group(1) in self._sides:
@@ -192,6 +196,8 @@ class Sides:
             parts = len(self._answers.parts)
             yield _ROUNDED + (b", in %d of %d parts\n" % (self._rounded_parts, parts) if parts > 1 else b"\n")
         yield from self._comments
+        for text in self._lacking.beside_energy():
+            yield text.encode("latin-1") + b"\n"
 
     def _side_lines(self, side: Side) -> Iterator[bytes]:
         if side.slow:

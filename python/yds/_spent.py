@@ -7,6 +7,7 @@ from typing import Dict, Iterable, List, NamedTuple, Optional, Sequence, Set, Tu
 
 from yds._comments import LEFT_OUT, LESS_THAN_UNIT, Missing, note_of, workless
 from yds._held import Held, HeldJob
+from yds._idle import Idle
 from yds._priced import Prices, Sum, decimal
 from yds._served import at_speed
 from yds._text import Comment, Fault, Job, Point, Row, Slot, Ticks, spelled
@@ -62,10 +63,12 @@ class Spent(NamedTuple):
 class Reading:
     """A document that was read: its points and jobs, the time at each point, and what comments tell."""
 
-    def __init__(self, with_slots: bool) -> None:
+    def __init__(self, with_slots: bool, idle: Sequence[str] = ()) -> None:
+        """idle: the names of threads that are taken for idle."""
         self.held = Held()
         self.prices = Prices()
-        self.missing = Missing()
+        self.idle = Idle(idle)
+        self.missing = Missing(self.idle.takes)
         self._with_slots = with_slots
         self._known_late: List[Tuple[str, Optional[int]]] = []
         self._times: Dict[int, Sum] = {}
@@ -190,4 +193,4 @@ class Reading:
     def _told(self) -> List[str]:
         found = self.held.workless()
         told = [workless(len(found), found[0].name)] if found else []
-        return [*told, *self.missing.told()]
+        return [*told, *self.missing.told(), *self.idle.told()]

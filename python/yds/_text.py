@@ -20,6 +20,8 @@ _WHOLE = re.compile(r"[0-9]{1,30}").fullmatch
 _FRACTION = re.compile(r"([0-9]{1,30})(?:\+([0-9]{1,30})/([0-9]{1,30}))?").fullmatch
 NO = ("refused", "failed", "too-slow", "usage:")
 """How an answer of no begins."""
+BYTE_ORDER_MARK = "\xef\xbb\xbf"
+MARKED = "a byte order mark, which yds_cli refuses as UnknownKind; take its three bytes away: tail -c +4 FILE"
 
 
 class Fault(ValueError):
@@ -274,6 +276,8 @@ class Rows:
             return Comment(line, line.text.lstrip(" \t"))
         if kind in NO:
             raise line.fault(f"the input is an answer of no: {printable(line.text)}")
+        if kind.startswith(BYTE_ORDER_MARK):
+            raise line.fault(MARKED, 0)
         return self._row(line, kind, fields)
 
     def _row(self, line: Line, kind: str, fields: List[str]) -> Row:

@@ -4,7 +4,7 @@ from __future__ import annotations
 
 import re
 from fractions import Fraction
-from typing import Dict, Iterable, List, NamedTuple, Optional, Tuple
+from typing import Dict, Iterable, List, NamedTuple, Optional, Sequence, Tuple
 
 from yds._comments import (
     CUT_OFF,
@@ -19,6 +19,8 @@ from yds._comments import (
     other_span,
 )
 from yds._held import Held, HeldJob
+from yds._idle import Idle
+from yds._lacking import Lacking
 from yds._passed import check
 from yds._pixels import Stretch
 from yds._scales import Units, units_of_told
@@ -69,6 +71,9 @@ class Timeline(NamedTuple):
     """Jobs that were left out, and are told by their number."""
     others: List[Tuple[str, float, float]]
     """Who else ran, and when."""
+    idle: List[Tuple[str, float]]
+    """The names of threads that are taken for idle, and for how long each had the processor while a job waited."""
+    lacking: Lacking
     units: Units
     is_trace: bool
     """Whether it has runs."""
@@ -94,8 +99,10 @@ def is_numbered(name: str) -> bool:
 class _Reading:
     """A document while it is read."""
 
-    def __init__(self) -> None:
+    def __init__(self, idle: Sequence[str]) -> None:
         self.held = Held()
+        self.idle = Idle(idle)
+        self.lacking = Lacking()
         self.ends = Ends()
         self.ticks = 1
         self.points: List[Tuple[int, int]] = []
@@ -133,7 +140,7 @@ class _Reading:
     def _take_comment(self, row: Comment) -> None:
         if " unit " in row.text:
             self.units.take(row.line)
-        if self.ends.take(row.text):
+        if self.ends.take(row.text) or self.lacking.take(row.text):
             return
         note, several, other = (note_of(row.text), left_out_jobs(row.text), other_span(row.text))
         if note is not None and note.kind == LEFT_OUT:
@@ -143,7 +150,7 @@ class _Reading:
             self.notes[note.job] = note
         elif several is not None and several.reason not in CUT_OFF:
             self.counted += several.number
-        elif other is not None:
+        elif other is not None and not self.idle.takes(other):
             self.others.append(other)
 
     def window(self, job: HeldJob, units: Units) -> Window:
@@ -183,9 +190,12 @@ def _of_milliseconds(text: str, units: Units) -> Optional[Fraction]:
         return None
 
 
-def timeline(rows: Iterable[Row], units: Optional[Units] = None) -> Timeline:
-    """What is drawn of a document's rows. `units` are those of the document where its comments aren't to tell them."""
-    reading = _Reading()
+def timeline(rows: Iterable[Row], units: Optional[Units] = None, idle: Sequence[str] = ()) -> Timeline:
+    """What is drawn of a document's rows. `units` are those of the document where its comments aren't to tell them.
+
+    idle: the names of threads that are taken for idle.
+    """
+    reading = _Reading(idle)
     for row in rows:
         reading.take(row)
     if not reading.held.jobs:
@@ -198,6 +208,6 @@ def timeline(rows: Iterable[Row], units: Optional[Units] = None) -> Timeline:
         Absent(note.job, note.window, note.late, note.at_least or note.never) for note in reading.left_out.values()
     ]
     jobs = [reading.window(job, units) for job in reading.held.jobs]
-    return Timeline(
-        jobs, reading.runs, reading.points, absent, reading.counted, others, units, reading.is_trace, reading.is_plan
-    )
+    unseen = [(name, ticks / reading.ticks) for name, ticks in reading.idle.ticks.items()]
+    known = (reading.runs, reading.points, absent, reading.counted, others, unseen, reading.lacking, units)
+    return Timeline(jobs, *known, reading.is_trace, reading.is_plan)

@@ -7,6 +7,7 @@ from typing import Dict, Iterable, List, NamedTuple, Sequence, Tuple
 
 from yds._comments import LEFT_OUT, left_out_jobs, note_of
 from yds._heads import closing
+from yds._lacking import CLOCK, HOLES, JUMPED, MARKERS, NOT_JUDGED, NOT_WHOLE, SWITCHES, lack_of
 from yds._text import counted
 from yds._timeline import task_of
 
@@ -26,7 +27,6 @@ class Unjudged(NamedTuple):
 
 _REFUSED = re.compile(r"# refuse ([^ ]+) from [0-9]+ to [0-9]+ work ").match
 _NOT_DUE = re.compile(r"# not due by [0-9]+: (.+)").fullmatch
-_LOST = re.compile(r"# places where events were lost: ([0-9]{1,18})").fullmatch
 _WRONG_UNIT = re.compile(r"# (the deadline|APART) of .*: is it in another unit\?").fullmatch
 _SHORT = re.compile(r"# [0-9]+ stretch(es)? within one unit of time, ").match
 
@@ -41,11 +41,18 @@ _REASONS: List[Tuple[str, bool, str]] = [
     ("frequency not known", False, _KNOWN),
 ]
 """The begins of reasons, whether a job left out for it can be late, and why."""
+_OF_LACKS: Dict[str, Tuple[bool, str]] = {
+    HOLES: (True, NOT_JUDGED),
+    SWITCHES: (False, f"{NOT_WHOLE}; where a switch of a listed task is missing, its job is told"),
+    MARKERS: (False, "they tell of no thread that ran"),
+    CLOCK: (True, JUMPED),
+}
+"""Of each kind of what a trace lacks, whether it can hide a missed deadline, and why."""
 
 
 def unjudged(comments: Sequence[str], jobs: int) -> List[Unjudged]:
     """What wasn't judged, by the comments of a document that has so many jobs; what can hide a miss goes first."""
-    lossy = any(map(_LOST, comments))
+    lossy = any(lack is not None and lack.kind == HOLES for lack in map(lack_of, comments))
     found = [*_left_out(comments, lossy), *_others(comments), *_by_count(comments, jobs)]
     return sorted(found, key=lambda one: not one.hides)
 
@@ -96,21 +103,22 @@ def _judged(reason: str, lossy: bool) -> Tuple[bool, str]:
 
 
 def _others(comments: Iterable[str]) -> List[Unjudged]:
-    """What else the comments tell."""
-    found = []
+    """What else the comments tell. Of several parts the last one's number of what the trace lacks holds."""
+    found: List[Unjudged] = []
+    lacking: Dict[str, Unjudged] = {}
     for text in comments:
-        refused, not_due, lost = _REFUSED(text), _NOT_DUE(text), _LOST(text)
+        refused, not_due, lack = _REFUSED(text), _NOT_DUE(text), lack_of(text)
         if refused is not None:
             found.append(Unjudged(f"refused by admit: {refused.group(1)}", True, "it isn't served at all", 1))
         elif not_due is not None:
             found.append(Unjudged(text[2:], True, "these jobs aren't in the document"))
-        elif lost is not None:
-            found.append(Unjudged(text[2:], True, "whole jobs may have been there"))
+        elif lack is not None:
+            lacking[lack.kind] = Unjudged(lack.told, *_OF_LACKS[lack.kind])
         elif _WRONG_UNIT(text):
             found.append(Unjudged(text[2:], True, "in another unit each job may be in time, or late"))
         elif _SHORT(text):
             found.append(Unjudged(text[2:], False, "a job that was late in one is told"))
-    return found
+    return [*found, *lacking.values()]
 
 
 def _by_count(comments: Iterable[str], jobs: int) -> List[Unjudged]:

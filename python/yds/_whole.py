@@ -7,6 +7,8 @@ from typing import Iterator, NamedTuple, Optional, Sequence, Tuple
 
 from yds._answers import Answers
 from yds._heads import PartsError, Text
+from yds._lacking import of_parts
+from yds._missed_of_parts import MissedOfParts
 from yds._sides import Sides
 from yds._texts import Tables, Texts
 from yds._verdicts import Verdict, judgement
@@ -36,7 +38,11 @@ def put_together(parts: Sequence[Text], answers: Sequence[Text], grid: Optional[
         return _no(given, _too_slow(given))
     if given.family == "audit":
         line = Verdict(given).line
-        return Whole(line == b"feasible", iter([line + b"\n"]), tuple(given.told))
+        beside = [text.encode("latin-1") for text in of_parts(parts).whole().beside_verdict()]
+        return Whole(line == b"feasible", iter([text + b"\n" for text in [*beside, line]]), tuple(given.told))
+    if given.family == "misses":
+        missed = MissedOfParts(given)
+        return Whole(not missed.misses, iter([line + b"\n" for line in missed.lines()]), tuple(given.told))
     if given.family == "energies":
         sides = Sides(given, grid)
         return Whole(not sides.missed, sides.lines(), tuple(given.told))

@@ -9,7 +9,7 @@ from typing import Callable, List, Optional, Sequence, Tuple
 from yds._at_top import NO, OTHERWISE, YES, AtTop, Refusal
 from yds._facts import Facts, Worst
 from yds._markup import Markup, Scale, element, join, of_bytes, shown, table
-from yds._sections import lateness, share
+from yds._sections import beside_others, lateness, share
 from yds._text import counted
 from yds._waited import Shares, Waited
 from yds.jobs import Number
@@ -153,7 +153,7 @@ def worst(facts: Facts, one: Worst, picture: Markup) -> Markup:
     scale = facts.scale
     parts: List[object] = [heading(one, scale), when(one, scale), picture]
     if one.went is not None:
-        parts.append(where(one.went, scale))
+        parts += [where(one.went, scale), *beside_others(facts)]
     else:
         parts.append(
             element(

@@ -22,6 +22,7 @@ from yds._comments import (
 )
 from yds._held import Held, HeldJob
 from yds._judged import Misses, misses
+from yds._lacking import Lacking
 from yds._missed import Miss
 from yds._priced import Prices, Sum, speed_text
 from yds._text import Comment, Fault, Job, Line, Point, Row, Rows, Slot, Ticks
@@ -60,6 +61,8 @@ class Jobs(NamedTuple):
     clock: Clock
     workless: List[str]
     """The names of the jobs in the document that have no work."""
+    lacking: Lacking
+    """What the trace lacks: where events were lost, or no line tells of some time, whole jobs may have been."""
 
 
 _REFUSED = re.compile(r"# refuse ([^ ]+) from [0-9]+ to [0-9]+ work ").match
@@ -74,6 +77,7 @@ class _Reading:
         self.prices = Prices()
         self.clock = Clock()
         self.ends = Ends()
+        self.lacking = Lacking()
         self.ticks: Optional[int] = None
         self.order: List[Union[HeldJob, Note]] = []
         self.notes: Dict[str, Note] = {}
@@ -105,6 +109,7 @@ class _Reading:
 
     def _take_comment(self, row: Comment) -> None:
         self.clock.take(row.text)
+        self.lacking.take(row.text)
         moved = moved_of(row.text)
         if moved is not None:
             self.held.take_moved(*moved)
@@ -156,9 +161,8 @@ def table(rows: Iterable[Row], microseconds: Optional[int] = None) -> Jobs:
     if microseconds is not None:
         reading.clock.unit = microseconds
     filled = _Filled(reading)
-    return Jobs(
-        [filled.row(one) for one in reading.order], reading.clock, [job.name for job in reading.held.workless()]
-    )
+    workless = [job.name for job in reading.held.workless()]
+    return Jobs([filled.row(one) for one in reading.order], reading.clock, workless, reading.lacking)
 
 
 class _Filled:

@@ -50,19 +50,21 @@ def html(
     microseconds: Optional[int] = None,
     grid: int = GRID,
     answer: Optional[Answer] = None,
+    idle: Sequence[str] = (),
 ) -> str:
     """The page of a document: a text in the form of docs/format.md, or what has one as `text`, as a Document does.
 
     title stands above the verdict. microseconds are those of a unit of time, where no comment tells them. grid is that
     of the policies. answer is called with words and a document, and gives a status of the program and its answer;
-    without it the program answers that YDS names, or else the library.
+    without it the program answers that YDS names, or else the library. idle has the names of threads that don't count as
+    others.
 
     The text is ASCII. ValueError is raised where the document has a fault, no job, or neither a slot nor a run.
     """
     text = document.encode("utf-8") if isinstance(document, str) else getattr(document, "text", document)
     data = bytes(text)
     origin = Origin("yds.page.html(document)", [("document", len(data), hashlib.sha256(data).hexdigest())], versions())
-    return html_of(lines_of(io.BytesIO(data), "document"), origin, title, microseconds, grid, answer)
+    return html_of(lines_of(io.BytesIO(data), "document"), origin, title, microseconds, grid, answer, idle)
 
 
 def html_of(
@@ -72,9 +74,10 @@ def html_of(
     microseconds: Optional[int] = None,
     grid: int = GRID,
     answer: Optional[Answer] = None,
+    idle: Sequence[str] = (),
 ) -> str:
     """The page of a document's lines, which says that it comes from there."""
-    found = facts(lines, answer or of_environment(), grid, microseconds)
+    found = facts(lines, answer or of_environment(), grid, microseconds, idle)
     return written(found, origin, title or "A document")
 
 

@@ -64,17 +64,17 @@ Size = Tuple[int, int]
 """Width and height in pixels of 1/72 of an inch."""
 
 
-def timeline(document: Drawable, units: Optional[Units] = None) -> Timeline:
+def timeline(document: Drawable, units: Optional[Units] = None, idle: Sequence[str] = ()) -> Timeline:
     """What pictures over time need of a document: read once, it can be drawn often.
 
     `units` are seconds, hertz and watts of its units, where its comments aren't to tell them. ValueError is raised
-    where it has no jobs or no slots.
+    where it has no jobs or no slots. `idle` has the names of threads that don't count as others.
     """
     if isinstance(document, Timeline):
         return document if units is None else document._replace(units=units)
     text = getattr(document, "text", None)
     rows: Any = document if text is None else Rows(lines_of(BytesIO(text)))
-    return timeline_of(rows, units)
+    return timeline_of(rows, units, idle)
 
 
 def gantt(

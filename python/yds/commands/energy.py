@@ -12,6 +12,7 @@ from yds._program import of_environment
 from yds._spent import Reading, Spent
 from yds._text import Line, Rows, lines
 from yds._words import DONE, NO, Command, Files, Given, Option, WordsError, run
+from yds.commands._idle import IDLE, names_of
 
 COMMAND = Command(
     "yds-energy",
@@ -49,6 +50,7 @@ With --at a comment tells how often the speed changes, and how often the process
             "above the program's limits the upper of the bounds of yds-whole, so that a no is sure. A comment tells the waste",
             "N",
         ),
+        IDLE,
     ],
     Files("DOCUMENT", 0, None),
     "0 done; 1 a deadline is missed, more is wasted than --most-waste allows, or a fault in the input; 2 a fault of the "
@@ -70,7 +72,7 @@ def tell(given: Given, write: Callable[[str], None]) -> int:
         raise WordsError(f"--name {name} isn't one word")
     if given.most_waste is not None and not re.fullmatch(r"[0-9]{1,9}(\.[0-9]{1,9})?", given.most_waste):
         raise WordsError(f"--most-waste {given.most_waste} is no number")
-    reading = Reading(given.at is None)
+    reading = Reading(given.at is None, names_of(given.idle))
     kept: List[str] = []
     source = lines(given.files)
     reading.read(Rows(source if given.most_waste is None else copied(source, kept)))

@@ -37,7 +37,8 @@ tells. Jobs that yds_trace left out, and that admit refused, follow where their 
 brackets after the name and what is known of them.
 
 What isn't known, and the energy without points, is `-`, in CSV nothing. A job of no work needs no slot: it ends at its
-release.
+release. Comments above the table tell of jobs without work, of places where events were lost, and of a time of which no
+line of the trace tells: whole jobs may have been there.
 
 Where one job couldn't have met its deadline at any speed, `too-slow` is the answer to the whole document. With
 --late-moved the document itself is written, so that plans have as long for a late job as it took:
@@ -149,6 +150,7 @@ class Shown:
             told.append(f"# times in units of {self._unit} us")
         if self._found.workless:
             told.append(workless(len(self._found.workless), self._found.workless[0]))
+        told += self._found.lacking.beside_verdict()
         return told + [
             "".join([row[0].ljust(widths[0]), *(cell.rjust(width + 2) for cell, width in zip(row[1:], widths[1:]))])
             for row in rows

@@ -17,6 +17,7 @@ from yds._markup import markup
 from yds._program import of_environment
 from yds._text import STANDARD_INPUT, Line, base, lines_of
 from yds._words import DONE, NO, Command, Files, Given, Option, WordsError, run
+from yds.commands._idle import IDLE, names_of
 
 if TYPE_CHECKING:
     from yds.page import Facts, Origin
@@ -60,6 +61,7 @@ The answers are those of the program that the environment's YDS names, or of the
         ),
         Option("points", "with --folder: the points of all documents, put before each", "FILE"),
         Option("grid", "the grid of the two policies, as in `yds_cli compare --grid G` (720720)", "G"),
+        IDLE,
     ],
     Files("TEXT", 0, None),
     "0 the page is written, whatever it tells; 1 a fault in the input, or a document without jobs, or without slots and "
@@ -96,7 +98,8 @@ def written(given: Given, words: Sequence[str], texts: Sequence[Tuple[str, bytes
     from yds import page
 
     us, grid = (None if value is None else int(value) for value in (given.us, given.grid))
-    found = page.facts(joined(texts), of_environment(), page.GRID if grid is None else grid, us)
+    idle = names_of(given.idle)
+    found = page.facts(joined(texts), of_environment(), page.GRID if grid is None else grid, us, idle)
     return page.written(found, origin(words, texts), title), found
 
 

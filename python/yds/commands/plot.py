@@ -7,6 +7,7 @@ from typing import Callable, Sequence, Union
 
 from yds._text import Fault, printable
 from yds._words import DONE, Command, Files, Given, Option, WordsError, run
+from yds.commands._idle import IDLE, names_of
 
 KINDS = ("speed", "gantt", "slack", "curve", "energy", "ratios")
 
@@ -55,6 +56,7 @@ Each picture has its words in it, for who can't see it, and two runs write the s
             "group", "colours and rows by job or by task, the name without its last dot and number", "job|task", "-g"
         ),
         Option("range", "only this time, in the document's units", "FROM:TO", "-r"),
+        IDLE._replace(told=f"of gantt: {IDLE.told}"),
     ],
     Files("KIND [FILE]", 1, None, f"the first word is the kind of picture ({', '.join(KINDS)})", KINDS),
 )
@@ -75,11 +77,14 @@ def tell(given: Given, write: Callable[[Union[str, bytes]], None]) -> int:
         raise WordsError(f"{printable(kind)} is no kind of picture; the first word is one of {', '.join(KINDS)}")
     if len(files) > 1 and kind != "speed":
         raise WordsError("only speed draws several files; yds-join puts points, jobs and traces together")
+    if given.idle is not None and kind != "gantt":
+        raise WordsError("--idle is for gantt, which shows who else ran")
+    idle = names_of(given.idle)
     try:
         wanted = Wanted.read(given.form, given.output, given.size, given.title, given.units, given.group, given.range)
     except ValueError as fault:
         raise WordsError(str(fault)) from fault
-    made = drawn(kind, files, wanted)
+    made = drawn(kind, files, wanted._replace(idle=idle))
     if given.output is None:
         write(made)
     else:

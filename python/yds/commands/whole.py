@@ -8,6 +8,7 @@ from pathlib import Path
 from typing import Callable, List, Optional, Sequence
 
 from yds import parts
+from yds._lacking import of_parts
 from yds._program import of_environment
 from yds._progress import beside
 from yds._words import DONE, NO, Command, Files, Given, Option, WordsError, run
@@ -24,9 +25,13 @@ DIR/part-00001.txt. Output: what the program would answer to the long document.
 
 The parts are of one processor. Of several ones, as yds_trace --cpu all writes them, --cpu takes those of one.
 
-Answers of audit and yds-energy can be put together wherever the parts were cut, and those of plan, round, avr, oa,
-check and report where no window is open at a cut. Where windows are open, the lines of compare become lower bounds:
-of the least energy, and of Average Rate's where its run of all jobs rounds nowhere, for which --grid is needed.
+Answers of audit, yds-misses and yds-energy can be put together wherever the parts were cut, and those of plan, round,
+avr, oa, check and report where no window is open at a cut. Where windows are open, the lines of compare become lower
+bounds: of the least energy, and of Average Rate's where its run of all jobs rounds nowhere, for which --grid is needed.
+
+Parts of a trace tell where events were lost, and of a time of which no line tells. Each tells it of the trace up to its
+own end, so what the last one tells holds: it stands in comments above the verdict of audit and above the last line of
+yds-misses, and behind energies.
 
     yds-whole --bounds --spent energies.txt parts/part-*.txt
 
@@ -83,6 +88,8 @@ def bound(files: Sequence[Path], spent: Optional[str], write: Callable[[str], No
     found = parts.bounds(files, answer=of_environment())
     for line in [*found.lines(), *(found.waste(side) for side in sides)]:
         write(line.decode("latin-1")[:-1])
+    for text in of_parts(files).whole().beside_energy():
+        write(text)
     return NO if found.lower is None else DONE
 
 
