@@ -39,10 +39,17 @@ set_epoch() {
 # same_times FOLDER: everything in it has the time of the commit.
 same_times() { find "$1" -exec touch -h -d "@$SOURCE_DATE_EPOCH" {} +; }
 
-# sums: the sum of each file of this version in $out, in the file SHA256SUMS; and where they are.
+# sums: the sum of each file of this version in $out, in the file SHA256SUMS, and those of the programs as they are unpacked of the
+# archive; and where the files are.
 sums() {
-	(cd "$out" && rm -f SHA256SUMS && sha256sum -- *"$version"* >../SHA256SUMS.new && mv ../SHA256SUMS.new SHA256SUMS && cat SHA256SUMS) || return 1
+	(cd "$out" && rm -f SHA256SUMS && { sha256sum -- *"$version"* && unpacked_sums; } >../SHA256SUMS.new && mv ../SHA256SUMS.new SHA256SUMS && cat SHA256SUMS) || return 1
 	echo "These files are in $out, and their sums in $out/SHA256SUMS."
+}
+unpacked_sums() {
+	archive=yds_cli-$version-linux-x86_64
+	[ ! -f "$archive.tar.gz" ] || for each in $programs; do
+		echo "$(tar -xzOf "$archive.tar.gz" "$archive/bin/$each" | sha256sum | cut -d ' ' -f 1)  $archive/bin/$each"
+	done
 }
 
 # are_built: ends where a program isn't there.

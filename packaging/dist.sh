@@ -5,7 +5,7 @@
 #   yds_cli-VERSION-linux-x86_64.tar.gz          the static programs and the commands yds-.., with their manual pages, completion, recipes, examples
 #                                                and the pages for readers
 #   yds-VERSION-py3-none-manylinux2014_x86_64.whl    the Python package, where build/libyds.so is there (`make library`)
-#   SHA256SUMS                                   the sums of these, and of the packages where they are there
+#   SHA256SUMS                                   the sums of these, of the programs in the archive, and of the packages where they are there
 #
 # Two builds of one commit, with the same compiler and C library for the static program, are the same bytes.
 

@@ -39,7 +39,7 @@ PIP="python3-venv"
 MANUAL="jq parallel python3-matplotlib gcc libc6-dev pkg-config"
 logs=build/packages-test
 work=$(mktemp -d) || exit 1
-trap 'rm -rf "$work"' EXIT
+trap 'leave; rm -rf "$work"' EXIT
 rm -rf $logs
 mkdir -p $logs
 passed=0
@@ -114,15 +114,20 @@ with() {
 	: >"$root.done"
 }
 
-# fresh FROM: a root of its own, as FROM is, which knows of no mirror; with the packages and this folder's tests in /srv.
+# leave: the root that was tried goes. It is unmounted first, where it is a layer over another one.
+leave() { while umount "$work/root" 2>/dev/null; do :; done; rm -rf "$work/root" "$work/layer"; }
+
+# fresh FROM: a root of its own, as FROM is, which knows of no mirror; with the packages and this folder's tests in /srv. Where the
+# kernel can, it is a layer over FROM, which stays as it is; elsewhere a copy.
 fresh() {
+	leave
 	root=$work/root
-	rm -rf "$root"
-	cp -a "$1" "$root"
+	mkdir -p "$root" "$work/layer/above" "$work/layer/work"
+	mount -t overlay overlay -o "lowerdir=$1,upperdir=$work/layer/above,workdir=$work/layer/work" "$root" 2>/dev/null || cp -a "$1/." "$root"
 	rm -rf "$root"/var/lib/apt/lists/*
 	mkdir -p "$root/srv/tests" "$root/home/reader"
 	cp build/dist/*_"$version"_*.deb "$root/srv"
-	cp build/dist/yds-"$version"-*.whl build/dist/yds_cli-"$version"-*.tar.gz "$root/srv" 2>/dev/null
+	cp build/dist/yds-"$version"-*.whl build/dist/yds_cli-"$version"-*.tar.gz build/dist/SHA256SUMS "$root/srv" 2>/dev/null
 	cp debian/tests/first-example debian/tests/text-tools debian/tests/library packaging/typed.py "$root/srv/tests"
 	chmod 755 "$root/srv/tests"/*
 	places /usr
@@ -242,10 +247,21 @@ unpacked() {
 	user sh -c "cp /srv/*.tar.gz . && $line" && echo "$line"
 }
 
+# summed: the line of the manual by which sums are compared, for the archive and each program in it.
+summed() {
+	line=$(sed -n 's/^`\(sha256sum --check [^`]*\)`.*/\1/p' docs/manual.md | head -n 1)
+	[ -n "$line" ] || { echo "the manual has no line by which sums are compared"; return 1; }
+	echo "# $line"
+	user sh -c "cp /srv/SHA256SUMS . && $line >compared && cat compared" || return 1
+	for each in $programs; do grep -qx "yds_cli-$version-linux-x86_64/bin/$each: OK" "$root/home/reader/compared" || { echo "no sum of $each"; return 1; }; done
+	echo "$(wc -l <"$root/home/reader/compared") files have their sums"
+}
+
 try_archive() {
 	fresh "$base"
 	places "/home/reader/yds_cli-$version-linux-x86_64" "/home/reader/yds_cli-$version-linux-x86_64"
 	try "$suite: the archive: unpack as README says" unpacked
+	try "$suite: the archive: sums" summed
 	try "$suite: the archive: rows" rows "$root" "$bin/yds_cli"
 	try "$suite: the archive: the first example" user /srv/tests/first-example
 	try "$suite: the archive: manual pages" pages_of_man
