@@ -788,7 +788,7 @@ SHOWN: List[Callable[[Drawing], None]] = [
 ]
 
 
-LACKING = (anything, starving, moving, missing, fronted, no_speed, torn, wrong_units, often_woken, at_run)
+LACKING = (anything, starving, fronted, no_speed, torn, wrong_units, often_woken)
 STAMP = re.compile(rb"(?<= )([0-9]+)\.([0-9]{1,9})(?=: )")
 
 
