@@ -788,7 +788,7 @@ SHOWN: List[Callable[[Drawing], None]] = [
 ]
 
 
-LACKING = (anything, starving, moving, missing, fronted, no_speed, torn, wrong_units, often_woken, at_run)
+LACKING = (anything, starving, fronted, no_speed, torn, wrong_units, often_woken)
 STAMP = re.compile(rb"(?<= )([0-9]+)\.([0-9]{1,9})(?=: )")
 
 
@@ -822,12 +822,14 @@ def jump(it: Drawing, draw: random.Random) -> None:
 
 
 def with_lacks(seed: int, number: int, it: Drawing) -> None:
-    """Of some traces switches of other threads are missing, and in some the clock jumps."""
+    """Of some traces switches of other threads are missing, in some the clock jumps, and some end by a line of lost events."""
     draw = random.Random(f"lacks {seed} {number}")
     if draw.random() < 0.3:
         drop_others(it, draw)
     if draw.random() < 0.4:
         jump(it, draw)
+    if draw.random() < 0.3 and "--lost" in it.options:
+        it.lines.append(b"CPU:%d [LOST EVENTS]" % draw.randrange(it.processors))
 
 
 def drawn(seed: int, number: int) -> Drawn:

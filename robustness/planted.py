@@ -61,10 +61,10 @@ MISTAKES = [
         ("let told = Told {\n                    switched: true,", "let told = Told {\n                    switched: false,"),)),
     Mistake("to_without_its_own_time", "yds_trace/src/within.rt", (("Some(to) => time <= to,", "Some(to) => time < to,"),)),
     Mistake("a_loss_at_the_end_not_counted", "yds_trace/src/tally.rt", (
-        ("            losses: one_more(behind_loss, self.tally.losses),", "            losses: one_more(behind_loss && false, self.tally.losses),"),)),
+        ("        count_if(behind_loss, &mut tally.losses);", "        count_if(behind_loss && !behind_loss, &mut tally.losses);"),)),
     Mistake("a_missing_switch_of_a_task_counted", "yds_trace/src/tally.rt", (
         ("Some(pid) => pid != first.pid && first.number.is_none(),", "Some(pid) => pid != first.pid,"),)),
-    Mistake("a_marker_behind_to_counted", "yds_trace/src/tally.rt", (("    asked_for && is_marker(event)", "    asked_for == asked_for && is_marker(event)"),)),
+    Mistake("a_marker_behind_to_counted", "yds_trace/src/tally.rt", (("Happening::Marker => is_asked_for(from, to, event.time),", "Happening::Marker => is_after_from(from, event.time),"),)),
     Mistake("a_pause_of_just_a_second_told", "yds_trace_text/src/tally.rt", (("    pause.lasted > SECOND", "    pause.lasted >= SECOND"),)),
     Mistake("a_missing_switch_passed_over", "yds_trace/src/known.rt", (
         ("        find_awake(alloc, leaving.time, &mut self.jobs)?;\n        mark_last(&mut self.jobs);\n",

@@ -12,6 +12,7 @@ pub mod Forgetting
 pub mod Copying
 pub mod Enough
 pub mod Written
+pub mod Tallying
 pub mod OnProcessor
 pub mod Later
 pub mod Spans

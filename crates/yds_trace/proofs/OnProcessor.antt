@@ -268,6 +268,7 @@ lines_on asked processor past lines is = record {
   lost = is.lost;
   woken = is.woken ∙ sym (has_wake_up_on asked processor past);
   as_many = is.as_many;
+  came = is.came;
   tallied = is.tallied;
   seen = λ number within. is.seen number within ∙ ap is_some (sym (pid_before_on asked processor number past));
 }

@@ -80,7 +80,7 @@ tells_loss to event past = is_loss event.happening && is_within_to to (lost_sinc
 
 -- A place where events were lost, within what is asked for: an event behind `from` before which events are said to be lost since a time before `to`.
 abbrev pub is_behind_loss : Option ℕ → Option ℕ → List Said → Event → Bool
-is_behind_loss from to past event = is_behind_from from event.time && (lost_just_before to past || tells_loss to event past)
+is_behind_loss from to past event = (lost_just_before to past || tells_loss to event past) && is_behind_from from event.time
 
 -- such a place, where the trace is to be whole
 abbrev pub is_torn : Asked → List Said → Event → Bool

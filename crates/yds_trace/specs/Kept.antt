@@ -1,7 +1,7 @@
 -- What a pass keeps of the lines so far, and when that stands for them.
-use Rattle.std.specs.Prelude.{◌≡◌, ℕ, ◌<◌, ◌≤◌, List, [], ◌∷◌, ◌++◌, map, length, reverse, Bool, false, if◌then◌else◌, Option, Some, None, option_map, unwrap_or, is_some, is_none, vec_len}
+use Rattle.std.specs.Prelude.{◌≡◌, ℕ, ◌==◌, ◌<◌, ◌≤◌, List, [], ◌∷◌, ◌++◌, map, length, reverse, Bool, false, if◌then◌else◌, Option, Some, None, option_map, unwrap_or, is_some, is_none, vec_len}
 use Rattle.std.specs.List.{slice_index_or, All}
-use Rattle.yds_kernel.specs.Event.{Thread, Said}
+use Rattle.yds_kernel.specs.Event.{Thread, Happening, Switch, Loss, Event, Said}
 use Rattle.yds_kernel.specs.Parts.{capped}
 use Rattle.yds_trace.specs.declared.kept.Kept.{Kept as Amount}
 use Rattle.yds_trace.specs.declared.limits.TheConstants.{MAX_TOUCHES}
@@ -10,7 +10,7 @@ use Rattle.yds_trace.specs.declared.past.Past.{Past as PastKept}
 use Rattle.yds_trace.specs.declared.followed.Followed.{Followed}
 use Rattle.yds_trace.specs.declared.counted.Counted.{Counted}
 use Rattle.yds_trace.specs.declared.lines.Lines.{Lines}
-use Rattle.yds_trace.specs.declared.tally.Tallied.{Tallied}
+use Rattle.yds_trace.specs.declared.tally.Tally.{Tally}
 use Rattle.yds_trace.specs.declared.others.Others.{Others as OthersKept}
 use Rattle.yds_trace.specs.declared.pass.Pass.{Pass}
 use Rattle.yds_trace.specs.Asked.{Task, StartSpeed, Start, start_in, Asked, task_of}
@@ -26,12 +26,12 @@ use Rattle.yds_trace.specs.Views.{jobs_listed, known_read, asked_read, another_r
 -- # Lines
 
 abbrev pub told_on : PastKept → ℕ → Told
-told_on kept processor = slice_index_or kept.told.items processor (record { switched = false; khz = kept.untold })
+told_on kept processor = slice_index_or kept.told.items processor (record { switched = false; khz = kept.untold; came = None })
 
 -- What is told of each processor before the first line is its speed among these.
 abbrev pub TellsSpeeds : List StartSpeed → List Told → Type 0
-TellsSpeeds speeds told = (processor : ℕ) → slice_index_or told processor (record { switched = false; khz = None })
-    ≡ record { switched = false; khz = start_in speeds processor }
+TellsSpeeds speeds told = (processor : ℕ) → slice_index_or told processor (record { switched = false; khz = None; came = None })
+    ≡ record { switched = false; khz = start_in speeds processor; came = None }
 
 -- What is kept stands for these lines, where the speeds before the first change are those of `start`.
 pub record IsPast (start : Start) (past : List Said) (kept : PastKept) : Type 0 where
@@ -100,22 +100,28 @@ abbrev pub unlisted : List Task → Option Thread → Option ℕ
 unlisted tasks None = None
 unlisted tasks (Some thread) = if is_none (task_of tasks thread) then Some thread.pid else None
 
-abbrev pub HaveCome : List Task → List Said → List (Option ℕ) → Type 0
-HaveCome tasks past came = (processor : ℕ) → slice_index_or came processor None ≡ unlisted tasks (who_has processor past)
+abbrev pub HaveCome : List Task → List Said → PastKept → Type 0
+HaveCome tasks past kept = (processor : ℕ) → (told_on kept processor).came ≡ unlisted tasks (who_has processor past)
+
+-- who came to a processor by its last switch, behind an event by which this one comes, or none who is told
+abbrev pub came_by : ℕ → Event → Happening → Option ℕ → Option ℕ → Option ℕ
+came_by processor event (Switch previous state next) came before = if event.processor == processor then came else before
+came_by processor event Loss came before = None
+came_by processor event _ came before = before
 
 -- what is counted of these lines, but for the end of the trace
-pub record IsTallied (from to : Option ℕ) (tasks : List Task) (past : List Said) (kept : Tallied) : Type 0 where
-  pub came : HaveCome tasks past kept.came.items
-  pub losses : kept.tally.losses ≡ capped (losses_before from to past)
-  pub missing : kept.tally.missing ≡ capped (missing_switches from to tasks past)
-  pub markers : kept.tally.markers ≡ capped (markers from to past)
-  pub pause : kept.tally.pause ≡ longest_pause from to past
+pub record IsTallied (from to : Option ℕ) (tasks : List Task) (past : List Said) (tally : Tally) : Type 0 where
+  pub losses : tally.losses ≡ capped (losses_before from to past)
+  pub missing : tally.missing ≡ capped (missing_switches from to tasks past)
+  pub markers : tally.markers ≡ capped (markers from to past)
+  pub pause : tally.pause ≡ longest_pause from to past
 
 pub record IsLines (asked : Asked) (past : List Said) (lines : Lines) : Type 0 where
   pub times : IsPast asked.start past lines.past
   pub lost : lines.lost ≡ lost_just_before asked.to past
   pub woken : lines.woken ≡ has_wake_up asked past
   pub as_many : vec_len lines.seen ≡ length asked.tasks
+  pub came : HaveCome asked.tasks past lines.past
   pub tallied : IsTallied asked.from asked.to asked.tasks past lines.tallied
   pub seen : (number : ℕ) → number < length asked.tasks → slice_index_or lines.seen.items number false ≡ is_some (pid_before asked number past)
 

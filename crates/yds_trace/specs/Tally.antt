@@ -44,7 +44,7 @@ lacks_switch tasks past processor _ = false
 abbrev pub missing_switches : Option ℕ → Option ℕ → List Task → List Said → ℕ
 missing_switches from to tasks [] = 0
 missing_switches from to tasks (Stamped event ∷ past) =
-    one_more (is_asked_for from to event.time && lacks_switch tasks past event.processor event.happening) (missing_switches from to tasks past)
+    one_more (lacks_switch tasks past event.processor event.happening && is_asked_for from to event.time) (missing_switches from to tasks past)
 missing_switches from to tasks (Lost processor reach ∷ past) = missing_switches from to tasks past
 missing_switches from to tasks (Nothing ∷ past) = missing_switches from to tasks past
 
@@ -56,20 +56,19 @@ is_marker _ = false
 
 abbrev pub markers : Option ℕ → Option ℕ → List Said → ℕ
 markers from to [] = 0
-markers from to (Stamped event ∷ past) = one_more (is_asked_for from to event.time && is_marker event.happening) (markers from to past)
+markers from to (Stamped event ∷ past) = one_more (is_marker event.happening && is_asked_for from to event.time) (markers from to past)
 markers from to (Lost processor reach ∷ past) = markers from to past
 markers from to (Nothing ∷ past) = markers from to past
 
 -- # The longest time without a line
 
--- The time since the line with a stamp before this one, where both are asked for.
-abbrev pub pause_before : Option ℕ → Option ℕ → List Said → ℕ → ℕ
-pause_before from to past time =
-    if has_stamp past && is_after_from from (last_time past) && is_before_to to time then time - last_time past else 0
+-- A line with a stamp is before one of this time, and both are asked for.
+abbrev pub has_pause : Option ℕ → Option ℕ → List Said → ℕ → Bool
+has_pause from to past time = has_stamp past && is_after_from from (last_time past) && is_before_to to time
 
--- the longer one of two, or else the one before
-abbrev pub longer : Pause → ℕ → ℕ → Pause
-longer before since lasted = if nat_lt before.lasted lasted then record { since = since; lasted = lasted } else before
+-- the longer one of two, if the second is one, or else the one before
+abbrev pub longer : Pause → Bool → ℕ → ℕ → Pause
+longer before is since lasted = if nat_lt before.lasted lasted && is then record { since = since; lasted = lasted } else before
 
 abbrev pub no_pause : Pause
 no_pause = record { since = 0; lasted = 0 }
@@ -77,7 +76,8 @@ no_pause = record { since = 0; lasted = 0 }
 -- The longest time between a line with a stamp and the one before it, and when it began: the first of equal ones.
 abbrev pub longest_pause : Option ℕ → Option ℕ → List Said → Pause
 longest_pause from to [] = no_pause
-longest_pause from to (Stamped event ∷ past) = longer (longest_pause from to past) (last_time past) (pause_before from to past event.time)
+longest_pause from to (Stamped event ∷ past) =
+    longer (longest_pause from to past) (has_pause from to past event.time) (last_time past) (event.time - last_time past)
 longest_pause from to (Lost processor reach ∷ past) = longest_pause from to past
 longest_pause from to (Nothing ∷ past) = longest_pause from to past
 

@@ -100,7 +100,7 @@ impl Counted {
             event,
             second,
         )?;
-        self.past.take(event)?;
+        self.past.take(event, None)?;
         Ok(())
     }
 

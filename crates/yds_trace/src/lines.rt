@@ -12,7 +12,7 @@ ghost use Rattle.yds_trace.specs.Views.{asked_read};
 use crate::asked::Asked;
 use crate::past::Past;
 use crate::step::Whose;
-use crate::tally::{Tallied, Tally};
+use crate::tally::Tally;
 use crate::within::{is_behind_from, is_within_to};
 use std::alloc::Global;
 use yds_kernel::{Event, Happening, Since};
@@ -27,7 +27,7 @@ pub(crate) struct Lines {
     /// Whether a wake-up of a task is among them.
     pub woken: bool,
     /// What they lack.
-    pub tallied: Tallied,
+    pub tallied: Tally,
     /// Whether a line names the task.
     pub seen: Vec<bool>,
 }
@@ -41,7 +41,7 @@ impl Lines {
             past: Past::new(alloc, &asked.start)?,
             lost: false,
             woken: false,
-            tallied: Tallied::new(alloc),
+            tallied: Tally::new(),
             seen: vec![in alloc; false; asked.tasks.len()]?,
         })
     }
@@ -61,16 +61,8 @@ impl Lines {
             → OnOk result (IsLines (asked_read asked.now) (Stamped (event_read event.now) ∷ past) self.new) }
     {
         let behind_loss = self.is_behind_loss(asked.from, asked.to, event);
-        self.tallied.take(
-            asked.from,
-            asked.to,
-            behind_loss,
-            &self.past,
-            event,
-            first,
-            second,
-        )?;
-        self.past.take(event)?;
+        self.tallied.take(asked.from, asked.to, behind_loss, &self.past, event, first);
+        self.past.take(event, second.unlisted())?;
         self.lost = false;
         self.woken = self.is_woken(event, first);
         mark(&mut self.seen, first.number);
@@ -84,7 +76,6 @@ impl Lines {
             → IsLines asked (Lost processor since ∷ past) self.new }
     {
         self.lost = self.are_lost(to, processor, since);
-        self.tallied.lose();
         self.past.lose();
     }
 
@@ -98,7 +89,7 @@ impl Lines {
         ensures { (asked : asking.Asked) (past : List Said) → IsLines asked past self.now → asked.to ≡ to
             → result ≡ is_behind_loss from to past (event_read event.now) }
     {
-        is_behind_from(from, event.time) && (self.lost || self.tells_loss(to, event))
+        (self.lost || self.tells_loss(to, event)) && is_behind_from(from, event.time)
     }
 
     /// Whether an event tells of a loss since a time before `to`.
@@ -123,7 +114,7 @@ impl Lines {
     pub(crate) fn tally(&self) -> Tally
         ensures { (asked : asking.Asked) (past : List Said) → IsLines asked past self.now → result ≡ tally_of asked past }
     {
-        self.tallied.tally(self.lost)
+        self.tallied.ended(self.lost)
     }
 
     /// Whether a wake-up of a task is among the lines up to this event.

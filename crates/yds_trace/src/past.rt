@@ -5,7 +5,7 @@ ghost use Rattle.yds_kernel.specs.Views.{event_read};
 ghost use Rattle.yds_trace.specs.Asked as asking;
 ghost use Rattle.yds_trace.specs.Faults.{processors_fault};
 ghost use Rattle.yds_trace.specs.Past as spec;
-ghost use Rattle.yds_trace.specs.Kept.{IsPast, TellsSpeeds, told_on};
+ghost use Rattle.yds_trace.specs.Kept.{IsPast, TellsSpeeds, told_on, came_by};
 ghost use Rattle.yds_trace.specs.Steps.{leaving_after, step_of};
 ghost use Rattle.yds_trace.specs.Views.{start_read, speed_read};
 
@@ -24,16 +24,19 @@ pub(crate) struct Told {
     pub switched: bool,
     /// Its speed in kilohertz, where it is known.
     pub khz: Option<u64>,
+    /// The number of who came to it last, where that is told.
+    pub came: Option<u64>,
 }
 
 impl Told {
     /// Nothing yet, but for this speed.
     fn nothing(khz: Option<u64>) -> Told
-        ensures { result ≡ record { switched = false; khz = khz } }
+        ensures { result ≡ record { switched = false; khz = khz; came = None } }
     {
         Told {
             switched: false,
             khz,
+            came: None,
         }
     }
 }
@@ -78,7 +81,8 @@ pub(crate) struct Past {
 impl Past {
     /// Before the first line, with these speeds before the first change.
     pub(crate) fn new(alloc: Global, start: &Start) -> Result<Past, Memory>
-        ensures { IfOk result (IsPast (start_read start.now) []) }
+        ensures stands { IfOk result (IsPast (start_read start.now) []) }
+        ensures came { IfOk result (λ past. (processor : ℕ) → (told_on past processor).came ≡ None) }
     {
         match start {
             Start::Same(khz) => Ok(Past::begun(alloc, Some(*khz), Vec::new(alloc))),
@@ -88,8 +92,10 @@ impl Past {
 
     /// Before the first line, with what is told of some processors, and this speed of the others.
     fn begun(alloc: Global, untold: Option<u64>, told: Vec<Told>) -> Past
-        ensures { (start : asking.Start) → ((processor : ℕ) → slice_index_or told.items processor (record { switched = false; khz = untold })
-            ≡ record { switched = false; khz = asking.start_of start processor }) → IsPast start [] result }
+        ensures stands { (start : asking.Start) → ((processor : ℕ) → slice_index_or told.items processor (record { switched = false; khz = untold; came = None })
+            ≡ record { switched = false; khz = asking.start_of start processor; came = None }) → IsPast start [] result }
+        ensures came { ((processor : ℕ) → (slice_index_or told.items processor (record { switched = false; khz = untold; came = None })).came ≡ None)
+            → (processor : ℕ) → (told_on result processor).came ≡ None }
     {
         Past {
             first: None,
@@ -108,10 +114,12 @@ impl Past {
         at(&self.told, processor, Told::nothing(self.untold))
     }
 
-    /// Takes an event.
-    pub(crate) fn take(&mut self, event: &Event<'_>) -> Result<(), Memory>
+    /// Takes an event, by which this thread comes to its processor, or none that is told.
+    pub(crate) fn take(&mut self, event: &Event<'_>, came: Option<u64>) -> Result<(), Memory>
         requires { processors_fault (event_read event.now) ≡ None }
-        ensures { (start : asking.Start) (past : List Said) → IsPast start past self.old
+        ensures came { OnOk result ((processor : ℕ) → (told_on self.new processor).came
+            ≡ came_by processor (event_read event.now) (event_read event.now).happening came (told_on self.old processor).came) }
+        ensures stands { (start : asking.Start) (past : List Said) → IsPast start past self.old
             → OnOk result (IsPast start (Stamped (event_read event.now) ∷ past) self.new) }
     {
         put_at(&mut self.lines, event.processor, Some(event.time), None)?;
@@ -124,6 +132,7 @@ impl Past {
                 let told = Told {
                     switched: true,
                     khz,
+                    came,
                 };
                 put_at(
                     &mut self.told,
@@ -133,10 +142,11 @@ impl Past {
                 )?;
             }
             Happening::Speed { processor, khz } => {
-                let switched = self.told_on(processor).switched;
+                let before = self.told_on(processor);
                 let told = Told {
-                    switched,
+                    switched: before.switched,
                     khz: Some(khz),
+                    came: before.came,
                 };
                 put_at(&mut self.told, processor, told, Told::nothing(self.untold))?;
             }
@@ -148,7 +158,8 @@ impl Past {
 
     /// Takes a line without a stamp which says that events were lost.
     pub(crate) fn lose(&mut self)
-        ensures { (start : asking.Start) (past : List Said) (processor : ℕ) (since : Since) → IsPast start past self.old
+        ensures came { (processor : ℕ) → (told_on self.new processor).came ≡ None }
+        ensures stands { (start : asking.Start) (past : List Said) (processor : ℕ) (since : Since) → IsPast start past self.old
             → IsPast start (Lost processor since ∷ past) self.new }
     {
         self.forget();
@@ -184,6 +195,13 @@ impl Past {
         ensures { (start : asking.Start) (past : List Said) → IsPast start past self.now → result ≡ spec.has_switched processor past }
     {
         self.told_on(processor).switched
+    }
+
+    /// The number of who came to a processor last, where that is told.
+    pub(crate) fn came(&self, processor: u64) -> Option<u64>
+        ensures { result ≡ (told_on self.now processor).came }
+    {
+        self.told_on(processor).came
     }
 
     /// Whether a processor hasn't switched since a time before this boundary, by an event of this time.

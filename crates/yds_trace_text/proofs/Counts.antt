@@ -1,5 +1,5 @@
 -- The head lines of parts count jobs on from part to part.
-use Rattle.yds_model.proofs.Common.{◌≡◌, ℕ, ◌+◌, ◌||◌, Bool, true, false, cond, List, [], ◌∷◌, length, ◌∙◌, refl, sym, ap, ap₂, arith, nat_le, leb-true, le-leb, Option, Some, None, is_some, is_none, codes, decimal, sum_by-cons, count_by, filter_map}
+use Rattle.yds_model.proofs.Common.{◌≡◌, ℕ, ◌+◌, ◌||◌, Bool, true, false, cond, List, [], ◌∷◌, length, ◌∙◌, refl, sym, ap, ap₂, arith, nat_le, leb-true, le-leb, Option, Some, None, is_some, codes, decimal, sum_by-cons, count_by, filter_map}
 use Rattle.std.specs.List.{cons_option}
 use Rattle.yds_kernel.specs.Event.{Said}
 use Rattle.yds_kernel.specs.Parts.{capped}
@@ -11,7 +11,7 @@ use Rattle.yds_trace.specs.Parts.{is_written, part_until, place_of, cut_at, cut_
 use Rattle.yds_trace_document.specs.Part.{part_units}
 use Rattle.yds_trace_text.specs.Text.{comment}
 use Rattle.yds_trace_text.specs.PartText.{first_release, last_deadline, windows_text, processor_text, last_text, part_line}
-use Rattle.yds_trace_text.specs.Laws.{jobs_of_part, jobs_of_parts, CountsOn, PartsCountOn}
+use Rattle.yds_trace_text.specs.Laws.{jobs_of_part, jobs_of_parts, PartsCountOn}
 
 -- # The jobs of one part
 

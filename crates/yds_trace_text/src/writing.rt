@@ -1,5 +1,5 @@
 //! The whole text.
-ghost use Rattle.std.specs.Prelude.{◌≡◌, ◌≤◌, ◌<◌, ◌++◌, List, OnOk, IfOk, IfErr, length, map};
+ghost use Rattle.std.specs.Prelude.{◌≡◌, ◌≤◌, ◌<◌, ◌++◌, List, OnOk, IfOk, IfErr, length};
 ghost use Rattle.std.specs.List.{flat_map};
 ghost use Rattle.yds_model.specs.declared.limits.TheConstants.{MAX_INPUT};
 ghost use Rattle.yds_kernel.specs.Event.{Said};
@@ -7,7 +7,7 @@ ghost use Rattle.yds_trace.specs.Asked as words;
 ghost use Rattle.yds_trace.specs.Ended.{IsEnded};
 ghost use Rattle.yds_trace_document.specs.Kept.{IsPlain};
 ghost use Rattle.yds_trace_text.specs.Writing.{Gives, Writes};
-ghost use Rattle.yds_trace.specs.Views.{asked_read, task_read};
+ghost use Rattle.yds_trace.specs.Views.{asked_read};
 ghost use Rattle.yds_trace_document.specs.Views.{settled_read};
 ghost use Rattle.yds_trace_text.specs.declared.fault.TextFault.TheVariants as faults;
 ghost use Rattle.yds_trace_text.specs.Text as spec;
@@ -28,7 +28,7 @@ use crate::wrong_unit::put_all_wrong_units;
 use std::alloc::Global;
 use yds_model::Memory;
 use yds_model::limits::MAX_INPUT;
-use yds_trace::{Asked, Ended, Task};
+use yds_trace::{Asked, Ended};
 use yds_trace_document::{Settled, limit_fault, settle};
 
 /// The text of a trace's document, by what is known at the trace's end. With `strict` no job may be missed.
@@ -118,25 +118,25 @@ fn put_comments(
 ) -> Result<(), Memory>
     ensures { OnOk result (text.new.items ≡ text.old.items ++ spec.comments_text (asked_read asked.now) (settled_read settled.now)) }
 {
-    put_job_comments(alloc, &asked.tasks, settled, text)?;
+    put_job_comments(alloc, asked, settled, text)?;
     put_more_comments(alloc, asked, settled, text)
 }
 
 /// The first ones, on jobs: on late ones, on begins and ends that no run shows, and on those that are left out.
 fn put_job_comments(
     alloc: Global,
-    tasks: &[Task],
+    asked: &Asked,
     settled: &Settled<'_>,
     text: &mut Vec<u8>,
 ) -> Result<(), Memory>
     ensures { OnOk result (text.new.items ≡ text.old.items
         ++ flat_map (spec.late_comment (settled_read settled.now).units) (settled_read settled.now).judged
         ++ flat_map (spec.shown_comments (settled_read settled.now).units) (settled_read settled.now).judged
-        ++ spec.left_out_comments (map task_read tasks.now) (settled_read settled.now).by_task (settled_read settled.now).judged) }
+        ++ spec.left_out_comments (asked_read asked.now).tasks (settled_read settled.now).by_task (settled_read settled.now).judged) }
 {
     put_all_late(alloc, settled.units, &settled.judged, text)?;
     put_all_shown(alloc, settled.units, &settled.judged, text)?;
-    put_left_out(alloc, tasks, &settled.by_task, &settled.judged, text)
+    put_left_out(alloc, &asked.tasks, &settled.by_task, &settled.judged, text)
 }
 
 /// The others, on all jobs together, on units that may be wrong, on who else had the processor and on what the trace lacks; and

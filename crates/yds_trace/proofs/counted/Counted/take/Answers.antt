@@ -37,7 +37,7 @@ returns-clause-stands c = λ counting is.
     (is.tasks number default within)
     (rw c.deref.ensures.value at (c.in_ok-take_each.ensures.each number default (omega (arith, is.as_many)))) in
     record {
-      times = c.in_ok-take.ensures (start_read c.args.asked.now.start) counting is.times;
+      times = c.in_ok-take.ensures.stands (start_read c.args.asked.now.start) counting is.times;
       as_many = many;
       tasks = each;
       others = c.in_ok-take_others.ensures asked counting c.args.self.now.boundary refl is.others c.requires.second

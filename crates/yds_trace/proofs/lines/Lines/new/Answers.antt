@@ -5,10 +5,11 @@ use Rattle.yds_trace.proofs.lines.Lines.new.Goals as goal
 
 pub returns : goal.returns
 returns c = record {
-  times = c.in_ok-new.ensures;
+  times = c.in_ok-new.ensures.stands;
   lost = refl;
   woken = refl;
   as_many = grind (arith, common_steps);
+  came = c.in_ok-new.ensures.came;
   tallied = c.new-2.ensures c.args.asked.now.from c.args.asked.now.to (asked_read c.args.asked.now).tasks;
   seen = λ number within. grind (arith, common_steps);
 }
