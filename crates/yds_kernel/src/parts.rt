@@ -122,7 +122,10 @@ pub(crate) fn field(bytes: &[u8]) -> Option<(&[u8], &[u8])>
 pub(crate) fn skip_blanks(bytes: &[u8]) -> &[u8]
     ensures { result.now ≡ spec.skip_blanks bytes.now }
 {
-    &bytes[blank_len(bytes)..]
+    match bytes {
+        [first, ..] if !is_blank(*first) => bytes,
+        _ => &bytes[blank_len(bytes)..],
+    }
 }
 
 /// What comes after the blanks at the front, at least one.
@@ -130,8 +133,10 @@ pub(crate) fn skip_blanks(bytes: &[u8]) -> &[u8]
 pub(crate) fn after_blanks(bytes: &[u8]) -> Option<&[u8]>
     ensures { Reads (λ rest. rest.now) result (spec.after_blanks bytes.now) }
 {
-    let len = blank_len(bytes);
-    if len == 0 { None } else { Some(&bytes[len..]) }
+    match bytes {
+        [first, rest @ ..] if is_blank(*first) => Some(skip_blanks(rest)),
+        _ => None,
+    }
 }
 
 /// The number that the digits at the front spell, leading zeros too, and the bytes after them. One beyond 64 bits counts
@@ -324,12 +329,26 @@ fn blank_len(bytes: &[u8]) -> usize
     bytes.len()
 }
 
-/// How many bytes stand before the first blank.
+/// Bit k is set where a blank stands at the place k.
+#[inline(always)]
+fn blank_marks(bytes: &[u8; 32]) -> u64
+    ensures { (k : ℕ) → (bit_at result k ≡ 1) ↔ ((k < 32) × Passes is_blank bytes.now k) }
+{
+    marks_of(b' ', bytes) | marks_of(b'\t', bytes)
+}
+
+/// How many bytes stand before the first blank. It is likely among the first 32.
 #[inline(always)]
 fn field_len(bytes: &[u8]) -> usize
     ensures value { result ≡ position_or_len is_blank bytes.now }
     ensures within { result ≤ length bytes.now }
 {
+    if let Some(front) = bytes.first_chunk::<32>() {
+        let marks = blank_marks(front);
+        if marks != 0 {
+            return marks.trailing_zeros() as usize;
+        }
+    }
     for (index, &byte) in bytes.iter().enumerate() {
         if is_blank(byte) {
             return index;
