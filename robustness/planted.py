@@ -58,7 +58,7 @@ MISTAKES = [
     Mistake("a_listed_speed_for_all_processors", "yds_trace/src/past.rt", (
         ("Ok(Past::begun(alloc, None, first_told", "Ok(Past::begun(alloc, speeds.first().map(|speed| speed.khz), first_told"),)),
     Mistake("a_first_switch_forgotten", "yds_trace/src/past.rt", (
-        ("let told = Told {\n                    switched: true,", "let told = Told {\n                    switched: false,"),)),
+        ("let told = Told {\n                        switched: true,", "let told = Told {\n                        switched: false,"),)),
     Mistake("to_without_its_own_time", "yds_trace/src/lines.rt", (("Some(to) => time <= to,", "Some(to) => time < to,"),)),
     Mistake("a_missing_switch_passed_over", "yds_trace/src/known.rt", (
         ("        find_awake(alloc, leaving.time, &mut self.jobs)?;\n        mark_last(&mut self.jobs);\n",

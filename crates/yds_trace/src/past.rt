@@ -120,17 +120,19 @@ impl Past {
         self.whole_since = Some(self.whole_since.unwrap_or(event.time));
         match event.happening {
             Happening::Switch { .. } => {
-                let khz = self.told_on(event.processor).khz;
-                let told = Told {
-                    switched: true,
-                    khz,
-                };
-                put_at(
-                    &mut self.told,
-                    event.processor,
-                    told,
-                    Told::nothing(self.untold),
-                )?;
+                let before = self.told_on(event.processor);
+                if !before.switched {
+                    let told = Told {
+                        switched: true,
+                        khz: before.khz,
+                    };
+                    put_at(
+                        &mut self.told,
+                        event.processor,
+                        told,
+                        Told::nothing(self.untold),
+                    )?;
+                }
             }
             Happening::Speed { processor, khz } => {
                 let switched = self.told_on(processor).switched;
