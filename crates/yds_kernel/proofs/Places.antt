@@ -51,7 +51,7 @@ stamp_here bytes i stamp within some =
     ap first_stamp (drop_more bytes i 0 within)
     ∙ ap (λ found. or_else found (first_stamp (drop (i + 1) bytes))) (ap stamp_at (sym (drop_more bytes i 0 within)) ∙ some)
 
-not_true : (test : Bool) → (test ≡ true → ⊥) → test ≡ false
+pub not_true : (test : Bool) → (test ≡ true → ⊥) → test ≡ false
 not_true true never = absurd (never refl)
 not_true false never = refl
 

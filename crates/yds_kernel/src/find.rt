@@ -5,16 +5,15 @@ ghost use Rattle.yds_kernel.specs.Stamp as spec;
 ghost use Rattle.yds_kernel.specs.Stamp.{is_word, is_word_byte, last_byte};
 ghost use Rattle.yds_kernel.specs.Views.{Reads, stamp_read};
 
-use crate::parts::{after, after_blanks, begins, field, number, spelled};
+use crate::parts::{after, after_blanks, begins, field, first_place, number, spelled};
 use crate::stamp::Stamp;
-use memchr::memchr;
 
 /// The stamp at the first place of the line at which one stands.
 pub(crate) fn first_stamp(line: &[u8]) -> Option<Stamp<'_>>
     ensures { Reads stamp_read result (spec.first_stamp line.now) }
 {
     let mut rest = line;
-    while let Some(place) = memchr(b'[', rest) {
+    while let Some(place) = first_place(b'[', rest) {
         if let Some(stamp) = stamp_at(&rest[place..]) {
             return Some(stamp);
         }

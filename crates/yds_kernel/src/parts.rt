@@ -1,10 +1,11 @@
 //! What stands at the front of bytes, and the bytes after it.
-ghost use Rattle.std.specs.Prelude.{◌≡◌, ◌+◌, ◌*◌, ◌^◌, ◌<◌, ◌≤◌, ◌&&◌, length, nat_le, take, true, IfSome};
+ghost use Rattle.std.specs.Int.{bit_at};
+ghost use Rattle.std.specs.Prelude.{◌≡◌, ◌↔◌, ℕ, ◌+◌, ◌*◌, ◌^◌, ◌<◌, ◌≤◌, ◌&&◌, length, nat_le, take, true, IfSome};
 ghost use Rattle.std.specs.Char.{digit_value};
 ghost use Rattle.std.specs.List.{position_or_len, prefix_len};
 ghost use Rattle.std.specs.Str.{bytes_eq};
 ghost use Rattle.std.specs.Str.Parse.{digits_value};
-ghost use Rattle.memchr.specs.Find.{IsFirstByte, is_byte};
+ghost use Rattle.memchr.specs.Find.{IsFirstByte, Passes, is_byte};
 ghost use Rattle.yds_model.specs.Lines.{is_blank};
 ghost use Rattle.yds_model.specs.Spelling.{is_digit};
 ghost use Rattle.yds_kernel.specs.Form.{only_blanks};
@@ -14,6 +15,7 @@ ghost use Rattle.yds_kernel.specs.Views.{Reads};
 
 use crate::limits::{MAX_NUMBER, MAX_U64};
 use memchr::memchr;
+use std::simd::prelude::*;
 
 /// Whether the bytes begin with this text.
 #[inline(always)]
@@ -120,7 +122,10 @@ pub(crate) fn field(bytes: &[u8]) -> Option<(&[u8], &[u8])>
 pub(crate) fn skip_blanks(bytes: &[u8]) -> &[u8]
     ensures { result.now ≡ spec.skip_blanks bytes.now }
 {
-    &bytes[blank_len(bytes)..]
+    match bytes {
+        [first, ..] if !is_blank(*first) => bytes,
+        _ => &bytes[blank_len(bytes)..],
+    }
 }
 
 /// What comes after the blanks at the front, at least one.
@@ -128,8 +133,10 @@ pub(crate) fn skip_blanks(bytes: &[u8]) -> &[u8]
 pub(crate) fn after_blanks(bytes: &[u8]) -> Option<&[u8]>
     ensures { Reads (λ rest. rest.now) result (spec.after_blanks bytes.now) }
 {
-    let len = blank_len(bytes);
-    if len == 0 { None } else { Some(&bytes[len..]) }
+    match bytes {
+        [first, rest @ ..] if is_blank(*first) => Some(skip_blanks(rest)),
+        _ => None,
+    }
 }
 
 /// The number that the digits at the front spell, leading zeros too, and the bytes after them. One beyond 64 bits counts
@@ -177,30 +184,28 @@ fn skip_minus(bytes: &[u8]) -> &[u8]
     }
 }
 
-/// The first place of this byte. It is likely among the first sixteen.
+/// The first place of this byte. It is likely among the first 32.
 #[inline(always)]
 pub(crate) fn first_place(byte: u8, bytes: &[u8]) -> Option<usize>
     ensures { IsFirstByte (is_byte byte) bytes.now result }
 {
-    if let Some(front) = bytes.first_chunk::<16>()
-        && let Some(place) = place_in(byte, front)
-    {
-        return Some(place);
+    if let Some(front) = bytes.first_chunk::<32>() {
+        let marks = marks_of(byte, front);
+        if marks != 0 {
+            return Some(marks.trailing_zeros() as usize);
+        }
     }
     memchr(byte, bytes)
 }
 
-/// The first place of this byte among sixteen.
+/// Bit k is set where the byte stands at the place k.
 #[inline(always)]
-fn place_in(byte: u8, bytes: &[u8; 16]) -> Option<usize>
-    ensures { IsFirstByte (is_byte byte) bytes.now result }
+fn marks_of(byte: u8, bytes: &[u8; 32]) -> u64
+    ensures { (k : ℕ) → (bit_at result k ≡ 1) ↔ ((k < 32) × Passes (is_byte byte) bytes.now k) }
 {
-    for (index, &each) in bytes.iter().enumerate() {
-        if each == byte {
-            return Some(index);
-        }
-    }
-    None
+    u8x32::from_array(*bytes)
+        .simd_eq(u8x32::splat(byte))
+        .to_bitmask()
 }
 
 /// Whether nothing but blanks is left.
@@ -324,12 +329,26 @@ fn blank_len(bytes: &[u8]) -> usize
     bytes.len()
 }
 
-/// How many bytes stand before the first blank.
+/// Bit k is set where a blank stands at the place k.
+#[inline(always)]
+fn blank_marks(bytes: &[u8; 32]) -> u64
+    ensures { (k : ℕ) → (bit_at result k ≡ 1) ↔ ((k < 32) × Passes is_blank bytes.now k) }
+{
+    marks_of(b' ', bytes) | marks_of(b'\t', bytes)
+}
+
+/// How many bytes stand before the first blank. It is likely among the first 32.
 #[inline(always)]
 fn field_len(bytes: &[u8]) -> usize
     ensures value { result ≡ position_or_len is_blank bytes.now }
     ensures within { result ≤ length bytes.now }
 {
+    if let Some(front) = bytes.first_chunk::<32>() {
+        let marks = blank_marks(front);
+        if marks != 0 {
+            return marks.trailing_zeros() as usize;
+        }
+    }
     for (index, &byte) in bytes.iter().enumerate() {
         if is_blank(byte) {
             return index;

@@ -76,6 +76,7 @@ fn find_named(tasks: &[Task], name: &[u8]) -> Option<usize>
 }
 
 /// Which tasks a thread is.
+#[inline(always)]
 pub(crate) fn find(tasks: &[Task], thread: Thread<'_>) -> Found
     ensures { result ≡ found (map task_read tasks.now) (thread_read thread.entry) }
 {
@@ -87,6 +88,7 @@ pub(crate) fn find(tasks: &[Task], thread: Thread<'_>) -> Found
 }
 
 /// Which tasks the thread is that leaves or is woken.
+#[inline(always)]
 pub(crate) fn find_first(tasks: &[Task], happening: &Happening<'_>) -> Found
     ensures { result ≡ first_found (map task_read tasks.now) (happening_read happening.now) }
 {
@@ -100,6 +102,7 @@ pub(crate) fn find_first(tasks: &[Task], happening: &Happening<'_>) -> Found
 }
 
 /// Which tasks the thread is that comes.
+#[inline(always)]
 pub(crate) fn find_second(tasks: &[Task], happening: &Happening<'_>) -> Found
     ensures { result ≡ second_found (map task_read tasks.now) (happening_read happening.now) }
 {

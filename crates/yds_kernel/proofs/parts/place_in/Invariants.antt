@@ -1,5 +1,0 @@
-use Rattle.memchr.specs.Find.{Nowhere, Passes, is_byte}
-use Rattle.yds_kernel.proofs.parts.place_in.Given as goal
-
-abbrev pub invariant-loop-index : goal.invariant-loop-index
-invariant-loop-index l = Nowhere (Passes (is_byte l.byte) l.bytes) 0 l.index
