@@ -25,7 +25,7 @@ ROOT = Path(__file__).resolve().parent.parent
 PAGE = ROOT / "docs" / "edits.md"
 WIDTH = 120
 # Of all crates but the later ones, which bring theirs besides.
-MOST = 264
+MOST = 260
 LATER = [
     "yds_group_runs",
     "yds_kernel",
@@ -41,6 +41,7 @@ LATER = [
     "yds_trace_whole",
     "yds_trace_parts",
     "yds_trace_words",
+    "yds_trace_files",
     "yds_trace_reading",
     "yds_trace_threads",
     "yds_trace_run",
