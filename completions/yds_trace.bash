@@ -1,4 +1,5 @@
-# Completion for bash of yds_trace: its words, the values that a word may have, and files behind a redirection.
+# Completion for bash of yds_trace: its words, the values that a word may have, and files: behind a redirection or `--`, and where a
+# word begins as none of these.
 _yds_trace() {
 	local word=${COMP_WORDS[COMP_CWORD]} before=${COMP_WORDS[COMP_CWORD - 1]} words=
 	# A word and its value may be one, with an equals sign between them, which bash takes for a word of its own.
@@ -14,6 +15,7 @@ _yds_trace() {
 	--others) words=spans ;;
 	--tasks | --start | --from | --to) ;;
 	--help | --version) ;;
+	--) ;;
 	*) words="--tasks --cpu --us --khz --start --from --to --begin --lost --moved --others --parts --strict --help --version" ;;
 	esac
 	COMPREPLY=($(compgen -W "$words" -- "$word"))

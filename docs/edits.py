@@ -41,6 +41,7 @@ LATER = [
     "yds_trace_whole",
     "yds_trace_parts",
     "yds_trace_words",
+    "yds_trace_files",
     "yds_trace_reading",
     "yds_trace_threads",
     "yds_trace_run",
@@ -56,6 +57,7 @@ MOST_OF = {
     "yds_run": 12,
     "yds_admit": 12,
     "yds_document": 12,
+    "yds_trace_words": 9,
     "yds_trace_run": 10,
 }
 NEEDED = [

@@ -4,7 +4,7 @@
 #   sh examples/check-traces.sh [PROGRAM]      build/yds_trace without one
 #
 # Each folder of traces/ has the words in `args` (one a line), the trace in `stdin`, or its place in this repository in `trace`, and
-# the answer in `stdout` and `status`. The answers are those of the second reading, robustness/trace.py; where a number was known
+# the answer in `stdout` and `status`. Without either the trace is in the files that the words name. The answers are those of the second reading, robustness/trace.py; where a number was known
 # before, as by how much a job of a recording was late, it was compared by hand.
 # The last line is 'N passed, M failed'; the exit status is 1 where M isn't 0.
 
@@ -24,6 +24,7 @@ for row in traces/*/; do
 	while IFS= read -r word; do set -- "$@" "$word"; done <"$row/args"
 	trace=$row/stdin
 	[ ! -f "$row/trace" ] || trace=../$(cat "$row/trace")
+	[ -f "$row/trace" ] || [ -f "$trace" ] || trace=/dev/null
 	"$program" "$@" <"$trace" >"$work/out" 2>"$work/err"
 	got=$?
 	if [ $got = "$(cat "$row/status")" ] && cmp -s "$row/stdout" "$work/out" && [ ! -s "$work/err" ]; then

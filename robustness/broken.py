@@ -94,7 +94,8 @@ class Programs:
             at = draw.randrange(len(pieces))
             names[at], given = "-", pieces[at]
         behind = draw.randrange(len(names) + 1)
-        done = subprocess.run([self.tracer, *names[:behind], *words, *names[behind:]], input=given, capture_output=True, check=False)
+        command = [self.tracer, *names[:behind], *words, *names[behind:]]
+        done = subprocess.run(command, input=given, capture_output=True, check=False)
         return done.stdout, done.returncode, names
 
     def audit(self, document: bytes) -> bytes:
@@ -124,14 +125,15 @@ def fault_of(programs: Programs, words: List[str], trace: bytes, said: Told, was
 
 
 def fault_in_files(programs: Programs, draw: random.Random, words: List[str], trace: bytes, said: Told) -> str:
-    """What isn't as it should be with the answer to the trace in files, of which the second reading says this of all bytes."""
+    """The same of the trace in files, of all bytes of which the second reading says this."""
     if "--help" in words or "--version" in words or said.status == 2:
         return ""
     written, status, _ = programs.read_files(draw, words, cut(draw, trace, False))
     if (written, status) != (as_bytes(said.text), said.status):
         return "another answer in files"
     written, status, names = programs.read_files(draw, words, cut(draw, trace, True))
-    comment = f"# file 1 ({names[0][:64]}): it ends within a line, and another file stands behind it; give whole files\nfailed\n".encode()
+    cause = "it ends within a line, and another file stands behind it; give whole files"
+    comment = f"# file 1 ({names[0][:64]}): {cause}\nfailed\n".encode()
     if said.status == 3 and (written, status) == (as_bytes(said.text), said.status):
         return ""  # A line before the cut is refused.
     if status != 4 or not written.endswith(comment):

@@ -237,7 +237,7 @@ traced() {
 	status=$?
 }
 make_traces() {
-	cp "$here/../crates/yds_trace_cli/stdin" "$work/trace"
+	cat "$here/../crates/yds_trace_cli/data/front.txt" "$here/../crates/yds_trace_cli/stdin" >"$work/trace"
 	head -n 12 "$work/trace" >"$work/short"
 	sed '5s/.*/CPU:0 [3 EVENTS DROPPED]/' "$work/short" >"$work/lost"
 	sed '7s/==>.*/==>/' "$work/short" >"$work/torn"

@@ -103,7 +103,9 @@ fn run_words(rt: &HostRuntime) -> io::Result<Status> {
     let line: Vec<String> = env::args(rt)?.collect(rt.alloc())?;
     let output = BufWriter::with_capacity(rt.alloc(), OUTPUT_BUFFER, rt.stdout())?;
     let words = words_of(&line);
-    let names = inputs(rt.alloc(), words).map_err(|_error| io::Error::from(ErrorKind::OutOfMemory))?;
+    let names = inputs(rt.alloc(), words).map_err(|_error| io::Error::from(
+        ErrorKind::OutOfMemory,
+    ))?;
     let mut source = Files::new(Disk::new(rt), &names);
     let mut sink = SmallWrites::new(StdSink::new(output));
     let keys = drawn_keys(rt)?;

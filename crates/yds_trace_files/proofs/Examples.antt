@@ -1,9 +1,10 @@
 -- What is left of files, and which one a read failed of.
-use Rattle.yds_model.proofs.Common.{◌≡◌, ◌≢◌, ℕ, List, [], ◌∷◌, codes, if◌then◌else◌, Option, Some, None, refl}
+use Rattle.yds_model.proofs.Common.{◌≡◌, ℕ, List, [], ◌∷◌, codes, if◌then◌else◌, Option, Some, None, refl}
 use Rattle.std.specs.Str.{bytes_eq}
 use Rattle.yds_trace_files.specs.declared.unread.FileFault.TheVariants as faults
 use Rattle.yds_trace_files.specs.Joined.{all_of, failed_of}
-use Rattle.yds_trace_files.specs.Unread.{NoName, OfFile, read_fault_text}
+use Rattle.yds_trace_files.specs.Unread.{NoName, OfFile}
+use Rattle.yds_trace_words.specs.Texts.{shown_word}
 
 -- two files, of which the first holds a line
 two : List ℕ → Option (List ℕ)
@@ -36,6 +37,6 @@ standard_input = refl
 cut : failed_of faults.NoLineFeed 2 (codes "-") (codes "b" ∷ []) ≡ OfFile 1 (codes "-") faults.NoLineFeed
 cut = refl
 
--- No byte of a name ends the comment's line.
-shown : read_fault_text (OfFile 2 (codes "a\nb") faults.NotOpened) ≡ codes "# file 2 (a?b): it can't be opened; see that it is there and may be read\nfailed\n"
+-- No byte of a name ends the comment's line, or moves a terminal's cursor.
+shown : shown_word (codes "a\nb\rc") ≡ codes "a?b?c"
 shown = refl

@@ -1,12 +1,12 @@
 -- Reads of files, one behind the other.
-use Rattle.yds_model.proofs.Common.{◌≡◌, ◌∙◌, ℕ, List, [], ◌∷◌, ◌++◌, Option, Some, None, refl, sym, ap, subst, append-nil, append_assoc}
+use Rattle.yds_model.proofs.Common.{◌≡◌, ◌∙◌, ℕ, List, [], ◌++◌, Option, Some, None, refl, sym, ap, subst, append-nil, append_assoc}
 use Rattle.std.specs.Prelude.{◌-◌, ◌≢◌, slice_index}
 use Rattle.std.specs.Io.KnownBytes.{Keeps, Consumes, IsAtEnd}
-use Rattle.std.proofs.KnownBytes.{Keeps-trans, Keeps-refl}
+use Rattle.std.proofs.KnownBytes.{Keeps-trans}
 use Rattle.yds_port.specs.declared.source.Taken.{Taken}
 use Rattle.yds_port.specs.declared.source.Taken.TheVariants as taken
 use Rattle.yds_port.specs.Count.{Rose}
-use Rattle.yds_port.specs.Source.{Reads, ReadsFront, ReadsNothing}
+use Rattle.yds_port.specs.Source.{Reads, ReadsFront}
 use Rattle.yds_trace_files.specs.Joined.{joined, all_of, left_of, all_left, ahead_of, last_of, faults_of, ReadsOpened, StepsOn}
 use Rattle.yds_trace_files.specs.declared.files.Files.{Files}
 use Rattle.yds_trace_files.specs.declared.files.Step.TheVariants as steps

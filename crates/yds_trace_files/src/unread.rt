@@ -1,7 +1,7 @@
 //! What a read that failed was of.
 ghost use Rattle.std.specs.Prelude.{◌≡◌};
 
-use yds_port::{MemorySource, Source};
+use yds_port::{MemorySource, Source, SteadySource};
 
 /// Why a file can't be read.
 #[derive(Clone, Copy, Debug, PartialEq, Eq)]
@@ -43,6 +43,16 @@ pub trait Input: Source {
 }
 
 impl Input for MemorySource {
+    ghost use Rattle.yds_trace_files.specs.Unread.{NoName};
+
+    ghost unread = { λ _. NoName };
+
+    fn unread(&self) -> Unread<'_> {
+        Unread::Input
+    }
+}
+
+impl Input for SteadySource {
     ghost use Rattle.yds_trace_files.specs.Unread.{NoName};
 
     ghost unread = { λ _. NoName };

@@ -17,8 +17,8 @@ ghost use Rattle.yds_trace_run.specs.Worth.{HidesNothing, IsReadSo, IsFaithfulSo
 
 use crate::delivery::deliver;
 use crate::fault_text::{
-    MEMORY, TEXT_TOO_LONG, TOO_LONG, cause_line, document_line, form_line,
-    long_part_line, part_line, place_line,
+    MEMORY, TEXT_TOO_LONG, TOO_LONG, cause_line, document_line, form_line, long_part_line,
+    part_line, place_line,
 };
 use arrayvec::ArrayString;
 use std::alloc::Global;
@@ -42,8 +42,8 @@ use yds_trace_words::{HELP, LINE_BYTES, NoRequest, Request, VERSION, fault_line,
 /// - `Refused`: the trace has a fault, or its document or a part passes a limit. Just a comment with the place, the cause and what
 ///   to do was written, and the line `failed`; in parts, behind those that were whole before. The source was read to its end, or up
 ///   to a fault of its own.
-/// - `ReadFault`, `Memory`: the input couldn't be read, or memory ran out. A comment says so, and the last line is `failed`; in parts,
-///   behind those of some lines.
+/// - `ReadFault`, `Memory`: the input couldn't be read, or memory ran out. A comment says so, and where the source names it, which file
+///   couldn't be read; the last line is `failed`. In parts, this stands behind those of some lines.
 /// - `WriteFault`: a front of one of these texts was written.
 ///
 /// The lines of a trace are taken in order of time, and a line is told by its number in the text.

@@ -101,7 +101,13 @@ fn files_are_read_in_their_order(rt: HostRuntime) -> Result<(), Fail> {
         words.push(String::from_str(alloc, "--tasks=t:10")?)?;
         let mut source = Files::new(Shelf, &names);
         let mut sink = MemorySink::with_room(alloc, 3_000, 3_000, Vec::new(alloc))?;
-        let ended = run(alloc, RandomState::new(&rt)?, &words, &mut source, &mut sink);
+        let ended = run(
+            alloc,
+            RandomState::new(&rt)?,
+            &words,
+            &mut source,
+            &mut sink,
+        );
         assert_eq!(rt; ended, status, "{}", names[1]);
         assert_eq!(rt; sink.bytes(), want, "{}", names[1]);
     }

@@ -1,8 +1,10 @@
-use Rattle.yds_model.proofs.Common.{◌≡◌, [], Result, Ok, Err}
+use Rattle.yds_model.proofs.Common.{◌≡◌, [], Result, Ok, Err, subst}
 use Rattle.yds_model.specs.declared.status.Status.TheVariants as statuses
 use Rattle.yds_trace.specs.Views.{asked_read}
 use Rattle.yds_trace_parts.specs.declared.halt.Halt.{Halt as HaltKept}
 use Rattle.yds_trace_parts.specs.declared.halt.Halt.TheVariants as halts
+use Rattle.yds_trace_files.specs.Unread.{Unread, unread_read}
+use Rattle.yds_trace_run.specs.Endings.{TellsHalt}
 use Rattle.yds_trace_run.proofs.Left.{leaves_nothing}
 use Rattle.yds_trace_run.proofs.Plain.{granted}
 use Rattle.yds_trace_run.proofs.Parted.{done_writes, halted_writes, delivered_behind, halted_ended, halted_not_done, halted_read_fault, halted_leaves, flushed_last, never_done}
@@ -33,8 +35,10 @@ returns-in-Ok-clause-answer g c =
 
 pub returns-in-Err-clause-answer : goal.returns-in-Err-clause-answer
 returns-in-Err-clause-answer g c =
+    let tells = subst (λ (unread : Unread). TellsHalt g.K.Sink.written g.K.Sink.flushed g.K.Sink.flushes g.K.Sink.faults unread c.in-Err.halt c.tell_halt.result c.tell_parts.new.sink
+    c.tell_halt.new.sink) c.unread.ensures c.tell_halt.ensures in
     halted_writes g.K.Sink.written g.K.Sink.flushed g.K.Sink.flushes g.K.Sink.faults (g.S.Input.unread c.tell_parts.new.source) (asked_read c.args.asked) c.args.strict (g.S.Source.left c.args.source.now) c.in-Err.halt c.tell_halt.result
-    c.args.sink.now c.tell_parts.new.sink c.tell_halt.new.sink c.requires.in_parts c.in-Err.ensures.told c.tell_halt.ensures
+    c.args.sink.now c.tell_parts.new.sink c.tell_halt.new.sink c.requires.in_parts c.in-Err.ensures.told tells
 
 pub returns-in-Ok-clause-sink : goal.returns-in-Ok-clause-sink
 returns-in-Ok-clause-sink g c =
@@ -44,7 +48,7 @@ returns-in-Ok-clause-sink g c =
 
 pub returns-in-Err-clause-sink : goal.returns-in-Err-clause-sink
 returns-in-Err-clause-sink g c =
-    halted_ended g.K.Sink.written g.K.Sink.flushed g.K.Sink.flushes g.K.Sink.faults (g.S.Input.unread c.tell_parts.new.source) c.in-Err.halt c.tell_halt.result c.args.sink.now c.tell_parts.new.sink c.tell_halt.new.sink
+    halted_ended g.K.Sink.written g.K.Sink.flushed g.K.Sink.flushes g.K.Sink.faults (unread_read c.unread.result) c.in-Err.halt c.tell_halt.result c.args.sink.now c.tell_parts.new.sink c.tell_halt.new.sink
     c.in-Err.ensures.sink_later (λ failed. c.in-Err.ensures.write_fault (same_end c.in-Err.halt halts.WriteFault failed)) (λ more. same_halt c.in-Err.halt halts.WriteFault (c.in-Err.ensures.sink_rose more))
     (λ other. c.in-Err.ensures.flushed_so_often (λ same. other (same_halt c.in-Err.halt halts.WriteFault same))) c.tell_halt.ensures
 
@@ -65,15 +69,15 @@ returns-in-Ok-clause-read_to_its_end g c =
 
 pub returns-in-Err-clause-read_to_its_end : goal.returns-in-Err-clause-read_to_its_end
 returns-in-Err-clause-read_to_its_end g c =
-    halted_leaves g.K.Sink.written g.K.Sink.flushed g.K.Sink.flushes g.K.Sink.faults (g.S.Input.unread c.tell_parts.new.source) (g.S.Source.left c.args.source.now) (g.S.Source.left c.tell_parts.new.source) c.in-Err.halt
+    halted_leaves g.K.Sink.written g.K.Sink.flushed g.K.Sink.flushes g.K.Sink.faults (unread_read c.unread.result) (g.S.Source.left c.args.source.now) (g.S.Source.left c.tell_parts.new.source) c.in-Err.halt
     c.tell_halt.result c.tell_parts.new.sink c.tell_halt.new.sink _ _
     (λ other. c.in-Err.ensures.read_out (λ same. other (same_halt c.in-Err.halt halts.WriteFault same))) c.tell_halt.ensures
 
 pub returns-in-Err-clause-read_fault : goal.returns-in-Err-clause-read_fault
 returns-in-Err-clause-read_fault g c = λ fault.
-    c.in-Err.ensures.read_fault (same_end c.in-Err.halt halts.ReadFault (halted_read_fault g.K.Sink.written g.K.Sink.flushed g.K.Sink.flushes g.K.Sink.faults (g.S.Input.unread c.tell_parts.new.source) c.in-Err.halt c.tell_halt.result
+    c.in-Err.ensures.read_fault (same_end c.in-Err.halt halts.ReadFault (halted_read_fault g.K.Sink.written g.K.Sink.flushed g.K.Sink.flushes g.K.Sink.faults (unread_read c.unread.result) c.in-Err.halt c.tell_halt.result
     c.tell_parts.new.sink c.tell_halt.new.sink c.tell_halt.ensures fault))
 
 pub returns-in-Err-clause-no_fault_passed_over : goal.returns-in-Err-clause-no_fault_passed_over
 returns-in-Err-clause-no_fault_passed_over g c = λ done.
-    absurd (halted_not_done g.K.Sink.written g.K.Sink.flushed g.K.Sink.flushes g.K.Sink.faults (g.S.Input.unread c.tell_parts.new.source) c.in-Err.halt c.tell_halt.result c.tell_parts.new.sink c.tell_halt.new.sink c.tell_halt.ensures done)
+    absurd (halted_not_done g.K.Sink.written g.K.Sink.flushed g.K.Sink.flushes g.K.Sink.faults (unread_read c.unread.result) c.in-Err.halt c.tell_halt.result c.tell_parts.new.sink c.tell_halt.new.sink c.tell_halt.ensures done)

@@ -1,4 +1,7 @@
+use Rattle.yds_model.proofs.Common.{subst}
 use Rattle.yds_trace.specs.Views.{asked_read}
+use Rattle.yds_trace_files.specs.Unread.{Unread}
+use Rattle.yds_trace_run.specs.Endings.{IsDelivered, stopped_text, stopped_status}
 use Rattle.yds_trace_run.proofs.Told.{told_writes, stopped_writes, no_read_fault}
 use Rattle.yds_trace_run.proofs.Plain.{plain}
 use Rattle.yds_trace_run.proofs.Left.{leaves_nothing, leaves_as_stopped}
@@ -19,8 +22,10 @@ returns-in-Ok-clause-answer g c =
 
 pub returns-in-Err-clause-answer : goal.returns-in-Err-clause-answer
 returns-in-Err-clause-answer g c =
+    let delivered = subst (λ (unread : Unread). IsDelivered g.K.Sink.written g.K.Sink.flushed g.K.Sink.flushes g.K.Sink.faults (stopped_text unread c.in-Err.stopped)
+    (stopped_status c.in-Err.stopped) c.tell_stopped.result c.args.sink.now c.tell_stopped.new.sink) c.unread.ensures c.tell_stopped.ensures in
     stopped_writes (g.S.Input.unread c.read_trace.new.source) g.K.Sink.written g.K.Sink.flushed g.K.Sink.flushes g.K.Sink.faults (asked_read c.args.asked) c.args.strict (g.S.Source.left c.args.source.now) c.in-Err.stopped
-    c.tell_stopped.result c.args.sink.now c.tell_stopped.new.sink c.requires.whole c.in-Err.ensures.stopped c.tell_stopped.ensures
+    c.tell_stopped.result c.args.sink.now c.tell_stopped.new.sink c.requires.whole c.in-Err.ensures.stopped delivered
 
 pub returns-in-Ok-clause-read_to_its_end : goal.returns-in-Ok-clause-read_to_its_end
 returns-in-Ok-clause-read_to_its_end g c =
