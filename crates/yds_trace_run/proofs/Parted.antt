@@ -240,7 +240,7 @@ module _ {K : Type 0} (written : K → Option (List ℕ)) (flushed : K → Optio
         later = subst (λ (count : ℕ). count ≤ faults new) same delivered.later;
         counted = λ failed. subst (λ (count : ℕ). Rose count (faults new)) same (delivered.counted failed);
         told = λ more. delivered.told (subst (λ (count : ℕ). count < faults new) (sym same) more);
-        flushed = λ whole. subst (λ (count : ℕ). next_count (flushes old) ≤ count) (sym (once_behind (flushes old) (flushes mid) (flushes new) times counted (delivered.flushed_once whole)))
+        at_least_once = λ whole. subst (λ (count : ℕ). next_count (flushes old) ≤ count) (sym (once_behind (flushes old) (flushes mid) (flushes new) times counted (delivered.flushed_once whole)))
             (once_more times (flushes old));
       }
 
@@ -266,7 +266,7 @@ module _ {K : Type 0} (written : K → Option (List ℕ)) (flushed : K → Optio
           later = subst (λ (one : K). faults old ≤ faults one) (sym nothing.1) later;
           counted = λ _. subst (λ (one : K). Rose (faults old) (faults one)) (sym nothing.1) (counted failed);
           told = λ _. nothing.0;
-          flushed = λ whole. absurd (whole nothing.0);
+          at_least_once = λ whole. absurd (whole nothing.0);
         }
     | inr other ↦
         delivered_behind (halted_text halt) (halted_status halt) ended (often other).0 old mid new later (λ more. other (told more)) (often other).1 (other_halt halt ended mid new other tells)
