@@ -169,9 +169,10 @@ flushed_last asked strict (Some bytes) ended old mid new each last = λ done.
     once_behind old mid new (times_told asked strict (past_of (order_of bytes))) each
     (last (λ failed. let both : statuses.Done ≡ statuses.WriteFault = sym done ∙ failed in absurd cc))
 
-pub never_done : {P : List ℕ → Type 0} (input : Option (List ℕ)) (ended : Status) → ended ≢ statuses.Done → IfSome input (λ bytes. ended ≡ statuses.Done → P bytes)
-never_done None ended other = tt
-never_done (Some bytes) ended other = λ done. absurd (other done)
+pub never_done : (asked : Asked) (strict : Bool) (input : Option (List ℕ)) (ended : Status) (old new : ℕ) → ended ≢ statuses.Done
+    → IfSome input (λ bytes. ended ≡ statuses.Done → new ≡ next_count (count_on (times_told asked strict (past_of (order_of bytes))) old))
+never_done asked strict None ended old new other = tt
+never_done asked strict (Some bytes) ended old new other = λ done. absurd (other done)
 
 -- # Halts
 
