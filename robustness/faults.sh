@@ -346,7 +346,11 @@ trace_stream() {
 test_trace_streams() {
 	export YDS_TRACE
 	trace=$work/short long=$work/long
-	export trace long
+	# The first part of two, which is whole before the input has ended.
+	first=$("$YDS_TRACE" --parts --tasks decode:20 <"$long" | sed '/^# part .*, the last$/,$d')"
+"
+	size=${#first}
+	export trace long size
 	read_fault="$no_input
 "
 	short=$("$YDS_TRACE" --tasks decode:20,audio:10 <"$work/short")"
@@ -371,6 +375,9 @@ failed
 	trace_stream "a full device" 5 "" '"$YDS_TRACE" --tasks decode:20,audio:10 <"$trace" >/dev/full'
 	trace_stream "a full device, a long answer" 5 "" '"$YDS_TRACE" --tasks decode:20 <"$long" >/dev/full'
 	trace_stream "a full device, in parts" 5 "" '"$YDS_TRACE" --parts --tasks decode:20 <"$long" >/dev/full'
+	trace_stream "a part, before the input has ended" 0 "$first" ': >"$work/parts"; { cat "$long"; tries=0
+while [ "$(wc -c <"$work/parts")" -lt "$size" ] && [ $tries -lt 100 ]; do sleep 0.1; tries=$((tries + 1)); done
+cp "$work/parts" "$out"; } | "$YDS_TRACE" --parts --tasks decode:20 >"$work/parts"'
 	trace_stream "input closed, in parts" 4 "$read_fault" '"$YDS_TRACE" --parts --tasks decode:20 <&- >"$out"'
 	trace_stream "a file at its greatest size" 5 "" 'trap "" XFSZ; ulimit -f 1; "$YDS_TRACE" --tasks decode:20 <"$long" >"$work/small"'
 	trace_stream "a pipe whose reader leaves" 5 "" '{ sleep 0.2; "$YDS_TRACE" --help; echo $? >"$work/status"; } | :; exit "$(cat "$work/status")"'

@@ -1,5 +1,5 @@
 -- How often a sink was flushed behind some lines, step by step.
-use Rattle.yds_model.proofs.Common.{◌≡◌, ℕ, ◌+◌, ◌<◌, inl, inr, List, [], ◌∷◌, ◌++◌, length, length-append, append-nil, Bool, true, false, nat_lt, lt-ltb, ltb-true, if◌then◌else◌, Option, Some, None, refl, sym, ap, subst, ◌∙◌, arith, Appends}
+use Rattle.yds_model.proofs.Common.{◌≡◌, ℕ, suc, inl, inr, List, [], ◌∷◌, ◌++◌, length, length-append, append-nil, Bool, true, false, nat_lt, lt-ltb, ltb-true, if◌then◌else◌, Option, Some, None, refl, sym, ap, subst, ◌∙◌, arith, Appends}
 use Rattle.std.specs.Prelude.{IfSome}
 use Rattle.yds_port.specs.Sink.{IsFlushed}
 use Rattle.yds_kernel.specs.Event.{Said}
@@ -29,11 +29,11 @@ pub one_counted : (asked : Asked) (strict : Bool) (past : List Said) (said : Sai
 one_counted asked strict past said [] count adds =
     let same : length (told_after asked strict (said ∷ past)).text ≡ length (told_after asked strict past).text =
     ap length adds ∙ ap length (append-nil (told_after asked strict past).text) in
-    ap (λ (more : Bool). count_on ((if more then 1 else 0) + times_told asked strict past) count)
+    ap (λ (more : Bool). count_on (if more then suc (times_told asked strict past) else times_told asked strict past) count)
     (not_less (length (told_after asked strict past).text) (length (told_after asked strict (said ∷ past)).text) same)
 one_counted asked strict past said (byte ∷ bytes) count adds =
     let longer : length (told_after asked strict (said ∷ past)).text ≡ length ((told_after asked strict past).text ++ byte ∷ bytes) = ap length adds in
-    ap (λ (more : Bool). count_on ((if more then 1 else 0) + times_told asked strict past) count)
+    ap (λ (more : Bool). count_on (if more then suc (times_told asked strict past) else times_told asked strict past) count)
     (lt-ltb (length (told_after asked strict past).text) (length (told_after asked strict (said ∷ past)).text)
     (omega (arith, longer, length-append (told_after asked strict past).text (byte ∷ bytes))))
 

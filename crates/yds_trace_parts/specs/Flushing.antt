@@ -1,5 +1,5 @@
 -- How often a sink is flushed to which a trace is told in parts: behind each line with which parts are whole.
-use Rattle.std.specs.Prelude.{◌≡◌, ◌≢◌, ℕ, zero, suc, ◌+◌, ◌⊎◌, List, [], ◌∷◌, length, Bool, nat_lt, if◌then◌else◌, Option, Result, Ok, Err, OnOk, IfErr}
+use Rattle.std.specs.Prelude.{◌≡◌, ◌≢◌, ℕ, zero, suc, ◌⊎◌, List, [], ◌∷◌, length, Bool, nat_lt, if◌then◌else◌, Option, Result, Ok, Err, OnOk, IfErr}
 use Rattle.yds_port.specs.Count.{next_count}
 use Rattle.yds_port.specs.Sink.{IsFlushed, Delivers}
 use Rattle.yds_kernel.specs.Event.{Said}
@@ -20,7 +20,7 @@ adds_text asked strict past said = nat_lt (length (told_after asked strict past)
 -- how many of these lines add text
 abbrev pub times_told : Asked → Bool → List Said → ℕ
 times_told asked strict [] = 0
-times_told asked strict (said ∷ past) = (if adds_text asked strict past said then 1 else 0) + times_told asked strict past
+times_told asked strict (said ∷ past) = if adds_text asked strict past said then suc (times_told asked strict past) else times_told asked strict past
 
 -- All that is written in a sink, whose members stand first, is flushed; or nothing was written since.
 abbrev pub IsFlushedSince : {K : Type 0} → (K → Option (List ℕ)) → (K → Option ℕ) → K → K → Type 0

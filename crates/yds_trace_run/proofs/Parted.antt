@@ -170,9 +170,10 @@ flushed_last asked strict (Some bytes) ended old mid new each last = λ done.
     once_behind old mid new (times_told asked strict (past_of (order_of bytes))) each
     (last (λ failed. let both : statuses.Done ≡ statuses.WriteFault = sym done ∙ failed in absurd cc))
 
-pub never_done : {P : List ℕ → Type 0} (input : Option (List ℕ)) (ended : Status) → ended ≢ statuses.Done → IfSome input (λ bytes. ended ≡ statuses.Done → P bytes)
-never_done None ended other = tt
-never_done (Some bytes) ended other = λ done. absurd (other done)
+pub never_done : (asked : Asked) (strict : Bool) (input : Option (List ℕ)) (ended : Status) (old new : ℕ) → ended ≢ statuses.Done
+    → IfSome input (λ bytes. ended ≡ statuses.Done → new ≡ next_count (count_on (times_told asked strict (past_of (order_of bytes))) old))
+never_done asked strict None ended old new other = tt
+never_done asked strict (Some bytes) ended old new other = λ done. absurd (other done)
 
 -- # Halts
 
@@ -241,7 +242,7 @@ module _ {K : Type 0} (written : K → Option (List ℕ)) (flushed : K → Optio
         later = subst (λ (count : ℕ). count ≤ faults new) same delivered.later;
         counted = λ failed. subst (λ (count : ℕ). Rose count (faults new)) same (delivered.counted failed);
         told = λ more. delivered.told (subst (λ (count : ℕ). count < faults new) (sym same) more);
-        flushed = λ whole. subst (λ (count : ℕ). next_count (flushes old) ≤ count) (sym (once_behind (flushes old) (flushes mid) (flushes new) times counted (delivered.flushed_once whole)))
+        at_least_once = λ whole. subst (λ (count : ℕ). next_count (flushes old) ≤ count) (sym (once_behind (flushes old) (flushes mid) (flushes new) times counted (delivered.flushed_once whole)))
             (once_more times (flushes old));
       }
 
@@ -267,7 +268,7 @@ module _ {K : Type 0} (written : K → Option (List ℕ)) (flushed : K → Optio
           later = subst (λ (one : K). faults old ≤ faults one) (sym nothing.1) later;
           counted = λ _. subst (λ (one : K). Rose (faults old) (faults one)) (sym nothing.1) (counted failed);
           told = λ _. nothing.0;
-          flushed = λ whole. absurd (whole nothing.0);
+          at_least_once = λ whole. absurd (whole nothing.0);
         }
     | inr other ↦
         delivered_behind (halted_text unread halt) (halted_status halt) ended (often other).0 old mid new later (λ more. other (told more)) (often other).1

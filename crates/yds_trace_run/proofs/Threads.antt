@@ -125,7 +125,7 @@ module _ {K : Type 0} (written : K → Option (List ℕ)) (flushed : K → Optio
     later = subst (λ (one : K). faults old ≤ faults one) (sym tells.1) later;
     counted = λ _. subst (λ (one : K). Rose (faults old) (faults one)) (sym tells.1) (counted refl);
     told = λ _. tells.0;
-    flushed = λ whole. absurd (whole tells.0);
+    at_least_once = λ whole. absurd (whole tells.0);
   }
   stop_ended unread (Some stopped) ended old mid new later counted told stays tells =
       delivered_behind written flushed flushes faults (stopped_text unread stopped) (stopped_status stopped) ended 0 old mid new later

@@ -66,7 +66,7 @@ pub record IsEnded {K : Type 0} (written : K → Option (List ℕ)) (flushed : K
   pub later : faults old ≤ faults new
   pub counted : ended ≡ statuses.WriteFault → Rose (faults old) (faults new)
   pub told : faults old < faults new → ended ≡ statuses.WriteFault
-  pub flushed : ended ≢ statuses.WriteFault → next_count (flushes old) ≤ flushes new
+  pub at_least_once : ended ≢ statuses.WriteFault → next_count (flushes old) ≤ flushes new
 
 -- What a run over a trace that ended so leaves of this input: nothing, or where the trace was refused, what was left at a failed read or of
 -- as many bytes as 64 bits count.

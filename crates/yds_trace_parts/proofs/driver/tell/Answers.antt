@@ -117,7 +117,7 @@ returns-in-End g c =
     tells_all g.S.Source.left g.S.Source.faults g.K.Sink.written g.K.Sink.flushed g.K.Sink.flushes g.K.Sink.faults (asked_read c.args.asked) c.args.strict _ _ _ _
     (c.in-End.ensures.advances.no_fault ∙ c.loop-lines.invariant.read) (c.in_ok-write_all-in-End.ensures.puts.delivers.1 ∙ c.loop-lines.invariant.wrote)
     _ (c.in_ok-write_all-in-End.ensures.puts.flushes_stay ∙ c.loop-lines.invariant.told.counted)
-    (counted_end (g.S.Source.left c.args.source.now) _ _ _ _ _ c.in_ok-write_all-in-End.ensures.puts.flushes_stay
+    (counted_end (g.S.Source.left c.args.source.now) (asked_read c.args.asked) c.args.strict (g.K.Sink.flushes c.args.sink.now) _ _ c.in_ok-write_all-in-End.ensures.puts.flushes_stay
     (counted_whole (asked_read c.args.asked) c.args.strict (g.S.Source.left c.args.source.now) _ _ _ _ _ _ _ _ _ _ _ _ c.loop-lines.invariant.told c.in-End.ensures.advances))
     (end_told (asked_read c.args.asked) c.args.strict (g.S.Source.left c.args.source.now) _ _ _ _ _ _ _ _ _ _ _ _ known c.in-End.ensures.advances
     (c.in_ok-text-in-End.ensures.sound (asked_read c.args.asked) c.args.strict _ known.stands place) (c.in_ok-text-in-End.ensures.told (asked_read c.args.asked) c.args.strict _ known.stands place)

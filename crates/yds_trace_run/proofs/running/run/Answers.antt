@@ -72,7 +72,7 @@ returns-in-Ok-Trace-clause-whole g c = λ done asked strict same.
 pub returns-in-Ok-Trace-clause-flushed_once : goal.returns-in-Ok-Trace-clause-flushed_once
 returns-in-Ok-Trace-clause-flushed_once g c = λ whole.
     let made = subst (λ (made : RequestMade). request_of (words_of c.args.words.now) ≡ Ok (request_read made)) c.in-Ok-Trace.field-0-is c.in-Ok-Trace.ensures.request in
-    c.run_trace.ensures.flushed_once (false_from_ne_true (λ in_parts. whole (subst TellsParts (sym made) in_parts)))
+    c.run_trace.ensures.flushed_once (false_from_ne_true (asked_read c.in-Ok-Trace.asked).in_parts (λ in_parts. whole (subst TellsParts (sym made) in_parts)))
 
 -- what is said of how often the sink is flushed for a trace that is told in parts
 abbrev FlushesEach : Request → Option (List ℕ) → Status → ℕ → ℕ → Type 0
