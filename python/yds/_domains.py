@@ -53,7 +53,9 @@ class Domains:
         return found
 
 
-_MODEL = re.compile(r"(?:^|(?<=/))([^/]+)/[pc]s:([0-9]{1,20})/(power|frequency|cost|inefficient|performance):([0-9]{1,20})$").search
+_MODEL = re.compile(
+    r"(?:^|(?<=/))([^/]+)/[pc]s:([0-9]{1,20})/(power|frequency|cost|inefficient|performance):([0-9]{1,20})$"
+).search
 _FLAGS = re.compile(r"(?:^|(?<=/))([^/]+)/flags:(?:0x)?([0-9a-fA-F]+)$").search
 _OPP = re.compile(r"(?:^|(?<=/))([^/]+)/opp:([0-9]{1,20})/(.*):([^:]*)$").search
 _RATE = re.compile(r"rate_hz(_[0-9]+)?").fullmatch
