@@ -170,12 +170,12 @@ class TableTest(unittest.TestCase):
         self.assertIn("no domain cpu3; there are cpu4, cpu0", call("points", "--domain", "cpu3", model).err)
 
     def test_long_lines(self) -> None:
-        """A million signs, of each kind that a form of input has much of, take no time."""
-        for text in ("1" * 10**6, "a" * 10**6, "/" * 10**6, "a/" * 10**6, "a/ps:1/" * 10**5, "/opp:1/" * 10**5, "1," * 10**6, "a:" * 10**6):
+        """A hundred thousand signs, of each kind that a form of input has much of, take no time."""
+        for text in ("1", "a", "/", "a/", "a/ps:1/", "/opp:1/", "1,", "a:"):
             for front in ("", "MHz,mW\n1,", "/ { opp-hz = "):
-                found = call("points", given=f"{front}{text}\n".encode())
-                self.assertEqual((found.status, found.err.count("\n")), (1, 1), (front, text[:9]))
-        found = call("points", given=b"/ { opp-hz = \n" + (b"x" * 99 + b"\n") * 20_000)
+                found = call("points", given=f"{front}{text * (10**5 // len(text))}\n".encode())
+                self.assertEqual((found.status, found.err.count("\n")), (1, 1), (front, text))
+        found = call("points", given=b"/ { opp-hz = \n" + (b"x" * 99 + b"\n") * 2000)
         self.assertIn("line 1001: more than 100000 signs of a device tree without one of {, } and ;", found.err)
 
     def test_each_broken_number(self) -> None:
