@@ -57,6 +57,12 @@ class EnergyTest(unittest.TestCase):
             self.assertIn(f"\n# other threads had the processor for {ticks}{told}", called.out)
         self.assertNotIn("other threads", call("energy", "--name", "x", given=text.encode()).out)
 
+    def test_jobs_without_work_are_counted(self) -> None:
+        text = "point 0 0\npoint 10 10\njob a 0 40 100\njob b 0 9 0\njob c 0 9 0\nticks 1\nrun a 10 20 10\n"
+        told = "# 2 jobs have no work: they need nothing and are in time, the first b"
+        for words in ([], ["--at", "10"]):
+            self.assertIn(told, call("energy", *words, given=text.encode()).out.splitlines())
+
     def test_drawn_slots(self) -> None:
         """Energies, times and misses of 2,000 documents are those of a second reading."""
         points = [(int(speed), int(power)) for _, speed, power in (line.split() for line in POINTS.splitlines())]

@@ -317,7 +317,7 @@ class IdleTest(unittest.TestCase):
         drawn = call("plot", "-t", "text", "-s", "170x30", "--idle", "burn,burm", "gantt", given=text)
         self.assertIn("others: ui-9 for", drawn.out)
         self.assertNotIn("burn-7", drawn.out)
-        told = "taken for idle: burn for 30 µs; burm, which no comment names"
+        told = "taken for idle: burm (no comment names it), burn for 30 µs"
         self.assertIn(told, drawn.out.encode("latin-1").decode("utf-8"))
 
     def test_words(self) -> None:

@@ -169,6 +169,15 @@ class TableTest(unittest.TestCase):
         self.assertIn("several domains: cpu4, cpu0; give --domain", call("points", model).err)
         self.assertIn("no domain cpu3; there are cpu4, cpu0", call("points", "--domain", "cpu3", model).err)
 
+    def test_long_lines(self) -> None:
+        """A hundred thousand signs, of each kind that a form of input has much of, take no time."""
+        for text in ("1", "a", "/", "a/", "a/ps:1/", "/opp:1/", "1,", "a:"):
+            for front in ("", "MHz,mW\n1,", "/ { opp-hz = "):
+                found = call("points", given=f"{front}{text * (10**5 // len(text))}\n".encode())
+                self.assertEqual((found.status, found.err.count("\n")), (1, 1), (front, text))
+        found = call("points", given=b"/ { opp-hz = \n" + (b"x" * 99 + b"\n") * 2000)
+        self.assertIn("line 1001: more than 100000 signs of a device tree without one of {, } and ;", found.err)
+
     def test_each_broken_number(self) -> None:
         for wrong in ("", "-1", "9" * 40, "1e3", "1.2.3", "x", "0x10", "1/2"):
             for row in (f"{wrong},138", f"48,{wrong}"):

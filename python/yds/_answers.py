@@ -21,7 +21,9 @@ SIDE = re.compile(
     rb"\S+ (energy %b|time %b %b|rounded %b|too-slow units %b from %b to %b top %b)"
     % (_FRACTION, _NUMBER, _FRACTION, _NUMBER, _FRACTION, _FRACTION, _FRACTION, _NUMBER)
 )
-_MISSED = re.compile(rb"(?:\A|\n)(?:[0-9]+ missed deadlines?|feasible as far as the trace shows)\n\Z|\nfeasible\n\Z").search
+_MISSED = re.compile(
+    rb"(?:\A|\n)(?:[0-9]+ missed deadlines?|feasible as far as the trace shows)\n\Z|\nfeasible\n\Z"
+).search
 FAMILIES = (("audit", _VERDICT), ("check", _JUDGEMENT), ("report", _REPORT), ("energies", SIDE), ("text", _TEXT))
 
 

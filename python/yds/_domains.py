@@ -53,11 +53,14 @@ class Domains:
         return found
 
 
-_MODEL = re.compile(r"([^/]+)/[pc]s:([0-9]{1,20})/(power|frequency|cost|inefficient|performance):([0-9]{1,20})$").search
-_FLAGS = re.compile(r"([^/]+)/flags:(?:0x)?([0-9a-fA-F]+)$").search
-_OPP = re.compile(r"([^/]+)/opp:([0-9]{1,20})/(.*):([^:]*)$").search
+_MODEL = re.compile(
+    r"(?:^|(?<=/))([^/]+)/[pc]s:([0-9]{1,20})/(power|frequency|cost|inefficient|performance):([0-9]{1,20})$"
+).search
+_FLAGS = re.compile(r"(?:^|(?<=/))([^/]+)/flags:(?:0x)?([0-9a-fA-F]+)$").search
+_OPP = re.compile(r"(?:^|(?<=/))([^/]+)/opp:([0-9]{1,20})/(.*):([^:]*)$").search
 _RATE = re.compile(r"rate_hz(_[0-9]+)?").fullmatch
-_OTHER_FILE = re.compile(r"[^ \t,;]*/[^ \t,;]*:").match
+_OTHER_FILE = re.compile(r"[^ \t,;/]*/[^ \t,;]*:").match
+"""Each of these has one way to match at most from one place, so that a line of a million signs takes no time."""
 
 
 class Folders:
@@ -102,6 +105,10 @@ class Folders:
             state.unavailable = "not available"
 
 
+MOST_HELD = 100_000
+"""So many signs of a device tree may be before its next brace or semicolon."""
+
+
 class _Node:
     """A node of a device tree that is open."""
 
@@ -135,6 +142,8 @@ class DeviceTree:
         for piece, sign in zip(pieces[::2], pieces[1::2]):
             self._take_piece(line, re.sub(r"[ \t]+", " ", piece).strip(" "), sign)
         self._held = pieces[-1] + " "
+        if len(self._held) > MOST_HELD:
+            raise line.fault(f"more than {MOST_HELD} signs of a device tree without one of {{, }} and ;")
         return True
 
     def _without_comments(self, rest: str) -> str:

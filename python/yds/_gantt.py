@@ -6,7 +6,7 @@ from typing import Dict, List, NamedTuple, Optional, Sequence, Set, Tuple, Union
 
 from yds._comments import IDLE_THREADS
 from yds._framed import EDGE, MISSED, SMALL, TEXT, Choice, Frame, Groups, Key, grouped, in_words, shortened_name
-from yds._lacking import NOT_WHOLE, SWITCHES
+from yds._lacking import CLOCK, HOLES, NOT_JUDGED, NOT_WHOLE, SWITCHES
 from yds._pixels import Columns, Share, Stretch, as_many_as_fit, columns_of, is_narrow, merged, shares, text_width
 from yds._scales import Scale, short, span_told, speed_scale, time_scale
 from yds._text import Fault, counted
@@ -167,7 +167,8 @@ class _Drawing:
         undone = [job.name for job in jobs if job.miss == NOT_DONE]
         late = sorted((job for job in jobs if job.miss == LATE), key=lambda job: -(job.late or 0))
         notes = [self._note("not done", undone), self._note("late", [self._told(job) for job in late])]
-        lacks = [text[2:] for text in self.document.lacking.beside_verdict()]
+        lacking = self.document.lacking
+        lacks = [f"{lacking.told(HOLES)}: {NOT_JUDGED}" if lacking.told(HOLES) else "", lacking.told(CLOCK)]
         return [note for note in [*notes, *self._left_out(), *lacks] if note]
 
     def _told(self, job: Window) -> str:
@@ -206,8 +207,9 @@ class _Drawing:
         document = self.document
         lacks = document.lacking.told(SWITCHES)
         idle = [f"{name} for {time_scale(document.units, time).told(time)}" for name, time in document.idle if time]
-        none = [f"{name}, which no comment names" for name, time in document.idle if not time]
-        told = f"{IDLE_THREADS}{'; '.join([*idle, *none])}" if document.idle else ""
+        none = [f"{name} (no comment names it)" for name, time in document.idle if not time]
+        shown = as_many_as_fit([*none, *idle], self.choice.width - 190, SMALL)
+        told = f"{IDLE_THREADS}{shown}" if document.idle else ""
         return [text for text in (self.longest(), lacks and f"{lacks}: {NOT_WHOLE}", told) if text]
 
 

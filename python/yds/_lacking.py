@@ -15,7 +15,9 @@ HOLES = "places where events were lost"
 SWITCHES = "switches of other threads that are missing"
 MARKERS = "lines that programs wrote into the trace"
 CLOCK = "no line for"
-_COUNTED = re.compile(rf"# ({HOLES}|{SWITCHES}|{MARKERS})(, up to here)?(?:: ([0-9]{{1,20}})(?:: .*)?| .*|:.*)?").fullmatch
+_COUNTED = re.compile(
+    rf"# ({HOLES}|{SWITCHES}|{MARKERS})(, up to here)?(?:: ([0-9]{{1,20}})(?:: .*)?| .*|:.*)?"
+).fullmatch
 _LINES = re.compile(rb"^# (?:up to here, no|places|switches|lines|no line) .*$", re.MULTILINE).findall
 """Lines that may be such comments, of a text of many."""
 _SILENT = re.compile(r"# (up to here, )?no line for (.*)").fullmatch

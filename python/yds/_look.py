@@ -32,6 +32,7 @@ td .told { display: block; min-width: 14rem; white-space: normal; text-align: le
 th:first-child { text-align: left; }
 thead th { font-weight: 600; vertical-align: bottom; }
 tbody th { font-weight: 400; white-space: nowrap; }
+#unjudged tbody th { min-width: 9rem; white-space: normal; } #unjudged td .told { min-width: 8rem; }
 data { white-space: nowrap; }
 .part { padding-left: 1.2rem; }
 figure { margin: .8rem 0; }

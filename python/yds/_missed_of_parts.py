@@ -1,4 +1,4 @@
-"""The answers of yds-misses to the parts as one: each miss by its slot and its times in the whole, and how many there are."""
+"""The answers of yds-misses to the parts as one: each miss by its slot and its times in the whole, and their number."""
 
 from __future__ import annotations
 
@@ -39,14 +39,14 @@ class MissedOfParts:
         found = [self._miss(place, line, numbers) for line in lines if not self._is_comment(line)]
         misses = [line for line in found if line is not None]
         if count is None or len(misses) != int(count.group(1) or 0):
-            told = f"ends with {printable(last)}, and tells {counted(len(misses), 'missed deadline', 'missed deadlines')}"
-            self._answers.refuse(place, told)
+            here = counted(len(misses), "missed deadline", "missed deadlines")
+            self._answers.refuse(place, f"ends with {printable(last)}, and tells {here}")
         elif misses:
             self._answers.tell(place, printable(last))
         self.misses += misses
 
     def _is_comment(self, line: bytes) -> bool:
-        """Whether the line is a comment: those on jobs without work are added up, and the rest the parts tell themselves."""
+        """Whether the line is a comment: those on jobs without work are added up, the rest the parts tell themselves."""
         found = _WORKLESS(line)
         if found is not None:
             self._workless += int(found.group(1))
@@ -67,7 +67,7 @@ class MissedOfParts:
         return _WINDOW.sub(lambda found: b"; window %d %d" % tuple(int(time) + shift for time in found.groups()), line)
 
     def _numbers(self, place: int) -> List[int]:
-        """The number in the whole of each slot and run of the part. A comment of yds-parts tells one that isn't the next."""
+        """The number in the whole of each slot and run of the part. A comment tells one that isn't the next."""
         found = []
         for line in lines_of(self._answers.parts[place]):
             if line.startswith((b"slot ", b"run ")):

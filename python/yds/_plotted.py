@@ -134,7 +134,8 @@ def _curve(files: Sequence[str], wanted: Wanted) -> Drawing:
     from yds._excess import excess, read_breaks
 
     read = read_breaks(Rows(lines(files)))
-    return Drawing("curve", lambda choice: excess(read.breaks, read.points, wanted.units or read.units, choice), 720, 440)
+    units = wanted.units or read.units
+    return Drawing("curve", lambda choice: excess(read.breaks, read.points, units, choice), 720, 440)
 
 
 def _energy(files: Sequence[str], wanted: Wanted) -> Drawing:

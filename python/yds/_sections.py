@@ -49,8 +49,8 @@ def verdict_line(facts: Facts) -> Tuple[str, Markup]:
     judged_jobs = f"{jobs:,} jobs" if jobs > 1 else "job"
     if facts.given.lacking.may_hide:
         holes = "events were lost" if HOLES in facts.given.lacking.found else "no line of the trace tells of some time"
-        told = f"As far as the trace shows, no deadline was missed by the {judged_jobs} that could be judged; {holes}, so others may hide a miss"
-        return "open", Markup(element("span", told))
+        told = f"As far as the trace shows, no deadline was missed by the {judged_jobs} that could be judged; {holes}"
+        return "open", Markup(element("span", f"{told}, so others may hide a miss"))
     if facts.may_hide:
         told = f"No deadline was missed by the {judged_jobs} that could be judged; others may hide a miss"
         return "open", Markup(element("span", told))

@@ -56,8 +56,8 @@ def html(
 
     title stands above the verdict. microseconds are those of a unit of time, where no comment tells them. grid is that
     of the policies. answer is called with words and a document, and gives a status of the program and its answer;
-    without it the program answers that YDS names, or else the library. idle has the names of threads that don't count as
-    others.
+    without it the program answers that YDS names, or else the library. idle has the names of threads that don't count
+    as others.
 
     The text is ASCII. ValueError is raised where the document has a fault, no job, or neither a slot nor a run.
     """

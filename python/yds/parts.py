@@ -91,12 +91,12 @@ def whole(parts: Sequence[Text], answers: Sequence[Text], grid: Optional[int] = 
       plan, round, avr, oa   one text; levels of one speed are one level, the energy has the idle time between the parts
       compare, yds-energy    energies and times summed, with the idle time between the parts, in lowest terms
       audit                  feasible, or the first verdict that isn't, with the slot's number in the long document
-      yds-misses             all misses, with the slots' numbers and the times of the long document, and how many they are
+      yds-misses             all misses, with the slots' numbers and the times of the long document, and their number
       check                  accepted, or the first condition that fails, with the level or slot of its part
       report                 one table
 
-    Where windows are open, audit, yds-misses and yds-energy are the same. Comments above a verdict and behind energies tell
-    what the parts say that a trace lacks. Of compare a line `plan at-least X` is left, and one of
+    Where windows are open, audit, yds-misses and yds-energy are the same. Comments above a verdict and behind energies
+    tell what the parts say that a trace lacks. Of compare a line `plan at-least X` is left, and one of
     Average Rate: the least energy, and that of the policy, are at least X. That of the policy is known only where its
     run of all jobs rounds nowhere, for which grid, compare's, is needed. Comments say so. PartsError is raised where a part has no answer, or the answers make none of the whole.
 

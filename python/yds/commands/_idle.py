@@ -10,8 +10,8 @@ from yds._words import Option, WordsError
 
 IDLE = Option(
     "idle",
-    "threads of these names, by comments `# other`, don't count as others: their time is as if nobody ran, and the answer "
-    "says so; a comma in a name is \\,",
+    "threads of these names, by comments `# other`, don't count as others: their time is as if nobody ran, and the "
+    "answer says so; a comma in a name is \\,",
     "NAME[,NAME]",
 )
 

@@ -44,8 +44,8 @@ at the last line.
 The verdicts are those of the program that the environment's YDS names, or of the library, or of yds_cli.
 """,
     files=Files("DOCUMENT", 0, 1),
-    statuses="0 every deadline is met of the jobs that the document has; 1 some aren't, the slots have another fault, the document is refused, there is no "
-    "job, or a fault in the input; 2 a fault of the words.",
+    statuses="0 every deadline is met of the jobs that the document has; 1 some aren't, the slots have another fault, "
+    "the document is refused, there is no job, or a fault in the input; 2 a fault of the words.",
 )
 
 

@@ -25,7 +25,8 @@ bytes. Answers go beside the parts, as DIR/part-00001.plan, and yds-whole puts t
 
 Each part is cut at an instant at which each job has all of its runs before it or behind it, and no window is open if
 there is such an instant within the limits; else the first line of the part behind says ', windows open'. Levels, pieces
-and members are left out, and said so.
+and members are left out, and said so. Of a trace's document each part has a first and a last line of its own, and what
+the trace lacks.
 
 With --split the input is the parts themselves, one behind the other, as yds_trace --parts writes them. Each goes to its
 file, with the points and comments that stand before the first one. Those of several processors, as yds_trace --cpu all
