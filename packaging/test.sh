@@ -20,12 +20,15 @@
 #   upgrade     1.0.0 is installed, upgraded, tried and removed. Its packages are made of its commit, but with the program and the
 #               library that were built here
 #
-# Then the static programs answer in a root that has nothing but themselves. Two builds in two folders have to be the same
-# bytes, and so those of the sources' archive. Each log is kept in build/packages-test.
+# Before that come the packages: two builds in two folders have to be the same bytes, and so those of the sources' archive. Last come
+# the static programs, in an empty root, which has nothing but themselves. ONLY names the parts that are tried, without the others:
+# packages, walk, manual, wheel, archive, upgrade, empty; where packages isn't one of them, they have to be built. Each log is kept in
+# build/packages-test.
 #
 # It needs root, debootstrap, and the network for the roots (MIRROR names another one of Debian). The roots take some 4.5 GB, and the
-# one that is tried up to 2 GB more. HOUR=1 types the manual's trace of an hour, too. Each step tells its seconds. The last line is
-# 'N passed, M failed'; the exit status is 1 where M isn't 0. What is missing is named, and counts as failed.
+# one that is tried up to 2 GB more. HOUR=1 types the manual's trace of an hour, too, where the manual's packages are. Each step tells
+# its seconds. The last line is 'N passed, M failed'; the exit status is 1 where M isn't 0. What is missing is named, and counts as
+# failed.
 
 . "$(dirname "$0")/common.sh"
 needs debootstrap debootstrap chroot coreutils unshare util-linux dpkg-deb dpkg git git
@@ -40,7 +43,8 @@ MANUAL="jq parallel python3-matplotlib gcc libc6-dev pkg-config"
 logs=build/packages-test
 work=$(mktemp -d) || exit 1
 trap 'leave; rm -rf "$work"' EXIT
-rm -rf $logs
+# Logs of other parts and suites stay, where only some are tried.
+[ -n "${ONLY:-}" ] || rm -rf $logs
 mkdir -p $logs
 passed=0
 failed=0
@@ -146,16 +150,18 @@ as_readme_says() {
 }
 library_too() { alone sh -c "cd /srv && apt install -y ./libyds1_${version}_amd64.deb ./libyds-dev_${version}_amd64.deb </dev/null"; }
 
-# type_pages LOG WORD ..: the commands of README.md and of the manual as the package has them.
+# type_pages LOG [hour]: the commands of README.md and of the manual as the package has them; those of the trace of an hour where the
+# word says so and HOUR is set.
 type_pages() {
 	log=$1
-	shift
-	user python3 /srv/tests/typed.py --log "/home/reader/$log" --shared "$shared" "$@" "$pages/README.md" "$pages/docs/manual.md"
+	hour=$2
+	set -- "$pages/README.md" "$pages/docs/manual.md"
+	[ -n "$hour" ] && [ -n "${HOUR:-}" ] || set -- "--leave-out=Long traces and many machines" "$@"
+	user python3 /srv/tests/typed.py --log "/home/reader/$log" --shared "$shared" "$@"
 	got=$?
 	cp "$root/home/reader/$log" "$logs/$suite-$log"
 	return $got
 }
-hour() { [ -n "${HOUR:-}" ] || echo "--leave-out=Long traces and many machines"; }
 
 # pages_of_man: each program and command has a page, without a fault, and a line of its own in the list of pages.
 pages_of_man() {
@@ -192,7 +198,7 @@ try_walk() {
 	try "$suite: rows" rows "$root" /usr/bin/yds_cli
 	try "$suite: the first example" user /srv/tests/first-example
 	try "$suite: manual pages" pages_of_man
-	try "$suite: README's and the manual's commands, nothing else installed" type_pages bare.log "$(hour)"
+	try "$suite: README's and the manual's commands, nothing else installed" type_pages bare.log
 	try "$suite: a page to send on" a_page
 	try "$suite: remove" alone apt-get purge -y yds-cli python3-yds yds-doc
 	files >"$work/after"
@@ -202,7 +208,7 @@ try_walk() {
 try_manual() {
 	fresh "$base.full"
 	try "$suite: install where the manual's packages are" as_readme_says
-	try "$suite: README's and the manual's commands" type_pages full.log "$(hour)"
+	try "$suite: README's and the manual's commands" type_pages full.log hour
 	try "$suite: a page to send on, with pictures" a_page
 	if [ ! -f build/dist/libyds1_"$version"_amd64.deb ]; then fail "$suite: there is no package of the library; make library builds it"; return; fi
 	try "$suite: install the library" library_too
@@ -234,7 +240,7 @@ try_wheel() {
 	try "$suite: $name: rows" rows "$root" "$bin/yds_cli"
 	try "$suite: $name: the first example" user /srv/tests/first-example
 	try "$suite: $name: manual pages" pages_of_man
-	try "$suite: $name: README's and the manual's commands" type_pages "$log" "$(hour)"
+	try "$suite: $name: README's and the manual's commands" type_pages "$log"
 	try "$suite: $name: a page to send on" a_page
 	try "$suite: $name: remove" no_wheel
 }
@@ -265,7 +271,7 @@ try_archive() {
 	try "$suite: the archive: rows" rows "$root" "$bin/yds_cli"
 	try "$suite: the archive: the first example" user /srv/tests/first-example
 	try "$suite: the archive: manual pages" pages_of_man
-	try "$suite: the archive: README's and the manual's commands" type_pages archive.log "$(hour)"
+	try "$suite: the archive: README's and the manual's commands" type_pages archive.log
 	try "$suite: the archive: a page to send on" a_page
 }
 
@@ -357,32 +363,40 @@ lint() {
 	lintian --allow-root --fail-on error,warning build/dist/*.deb && echo "no error and no warning"
 }
 
-suite=
-rm -rf build/dist
-try "make deb" make -s deb
-try "make dist" make -s dist
-try "two builds in two folders" same_bytes
-if [ -f build/dist/yds_cli-"$version".tar.gz ]; then try "the sources' archive" from_archive; fi
-if command -v dh >/dev/null; then try "packages by dpkg-deb alone" without_debhelper; else fail "debhelper isn't here; on Debian: apt-get install debhelper dh-python"; fi
-if command -v lintian >/dev/null; then try "lintian" lint; else fail "lintian isn't here; on Debian: apt-get install lintian"; fi
-for suite in ${*:-bookworm trixie}; do
-	base "$suite" || continue
-	try_walk
-	try_manual
-	try_wheel pip
-	try_wheel full --system-site-packages
-	try_archive
-	try_upgrade
-done
-suite=
-if are_static; then
+try_packages() {
+	rm -rf build/dist
+	try "make deb" make -s deb
+	try "make dist" make -s dist
+	try "two builds in two folders" same_bytes
+	if [ -f build/dist/yds_cli-"$version".tar.gz ]; then try "the sources' archive" from_archive; fi
+	if command -v dh >/dev/null; then try "packages by dpkg-deb alone" without_debhelper; else fail "debhelper isn't here; on Debian: apt-get install debhelper dh-python"; fi
+	if command -v lintian >/dev/null; then try "lintian" lint; else fail "lintian isn't here; on Debian: apt-get install lintian"; fi
+}
+
+try_empty() {
+	if ! are_static; then fail "a program isn't static"; return; fi
 	mkdir "$work/empty"
 	cp build/yds_cli build/yds_trace "$work/empty"
 	try "the static program in an empty root: rows" rows "$work/empty" /yds_cli
 	try "the static reader of traces in an empty root" stored_trace "$work/empty" /yds_trace
-else
-	fail "a program isn't static"
-fi
+}
+
+# asked PART: whether this part is tried, since all are, or ONLY names it.
+asked() { case " ${ONLY:-$1} " in *" $1 "*) ;; *) return 1 ;; esac; }
+
+suite=
+if asked packages; then try_packages; fi
+for suite in ${*:-bookworm trixie}; do
+	base "$suite" || continue
+	if asked walk; then try_walk; fi
+	if asked manual; then try_manual; fi
+	if asked wheel; then try_wheel pip; try_wheel full --system-site-packages; fi
+	if asked archive; then try_archive; fi
+	if asked upgrade; then try_upgrade; fi
+done
+suite=
+if asked empty; then try_empty; fi
 echo "The logs are in $logs."
+[ -z "${ONLY:-}" ] || echo "All else than this was left out: $ONLY"
 echo "$passed passed, $failed failed"
 [ $failed = 0 ]
