@@ -826,9 +826,9 @@ def with_lacks(seed: int, number: int, it: Drawing) -> None:
     draw = random.Random(f"lacks {seed} {number}")
     if draw.random() < 0.3:
         drop_others(it, draw)
-    if draw.random() < 0.4:
+    if draw.random() < 0.25:
         jump(it, draw)
-    if draw.random() < 0.3 and "--lost" in it.options:
+    if draw.random() < 0.2 and "--lost" in it.options:
         it.lines.append(b"CPU:%d [LOST EVENTS]" % draw.randrange(it.processors))
 
 

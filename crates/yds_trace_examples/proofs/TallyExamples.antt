@@ -1,5 +1,5 @@
 -- What small traces lack.
-use Rattle.yds_model.proofs.Common.{◌≡◌, ℕ, List, [], ◌∷◌, codes, reverse, true, Some, None, refl}
+use Rattle.yds_model.proofs.Common.{◌≡◌, ℕ, List, [], ◌∷◌, codes, reverse, true, refl}
 use Rattle.std.specs.Fmt.{digits}
 use Rattle.yds_kernel.specs.declared.state.State.TheVariants as states
 use Rattle.yds_kernel.specs.Event.{Thread, Loss, Switch, Said}
@@ -8,7 +8,7 @@ use Rattle.yds_trace.specs.declared.tally.Tally.{Tally}
 use Rattle.yds_trace.specs.Asked.{Asked}
 use Rattle.yds_trace.specs.Tally.{losses, missing_switches, markers, longest_pause, tally_of}
 use Rattle.yds_trace_text.specs.Text.{comment, unit_comment, tally_comments, text_of}
-use Rattle.yds_trace_examples.proofs.Lines.{t, other, idle, line, woken, comes, sleeps, back, other_comes, other_leaves, speed, marker, lost, task, asked, up_to, from}
+use Rattle.yds_trace_examples.proofs.Lines.{t, other, idle, line, woken, comes, sleeps, other_comes, other_leaves, speed, marker, lost, asked, up_to, from}
 
 -- # Places where events were lost
 
