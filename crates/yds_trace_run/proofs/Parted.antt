@@ -272,7 +272,7 @@ module _ {K : Type 0} (written : K → Option (List ℕ)) (flushed : K → Optio
         }
     | inr other ↦
         delivered_behind (halted_text unread halt) (halted_status halt) ended (often other).0 old mid new later (λ more. other (told more)) (often other).1
-            (other_halt unread halt ended mid new other tells)
+        (other_halt unread halt ended mid new other tells)
   ]
 
   -- # How it ends
