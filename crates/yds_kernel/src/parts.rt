@@ -28,7 +28,8 @@ pub(crate) fn begins<const N: usize>(bytes: &[u8], text: &[u8; N]) -> bool
     }
 }
 
-/// Whether two texts of one length are the same. Up to sixteen bytes are eight at the front and eight at the end.
+/// Whether two texts of one length are the same. Up to sixteen bytes are eight at the front and eight at the end: `==` of
+/// more than eight bytes takes a call.
 #[inline(always)]
 fn are_same<const N: usize>(one: &[u8; N], other: &[u8; N]) -> bool
     ensures { result ≡ bytes_eq one.now other.now }
@@ -225,6 +226,7 @@ fn is_blank(byte: u8) -> bool
 }
 
 /// The number that the digits at the front spell, the greatest of 64 bits where it is beyond, and how many digits they are.
+/// It has two loops: the one of eight bytes at most is unrolled, and needs no look at the length or at 64 bits.
 #[inline(never)]
 fn front_number(bytes: &[u8]) -> (u64, usize)
     ensures value { result.0 ≡ capped (digits_value 10 (take result.1 bytes.now)) }
