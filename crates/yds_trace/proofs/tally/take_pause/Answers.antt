@@ -26,9 +26,9 @@ returns-else-pause-lasted c = λ start lines times.
     c.saturating_sub-lasted.ensures ∙ ap (λ (since : ℕ). c.args.time - since) (sym times.last) in
     elim c.else-pause-lasted.branch [
       | else-pause-lasted-via-then-pause-lasted+else-has_pause w ↦
-        sym (none_longer c.args.pause.now (has_pause c.args.from c.args.to lines c.args.time) (last_time lines) (c.args.time - last_time lines)
-        (sym (w.has_pause.ensures start lines times) ∙ w.if-has_pause.false))
+          sym (none_longer c.args.pause.now (has_pause c.args.from c.args.to lines c.args.time) (last_time lines) (c.args.time - last_time lines)
+          (sym (w.has_pause.ensures start lines times) ∙ w.if-has_pause.false))
       | else-pause-lasted-via-else-pause-lasted w ↦
-        (let most : c.args.time - last_time lines ≤ c.args.pause.now.lasted = omega (arith, lasted, w.if-pause-lasted.false) in
-        sym (not_longer c.args.pause.now (has_pause c.args.from c.args.to lines c.args.time) (last_time lines) (c.args.time - last_time lines) most))
+          (let most : c.args.time - last_time lines ≤ c.args.pause.now.lasted = omega (arith, lasted, w.if-pause-lasted.false) in
+          sym (not_longer c.args.pause.now (has_pause c.args.from c.args.to lines c.args.time) (last_time lines) (c.args.time - last_time lines) most))
     ]
