@@ -445,7 +445,7 @@ test_trace_files() {
 ." "\"\$YDS_TRACE\" $task one - <&-"
 	trace_files "a name with a line feed and signs of a terminal" 4 "$(unread 1 'a?failed?[2J?b' "$closed")" "\"\$YDS_TRACE\" $task \"\$(printf 'a\\nfailed\\033[2J\\rb')\""
 	trace_files "a name of 1,000 letters" 4 "$(unread 1 "$(head -c 64 /dev/zero | tr '\0' a)" "$closed")" "\"\$YDS_TRACE\" $task \$(head -c 1000 /dev/zero | tr '\\0' a)"
-	trace_files "twice the same" 3 "# line 13: its time is before that of an earlier line, by more than a millisecond, behind more than 64 lines, or over lost events; sort the lines by their times
+	trace_files "twice the same" 3 "# line 14: its time is before that of an earlier line, by more than a millisecond, behind more than 64 lines, or over lost events; sort the lines by their times
 failed
 ." "\"\$YDS_TRACE\" $task \"$work/short\" \"$work/short\""
 	trace_files "words with a mistake" 2 "# --nonsense: no such word; --help lists them
@@ -454,7 +454,7 @@ failed
 	trace_files "--help, which reads none" 0 "$("$YDS_TRACE" --help)
 ." "\"\$YDS_TRACE\" none --help"
 	trace_files "parts that were whole before one that isn't there" 0 "parts, and the last
-." "\"\$YDS_TRACE\" --parts --tasks decode:20 long none >parts; [ \$? = 4 ] && [ \$(grep -c '^# part' parts) -gt 1 ] && tail -n 1 parts | grep -qx failed && echo 'parts, and the last'"
+." "\"\$YDS_TRACE\" --parts --tasks decode:20 long none >parts; [ \$? = 4 ] && [ \$(grep -c '^# part' parts) -ge 1 ] && tail -n 1 parts | grep -qx failed && echo 'parts, and the last'"
 	if [ "$(id -u)" != 0 ]; then
 		cp "$files/one" "$files/shut"
 		chmod 000 "$files/shut"
