@@ -1,5 +1,6 @@
 """yds-whole of the answers of yds-misses to the parts: the misses of the whole, and how many there are."""
 
+import os
 import re
 import tempfile
 import unittest
@@ -12,6 +13,7 @@ import second_program
 from called import call
 from yds import parts
 
+CASES = int(os.environ.get("CASES", "200"))
 TOLD = re.compile(r"[0-9]+ missed deadlines?|feasible")
 
 
@@ -31,9 +33,9 @@ def part(number: int, shift: int, rest: str, last: bool = False) -> bytes:
 
 class MissedOfPartsTest(unittest.TestCase):
     def test_drawn(self) -> None:
-        """Of 600 drawn documents each miss is told as of the whole, once, and their number is that of the whole."""
+        """Of CASES drawn documents each miss is told as of the whole, once, and their number is that of the whole."""
         late = shifted = 0
-        for seed in range(600):
+        for seed in range(CASES):
             document = drawn.document(seed)
             status, wanted = misses(b"".join(document.lines))
             if not wanted or not TOLD.fullmatch(wanted[-1]):
@@ -50,7 +52,7 @@ class MissedOfPartsTest(unittest.TestCase):
                     self.assertEqual((put.yes, sorted(told), told[-1]), (status == 0, sorted(wanted), wanted[-1]))
                 late += len(told) > 2
                 shifted += shift and len(found) > 1 and len(told) > 2
-        self.assertGreater(min(late, shifted), 30)
+        self.assertGreater(min(late, shifted), CASES // 20)
 
     def test_parts_of_a_trace(self) -> None:
         texts = [

@@ -116,7 +116,7 @@ class Listening:
                 connection, _ = self._socket.accept()
             except OSError:
                 return
-            connection.settimeout(2)
+            connection.settimeout(20)
             try:
                 self.asked.append(connection.recv(400))
             except OSError:

@@ -21,9 +21,7 @@ SIDE = re.compile(
     rb"\S+ (energy %b|time %b %b|rounded %b|too-slow units %b from %b to %b top %b)"
     % (_FRACTION, _NUMBER, _FRACTION, _NUMBER, _FRACTION, _FRACTION, _FRACTION, _NUMBER)
 )
-_MISSED = re.compile(
-    rb"(?:\A|\n)(?:[0-9]+ missed deadlines?|feasible as far as the trace shows)\n\Z|\nfeasible\n\Z"
-).search
+_MISSED = re.compile(rb"(?:\A|\n)(?:[0-9]+ missed deadlines?|feasible as far as the trace shows)\n\Z").search
 FAMILIES = (("audit", _VERDICT), ("check", _JUDGEMENT), ("report", _REPORT), ("energies", SIDE), ("text", _TEXT))
 
 
@@ -154,10 +152,12 @@ class Answers:
         self.stop_at_faults()
 
     def _tells_misses(self, place: int) -> bool:
-        """Whether the answer is one of yds-misses. Its bare `feasible` is that of audit, too."""
+        """Whether the answer is one of yds-misses. Its bare `feasible` is that of audit, too, which has no comments."""
         with opened(self.answers[place]) as source:
+            first = source.read(1)
             source.seek(max(source.seek(0, 2) - 100, 0))
-            return _MISSED(source.read()) is not None
+            end = source.read()
+        return _MISSED(end) is not None or (first == b"#" and end.endswith(b"\nfeasible\n"))
 
     def _classify(self, place: int) -> None:
         first = next((line for line in lines_of(self.answers[place]) if not line.startswith(b"#")), b"").rstrip(b"\n")
