@@ -402,9 +402,9 @@ def shove(it: Drawing) -> None:
 
 def missing(it: Drawing) -> None:
     """Switches are missing."""
-    usual(it, it.draw.choice([0.1, 0.9, 0.9]))
+    usual(it, it.draw.choice([0.1, 0.9]))
     it.unbound()
-    for _ in range(it.draw.choice([1, 3, 4])):
+    for _ in range(it.draw.choice([2, 3, 4])):
         found = it.listed_switches()
         if found:
             del it.lines[it.draw.choice(found)]
@@ -887,7 +887,7 @@ def plain(seed: int, number: int) -> Drawn:
 
 
 def mistaken(seed: int, number: int, words: List[str]) -> List[str]:
-    """These words, which can be taken, with a mistake, or with a word that asks for a text."""
+    """These words, which can be taken, with a mistake, with a word that asks for a text, or with files."""
     draw = random.Random(f"words {seed} {number}")
     tasks = next(at for at, word in enumerate(words) if word.startswith("--tasks"))
     rest = words[:tasks] + words[tasks + (2 if words[tasks] == "--tasks" else 1) :]
@@ -920,9 +920,10 @@ def without(words: List[str], names: "set[str]") -> List[str]:
     return kept
 
 
-# A text is a task that can't be taken; a list has words that can't. What goes round are these places.
+# A text is a task that can't be taken; a list has words that can't, files, or words that ask for a text. What goes round are these places.
 MISTAKES: List[object] = [
-    [["--nonsense"], ["cpu=1"], ["wo\nrd"], ["-h"], [""], ["--cpus=2"], ["--Strict"], ["--tasks2", "a:1"]],
+    [["--nonsense"], ["-h"], ["--cpus=2"], ["--Strict"], ["--tasks2", "a:1"]],
+    [["cpu=1"], ["wo\nrd"], [""], ["-"], ["one", "two"], ["--", "-x"]],
     [["--strict=yes"], ["--strict="], ["--help=1"], ["--parts=1"]],
     [["--to"], ["--khz"], ["--tasks"]],
     [["TWICE"]],

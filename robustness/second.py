@@ -276,6 +276,21 @@ def settings(words: List[str]) -> List[Tuple[str, str]]:
     return found
 
 
+def files_in(words: List[str]) -> List[str]:
+    """The files that words name which can be taken, in their order."""
+    found: List[str] = []
+    rest = list(words)
+    while rest:
+        word = rest.pop(0)
+        if word == "--":
+            return found + rest
+        if word == "-" or not word.startswith("-"):
+            found.append(word)
+        elif word in VALUES:
+            rest = rest[1:]
+    return found
+
+
 def own_text(name: str) -> str:
     """What the program writes for `--help` or `--version`, by its source."""
     source = Path("crates/yds_trace_words/src/texts.rt").read_text(encoding="utf-8")

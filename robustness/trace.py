@@ -32,7 +32,7 @@ from exchanged import exchanged
 from parted import SMALL, told_in_parts
 from second import (
     Asked, Asks, CAUSES, Document, FLAGS, FORMS, HELPS, Judged, MOST_OTHER_NAME, MOST_PASSED, MOST_STEP_BACK, MOST_TEXT, Placed, Told, VALUES, Wrong, as_bytes,
-    asked_by, is_stamped, later_before, ordered, whole_document,
+    asked_by, files_in, is_stamped, later_before, ordered, whole_document,
 )
 
 
@@ -71,7 +71,7 @@ WANTED = [
     "a job as it is", "a job that moves, in time", "a job that moves, late", "a job that starves", "an overrun", "a job that is preempted",
     "a job that goes on after a sleep", "a job with several wake-ups", "late by nothing", "late by 1 ns", "late by less than a unit",
     "ends at its deadline", "a change of speed in a job", "a change of speed at the stamp of a switch", "equal stamps", "a wake-up and a switch of one stamp",
-    "lines end by CR LF", "no line feed at the end", "a marker that looks like a switch", "a wake-up of a new thread", "a wait for a disk", "a thread ends",
+    "a trace in files", "lines end by CR LF", "no line feed at the end", "a marker that looks like a switch", "a wake-up of a new thread", "a wait for a disk", "a thread ends",
     "a share of a job that moves, in time", "a share of a job that moves, late", "a share whose runs don't show that it is late",
     "a name with a byte that isn't shown", "a name that is cut short", "another thread within one unit of time", "another thread at time 0",
     "comment late", "comment late, without its runs", "comment late in a run", "comment late by less", "comment late on another processor", "comment not ended", "comment begins", "comment ends",
@@ -315,6 +315,8 @@ def drawn_cases(seed: int, number: int, counts: "Counter[str]") -> List[Case]:
     found = things(it.words, it.trace, said) | {f"format {it.form}"}
     if wrong_said.status == 2 or wrong_said.kind:
         found |= {*in_words(wrong), *([wrong_said.kind] if wrong_said.status in (0, 2) else [])}
+    if files_in(wrong):
+        found.add("a trace in files")
     other = exchanged(seed, number, it)
     other_said = told(other.words, other.trace)
     counts.update(found | out_of_order(other.words, other.trace, other_said))
@@ -420,12 +422,41 @@ def try_cases(cases: List[Case]) -> int:
     return int(bool(wrong))
 
 
+def can_be_taken(words: List[str]) -> bool:
+    """Whether they ask for a trace to be read."""
+    try:
+        asked_by(words)
+    except (Asks, Wrong):
+        return False
+    return True
+
+
+def in_two(trace: bytes) -> List[bytes]:
+    """The trace in two pieces, the first of which ends with a line, or is empty."""
+    at = trace.find(b"\n", len(trace) // 2) + 1
+    return [trace[:at], trace[at:]]
+
+
+def in_files(case: Case, folder: Path) -> "Tuple[bytes, Case]":
+    """Standard input of a case, and the case as the program reads its files: they hold the trace, in this folder, and the empty name is none."""
+    names = files_in(case.words) if can_be_taken(case.words) else []
+    if names in ([], ["-"]):
+        return case.trace, case
+    if names == [""]:
+        return b"", case._replace(text="# file 1 (): it can't be opened; see that it is there and may be read\nfailed\n", status=4)
+    for name, piece in zip(names, in_two(case.trace) if len(names) == 2 else [case.trace]):
+        (folder / name).write_bytes(piece)
+    return b"", case
+
+
 def run_case(program: str, case: Case) -> bool:
     """Whether the program says the same of a case."""
-    done = subprocess.run([program, *case.words], input=case.trace, capture_output=True, check=False)
-    same = (done.stdout, done.returncode) == (as_bytes(case.text), case.status)
+    with tempfile.TemporaryDirectory() as folder:
+        given, wanted = in_files(case, Path(folder))
+        done = subprocess.run([program, *case.words], input=given, capture_output=True, check=False, cwd=folder)
+    same = (done.stdout, done.returncode) == (as_bytes(wanted.text), wanted.status)
     if not same:
-        show(case, done.stdout)
+        show(wanted, done.stdout)
     return same
 
 
