@@ -61,7 +61,7 @@ returns-in-Ok-clause-flushed_behind_each g c =
 pub returns-in-Err-clause-flushed_behind_each : goal.returns-in-Err-clause-flushed_behind_each
 returns-in-Err-clause-flushed_behind_each g c =
     never_done (asked_read c.args.asked) c.args.strict (g.S.Source.left c.args.source.now) c.tell_halt.result (g.K.Sink.flushes c.args.sink.now) (g.K.Sink.flushes c.tell_halt.new.sink)
-    (halted_not_done g.K.Sink.written g.K.Sink.flushed g.K.Sink.flushes g.K.Sink.faults (g.S.Input.unread c.tell_parts.new.source) c.in-Err.halt c.tell_halt.result c.tell_parts.new.sink c.tell_halt.new.sink c.tell_halt.ensures)
+    (halted_not_done g.K.Sink.written g.K.Sink.flushed g.K.Sink.flushes g.K.Sink.faults (unread_read c.unread.result) c.in-Err.halt c.tell_halt.result c.tell_parts.new.sink c.tell_halt.new.sink c.tell_halt.ensures)
 
 pub returns-in-Ok-clause-read_to_its_end : goal.returns-in-Ok-clause-read_to_its_end
 returns-in-Ok-clause-read_to_its_end g c =

@@ -54,7 +54,7 @@ returns-in-Ok-clause-flushed_once g c = λ whole.
 
 pub returns-in-Err-clause-flushed_once : goal.returns-in-Err-clause-flushed_once
 returns-in-Err-clause-flushed_once g c =
-    no_threads_once g.K.Sink.written g.K.Sink.flushed g.K.Sink.flushes g.K.Sink.faults (g.S.Input.unread c.tell_threads.new.source) c.in-Err.halt c.tell_no_threads.result c.args.sink.now c.tell_threads.new.sink
+    no_threads_once g.K.Sink.written g.K.Sink.flushed g.K.Sink.flushes g.K.Sink.faults (unread_read c.unread.result) c.in-Err.halt c.tell_no_threads.result c.args.sink.now c.tell_threads.new.sink
     c.tell_no_threads.new.sink c.in-Err.ensures.flushes_stay c.tell_no_threads.ensures
 
 pub returns-in-Ok-clause-read_to_its_end : goal.returns-in-Ok-clause-read_to_its_end
