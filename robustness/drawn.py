@@ -920,7 +920,7 @@ def without(words: List[str], names: "set[str]") -> List[str]:
     return kept
 
 
-# A text is a task that can't be taken; a list has words that can't, files, or words that ask for a text. What goes round are these places.
+# A text is a task that can't be taken. A list has words that can't, files, or words that ask for a text. These places go round.
 MISTAKES: List[object] = [
     [["--nonsense"], ["-h"], ["--cpus=2"], ["--Strict"], ["--tasks2", "a:1"]],
     [["cpu=1"], ["wo\nrd"], [""], ["-"], ["one", "two"], ["--", "-x"]],

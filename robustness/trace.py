@@ -3,18 +3,18 @@
     python3 robustness/trace.py [SEED] [TRACES] [PROGRAM]
     python3 robustness/trace.py one SEED NUMBER [PROGRAM]     the trace of this number alone, with both texts
 
-It draws TRACES traces (1,000) by drawn.py, each with words, with words that have a mistake, and with lines that are taken
-out of the order of their times (exchanged.py): five formats; threads
-that sleep, are preempted, wait, starve and move among processors, with odd names; changes of speed at the stamp of a
-switch; fronts that are cut off, lost events, missing switches, each fault of a line, of its form, of a whole trace and
-of a document; `--from` and `--to`; deadlines that are missed by a nanosecond; and one in eight in parts, and one in
-eight of all processors, of which such small traces have one part each (long.py and everywhere.py draw those that have
-more). The second reading is second.py, and parted.py for parts. It shares no code with the crates.
+It draws TRACES traces (1,000) by drawn.py, each with words, with words that have a mistake or name files, and with
+lines that are taken out of the order of their times (exchanged.py): five formats; threads that sleep, are preempted,
+wait, starve and move among processors, with odd names; changes of speed at the stamp of a switch; fronts that are cut
+off, lost events, missing switches, each fault of a line, of its form, of a whole trace and of a document; `--from` and
+`--to`; deadlines that are missed by a nanosecond; and one in eight in parts, and one in eight of all processors, of
+which such small traces have one part each (long.py and everywhere.py draw those that have more). The second reading is
+second.py, and parted.py for parts. It shares no code with the crates.
 
-PROGRAM is the program that was built (build/yds_trace, where there is one). Without it a small program over the crate
-`yds_trace_run` does the same on each trace, and `rt try` builds it, unproved. Before the last line it tells how many
-traces had each thing. The status is 1 where a text or a status differs, and also where of 10,000 traces or more fewer
-than 200 had a thing of WANTED.
+PROGRAM is the program that was built, as build/yds_trace. Without it a small program over the crate `yds_trace_run`
+does the same on each trace, but that it opens no file, and `rt try` builds it, unproved. Before the last line it tells
+how many traces had each thing. The status is 1 where a text or a status differs, and also where of 10,000 traces or
+more fewer than 200 had a thing of WANTED.
 """
 
 import os
@@ -71,7 +71,8 @@ WANTED = [
     "a job as it is", "a job that moves, in time", "a job that moves, late", "a job that starves", "an overrun", "a job that is preempted",
     "a job that goes on after a sleep", "a job with several wake-ups", "late by nothing", "late by 1 ns", "late by less than a unit",
     "ends at its deadline", "a change of speed in a job", "a change of speed at the stamp of a switch", "equal stamps", "a wake-up and a switch of one stamp",
-    "a trace in files", "lines end by CR LF", "no line feed at the end", "a marker that looks like a switch", "a wake-up of a new thread", "a wait for a disk", "a thread ends",
+    "a trace in files",
+    "lines end by CR LF", "no line feed at the end", "a marker that looks like a switch", "a wake-up of a new thread", "a wait for a disk", "a thread ends",
     "a share of a job that moves, in time", "a share of a job that moves, late", "a share whose runs don't show that it is late",
     "a name with a byte that isn't shown", "a name that is cut short", "another thread within one unit of time", "another thread at time 0",
     "comment late", "comment late, without its runs", "comment late in a run", "comment late by less", "comment late on another processor", "comment not ended", "comment begins", "comment ends",
@@ -438,7 +439,7 @@ def in_two(trace: bytes) -> List[bytes]:
 
 
 def in_files(case: Case, folder: Path) -> "Tuple[bytes, Case]":
-    """Standard input of a case, and the case as the program reads its files: they hold the trace, in this folder, and the empty name is none."""
+    """Standard input of a case, and the case as the program reads files: they hold the trace, in this folder. The empty name is that of none."""
     names = files_in(case.words) if can_be_taken(case.words) else []
     if names in ([], ["-"]):
         return case.trace, case

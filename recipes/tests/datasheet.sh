@@ -293,7 +293,8 @@ trace time 10 2
 		if [ "$told" = "$counted" ]; then pass; else fail "energy: $sample misses $told, yds-misses says $counted"; fi
 	done
 	energy "$work/told" >"$work/lost"
-	answers "energy: jobs that are left out" 0 "# 3 jobs were left out of the document, with their energy" tail -n 1 "$work/lost"
+	answers "energy: jobs that are left out" 0 "# 3 jobs were left out of the document, with their energy" tail -n 2 "$work/lost"
+	answers "energy: events that were lost" 0 "# places where events were lost: 1: what ran there is in no line" tail -n 1 "$work/lost"
 	printf 'point 0 1\npoint 10 20\njob a 0 10 30\nslot a 0 2 20\nslot a 1 2 10\n' >"$work/over"
 	refuses "energy: slots that overlap" 1 "" "yds-energy: $work/over, line 5, column 8: it begins before the slot above it has ended; sort them, or see what yds_cli audit says" energy "$work/over"
 	printf 'point 0 1\npoint 10 20\njob a 0 10 30\nslot b 0 2 20\n' >"$work/over"

@@ -2,7 +2,7 @@
 test_install() {
 	has make || return
 	version=$(cat "$here/../VERSION")
-	in_root() { make -s -C "$here/.." -o build/yds_cli -o build/libyds.so "$1" INSTALLED="$YDS" DESTDIR="$work/stage" PREFIX=/usr >"$work/log" 2>&1; }
+	in_root() { make -s -C "$here/.." -o build/yds_cli -o build/yds_trace -o build/libyds.so "$1" INSTALLED="$YDS" DESTDIR="$work/stage" PREFIX=/usr >"$work/log" 2>&1; }
 	in_root install
 	if grep -q "^.Os yds_cli $version\$" "$work/stage/usr/share/man/man1/yds_cli.1" 2>/dev/null; then pass; else fail "install: the manual page has no version $version"; head -n 3 "$work/log"; fi
 	if grep -q "^## $version\$" "$here/../CHANGELOG.md"; then pass; else fail "install: CHANGELOG.md has nothing of version $version"; fi
@@ -21,7 +21,7 @@ test_install() {
 	left=$(find "$work/stage" -type f -o -type l | head -n 3)
 	if [ -z "$left" ] && [ ! -d "$work/stage/usr/share/yds_cli" ]; then pass; else fail "uninstall: left $left"; fi
 	# A PREFIX with a blank; the pages have no link that leads nowhere.
-	blank() { make -s -C "$here/.." -o build/yds_cli -o build/libyds.so "$1" INSTALLED="$YDS" PREFIX="$work/my folder" >"$work/log" 2>&1; }
+	blank() { make -s -C "$here/.." -o build/yds_cli -o build/yds_trace -o build/libyds.so "$1" INSTALLED="$YDS" PREFIX="$work/my folder" >"$work/log" 2>&1; }
 	blank install
 	answers "install: into a folder with a blank" 0 accepted from /dev/null sh -c '"$1" trial 0 9 | tail -n 1' sh "$work/my folder/bin/yds_cli"
 	answers "install: a command there" 0 "# drawn with seed 0" "$work/my folder/bin/yds-draw" --seed 0 --jobs 2
