@@ -47,6 +47,8 @@ impl Read for Page {
 struct Shelf;
 
 impl Opens for Shelf {
+    ghost use Rattle.std.specs.Prelude.{None};
+
     type Opened = StdSource<Page>;
 
     ghost holds = { λ _ _. None };
