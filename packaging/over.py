@@ -89,7 +89,7 @@ def compiled(crate: str, to: Path, room: Path) -> bool:
     below = sorted(all_below(graph, crate) - {crate})
     if was_put_back(crates, below):
         crates = copy_of(crates, below, room)
-        if not run(["rt", "ci"], room):
+        if not run([str(kit() / "bin" / "rt"), "ci"], room):
             return False
     return run(compiler(crates, graph, crate, to), ROOT / "crates" / crate)
 
