@@ -43,6 +43,7 @@ MANUAL="jq parallel python3-matplotlib gcc libc6-dev pkg-config"
 logs=build/packages-test
 work=$(mktemp -d) || exit 1
 trap 'leave; rm -rf "$work"' EXIT
+trap 'exit 1' HUP INT TERM
 # Logs of other parts and suites stay, where only some are tried.
 [ -n "${ONLY:-}" ] || rm -rf $logs
 mkdir -p $logs
