@@ -43,6 +43,7 @@ MANUAL="jq parallel python3-matplotlib gcc libc6-dev pkg-config"
 logs=build/packages-test
 work=$(mktemp -d) || exit 1
 trap 'leave; rm -rf "$work"' EXIT
+trap 'exit 1' HUP INT TERM
 # Logs of other parts and suites stay, where only some are tried.
 [ -n "${ONLY:-}" ] || rm -rf $logs
 mkdir -p $logs
@@ -88,9 +89,10 @@ rows() {
 	sh examples/check.sh "$work/program"
 }
 
-# stored_trace ROOT PROGRAM: the stored run of the reader of traces, by the program in that root.
+# stored_trace ROOT PROGRAM: the stored run of the reader of traces, by the program in that root, with the files that its words name.
 stored_trace() {
 	folder=crates/yds_trace_cli
+	cp -R $folder/data/. "$1" || return 1
 	xargs -d '\n' -a $folder/args chroot "$1" "$2" <$folder/stdin >"$work/answer" && cmp "$work/answer" $folder/stdout && echo "$(wc -l <"$work/answer") lines as stored"
 }
 
