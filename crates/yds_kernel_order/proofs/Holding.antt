@@ -214,20 +214,25 @@ loss_places slots first given waiting number processor since low few room len =
 
 -- # The first line that waits
 
+-- the first of the lines that wait, and those behind it
+pub first_waits : (slots : List Placed) (first given waiting : ℕ) → first < SLOTS → given ≤ 1 → waiting < SLOTS → 0 < waiting →
+    held_from slots (first + given) waiting ≡ held_from slots (wrapped (first + given) + 1) (waiting - 1) ++ slot_at slots (first + given) ∷ []
+first_waits slots first given waiting low few room some =
+    let all : waiting ≡ 1 + (waiting - 1) = omega arith in
+    let here : slot_at slots (first + given + 0) ≡ slot_at slots (first + given) = at_place slots (first + given + 0) (first + given) (omega arith) in
+    ap (held_from slots (first + given)) all
+    ∙ held_join slots (first + given) 1 (waiting - 1)
+    ∙ ap (λ (line : Placed). held_from slots (first + given + 1) (waiting - 1) ++ line ∷ []) here
+    ∙ ap (λ (lines : List Placed). lines ++ slot_at slots (first + given) ∷ []) (sym (held_wrapped slots (first + given) 1 (waiting - 1) (omega arith)))
+
 -- The ring after the first line that waits was given.
 pub first_given : (slots : List Placed) (first given waiting : ℕ) → first < SLOTS → given ≤ 1 → waiting < SLOTS → 0 < waiting →
     GivesFirst (ring_of slots first given waiting) (ring_of slots (wrapped (first + given)) 1 (waiting - 1))
-first_given slots first given waiting low few room some =
-    let all : waiting ≡ 1 + (waiting - 1) = omega arith in
-    let here : slot_at slots (first + given + 0) ≡ slot_at slots (first + given) = at_place slots (first + given + 0) (first + given) (omega arith) in record {
-      line = slot_at slots (first + given);
-      first =
-          ap (held_from slots (first + given)) all
-          ∙ held_join slots (first + given) 1 (waiting - 1)
-          ∙ ap (λ (line : Placed). held_from slots (first + given + 1) (waiting - 1) ++ line ∷ []) here
-          ∙ ap (λ (lines : List Placed). lines ++ slot_at slots (first + given) ∷ []) (sym (held_wrapped slots (first + given) 1 (waiting - 1) (omega arith)));
-      given = ap Some (ap (λ (n : ℕ). get_or slots n no_line) (wrapped_low (wrapped (first + given)) (wrapped_within (first + given) (omega arith))));
-    }
+first_given slots first given waiting low few room some = record {
+  line = slot_at slots (first + given);
+  first = first_waits slots first given waiting low few room some;
+  given = ap Some (ap (λ (n : ℕ). get_or slots n no_line) (wrapped_low (wrapped (first + given)) (wrapped_within (first + given) (omega arith))));
+}
 
 -- Where a ring has room, as many lines wait.
 pub waiting_len : (slots : List Placed) (first given waiting : ℕ) (held : Held) → ring_of slots first given waiting ≡ held → length held.waiting ≤ MAX_PASSED →

@@ -16,7 +16,7 @@ use Rattle.yds_kernel_order.specs.Ordering.{Order, Ordering, Stop, AtEnd, AtFaul
 use Rattle.yds_kernel_order.specs.declared.step.Step.{Step}
 use Rattle.yds_kernel_order.specs.declared.step.Step.TheVariants as steps
 use Rattle.yds_kernel_order.specs.Advancing.{Advances, GivesLine, IsOver, IsRefused}
-use Rattle.yds_kernel_order.specs.Taking.{PutsSaid, PutsLine, Puts, TakesOne, Takes, GivesWaiting, GivesNext, lines_left, may_come, needs_more}
+use Rattle.yds_kernel_order.specs.Taking.{PutsSaid, PutsLine, Puts, TakesOne, Takes, ReadsAhead, ReadsOn, GivesWaiting, GivesNext, lines_left, may_come, needs_more}
 
 -- # A line of the text
 
@@ -229,14 +229,14 @@ enough_wait old new line None was is enough len =
 enough_wait old new line (Some stop) was is enough len = subst (λ (s : Option Stop). HoldsEnough s new.waiting) (sym is) tt
 
 -- the first line that waited was given
-pub gives_line : (old now new : Ordering) (left rest : Option (List ℕ)) (first second : ℕ) → Reads old now left rest first second → needs_more now ≡ false →
+pub gives_line : (old now new : Ordering) (left rest : Option (List ℕ)) (first second : ℕ) → ReadsAhead old now left rest first second →
     GivesWaiting now new → GivesLine old new left rest first second
-gives_line old now new left rest first second reads enough gives = record {
+gives_line old now new left rest first second reads gives = record {
   line = gives.line;
   is_last = gives.given;
   is_given = λ given is_given. (
     gives.given,
-    enough_wait now new gives.line now.stop refl gives.stop enough (omega (arith, ap length gives.first, length-append new.waiting (gives.line ∷ []))),
+    enough_wait now new gives.line now.stop refl gives.stop reads.enough (omega (arith, ap length gives.first, length-append new.waiting (gives.line ∷ []))),
   );
   in_order = λ input given is_given stands.
       gives_order input now new gives.line given rest gives.first gives.reader gives.lines gives.stop (reads.order input given is_given stands);
@@ -268,7 +268,7 @@ nothing_left input ordering given None some stands = absurd stands
 nothing_left input ordering given (Some left) some stands = ap Some (subst (λ (s : Option Stop). IsReadTo s left) some stands.read_to)
 
 -- each line was given
-pub is_over : (old now : Ordering) (left rest : Option (List ℕ)) (first second : ℕ) → Reads old now left rest first second → now.waiting ≡ [] → now.stop ≡ Some AtEnd →
+pub is_over : (old now : Ordering) (left rest : Option (List ℕ)) (first second : ℕ) → ReadsAhead old now left rest first second → now.waiting ≡ [] → now.stop ≡ Some AtEnd →
     IsOver old now left rest first second
 is_over old now left rest first second reads none end = record {
   whole = λ input given is_given stands. stopped_order input now given rest AtEnd none end (reads.order input given is_given stands);
@@ -278,7 +278,7 @@ is_over old now left rest first second reads none end = record {
 }
 
 -- each line before the one that is refused was given
-pub is_refused : (old now : Ordering) (left rest : Option (List ℕ)) (first second number : ℕ) (fault : LineFault) → Reads old now left rest first second → now.waiting ≡ [] →
+pub is_refused : (old now : Ordering) (left rest : Option (List ℕ)) (first second number : ℕ) (fault : LineFault) → ReadsAhead old now left rest first second → now.waiting ≡ [] →
     now.stop ≡ Some (AtFault (record { line = number; column = fault.column; reason = fault.reason })) → IsRefused number fault old now left rest first second
 is_refused old now left rest first second number fault reads none stopped = record {
   whole = λ input given is_given stands.
@@ -323,27 +323,36 @@ counts_put result old new reader before now puts counts =
     subst (λ (r : Reading). Counts before now old.reader.taken r.taken) (sym (put_reader result (with_reader old reader) new puts)) counts
 
 -- what can't go on is told behind the lines that were taken
-pub advances_stopped : (step : Step) (old now new : Ordering) (left rest end : Option (List ℕ)) (first second third : ℕ) → Reads old now left rest first second →
-    Takes (Err step) now new rest end second third → Advances step old new left end first third
-advances_stopped steps.Failed old now new left rest end first second third reads takes = subst (λ (faults : ℕ). Rose faults third) reads.no_fault takes
-advances_stopped steps.TooLong old now new left rest end first second third reads takes = record { counted = takes.counted; no_fault = takes.no_fault ∙ reads.no_fault }
-advances_stopped steps.Memory old now new left rest end first second third reads takes = takes ∙ reads.no_fault
-advances_stopped steps.Line old now new left rest end first second third reads takes = absurd takes
-advances_stopped steps.End old now new left rest end first second third reads takes = absurd takes
-advances_stopped (steps.Refused number fault) old now new left rest end first second third reads takes = absurd takes
+pub reads_stopped : (step : Step) (old now new : Ordering) (left rest end : Option (List ℕ)) (first second third : ℕ) → Reads old now left rest first second →
+    Takes (Err step) now new rest end second third → ReadsOn (Err step) old new left end first third
+reads_stopped steps.Failed old now new left rest end first second third reads takes = subst (λ (faults : ℕ). Rose faults third) reads.no_fault takes
+reads_stopped steps.TooLong old now new left rest end first second third reads takes = record { counted = takes.counted; no_fault = takes.no_fault ∙ reads.no_fault }
+reads_stopped steps.Memory old now new left rest end first second third reads takes = takes ∙ reads.no_fault
+reads_stopped steps.Line old now new left rest end first second third reads takes = absurd takes
+reads_stopped steps.End old now new left rest end first second third reads takes = absurd takes
+reads_stopped (steps.Refused number fault) old now new left rest end first second third reads takes = absurd takes
+
+pub advances_stopped : (step : Step) (old new : Ordering) (left end : Option (List ℕ)) (first second : ℕ) → ReadsOn (Err step) old new left end first second →
+    Advances step old new left end first second
+advances_stopped steps.Failed old new left end first second stopped = stopped
+advances_stopped steps.TooLong old new left end first second stopped = stopped
+advances_stopped steps.Memory old new left end first second stopped = stopped
+advances_stopped steps.Line old new left end first second stopped = absurd stopped
+advances_stopped steps.End old new left end first second stopped = absurd stopped
+advances_stopped (steps.Refused number fault) old new left end first second stopped = absurd stopped
 
 -- what is given behind the lines that were taken
-pub advances_given : (step : Step) (old now new : Ordering) (left rest : Option (List ℕ)) (first second : ℕ) → Reads old now left rest first second → needs_more now ≡ false →
+pub advances_given : (step : Step) (old now new : Ordering) (left rest : Option (List ℕ)) (first second : ℕ) → ReadsAhead old now left rest first second →
     GivesNext step now new → Advances step old new left rest first second
-advances_given steps.Line old now new left rest first second reads enough gives = gives_line old now new left rest first second reads enough gives
-advances_given steps.End old now new left rest first second reads enough gives =
+advances_given steps.Line old now new left rest first second reads gives = gives_line old now new left rest first second reads gives
+advances_given steps.End old now new left rest first second reads gives =
     subst (λ (ordering : Ordering). IsOver old ordering left rest first second) (sym gives.same) (is_over old now left rest first second reads gives.none gives.stopped)
-advances_given (steps.Refused number fault) old now new left rest first second reads enough gives =
+advances_given (steps.Refused number fault) old now new left rest first second reads gives =
     subst (λ (ordering : Ordering). IsRefused number fault old ordering left rest first second) (sym gives.same)
     (is_refused old now left rest first second number fault reads gives.none gives.stopped)
-advances_given steps.Failed old now new left rest first second reads enough gives = absurd gives
-advances_given steps.TooLong old now new left rest first second reads enough gives = absurd gives
-advances_given steps.Memory old now new left rest first second reads enough gives = absurd gives
+advances_given steps.Failed old now new left rest first second reads gives = absurd gives
+advances_given steps.TooLong old now new left rest first second reads gives = absurd gives
+advances_given steps.Memory old now new left rest first second reads gives = absurd gives
 
 given_reader : (step : Step) (old new : Ordering) → GivesNext step old new → new.reader ≡ old.reader
 given_reader steps.Line old new gives = gives.reader

@@ -56,6 +56,11 @@ pub record IsMovedDown (first held count : ℕ) (old new : List Placed) : Type 0
   pub moved : (place : ℕ) → place + count ≡ held → slot_at new (first + place) ≡ slot_at old (first + held)
   pub above : (place : ℕ) → held < place + 1 + count → place < held → slot_at new (first + place + 1) ≡ slot_at old (first + place)
 
+-- this is the first of these lines, of which the last one stands first
+pub record IsFirst (line : Placed) (waiting : List Placed) : Type 0 where
+  pub behind : List Placed
+  pub is : waiting ≡ behind ++ line ∷ []
+
 -- the first line that waited was given, or none waits
 pub record GivesFirst (old new : Held) : Type 0 where
   pub line : Placed

@@ -10,6 +10,7 @@ use Rattle.yds_kernel_order.specs.declared.step.Step.{Step}
 use Rattle.yds_kernel_order.specs.declared.step.Step.TheVariants as steps
 use Rattle.yds_kernel_order.specs.Order.{Placed, next_placed}
 use Rattle.yds_kernel_order.specs.Ordering.{Ordering, Stop, AtEnd, AtFault, IsGiven, IsOrderOf}
+use Rattle.yds_kernel_order.specs.Ring.{IsFirst}
 use Rattle.yds_kernel_order.specs.Advancing.{IsTooLong}
 
 -- a line may still come that is put before the first one that waits, where so many wait
@@ -62,6 +63,29 @@ Takes (Err steps.Failed) old new before now faults_before faults_now = Rose faul
 Takes (Err steps.TooLong) old new before now faults_before faults_now = IsTooLong new faults_before faults_now
 Takes (Err steps.Memory) old new before now faults_before faults_now = faults_now ≡ faults_before
 Takes (Err step) old new before now faults_before faults_now = ⊥
+
+-- # The next line
+
+-- lines were taken, as many as the place of the next one needs
+pub record ReadsAhead (old new : Ordering) (before now : Option (List ℕ)) (faults_before faults_now : ℕ) : Type 0 where
+  pub given : (given : List Placed) → IsGiven old given → IsGiven new given
+  pub order : (input : List ℕ) (given : List Placed) → IsGiven old given → IsOrderOf input old given before
+      → IsOrderOf input new given now
+  pub enough : needs_more new ≡ false
+  pub no_fault : faults_now ≡ faults_before
+
+abbrev pub ReadsOn : Result (Unit {0}) Step → Ordering → Ordering → Option (List ℕ) → Option (List ℕ) → ℕ → ℕ → Type 0
+ReadsOn (Ok done) old new before now faults_before faults_now = ReadsAhead old new before now faults_before faults_now
+ReadsOn (Err steps.Failed) old new before now faults_before faults_now = Rose faults_before faults_now
+ReadsOn (Err steps.TooLong) old new before now faults_before faults_now = IsTooLong new faults_before faults_now
+ReadsOn (Err steps.Memory) old new before now faults_before faults_now = faults_now ≡ faults_before
+ReadsOn (Err step) old new before now faults_before faults_now = ⊥
+
+-- the first line that waits says this
+pub record IsNext (said : Said) (ordering : Ordering) : Type 0 where
+  pub line : Placed
+  pub is_first : IsFirst line ordering.waiting
+  pub says : line.said ≡ said
 
 -- # A line that is given
 

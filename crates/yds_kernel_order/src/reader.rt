@@ -1,10 +1,10 @@
 //! A reader of the lines of a trace in order of time.
-ghost use Rattle.std.specs.Prelude.{◌≡◌, [], true, false, None, IfOk};
+ghost use Rattle.std.specs.Prelude.{◌≡◌, [], true, false, None, IfOk, MatchOption};
 ghost use Rattle.yds_kernel.specs.Views.{said_read};
 ghost use Rattle.yds_kernel_text.specs.Advancing.{Counts};
 ghost use Rattle.yds_kernel_order.specs.Ordering.{number_now, said_now};
 ghost use Rattle.yds_kernel_order.specs.Advancing.{Advances};
-ghost use Rattle.yds_kernel_order.specs.Taking.{Takes, Puts, GivesNext, needs_more};
+ghost use Rattle.yds_kernel_order.specs.Taking.{Takes, Puts, GivesNext, ReadsOn, IsNext, needs_more};
 
 use crate::limits::MAX_PASSED;
 use crate::ring::Ring;
@@ -87,18 +87,36 @@ impl OrderedReader {
         }
     }
 
+    /// What the next line in order of time says, where the reading has gone on as far as its place needs. None where there is no other.
+    pub fn next(&self) -> Option<Said<'_>>
+        ensures { MatchOption result (self.now.waiting ≡ []) (λ said. IsNext (said_read said) self.now) }
+    {
+        match self.ring.next() {
+            Some(slot) => Some(slot.said()),
+            None => None,
+        }
+    }
+
     /// Goes on to the next line in order of time, and reads on as far as its place needs.
     pub fn advance<S: Source>(&mut self, source: &mut S) -> Step
         ensures advances { Advances result self.old self.new (S.left source.old) (S.left source.new) (S.faults source.old) (S.faults source.new) }
         ensures counts { Counts (S.left source.old) (S.left source.new) self.old.reader.taken self.new.reader.taken }
     {
-        while self.needs_more() {
-            match self.take(source) {
-                Ok(()) => {}
-                Err(step) => return step,
-            }
+        match self.read_on(source) {
+            Ok(()) => self.give(),
+            Err(step) => step,
         }
-        self.give()
+    }
+
+    /// Reads on as far as the place of the next line needs, and gives none.
+    pub fn read_on<S: Source>(&mut self, source: &mut S) -> Result<(), Step>
+        ensures reads { ReadsOn result self.old self.new (S.left source.old) (S.left source.new) (S.faults source.old) (S.faults source.new) }
+        ensures counts { Counts (S.left source.old) (S.left source.new) self.old.reader.taken self.new.reader.taken }
+    {
+        while self.needs_more() {
+            self.take(source)?;
+        }
+        Ok(())
     }
 
     /// Whether a line may still come that is put before the next one.

@@ -4,7 +4,7 @@ ghost use Rattle.yds_kernel.specs.Event.{Stamped, Lost};
 ghost use Rattle.yds_kernel.specs.Views.{event_read, said_read};
 ghost use Rattle.yds_kernel_order.specs.declared.limits.TheConstants.{MAX_PASSED};
 ghost use Rattle.yds_kernel_order.specs.declared.ring.TheConstants.{SLOTS};
-ghost use Rattle.yds_kernel_order.specs.Ring.{Gives, Places, wrapped, passed_in, held_from, IsMovedDown};
+ghost use Rattle.yds_kernel_order.specs.Ring.{Gives, IsFirst, Places, wrapped, passed_in, held_from, IsMovedDown};
 
 use crate::limits::MAX_PASSED;
 use crate::slot::Slot;
@@ -73,6 +73,17 @@ impl Ring {
             None
         } else {
             Some(&self.slots[self.first])
+        }
+    }
+
+    /// The first line that waits.
+    pub fn next(&self) -> Option<&Slot>
+        ensures { MatchOption result (self.now.waiting ≡ []) (λ slot. IsFirst slot.now self.now.waiting) }
+    {
+        if self.waiting == 0 {
+            None
+        } else {
+            Some(&self.slots[wrapped(self.first + self.given)])
         }
     }
 

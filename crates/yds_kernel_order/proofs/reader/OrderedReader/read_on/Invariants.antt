@@ -1,7 +1,7 @@
 use Rattle.yds_kernel_text.specs.Advancing.{Counts}
 use Rattle.yds_kernel_order.specs.Taking.{lines_left}
 use Rattle.yds_kernel_order.proofs.Steps.{Reads}
-use Rattle.yds_kernel_order.proofs.reader.OrderedReader.advance.Given as goal
+use Rattle.yds_kernel_order.proofs.reader.OrderedReader.read_on.Given as goal
 
 -- lines of the text were put into their places
 abbrev pub invariant-loop-self : goal.invariant-loop-self
