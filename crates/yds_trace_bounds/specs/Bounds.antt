@@ -33,13 +33,17 @@ counts_from_first None = false
 abbrev pub count_from_first : Bounds → Bool
 count_from_first bounds = counts_from_first bounds.from || counts_from_first bounds.to
 
--- The time of the first of these lines. It isn't known where that line tells of lost events, for one of those may have been the first. Where
--- there is no line, nothing is asked of any.
+-- When what a line says was. It isn't known of events that were lost.
+abbrev pub time_of : Said → Option ℕ
+time_of (Stamped event) = Some event.time
+time_of (Lost processor since) = None
+time_of Nothing = None
+
+-- The time of the first of these lines. Where it tells of lost events, one of those may have been the first. Where there is no line, nothing is
+-- asked of any.
 abbrev pub first_time : List Said → Option ℕ
 first_time [] = Some 0
-first_time (Stamped event ∷ behind) = Some event.time
-first_time (Lost processor since ∷ behind) = None
-first_time (Nothing ∷ behind) = None
+first_time (first ∷ behind) = time_of first
 
 -- the time from which the bounds count, if it is known
 abbrev pub first_of : Bounds → Trace → Option ℕ

@@ -1,3 +1,4 @@
 pub mod Giving
+pub mod Beginning
 pub mod Draining
 pub mod Passing

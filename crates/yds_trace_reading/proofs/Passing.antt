@@ -26,7 +26,7 @@ use Rattle.yds_trace_reading.specs.declared.stopped.Stopped.TheVariants as stops
 use Rattle.yds_trace_reading.specs.LineFault.{InForm, AtLine, at_line, in_form, past_of, in_text, line_fault, line_fault_of, line_fault_after}
 use Rattle.yds_trace_reading.specs.Taken.{IsTaken, IsNotTaken, IsKnown, IsNotKnown}
 use Rattle.yds_trace_reading.specs.Reading.{IsEndOfSome, IsRead, IsTooLong, IsStopped}
-use Rattle.yds_trace_reading.proofs.Giving.{AreGiven, AreFirst, AreAll, before_all, counts_on, taken_bytes, none_given, one_given, first_given, past_behind, number_of_last, all_given, number_at_end, told_in_text, number_given, said_given}
+use Rattle.yds_trace_reading.proofs.Giving.{AreGiven, AreFirst, AreAll, counts_on, taken_bytes, one_given, first_given, past_behind, number_of_last, all_given, number_at_end, told_in_text, number_given, said_given}
 
 -- the first fault of the lines so far is that of all lines
 fault_stays : (asked : Asked) (more past : List Said) (found : ℕ × Cause) → first_fault asked past ≡ Some found → first_fault asked (more ++ past) ≡ Some found
@@ -43,9 +43,9 @@ pub record IsAhead (asked : Asked) (input : Option (List ℕ)) (pass : Pass) (or
   pub stands : IsAt asked (said_in given) pass
   pub sound : first_fault asked (said_in given) ≡ None
 
-pub at_begin : (asked : Asked) (left : Option (List ℕ)) (pass : Pass) (ordering : Ordering)
-    → ordering ≡ before_all → IsAt asked [] pass → IsAhead asked left pass ordering left 0
-at_begin asked left pass ordering is stands = record { given = []; known = none_given left ordering is; many = refl; stands = stands; sound = refl }
+pub at_begin : (asked : Asked) (input left : Option (List ℕ)) (pass : Pass) (ordering : Ordering)
+    → AreGiven input ordering left [] → IsAt asked [] pass → IsAhead asked input pass ordering left 0
+at_begin asked input left pass ordering known stands = record { given = []; known = known; many = refl; stands = stands; sound = refl }
 
 -- with a line more
 sound_on : (asked : Asked) (past : List Said) (line : Said) → first_fault asked past ≡ None → said_fault asked past line ≡ None → first_fault asked (line ∷ past) ≡ None
@@ -83,6 +83,7 @@ said_fault_first asked bytes given line cause first sound wrong =
 stopped_by : (asked : Asked) (bytes : List ℕ) (given : List Placed) (line : Placed) (stopped : Stopped) → AreFirst bytes (line ∷ given) → first_fault asked (said_in given) ≡ None
     → IsNotTaken asked (said_in given) line.number line.said stopped → IsStopped asked bytes stopped
 stopped_by asked bytes given line (stops.InForm at fault) first sound why = absurd why
+stopped_by asked bytes given line stops.NoFirst first sound why = absurd why
 stopped_by asked bytes given line stops.TooLong first sound why = absurd why
 stopped_by asked bytes given line stops.ReadFault first sound why = absurd why
 stopped_by asked bytes given line stops.Memory first sound why = tt
@@ -131,6 +132,7 @@ read_at_end asked bytes given ended all sound known = record {
 stopped_at_end : (asked : Asked) (bytes : List ℕ) (given : List Placed) (lines number : ℕ) (stopped : Stopped) → whole_order (trace_of bytes) ≡ record { placed = given; lines = lines; fault = None }
     → first_fault asked (said_in given) ≡ None → number_at lines given (length given) ≡ number → IsNotKnown asked (said_in given) number stopped → IsStopped asked bytes stopped
 stopped_at_end asked bytes given lines number (stops.InForm at fault) is sound same why = absurd why
+stopped_at_end asked bytes given lines number stops.NoFirst is sound same why = absurd why
 stopped_at_end asked bytes given lines number stops.TooLong is sound same why = absurd why
 stopped_at_end asked bytes given lines number stops.ReadFault is sound same why = absurd why
 stopped_at_end asked bytes given lines number stops.Memory is sound same why = tt

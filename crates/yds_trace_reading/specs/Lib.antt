@@ -1,3 +1,4 @@
 pub mod LineFault
+pub mod Begin
 pub mod Taken
 pub mod Reading

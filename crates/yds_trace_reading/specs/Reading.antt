@@ -9,6 +9,8 @@ use Rattle.yds_trace.specs.declared.ended.Ended.{Ended}
 use Rattle.yds_trace.specs.Asked.{Asked}
 use Rattle.yds_trace.specs.Ended.{IsEnded}
 use Rattle.yds_trace.specs.Faults.{first_fault}
+use Rattle.yds_trace_bounds.specs.declared.bounds.Bounds.{Bounds}
+use Rattle.yds_trace_bounds.specs.Bounds.{asked_from}
 use Rattle.yds_trace_reading.specs.declared.stopped.Stopped.{Stopped}
 use Rattle.yds_trace_reading.specs.declared.stopped.Stopped.TheVariants as stops
 use Rattle.yds_trace_reading.specs.LineFault.{InForm, AtLine, past_of, line_fault, line_fault_of}
@@ -33,9 +35,32 @@ abbrev pub IsStopped : Asked → List ℕ → Stopped → Type 0
 IsStopped asked input (stops.InForm number fault) =
     line_fault_of asked input ≡ Some (InForm (record { line = number; column = fault.column; reason = fault.reason }))
 IsStopped asked input (stops.AtLine number cause) = line_fault_of asked input ≡ Some (AtLine number cause)
+IsStopped asked input stops.NoFirst = ⊥
 IsStopped asked input stops.TooLong = IsTooLong input
 IsStopped asked input stops.ReadFault = Unit {0}
 IsStopped asked input stops.Memory = Unit {0}
+
+-- # Within bounds, by what is asked within them
+
+abbrev pub IsReadIn : Option Asked → List ℕ → Ended → Type 0
+IsReadIn None input ended = ⊥
+IsReadIn (Some asked) input ended = IsRead asked input ended
+
+-- Where they count from a first event that was lost, that is the cause, or what is no fault of the trace's lines.
+abbrev pub IsStoppedIn : Option Asked → List ℕ → Stopped → Type 0
+IsStoppedIn (Some asked) input stopped = IsStopped asked input stopped
+IsStoppedIn None input stops.NoFirst = Unit {0}
+IsStoppedIn None input stops.TooLong = IsTooLong input
+IsStoppedIn None input stops.ReadFault = Unit {0}
+IsStoppedIn None input stops.Memory = Unit {0}
+IsStoppedIn None input stopped = ⊥
+
+-- some lines without a fault end so, from a first event at some time on
+pub record IsEndWithin (bounds : Bounds) (asked : Asked) (ended : Ended) : Type 0 where
+  pub first : ℕ
+  pub of_some : IsEndOfSome (asked_from first bounds asked) ended
+
+-- # What is left
 
 -- No more is left than there was, where the source tells it.
 abbrev pub IsRest : Option (List ℕ) → Option (List ℕ) → Type 0

@@ -19,6 +19,7 @@ pub record IsTaken (asked : Asked) (past : List Said) (said : Said) (now : Pass)
 abbrev pub IsNotTaken : Asked → List Said → ℕ → Said → Stopped → Type 0
 IsNotTaken asked past number said (stops.InForm at fault) = ⊥
 IsNotTaken asked past number said (stops.AtLine at cause) = (at ≡ number) × (said_fault asked past said ≡ Some cause)
+IsNotTaken asked past number said stops.NoFirst = ⊥
 IsNotTaken asked past number said stops.TooLong = ⊥
 IsNotTaken asked past number said stops.ReadFault = ⊥
 IsNotTaken asked past number said stops.Memory = Unit {0}
@@ -32,6 +33,7 @@ pub record IsKnown (asked : Asked) (past : List Said) (ended : Ended) : Type 0 w
 abbrev pub IsNotKnown : Asked → List Said → ℕ → Stopped → Type 0
 IsNotKnown asked past number (stops.InForm at fault) = ⊥
 IsNotKnown asked past number (stops.AtLine at cause) = (at ≡ number) × (whole_fault asked past ≡ Some cause)
+IsNotKnown asked past number stops.NoFirst = ⊥
 IsNotKnown asked past number stops.TooLong = ⊥
 IsNotKnown asked past number stops.ReadFault = ⊥
 IsNotKnown asked past number stops.Memory = Unit {0}

@@ -1,6 +1,7 @@
 use Rattle.yds_model.proofs.Common.{◌∙◌, arith, refl, err_from_is_err_and}
 use Rattle.yds_kernel_order.specs.Order.{said_in}
 use Rattle.yds_trace.specs.Views.{asked_read}
+use Rattle.yds_trace_bounds.specs.Bounds.{asked_from}
 use Rattle.yds_trace_reading.proofs.Giving.{counts_on, none_left, none_said}
 use Rattle.yds_trace_reading.proofs.Passing.{at_begin, one_more, not_taken, not_formed, known_whole, read_whole, stopped_whole, too_many_bytes, too_many_lines}
 use Rattle.yds_trace_reading.proofs.Draining.{rest_same, rest_of}
@@ -10,46 +11,46 @@ pub returns-in_err-take_line-in-Line-clause-stopped : goal.returns-in_err-take_l
 returns-in_err-take_line-in-Line-clause-stopped g c =
     let told = err_from_is_err_and c.from_residual-in_err-take_line-in-Line.result c.from_residual-in_err-take_line-in-Line.ensures.1 in
     rw (told.1, told.2)
-    (not_taken (asked_read c.args.asked) _ _ _ _ _ _ _ _ _ _ c.loop-lines.invariant.ahead c.in-Line.ensures.advances c.in-Line.ensures.counts
-    (c.in_err-take_line-in-Line.ensures.refused (asked_read c.args.asked) (said_in c.loop-lines.invariant.ahead.given) c.loop-lines.invariant.ahead.stands))
+    (not_taken (asked_from c.in_ok-first.first c.args.bounds (asked_read c.args.asked)) _ _ _ _ _ _ _ _ _ _ c.loop-lines.invariant.ahead c.in-Line.ensures.advances c.in-Line.ensures.counts
+    (c.in_err-take_line-in-Line.ensures.refused (asked_from c.in_ok-first.first c.args.bounds (asked_read c.args.asked)) (said_in c.loop-lines.invariant.ahead.given) c.loop-lines.invariant.ahead.stands))
 
 pub returns-in-Refused-clause-stopped : goal.returns-in-Refused-clause-stopped
-returns-in-Refused-clause-stopped g c = not_formed (asked_read c.args.asked) _ _ _ _ _ _ _ _ _ _ _ c.loop-lines.invariant.ahead c.in-Refused.ensures.advances
+returns-in-Refused-clause-stopped g c = not_formed (asked_from c.in_ok-first.first c.args.bounds (asked_read c.args.asked)) _ _ _ _ _ _ _ _ _ _ _ c.loop-lines.invariant.ahead c.in-Refused.ensures.advances
 
 pub returns-in-End-clause-read : goal.returns-in-End-clause-read
 returns-in-End-clause-read g c =
-    read_whole (asked_read c.args.asked) _ _ c.loop-lines.reader _ _ _ _ _ _ _ c.loop-lines.invariant.ahead c.in-End.ensures.advances
-    (c.end.ensures.known (asked_read c.args.asked) (said_in c.loop-lines.invariant.ahead.given) c.loop-lines.invariant.ahead.stands)
+    read_whole (asked_from c.in_ok-first.first c.args.bounds (asked_read c.args.asked)) _ _ c.loop-lines.reader _ _ _ _ _ _ _ c.loop-lines.invariant.ahead c.in-End.ensures.advances
+    (c.end.ensures.known (asked_from c.in_ok-first.first c.args.bounds (asked_read c.args.asked)) (said_in c.loop-lines.invariant.ahead.given) c.loop-lines.invariant.ahead.stands)
 
 pub returns-in-End-clause-stopped : goal.returns-in-End-clause-stopped
 returns-in-End-clause-stopped g c =
-    stopped_whole (asked_read c.args.asked) _ _ c.loop-lines.reader _ _ _ _ _ _ _ c.loop-lines.invariant.ahead c.in-End.ensures.advances
-    (rw (← c.number.ensures) (c.end.ensures.refused (asked_read c.args.asked) (said_in c.loop-lines.invariant.ahead.given) c.loop-lines.invariant.ahead.stands))
+    stopped_whole (asked_from c.in_ok-first.first c.args.bounds (asked_read c.args.asked)) _ _ c.loop-lines.reader _ _ _ _ _ _ _ c.loop-lines.invariant.ahead c.in-End.ensures.advances
+    (rw (← c.number.ensures) (c.end.ensures.refused (asked_from c.in_ok-first.first c.args.bounds (asked_read c.args.asked)) (said_in c.loop-lines.invariant.ahead.given) c.loop-lines.invariant.ahead.stands))
 
 pub loop-lines-init : goal.loop-lines-init
 loop-lines-init g c = record {
-  ahead = at_begin (asked_read c.args.asked) (g.S.Source.left c.args.source.now) _ _ c.in_ok-reader.ensures c.in_ok-pass.ensures;
+  ahead = at_begin (asked_from c.in_ok-first.first c.args.bounds (asked_read c.args.asked)) (g.S.Source.left c.args.source.now) _ _ c.in_ok-reader.ensures c.in_ok-pass.ensures;
   faults = refl;
 }
 
 pub loop-lines-preserved : goal.loop-lines-preserved
 loop-lines-preserved g c = record {
-  ahead = one_more (asked_read c.args.asked) _ _ _ _ _ _ _ _ _ _ c.loop-lines.invariant.ahead c.in-Line.ensures.advances c.in-Line.ensures.counts
-      (c.in_ok-take_line-in-Line.ensures.taken (asked_read c.args.asked) (said_in c.loop-lines.invariant.ahead.given) c.loop-lines.invariant.ahead.stands);
+  ahead = one_more (asked_from c.in_ok-first.first c.args.bounds (asked_read c.args.asked)) _ _ _ _ _ _ _ _ _ _ c.loop-lines.invariant.ahead c.in-Line.ensures.advances c.in-Line.ensures.counts
+      (c.in_ok-take_line-in-Line.ensures.taken (asked_from c.in_ok-first.first c.args.bounds (asked_read c.args.asked)) (said_in c.loop-lines.invariant.ahead.given) c.loop-lines.invariant.ahead.stands);
   faults = c.in-Line.ensures.advances.no_fault ∙ c.loop-lines.invariant.faults;
 }
 
 pub returns-clause-stopped : goal.returns-clause-stopped
-returns-clause-stopped g c = too_many_lines (asked_read c.args.asked) _ _ _ _ _ c.loop-lines.invariant.ahead (omega (arith, c.loop-lines-test.false))
+returns-clause-stopped g c = too_many_lines (asked_from c.in_ok-first.first c.args.bounds (asked_read c.args.asked)) _ _ _ _ _ c.loop-lines.invariant.ahead (omega (arith, c.loop-lines-test.false))
 
 pub returns-in-TooLong-clause-stopped : goal.returns-in-TooLong-clause-stopped
 returns-in-TooLong-clause-stopped g c =
-    too_many_bytes (asked_read c.args.asked) _ _ _ _ _ _ _ c.loop-lines.invariant.ahead c.in-TooLong.ensures.counts c.in-TooLong.ensures.advances.counted
+    too_many_bytes (asked_from c.in_ok-first.first c.args.bounds (asked_read c.args.asked)) _ _ _ _ _ _ _ c.loop-lines.invariant.ahead c.in-TooLong.ensures.counts c.in-TooLong.ensures.advances.counted
 
 pub returns-in-End-clause-known : goal.returns-in-End-clause-known
 returns-in-End-clause-known g c =
-    known_whole (asked_read c.args.asked) _ _ c.loop-lines.reader _ _ _ c.loop-lines.invariant.ahead
-    (c.end.ensures.known (asked_read c.args.asked) (said_in c.loop-lines.invariant.ahead.given) c.loop-lines.invariant.ahead.stands)
+    known_whole (asked_from c.in_ok-first.first c.args.bounds (asked_read c.args.asked)) _ _ c.loop-lines.reader _ _ _ c.loop-lines.invariant.ahead
+    (c.end.ensures.known (asked_from c.in_ok-first.first c.args.bounds (asked_read c.args.asked)) (said_in c.loop-lines.invariant.ahead.given) c.loop-lines.invariant.ahead.stands)
 
 pub returns-in_err-take_line-in-Line-clause-read : goal.returns-in_err-take_line-in-Line-clause-read
 returns-in_err-take_line-in-Line-clause-read g c =
