@@ -6,4 +6,5 @@ pub mod Moving
 pub mod Holding
 pub mod Given
 pub mod Steps
+pub mod Next
 pub mod Examples

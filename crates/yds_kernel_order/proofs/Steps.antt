@@ -250,7 +250,7 @@ last_number ordering [] is_given = rw is_given refl
 last_number ordering (line ∷ before) is_given =
     rw (is_given.0, eq-eqb (length (line ∷ before)) (length before + 1) (omega arith)) refl
 
-stopped_order : (input : List ℕ) (ordering : Ordering) (given : List Placed) (left : Option (List ℕ)) (stop : Stop) → ordering.waiting ≡ [] → ordering.stop ≡ Some stop →
+pub stopped_order : (input : List ℕ) (ordering : Ordering) (given : List Placed) (left : Option (List ℕ)) (stop : Stop) → ordering.waiting ≡ [] → ordering.stop ≡ Some stop →
     IsOrderOf input ordering given left → whole_order (trace_of input) ≡ record { placed = given; lines = ordering.lines; fault = fault_at stop }
 stopped_order input ordering given None stop none some stands = absurd stands
 stopped_order input ordering given (Some left) AtEnd none some stands =
