@@ -365,6 +365,7 @@ all_parts (Ok c) (Ok u) (Ok k) (Ok s) (Ok g) begin lost moved others parts tasks
 
 -- # Times
 
+-- no such time is behind the clock's last one
 within_most : (time : ℕ) → within_clock time ≤ MAX_TIME
 within_most time = by (nat_le time MAX_TIME) refl
   where
@@ -372,6 +373,7 @@ within_most time = by (nat_le time MAX_TIME) refl
     by true small = leb-true time MAX_TIME small
     by false great = omega arith
 
+-- what counts from the first event is no time of the clock
 no_clock : (found : Option ℕ) (time : ℕ) → option_map AfterFirst found ≡ Some (Clock time) → ⊥
 no_clock None time is = cc
 no_clock (Some x) time is = cc
@@ -380,6 +382,7 @@ by_clock : (found : Option ℕ) (time : ℕ) → option_map Clock found ≡ Some
 by_clock None time is = absurd cc
 by_clock (Some x) time is = cc
 
+-- a time of the clock is at most its last one
 clock_most : (text : List ℕ) (time : ℕ) → moment_of text ≡ Some (Clock time) → time ≤ MAX_TIME
 clock_most [] time is = absurd cc
 clock_most (byte ∷ bytes) time is = by (byte == 43) is
@@ -392,13 +395,14 @@ moment_told : (name : List ℕ) (found : Option Moment) (moment : Moment) → ti
 moment_told name None moment is = absurd cc
 moment_told name (Some x) moment is = cc
 
--- when it is, whenever the first event was
+-- the same of each time that is given, whenever the first event was
 time_most : (name : List ℕ) (value : Option (List ℕ)) (to : Option Moment) (first : ℕ) → time_of name value ≡ Ok to → IfSome (option_map (time_at first) to) (λ time. time ≤ MAX_TIME)
 time_most name value None first is = tt
 time_most name value (Some (AfterFirst time)) first is = within_most (first + time)
 time_most name None (Some (Clock time)) first is = absurd cc
 time_most name (Some text) (Some (Clock time)) first is = clock_most text time (moment_told name (moment_of text) (Clock time) is)
 
+-- up to when it is asked, whenever the first event was
 to_most : (given : List Setting) (bounds : Bounds) (first : ℕ) → bounds_by given ≡ Ok bounds → IfSome (option_map (time_at first) bounds.to) (λ time. time ≤ MAX_TIME)
 to_most given bounds first is =
     let last = time_of (codes "--to") (value_of (codes "--to") given) in
