@@ -20,7 +20,13 @@ fn asked(alloc: Global, line: &str) -> Result<String, Fail> {
         Ok(Request::Help) => Ok(String::from_str(alloc, "help")?),
         Ok(Request::Version) => Ok(String::from_str(alloc, "version")?),
         Ok(Request::Threads) => Ok(String::from_str(alloc, "threads")?),
-        Ok(Request::Trace { asked, strict }) => { Ok(format!(in alloc; "{:?} {strict}", asked)?) }
+        Ok(
+            Request::Trace {
+                asked,
+                bounds,
+                strict,
+            },
+        ) => Ok(format!(in alloc; "{:?} {:?} {strict}", asked, bounds)?),
         Err(NoRequest::Fault(fault)) => {
             Ok(String::from_str(alloc, fault_line(&fault).as_str())?)
         }
@@ -35,23 +41,23 @@ fn words_ask(rt: HostRuntime) -> Result<(), Fail> {
         ("--cpu 1 --version", "version"),
         (
             "--tasks a:16.667:2 --cpu=3 --strict --from 1.5 --to 9223372036.854775807 --start 600000 --begin run --lost=cut --us 1 --khz 7 --parts",
-            "Asked { tasks: [Task { label: [97], thread: Named([97]), deadline: 16667000, apart: 2000000 }], processor: 3, unit: 1000, khz: 7, start: Same(600000), from: Some(1500000000), to: Some(9223372036854775807), begin_at_run: true, cut_losses: true, in_parts: true, everywhere: false, moved_parts: false, others: None } true",
+            "Asked { tasks: [Task { label: [97], thread: Named([97]), deadline: 16667000, apart: 2000000 }], processor: 3, unit: 1000, khz: 7, start: Same(600000), from: None, to: None, begin_at_run: true, cut_losses: true, in_parts: true, everywhere: false, moved_parts: false, others: None } Bounds { from: Some(Clock(1500000000)), to: Some(Clock(9223372036854775807)) } true",
         ),
         (
             "--tasks 7=a\\,b:1,c\\:\\d\\\\:0.01",
-            "Asked { tasks: [Task { label: [97, 44, 98], thread: Numbered(7), deadline: 1000000, apart: 0 }, Task { label: [99, 58, 92, 100, 92], thread: Named([99, 58, 92, 100, 92]), deadline: 10000, apart: 0 }], processor: 0, unit: 10000, khz: 10000, start: Listed([]), from: None, to: None, begin_at_run: false, cut_losses: false, in_parts: false, everywhere: false, moved_parts: false, others: None } false",
+            "Asked { tasks: [Task { label: [97, 44, 98], thread: Numbered(7), deadline: 1000000, apart: 0 }, Task { label: [99, 58, 92, 100, 92], thread: Named([99, 58, 92, 100, 92]), deadline: 10000, apart: 0 }], processor: 0, unit: 10000, khz: 10000, start: Listed([]), from: None, to: None, begin_at_run: false, cut_losses: false, in_parts: false, everywhere: false, moved_parts: false, others: None } Bounds { from: None, to: None } false",
         ),
         (
             "--cpu all --tasks a:1",
-            "Asked { tasks: [Task { label: [97], thread: Named([97]), deadline: 1000000, apart: 0 }], processor: 0, unit: 10000, khz: 10000, start: Listed([]), from: None, to: None, begin_at_run: false, cut_losses: false, in_parts: true, everywhere: true, moved_parts: false, others: None } false",
+            "Asked { tasks: [Task { label: [97], thread: Named([97]), deadline: 1000000, apart: 0 }], processor: 0, unit: 10000, khz: 10000, start: Listed([]), from: None, to: None, begin_at_run: false, cut_losses: false, in_parts: true, everywhere: true, moved_parts: false, others: None } Bounds { from: None, to: None } false",
         ),
         (
-            "--others=spans --tasks a:1 --moved parts --cpu 5",
-            "Asked { tasks: [Task { label: [97], thread: Named([97]), deadline: 1000000, apart: 0 }], processor: 5, unit: 10000, khz: 10000, start: Listed([]), from: None, to: None, begin_at_run: false, cut_losses: false, in_parts: false, everywhere: false, moved_parts: true, others: Some(5) } false",
+            "--others=spans --tasks a:1 --moved parts --cpu 5 --from=+0.5 --to 0.25",
+            "Asked { tasks: [Task { label: [97], thread: Named([97]), deadline: 1000000, apart: 0 }], processor: 5, unit: 10000, khz: 10000, start: Listed([]), from: None, to: None, begin_at_run: false, cut_losses: false, in_parts: false, everywhere: false, moved_parts: true, others: Some(5) } Bounds { from: Some(AfterFirst(500000000)), to: Some(Clock(250000000)) } false",
         ),
         (
             "--start 0:600000,8191:4294967295,4:1 --tasks a:1",
-            "Asked { tasks: [Task { label: [97], thread: Named([97]), deadline: 1000000, apart: 0 }], processor: 0, unit: 10000, khz: 10000, start: Listed([StartSpeed { processor: 0, khz: 600000 }, StartSpeed { processor: 8191, khz: 4294967295 }, StartSpeed { processor: 4, khz: 1 }]), from: None, to: None, begin_at_run: false, cut_losses: false, in_parts: false, everywhere: false, moved_parts: false, others: None } false",
+            "Asked { tasks: [Task { label: [97], thread: Named([97]), deadline: 1000000, apart: 0 }], processor: 0, unit: 10000, khz: 10000, start: Listed([StartSpeed { processor: 0, khz: 600000 }, StartSpeed { processor: 8191, khz: 4294967295 }, StartSpeed { processor: 4, khz: 1 }]), from: None, to: None, begin_at_run: false, cut_losses: false, in_parts: false, everywhere: false, moved_parts: false, others: None } Bounds { from: None, to: None } false",
         ),
         ("--tasks ?", "threads"),
     ];
@@ -99,6 +105,14 @@ fn words_are_refused_by_name(rt: HostRuntime) -> Result<(), Fail> {
         (
             "--tasks a:1 --from 2 --to 2.000000000",
             "# --from: not before --to; give an earlier time, or a later one there\nfailed\n",
+        ),
+        (
+            "--tasks a:1 --from +2 --to +2",
+            "# --from: not before --to; give an earlier time, or a later one there\nfailed\n",
+        ),
+        (
+            "--tasks a:1 --to +",
+            "# --to: no time; write seconds to 9223372036.854775807, with at most nine digits behind the point; +2 counts from the first line\nfailed\n",
         ),
         (
             "--cpu 8192",

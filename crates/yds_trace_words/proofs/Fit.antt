@@ -1,6 +1,6 @@
 -- What holds of what is asked of a trace, from the words that ask for it.
 use Rattle.std.specs.Prelude.{IfSome}
-use Rattle.yds_model.proofs.Common.{◌≡◌, ◌≢◌, ℕ, ◌+◌, ◌*◌, ◌^◌, ◌≤◌, ◌⊎◌, inl, inr, List, [], ◌∷◌, length, All, All-cons, All-nil, Bool, true, false, nat_le, nat_lt, Option, Some, None, is_none, unwrap_or, ◌||◌, Result, Ok, Err, refl, ap, subst, AllPairs, AllPairs-cons, get_or, list_any_at, bytes_eq, bytes_eq-Decides, cases_Bool, ◌∙◌, arith, if◌then◌else◌, leb-true, ltb-false, codes, and_parts, ◌&&◌, digits_value}
+use Rattle.yds_model.proofs.Common.{◌≡◌, ◌≢◌, ℕ, ◌+◌, ◌*◌, ◌^◌, ◌≤◌, ◌⊎◌, inl, inr, List, [], ◌∷◌, length, All, All-cons, All-nil, Bool, true, false, nat_le, nat_lt, Option, Some, None, option_map, is_none, unwrap_or, ◌||◌, ◌==◌, Result, Ok, Err, refl, ap, subst, AllPairs, AllPairs-cons, get_or, list_any_at, bytes_eq, bytes_eq-Decides, cases_Bool, ◌∙◌, arith, if◌then◌else◌, leb-true, ltb-false, codes, and_parts, ◌&&◌, digits_value}
 use Rattle.std.specs.List.{slice_split, list_any, before_first, after_first}
 use Rattle.std.specs.Result.{result_ok}
 use Rattle.std.proofs.lemmas.List.Splits.{length-slice_split}
@@ -11,6 +11,10 @@ use Rattle.yds_kernel.specs.Parts.{◌>>=◌ as ◌>>?◌}
 use Rattle.yds_kernel.specs.declared.limits.TheConstants.{MAX_NUMBER}
 use Rattle.yds_trace.specs.declared.limits.TheConstants.{MAX_TIME, MAX_DEADLINE}
 use Rattle.yds_trace.specs.Asked.{Task, Start, Asked, Numbered, Named}
+use Rattle.yds_trace_bounds.specs.declared.bounds.Moment.{Moment}
+use Rattle.yds_trace_bounds.specs.declared.bounds.Moment.TheVariants.{Clock, AfterFirst}
+use Rattle.yds_trace_bounds.specs.declared.bounds.Bounds.{Bounds}
+use Rattle.yds_trace_bounds.specs.Bounds.{within_clock, time_at}
 use Rattle.yds_trace_words.specs.declared.limits.TheConstants.{MAX_UNIT, MAX_TASKS}
 use Rattle.yds_trace_words.specs.declared.fault.Reason.{Reason}
 use Rattle.yds_trace_words.specs.declared.fault.Reason.TheVariants as reasons
@@ -22,7 +26,7 @@ use Rattle.yds_trace_words.specs.Decimal.{decimal_at, at_most, fraction_at, behi
 use Rattle.yds_trace_words.specs.Letters.{letters_of, is_at, text_of}
 use Rattle.yds_trace_words.specs.Tasks.{known, is_label, refuse_task, label_at, Called, pid_at, numbered_at, named_at, called_at, milliseconds_at, deadline_at, Times, apart_at, alone_at, times_at, task_of_parts, task_at, tasks_from, tasks_of, tasks_asked, is_same_label, is_same_thread, again_in, different_from, unless}
 use Rattle.yds_trace_words.specs.Start.{start_asked}
-use Rattle.yds_trace_words.specs.Request.{Request, ShowHelp, ShowVersion, ReadTrace, ListThreads, whole_or_refused, whole_or, time_or_refused, time_of, ordered, only, processor_of, others_asked, asked_by, read_trace, threads_alone, threads_or_trace, is_question, asked_once, request_by, request_of, IsFit, IsFitRequest}
+use Rattle.yds_trace_words.specs.Request.{Request, ShowHelp, ShowVersion, ReadTrace, ListThreads, whole_or_refused, whole_or, moment_of, time_or_refused, time_of, ordered, bounds_by, only, processor_of, others_asked, trace_by, threads_alone, threads_or_trace, is_question, asked_once, request_by, request_of, IsFitRequest}
 
 -- # Steps
 
@@ -294,94 +298,137 @@ are_asked unit None tasks is = absurd cc
 are_asked unit (Some text) tasks is =
     pieces_asked unit (slice_split (is_at signs.Comma) (letters_of text)) tasks (omega (arith, length-slice_split (is_at signs.Comma) (letters_of text))) is
 
-record AskedParts (unit khz : ℕ) (to : Option ℕ) (found : Result (List Task) WordFault) (asked : Asked) : Type 0 where
+record AskedParts (unit khz : ℕ) (given : Bounds) (found : Result (List Task) WordFault) (asked : Asked) (bounds : Bounds) : Type 0 where
   pub unit_is : unit ≡ asked.unit
   pub khz_is : khz ≡ asked.khz
-  pub to_is : to ≡ asked.to
+  pub bounds_is : given ≡ bounds
   pub tasks_is : found ≡ Ok asked.tasks
 
-last_parts : (order begin lost moved : Result Bool WordFault) (others : Result (Option ℕ) WordFault) (parts every : Bool) (found : Result (List Task) WordFault) (cpu unit khz : ℕ) (start : Start) (from to : Option ℕ) (asked : Asked)
-    → (order >>= (λ o. begin >>= (λ b. lost >>= (λ l. moved >>= (λ m. others >>= (λ w. found >>= (λ t. Ok (record {
+last_parts : (begin lost moved : Result Bool WordFault) (others : Result (Option ℕ) WordFault) (parts every : Bool) (found : Result (List Task) WordFault) (cpu unit khz : ℕ) (start : Start) (given : Bounds) (strictly : Bool) (asked : Asked) (bounds : Bounds) (strict : Bool)
+    → (begin >>= (λ b. lost >>= (λ l. moved >>= (λ m. others >>= (λ w. found >>= (λ t. Ok (ReadTrace (record {
       tasks = t;
       processor = cpu;
       unit = unit;
       khz = khz;
       start = start;
-      from = from;
-      to = to;
+      from = None;
+      to = None;
       begin_at_run = b;
       cut_losses = l;
       in_parts = parts;
       everywhere = every;
       moved_parts = m;
       others = w;
-    }))))))))
-    ≡ Ok asked → AskedParts unit khz to found asked
-last_parts (Err fault) begin lost moved others parts every found cpu unit khz start from to asked is = absurd cc
-last_parts (Ok o) (Err fault) lost moved others parts every found cpu unit khz start from to asked is = absurd cc
-last_parts (Ok o) (Ok b) (Err fault) moved others parts every found cpu unit khz start from to asked is = absurd cc
-last_parts (Ok o) (Ok b) (Ok l) (Err fault) others parts every found cpu unit khz start from to asked is = absurd cc
-last_parts (Ok o) (Ok b) (Ok l) (Ok m) (Err fault) parts every found cpu unit khz start from to asked is = absurd cc
-last_parts (Ok o) (Ok b) (Ok l) (Ok m) (Ok w) parts every (Err fault) cpu unit khz start from to asked is = absurd cc
-last_parts (Ok o) (Ok b) (Ok l) (Ok m) (Ok w) parts every (Ok t) cpu unit khz start from to asked is = record { unit_is = cc; khz_is = cc; to_is = cc; tasks_is = cc }
+    }) given strictly)))))))
+    ≡ Ok (ReadTrace asked bounds strict) → AskedParts unit khz given found asked bounds
+last_parts (Err fault) lost moved others parts every found cpu unit khz start given strictly asked bounds strict is = absurd cc
+last_parts (Ok b) (Err fault) moved others parts every found cpu unit khz start given strictly asked bounds strict is = absurd cc
+last_parts (Ok b) (Ok l) (Err fault) others parts every found cpu unit khz start given strictly asked bounds strict is = absurd cc
+last_parts (Ok b) (Ok l) (Ok m) (Err fault) parts every found cpu unit khz start given strictly asked bounds strict is = absurd cc
+last_parts (Ok b) (Ok l) (Ok m) (Ok w) parts every (Err fault) cpu unit khz start given strictly asked bounds strict is = absurd cc
+last_parts (Ok b) (Ok l) (Ok m) (Ok w) parts every (Ok t) cpu unit khz start given strictly asked bounds strict is = record { unit_is = cc; khz_is = cc; bounds_is = cc; tasks_is = cc }
 
-record AllParts (us khz : Result ℕ WordFault) (to : Result (Option ℕ) WordFault) (tasks : ℕ → Result (List Task) WordFault) (asked : Asked) : Type 0 where
+record AllParts (us khz : Result ℕ WordFault) (given : Result Bounds WordFault) (tasks : ℕ → Result (List Task) WordFault) (asked : Asked) (bounds : Bounds) : Type 0 where
   pub number : ℕ
   pub speed : ℕ
   pub us_is : us ≡ Ok number
   pub khz_is : khz ≡ Ok speed
-  pub end : Option ℕ
-  pub end_is : to ≡ Ok end
-  pub rest : AskedParts (number * 1000) speed end (tasks (number * 1000)) asked
+  pub ends : Bounds
+  pub ends_is : given ≡ Ok ends
+  pub rest : AskedParts (number * 1000) speed ends (tasks (number * 1000)) asked bounds
 
-all_parts : (cpu : Result (Option ℕ) WordFault) (us khz : Result ℕ WordFault) (start : Result Start WordFault) (from to : Result (Option ℕ) WordFault) (order : Option ℕ → Option ℕ → Result Bool WordFault) (begin lost moved : Result Bool WordFault) (others : Option ℕ → Result (Option ℕ) WordFault) (parts : Bool)
-    (tasks : ℕ → Result (List Task) WordFault) (asked : Asked)
-    → (cpu >>= (λ c. us >>= (λ u. khz >>= (λ k. start >>= (λ s. from >>= (λ f. to >>= (λ e. order f e >>= (λ o. begin >>= (λ b. lost >>= (λ l. moved >>= (λ m. others c >>= (λ w. tasks (u * 1000) >>= (λ t. Ok (record {
+all_parts : (cpu : Result (Option ℕ) WordFault) (us khz : Result ℕ WordFault) (start : Result Start WordFault) (given : Result Bounds WordFault) (begin lost moved : Result Bool WordFault) (others : Option ℕ → Result (Option ℕ) WordFault) (parts : Bool)
+    (tasks : ℕ → Result (List Task) WordFault) (strictly : Bool) (asked : Asked) (bounds : Bounds) (strict : Bool)
+    → (cpu >>= (λ c. us >>= (λ u. khz >>= (λ k. start >>= (λ s. given >>= (λ g. begin >>= (λ b. lost >>= (λ l. moved >>= (λ m. others c >>= (λ w. tasks (u * 1000) >>= (λ t. Ok (ReadTrace (record {
       tasks = t;
       processor = unwrap_or c 0;
       unit = u * 1000;
       khz = k;
       start = s;
-      from = f;
-      to = e;
+      from = None;
+      to = None;
       begin_at_run = b;
       cut_losses = l;
       in_parts = is_none c || parts;
       everywhere = is_none c;
       moved_parts = m;
       others = w;
-    }))))))))))))))
-    ≡ Ok asked → AllParts us khz to tasks asked
-all_parts (Err fault) us khz start from to order begin lost moved others parts tasks asked is = absurd cc
-all_parts (Ok c) (Err fault) khz start from to order begin lost moved others parts tasks asked is = absurd cc
-all_parts (Ok c) (Ok u) (Err fault) start from to order begin lost moved others parts tasks asked is = absurd cc
-all_parts (Ok c) (Ok u) (Ok k) (Err fault) from to order begin lost moved others parts tasks asked is = absurd cc
-all_parts (Ok c) (Ok u) (Ok k) (Ok s) (Err fault) to order begin lost moved others parts tasks asked is = absurd cc
-all_parts (Ok c) (Ok u) (Ok k) (Ok s) (Ok f) (Err fault) order begin lost moved others parts tasks asked is = absurd cc
-all_parts (Ok c) (Ok u) (Ok k) (Ok s) (Ok f) (Ok e) order begin lost moved others parts tasks asked is =
-    record { number = u; speed = k; us_is = refl; khz_is = refl; end = e; end_is = refl; rest = last_parts (order f e) begin lost moved (others c) (is_none c || parts) (is_none c) (tasks (u * 1000)) (unwrap_or c 0) (u * 1000) k s f e asked is }
+    }) g strictly))))))))))))
+    ≡ Ok (ReadTrace asked bounds strict) → AllParts us khz given tasks asked bounds
+all_parts (Err fault) us khz start given begin lost moved others parts tasks strictly asked bounds strict is = absurd cc
+all_parts (Ok c) (Err fault) khz start given begin lost moved others parts tasks strictly asked bounds strict is = absurd cc
+all_parts (Ok c) (Ok u) (Err fault) start given begin lost moved others parts tasks strictly asked bounds strict is = absurd cc
+all_parts (Ok c) (Ok u) (Ok k) (Err fault) given begin lost moved others parts tasks strictly asked bounds strict is = absurd cc
+all_parts (Ok c) (Ok u) (Ok k) (Ok s) (Err fault) begin lost moved others parts tasks strictly asked bounds strict is = absurd cc
+all_parts (Ok c) (Ok u) (Ok k) (Ok s) (Ok g) begin lost moved others parts tasks strictly asked bounds strict is =
+    record { number = u; speed = k; us_is = refl; khz_is = refl; ends = g; ends_is = refl; rest = last_parts begin lost moved (others c) (is_none c || parts) (is_none c) (tasks (u * 1000)) (unwrap_or c 0) (u * 1000) k s g strictly asked bounds strict is }
+
+-- # Times
+
+-- no such time is behind the clock's last one
+within_most : (time : ℕ) → within_clock time ≤ MAX_TIME
+within_most time = by (nat_le time MAX_TIME) refl
+  where
+    by : (b : Bool) → nat_le time MAX_TIME ≡ b → (if b then time else MAX_TIME) ≤ MAX_TIME
+    by true small = leb-true time MAX_TIME small
+    by false great = omega arith
+
+-- what counts from the first event is no time of the clock
+no_clock : (found : Option ℕ) (time : ℕ) → option_map AfterFirst found ≡ Some (Clock time) → ⊥
+no_clock None time is = cc
+no_clock (Some x) time is = cc
+
+by_clock : (found : Option ℕ) (time : ℕ) → option_map Clock found ≡ Some (Clock time) → found ≡ Some time
+by_clock None time is = absurd cc
+by_clock (Some x) time is = cc
+
+-- a time of the clock is at most its last one
+clock_most : (text : List ℕ) (time : ℕ) → moment_of text ≡ Some (Clock time) → time ≤ MAX_TIME
+clock_most [] time is = absurd cc
+clock_most (byte ∷ bytes) time is = by (byte == 43) is
+  where
+    by : (b : Bool) → (if b then option_map AfterFirst (decimal_at 9 MAX_TIME bytes) else option_map Clock (decimal_at 9 MAX_TIME (byte ∷ bytes))) ≡ Some (Clock time) → time ≤ MAX_TIME
+    by true same = absurd (no_clock (decimal_at 9 MAX_TIME bytes) time same)
+    by false same = decimal_most 9 MAX_TIME (byte ∷ bytes) time (by_clock (decimal_at 9 MAX_TIME (byte ∷ bytes)) time same)
+
+moment_told : (name : List ℕ) (found : Option Moment) (moment : Moment) → time_or_refused name found ≡ Ok (Some moment) → found ≡ Some moment
+moment_told name None moment is = absurd cc
+moment_told name (Some x) moment is = cc
+
+-- the same of each time that is given, whenever the first event was
+time_most : (name : List ℕ) (value : Option (List ℕ)) (to : Option Moment) (first : ℕ) → time_of name value ≡ Ok to → IfSome (option_map (time_at first) to) (λ time. time ≤ MAX_TIME)
+time_most name value None first is = tt
+time_most name value (Some (AfterFirst time)) first is = within_most (first + time)
+time_most name None (Some (Clock time)) first is = absurd cc
+time_most name (Some text) (Some (Clock time)) first is = clock_most text time (moment_told name (moment_of text) (Clock time) is)
+
+-- up to when it is asked, whenever the first event was
+to_most : (given : List Setting) (bounds : Bounds) (first : ℕ) → bounds_by given ≡ Ok bounds → IfSome (option_map (time_at first) bounds.to) (λ time. time ≤ MAX_TIME)
+to_most given bounds first is =
+    let last = time_of (codes "--to") (value_of (codes "--to") given) in
+    let from = went (time_of (codes "--from") (value_of (codes "--from") given))
+    (λ (from : Option Moment). last >>= (λ (to : Option Moment). ordered from to >>= (λ (in_order : Bool). Ok (record { from = from; to = to })))) bounds is in
+    let to = went last (λ (to : Option Moment). ordered from.value to >>= (λ (in_order : Bool). Ok (record { from = from.value; to = to }))) bounds from.is in
+    let both = went (ordered from.value to.value) (λ (in_order : Bool). Ok (record { from = from.value; to = to.value })) bounds to.is in
+    let even : to.value ≡ bounds.to = cc in
+    subst (λ (to : Option Moment). IfSome (option_map (time_at first) to) (λ time. time ≤ MAX_TIME)) even
+    (time_most (codes "--to") (value_of (codes "--to") given) to.value first to.was)
+
+-- # Requests
 
 weaker : (P Q : Task → Type 0) (tasks : List Task) → ((task : Task) → P task → Q task) → All P tasks → All Q tasks
 weaker P Q tasks so all = λ i d within. so _ (all i d within)
 
-to_most : (name : List ℕ) (value : Option (List ℕ)) (to : Option ℕ) → time_of name value ≡ Ok to → IfSome to (λ time. time ≤ MAX_TIME)
-to_most name value None is = tt
-to_most name None (Some time) is = absurd cc
-to_most name (Some text) (Some time) is = by (decimal_at 9 MAX_TIME text) refl is
-  where
-    by : (found : Option ℕ) → decimal_at 9 MAX_TIME text ≡ found → time_or_refused name found ≡ Ok (Some time) → time ≤ MAX_TIME
-    by None was same = absurd cc
-    by (Some x) was same = let even : x ≡ time = cc in decimal_most 9 MAX_TIME text time (was ∙ ap Some even)
-
 -- what is asked by these settings
-asked_fits : (given : List Setting) (asked : Asked) → asked_by given ≡ Ok asked → IsFit asked
-asked_fits given asked is =
+trace_fits : (given : List Setting) (asked : Asked) (bounds : Bounds) (strict : Bool) → trace_by given ≡ Ok (ReadTrace asked bounds strict) → IsFitRequest (ReadTrace asked bounds strict)
+trace_fits given asked bounds strict is first =
     let value = λ (name : List ℕ). value_of name given in
     let parts = all_parts (processor_of (value (codes "--cpu"))) (whole_or 10 1 MAX_UNIT (codes "--us") reasons.Unit (value (codes "--us")))
-    (whole_or 10000 1 MAX_NUMBER (codes "--khz") reasons.Speed (value (codes "--khz"))) (start_asked (value (codes "--start"))) (time_of (codes "--from") (value (codes "--from")))
-    (time_of (codes "--to") (value (codes "--to"))) ordered (only (codes "--begin") (codes "run") reasons.Begin (value (codes "--begin")))
+    (whole_or 10000 1 MAX_NUMBER (codes "--khz") reasons.Speed (value (codes "--khz"))) (start_asked (value (codes "--start"))) (bounds_by given)
+    (only (codes "--begin") (codes "run") reasons.Begin (value (codes "--begin")))
     (only (codes "--lost") (codes "cut") reasons.Lost (value (codes "--lost"))) (only (codes "--moved") (codes "parts") reasons.Moved (value (codes "--moved")))
-    (λ (cpu : Option ℕ). others_asked cpu (value (codes "--others"))) (is_given (codes "--parts") given) (λ (unit : ℕ). tasks_asked unit (value (codes "--tasks"))) asked is in
+    (λ (cpu : Option ℕ). others_asked cpu (value (codes "--others"))) (is_given (codes "--parts") given) (λ (unit : ℕ). tasks_asked unit (value (codes "--tasks")))
+    (is_given (codes "--strict") given) asked bounds strict is in
     let unit = unit_between (value (codes "--us")) parts.number parts.us_is in
     let speed = speed_between (value (codes "--khz")) parts.speed parts.khz_is in
     let fine = subst (λ u. AreAsked u asked.tasks) parts.rest.unit_is (are_asked (parts.number * 1000) (value (codes "--tasks")) asked.tasks parts.rest.tasks_is) in
@@ -392,7 +439,7 @@ asked_fits given asked is =
         deadlines = weaker (IsFine asked.unit) (λ (task : Task). asked.unit ≤ task.deadline) asked.tasks (λ task one. one.long) fine.all;
       };
       within = record { deadlines = weaker (IsFine asked.unit) (λ (task : Task). task.deadline ≤ MAX_DEADLINE) asked.tasks (λ task one. one.short) fine.all };
-      reached = subst (λ (to : Option ℕ). IfSome to (λ time. time ≤ MAX_TIME)) parts.rest.to_is (to_most (codes "--to") (value (codes "--to")) parts.end parts.end_is);
+      reached = to_most given bounds first (parts.ends_is ∙ ap Ok parts.rest.bounds_is);
       some = fine.some;
       few = fine.few;
       labels = weaker (IsFine asked.unit) (λ (task : Task). is_label task.label ≡ true) asked.tasks (λ task one. one.label) fine.all;
@@ -404,31 +451,27 @@ pub request_fits : (words : List (List ℕ)) (request : Request) → request_of 
 request_fits words ShowHelp is = tt
 request_fits words ShowVersion is = tt
 request_fits words ListThreads is = tt
-request_fits words (ReadTrace asked strict) is =
-    let given = went (settings_of words) request_by (ReadTrace asked strict) is in
+request_fits words (ReadTrace asked bounds strict) is =
+    let given = went (settings_of words) request_by (ReadTrace asked bounds strict) is in
     by_help (is_given (codes "--help") given.value) given.value given.is
   where
-    by_asked : (strictly : Bool) (found : Result Asked WordFault) → ((one : Asked) → found ≡ Ok one → IsFit one) → read_trace strictly found ≡ Ok (ReadTrace asked strict) → IsFit asked
-    by_asked strictly (Err fault) fits same = absurd cc
-    by_asked strictly (Ok one) fits same = let even : one ≡ asked = cc in subst IsFit even (fits one refl)
-
-    by_threads : (name : Option (List ℕ)) → threads_alone name ≡ Ok (ReadTrace asked strict) → IsFit asked
+    by_threads : (name : Option (List ℕ)) → threads_alone name ≡ Ok (ReadTrace asked bounds strict) → IsFitRequest (ReadTrace asked bounds strict)
     by_threads None same = absurd cc
     by_threads (Some name) same = absurd cc
 
-    by_question : (b : Bool) (settings : List Setting) → threads_or_trace b settings ≡ Ok (ReadTrace asked strict) → IsFit asked
+    by_question : (b : Bool) (settings : List Setting) → threads_or_trace b settings ≡ Ok (ReadTrace asked bounds strict) → IsFitRequest (ReadTrace asked bounds strict)
     by_question true settings same = by_threads (other_than (codes "--tasks") settings) same
-    by_question false settings same = by_asked (is_given (codes "--strict") settings) (asked_by settings) (asked_fits settings) same
+    by_question false settings same = trace_fits settings asked bounds strict same
 
-    by_twice : (name : Option (List ℕ)) (settings : List Setting) → asked_once name settings ≡ Ok (ReadTrace asked strict) → IsFit asked
+    by_twice : (name : Option (List ℕ)) (settings : List Setting) → asked_once name settings ≡ Ok (ReadTrace asked bounds strict) → IsFitRequest (ReadTrace asked bounds strict)
     by_twice (Some again) settings same = absurd cc
     by_twice None settings same = by_question (is_question (value_of (codes "--tasks") settings)) settings same
 
-    by_version : (b : Bool) (settings : List Setting) → (if b then Ok ShowVersion else asked_once (given_twice settings) settings) ≡ Ok (ReadTrace asked strict) → IsFit asked
+    by_version : (b : Bool) (settings : List Setting) → (if b then Ok ShowVersion else asked_once (given_twice settings) settings) ≡ Ok (ReadTrace asked bounds strict) → IsFitRequest (ReadTrace asked bounds strict)
     by_version true settings same = absurd cc
     by_version false settings same = by_twice (given_twice settings) settings same
 
     by_help : (b : Bool) (settings : List Setting)
-        → (if b then Ok ShowHelp else (if is_given (codes "--version") settings then Ok ShowVersion else asked_once (given_twice settings) settings)) ≡ Ok (ReadTrace asked strict) → IsFit asked
+        → (if b then Ok ShowHelp else (if is_given (codes "--version") settings then Ok ShowVersion else asked_once (given_twice settings) settings)) ≡ Ok (ReadTrace asked bounds strict) → IsFitRequest (ReadTrace asked bounds strict)
     by_help true settings same = absurd cc
     by_help false settings same = by_version (is_given (codes "--version") settings) settings same

@@ -33,7 +33,7 @@ setting_read setting = record { name = setting.name.now; value = setting.value.n
 abbrev pub request_read : RequestMade → Request
 request_read requests.Help = ShowHelp
 request_read requests.Version = ShowVersion
-request_read (requests.Trace asked strict) = ReadTrace (asked_read asked) strict
+request_read (requests.Trace asked bounds strict) = ReadTrace (asked_read asked) bounds strict
 request_read requests.Threads = ListThreads
 
 -- What was read is what the definition reads, or it is refused for the same reason, or memory ran out.

@@ -31,7 +31,7 @@ pub enum Reason {
     TooManySpeeds,
     /// A speed behind it is of the same processor.
     ProcessorTwice,
-    /// It is no time of the trace's clock.
+    /// It is no time.
     Time,
     /// `--from` isn't before `--to`.
     FromNotBefore,

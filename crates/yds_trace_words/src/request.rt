@@ -1,6 +1,5 @@
 //! What the words of the command line ask for.
 ghost use Rattle.std.specs.Prelude.{◌≡◌, ◌≤◌, map, option_map, true, IfOk};
-ghost use Rattle.yds_trace.specs.Views.{asked_read};
 ghost use Rattle.yds_trace_words.specs.Request as spec;
 ghost use Rattle.yds_trace_words.specs.Tasks.{tasks_asked};
 ghost use Rattle.yds_trace_words.specs.Words.{value_of};
@@ -16,6 +15,7 @@ use std::alloc::Global;
 use yds_kernel::MAX_NUMBER;
 use yds_text::number_of;
 use yds_trace::{Asked, MAX_PROCESSOR, MAX_TIME, Task};
+use yds_trace_bounds::{Bounds, Moment};
 
 /// What the words ask for.
 #[derive(Debug, Drop)]
@@ -26,8 +26,10 @@ pub enum Request {
     Version,
     /// The document of a trace, or its parts.
     Trace {
-        /// What is asked of it.
+        /// What is asked of it. Its times are still to be set, by the bounds.
         asked: Asked,
+        /// From when to when.
+        bounds: Bounds,
         /// Whether a trace is refused of which a job is left out for another reason than `--from` and `--to`.
         strict: bool,
     },
@@ -60,9 +62,7 @@ fn request_by<'a>(alloc: Global, given: &[Setting<'a>]) -> Result<Request, NoReq
     if asks_threads(value(given, b"--tasks")) {
         return threads_alone(given);
     }
-    let asked = asked_by(alloc, given)?;
-    let strict = value(given, b"--strict").is_some();
-    Ok(Request::Trace { asked, strict })
+    trace_by(alloc, given)
 }
 
 /// Whether this value of `--tasks` asks for the list of threads.
@@ -86,16 +86,14 @@ fn threads_alone<'a>(given: &[Setting<'a>]) -> Result<Request, NoRequest<'a>>
 }
 
 /// What they ask of a trace.
-fn asked_by<'a>(alloc: Global, given: &[Setting<'a>]) -> Result<Asked, NoRequest<'a>>
-    ensures { Reads asked_read result (spec.asked_by (map setting_read given.now)) }
+fn trace_by<'a>(alloc: Global, given: &[Setting<'a>]) -> Result<Request, NoRequest<'a>>
+    ensures { Reads request_read result (spec.trace_by (map setting_read given.now)) }
 {
     let processor = processor(value(given, b"--cpu"))?;
     let unit = whole(given, b"--us", 10, (1, MAX_UNIT), Reason::Unit)?;
     let khz = whole(given, b"--khz", 10_000, (1, MAX_NUMBER), Reason::Speed)?;
     let start = start(alloc, value(given, b"--start"))?;
-    let from = time(b"--from", value(given, b"--from"))?;
-    let to = time(b"--to", value(given, b"--to"))?;
-    check_order(from, to)?;
+    let bounds = bounds_by(given)?;
     let begin_at_run = only(b"--begin", b"run", Reason::Begin, value(given, b"--begin"))?;
     let cut_losses = only(b"--lost", b"cut", Reason::Lost, value(given, b"--lost"))?;
     let moved_parts = only(
@@ -108,20 +106,26 @@ fn asked_by<'a>(alloc: Global, given: &[Setting<'a>]) -> Result<Asked, NoRequest
     let everywhere = processor.is_none();
     let in_parts = everywhere || value(given, b"--parts").is_some();
     let tasks = tasks_asked(alloc, unit * 1000, value(given, b"--tasks"))?;
-    Ok(Asked {
+    let asked = Asked {
         tasks,
         processor: processor.unwrap_or(0),
         unit: unit * 1000,
         khz,
         start,
-        from,
-        to,
+        from: None,
+        to: None,
         begin_at_run,
         cut_losses,
         in_parts,
         everywhere,
         moved_parts,
         others,
+    };
+    let strict = value(given, b"--strict").is_some();
+    Ok(Request::Trace {
+        asked,
+        bounds,
+        strict,
     })
 }
 
@@ -191,28 +195,61 @@ fn others<'a>(processor: Option<u64>, value: Option<&[u8]>) -> Result<Option<u64
     }
 }
 
-/// A time of the trace's clock in seconds, as nanoseconds.
-fn time<'a>(name: &'a [u8], value: Option<&[u8]>) -> Result<Option<u64>, WordFault<'a>>
+/// From when to when they ask.
+fn bounds_by<'a>(given: &[Setting<'a>]) -> Result<Bounds, WordFault<'a>>
+    ensures { Takes (λ bounds. bounds) result (spec.bounds_by (map setting_read given.now)) }
+{
+    let from = time(b"--from", value(given, b"--from"))?;
+    let to = time(b"--to", value(given, b"--to"))?;
+    check_order(from, to)?;
+    Ok(Bounds { from, to })
+}
+
+/// The time that this is set to.
+fn time<'a>(name: &'a [u8], value: Option<&[u8]>) -> Result<Option<Moment>, WordFault<'a>>
     ensures { Takes (λ time. time) result (spec.time_of name.entry.now (option_map (λ value. value.now) value.entry)) }
 {
     let Some(text) = value else {
         return Ok(None);
     };
-    match decimal(text, 9, MAX_TIME) {
-        Some(time) => Ok(Some(time)),
+    match moment(text) {
+        Some(moment) => Ok(Some(moment)),
         None => Err(WordFault::of(name, Reason::Time)),
     }
 }
 
-/// That `from` is before `to`.
-fn check_order<'a>(from: Option<u64>, to: Option<u64>) -> Result<(), WordFault<'a>>
+/// The time that these seconds spell. With a plus sign before them they count from the first event, else they are of the
+/// trace's clock.
+fn moment(text: &[u8]) -> Option<Moment>
+    ensures { result ≡ spec.moment_of text.now }
+{
+    let (first, others) = text.split_first()?;
+    if *first == b'+' {
+        Some(Moment::AfterFirst(decimal(others, 9, MAX_TIME)?))
+    } else {
+        Some(Moment::Clock(decimal(text, 9, MAX_TIME)?))
+    }
+}
+
+/// That `from` is before `to`, where both are times of the clock, or both count from the first event. One of each isn't
+/// compared here.
+fn check_order<'a>(from: Option<Moment>, to: Option<Moment>) -> Result<(), WordFault<'a>>
     ensures { Takes (λ _. true) result (spec.ordered from to) }
 {
     match (from, to) {
-        (Some(from), Some(to)) if from >= to => {
-            Err(WordFault::of(b"--from", Reason::FromNotBefore))
-        }
+        (Some(Moment::Clock(from)), Some(Moment::Clock(to))) => check_before(from, to),
+        (Some(Moment::AfterFirst(from)), Some(Moment::AfterFirst(to))) => check_before(from, to),
         _ => Ok(()),
+    }
+}
+
+fn check_before<'a>(from: u64, to: u64) -> Result<(), WordFault<'a>>
+    ensures { Takes (λ _. true) result (spec.before_to from to) }
+{
+    if from < to {
+        Ok(())
+    } else {
+        Err(WordFault::of(b"--from", Reason::FromNotBefore))
     }
 }
 

@@ -28,7 +28,7 @@ thread is woken and ends where that leaves the processor to sleep.
   --khz N        so many kilohertz are a unit of speed (10000)
   --start KHZ    the speed of each processor before the trace tells one, in kilohertz; or CPU:KHZ,CPU:KHZ,.. for these
                  processors, and then that of others isn't known before the trace tells it
-  --from S       from this time on, in seconds of the trace's clock
+  --from S       from this time on, in seconds of the trace's clock; +2 counts from the trace's first line that has a time
   --to S         up to this time
   --begin run    jobs begin at their first run, and wake-ups aren't read
   --lost cut     goes on where events were lost, and leaves out the jobs that may have been open there
@@ -140,7 +140,7 @@ fn reason_text(reason: Reason) -> &'static str
             "more than 1000 speeds; list fewer, or give one for all processors",
         Reason::ProcessorTwice => "another speed is of the same processor; give it once",
         Reason::Time => {
-            "no time of the trace's clock; write seconds to 9223372036.854775807, with at most nine digits behind the point"
+            "no time; write seconds to 9223372036.854775807, with at most nine digits behind the point; +2 counts from the first line"
         }
         Reason::FromNotBefore => "not before --to; give an earlier time, or a later one there",
         Reason::Begin => {
