@@ -57,7 +57,7 @@ MOST_OF = {
     "yds_run": 12,
     "yds_admit": 12,
     "yds_document": 12,
-    "yds_trace_words": 10,
+    "yds_trace_words": 11,
     "yds_trace_run": 10,
 }
 NEEDED = [

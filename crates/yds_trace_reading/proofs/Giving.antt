@@ -1,5 +1,5 @@
 -- What the lines that were given so far, in order of time, show of the whole trace.
-use Rattle.yds_model.proofs.Common.{◌≡◌, ℕ, ◌+◌, ◌≤◌, List, [], ◌∷◌, ◌++◌, length, Option, Some, None, true, Result, Ok, Err, refl, ap, ◌∙◌, arith}
+use Rattle.yds_model.proofs.Common.{◌≡◌, ℕ, ◌+◌, ◌≤◌, List, [], ◌∷◌, ◌++◌, length, Option, Some, None, true, Result, Ok, Err, refl, sym, ap, subst, ◌∙◌, arith}
 use Rattle.std.specs.Prelude.{IfSome, OnOk}
 use Rattle.yds_model.specs.Fields.{Fault}
 use Rattle.yds_kernel.specs.declared.fault.Reason.{Reason}
@@ -53,6 +53,10 @@ before_all = record {
 pub first_of_all : (left : Option (List ℕ)) → AreGiven left before_all left []
 first_of_all None = record { last = refl; in_order = tt; counts = tt }
 first_of_all (Some bytes) = record { last = refl; in_order = first_order bytes before_all refl refl refl refl refl; counts = refl }
+
+-- The same of a reader that is as a new one.
+pub none_given : (left : Option (List ℕ)) (ordering : Ordering) → ordering ≡ before_all → AreGiven left ordering left []
+none_given left ordering is = subst (λ (begin : Ordering). AreGiven left begin left []) (sym is) (first_of_all left)
 
 -- With the line that a step gives.
 pub one_given : (input : Option (List ℕ)) (old new : Ordering) (before left : Option (List ℕ)) (given : List Placed) (faults_before faults_now : ℕ)
