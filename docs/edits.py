@@ -40,6 +40,7 @@ LATER = [
     "yds_trace_again",
     "yds_trace_whole",
     "yds_trace_parts",
+    "yds_trace_bounds",
     "yds_trace_words",
     "yds_trace_files",
     "yds_trace_reading",
@@ -57,7 +58,10 @@ MOST_OF = {
     "yds_run": 12,
     "yds_admit": 12,
     "yds_document": 12,
+    "yds_kernel_order": 9,
     "yds_trace_words": 11,
+    "yds_trace_reading": 10,
+    "yds_trace_parts": 9,
     "yds_trace_run": 10,
 }
 NEEDED = [

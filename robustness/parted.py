@@ -10,8 +10,8 @@ from dataclasses import dataclass, field, replace
 from typing import Dict, List, NamedTuple, Optional, Set, Tuple
 
 from second import (
-    Asked, Document, Follower, Job, Judged, Line, MOST_PROCESSOR, MOST_TEXT, MOST_TIME, Shown, Span, Stretch, Tally, Thread, Told, Watch, Wrong,
-    as_bytes, in_order, is_asked_for, is_loss, is_missing, is_stamped, judge_jobs, line_fault, milliseconds, ordered, share_of, shown_by, unseen_task,
+    Asked, Document, Follower, Job, Judged, Line, MOST_PROCESSOR, MOST_TEXT, MOST_TIME, Ordered, Shown, Span, Stretch, Tally, Thread, Told, Watch, Wrong,
+    as_bytes, begun, in_order, is_asked_for, is_loss, is_missing, is_stamped, judge_jobs, line_fault, milliseconds, ordered, share_of, shown_by, unseen_task,
     within,
 )
 
@@ -484,9 +484,8 @@ class Parts:
             raise line_fault(self.in_text or lines, cause, "whole")
 
 
-def read_all(parts: Parts, trace: bytes) -> None:
+def read_all(parts: Parts, order: Ordered) -> None:
     """All lines in order of time, and the last part."""
-    order = ordered(trace)
     for one in order.placed:
         parts.take(one.line, one.number)
         if parts.number % parts.limits.look == 0:
@@ -499,9 +498,11 @@ def read_all(parts: Parts, trace: bytes) -> None:
 
 def told_in_parts(trace: bytes, asked: Asked, limits: Limits = FULL) -> Tuple[Told, Parts]:
     """What is written of a trace in parts, and what was read of it."""
+    order = ordered(trace)
     parts = Parts(asked, limits)
     try:
-        read_all(parts, trace)
+        parts = Parts(begun(order, asked), limits)
+        read_all(parts, order)
     except Wrong as wrong:
         return Told(f"{parts.text}# {wrong.text}\nfailed\n", wrong.status, wrong.kind, None, tuple(parts.written)), parts
     return Told(parts.text, 0, "", None, tuple(parts.written)), parts

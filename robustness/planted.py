@@ -147,6 +147,13 @@ MISTAKES = [
         ("self.time - time > MAX_STEP_BACK", "self.time - time >= MAX_STEP_BACK"),)),
     Mistake("the_last_line_read_told_for_the_one_given", "yds_kernel_order/src/reader.rt", (
         ("            Some(slot) => slot.number(),\n", "            Some(_) => self.lines,\n"),)),
+    # Times that count from the first line.
+    Mistake("seconds_after_the_first_line_taken_of_the_clock", "yds_trace_words/src/request.rt", (
+        ("        Some(Moment::AfterFirst(decimal(others, 9, MAX_TIME)?))\n", "        Some(Moment::Clock(decimal(others, 9, MAX_TIME)?))\n"),)),
+    Mistake("the_first_line_taken_at_0", "yds_trace_reading/src/first.rt", (
+        ("        Said::Event(event) => Ok(event.time),\n", "        Said::Event(_) => Ok(0),\n"),)),
+    Mistake("a_lost_first_line_passed_over", "yds_trace_reading/src/first.rt", (
+        ("        Said::Lost { .. } | Said::Nothing => Err(NoBegin::Lost),\n", "        Said::Lost { .. } | Said::Nothing => Ok(0),\n"),)),
     # Shares of jobs that moved.
     Mistake("a_share_of_what_ran_elsewhere_alone", "yds_trace/src/share.rt", (
         ("    has_run_on(processor, job) && any_elsewhere(processor, &job.stretches)\n", "    any_elsewhere(processor, &job.stretches)\n"),)),

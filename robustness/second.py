@@ -58,7 +58,7 @@ class Asked:
     """What is asked for: of one processor, or of each one in documents of its own (`everywhere`). Times are nanoseconds.
 
     With `moved` a job that ran on several processors has a share in the documents of each. With `others` it is told who else had that
-    processor while a job waited.
+    processor while a job waited. A time whose word is among `counted` counts from the trace's first line.
     """
 
     tasks: List[Task] = field(default_factory=list)
@@ -70,6 +70,7 @@ class Asked:
     starts: Dict[int, int] = field(default_factory=dict)
     begin: Optional[int] = None
     end: Optional[int] = None
+    counted: Tuple[str, ...] = ()
     at_run: bool = False
     cut: bool = False
     strict: bool = False
@@ -121,7 +122,7 @@ HELPS = {
     "speed form": "no colon behind the processor; write CPU:KHZ, with the speed in kilohertz, or one speed for all processors",
     "many speeds": "more than 1000 speeds; list fewer, or give one for all processors",
     "same processor": "another speed is of the same processor; give it once",
-    "time": "no time of the trace's clock; write seconds to 9223372036.854775807, with at most nine digits behind the point",
+    "time": "no time; write seconds to 9223372036.854775807, with at most nine digits behind the point; +2 counts from the first line",
     "order": "not before --to; give an earlier time, or a later one there",
     "--begin": "no way in which jobs begin; write run, or leave it out for jobs that begin at wake-ups",
     "--lost": "no way to go on behind lost events; write cut, or leave it out",
@@ -299,9 +300,14 @@ def own_text(name: str) -> str:
     return mark[1].replace("\\n", "\n")
 
 
+def counts_from_first(given: Dict[str, str], word: str) -> bool:
+    """Whether the word gives a time that counts from the trace's first line."""
+    return given.get(word, "")[:1] == "+"
+
+
 def time_of(given: Dict[str, str], word: str) -> Optional[int]:
-    """The time that the word gives, in nanoseconds of the trace's clock."""
-    time = decimal(given[word], 9, MOST_TIME) if word in given else None
+    """The time that the word gives, in nanoseconds."""
+    time = decimal(given[word][counts_from_first(given, word) :], 9, MOST_TIME) if word in given else None
     if word in given and time is None:
         raise word_fault(word, "time")
     return time
@@ -330,7 +336,8 @@ def asked_by(words: List[str]) -> Asked:
     elif "--start" in given:
         asked.start = whole("--start", given["--start"], 1, MOST_NUMBER)
     asked.begin, asked.end = (time_of(given, word) for word in ("--from", "--to"))
-    if asked.begin is not None and asked.end is not None and asked.begin >= asked.end:
+    asked.counted = tuple(word for word in ("--from", "--to") if counts_from_first(given, word))
+    if len(asked.counted) != 1 and asked.begin is not None and asked.end is not None and asked.begin >= asked.end:
         raise word_fault("--from", "order")
     for word, value in (("--begin", "run"), ("--lost", "cut"), ("--moved", "parts"), ("--others", "spans")):
         if given.get(word, value) != value:
@@ -646,9 +653,22 @@ def cause_of(line: Line, lines: List[Line], asked: Asked) -> Optional[str]:
     return "lost" if not asked.cut and is_place_of_loss(line, lines, asked) else None
 
 
-def read_lines(trace: bytes, asked: Asked) -> List[Line]:
+def begun(order: Ordered, asked: Asked) -> Asked:
+    """What is asked, in times of the trace's clock."""
+    if not asked.counted:
+        return asked
+    if order.placed and not is_stamped(order.placed[0].line):
+        raise Wrong("events were lost before the first one; give --from and --to as times of the trace's clock", 3, "no first line")
+    first = order.placed[0].line.time if order.placed else 0
+    begin, end = (
+        min(first + time, MOST_TIME) if word in asked.counted and time is not None else time
+        for word, time in (("--from", asked.begin), ("--to", asked.end))
+    )
+    return replace(asked, begin=begin, end=end, counted=())
+
+
+def read_lines(order: Ordered, asked: Asked) -> List[Line]:
     """What the lines say, in order of time."""
-    order = ordered(trace)
     lines: List[Line] = []
     for one in order.placed:
         cause = cause_of(one.line, lines, asked)
@@ -1332,7 +1352,9 @@ class Told(NamedTuple):
 
 def whole_document(trace: bytes, asked: Asked) -> Document:
     """The document of a whole trace."""
-    lines = read_lines(trace, asked)
+    order = ordered(trace)
+    asked = begun(order, asked)
+    lines = read_lines(order, asked)
     by_task = judge(lines, asked)
     zero = zero_of(by_task, lines, asked)
     return Document(by_task, zero, asked, tuple(within(spans_of(lines, asked), zero)), tally_of(lines, asked))

@@ -7,7 +7,7 @@ It draws TRACES traces (1,000) by drawn.py, each with words, with words that hav
 lines that are taken out of the order of their times (exchanged.py): five formats; threads that sleep, are preempted,
 wait, starve and move among processors, with odd names; changes of speed at the stamp of a switch; fronts that are cut
 off, lost events, missing switches, each fault of a line, of its form, of a whole trace and of a document; `--from` and
-`--to`; deadlines that are missed by a nanosecond; and one in eight in parts, and one in eight of all processors, of
+`--to`, of the clock and from the first line on; deadlines that are missed by a nanosecond; and one in eight in parts, and one in eight of all processors, of
 which such small traces have one part each (long.py and everywhere.py draw those that have more). The second reading is
 second.py, and parted.py for parts. It shares no code with the crates.
 
@@ -18,6 +18,7 @@ more fewer than 200 had a thing of WANTED.
 """
 
 import os
+import random
 import re
 import shutil
 import subprocess
@@ -27,12 +28,12 @@ from collections import Counter
 from pathlib import Path
 from typing import Dict, Iterator, List, NamedTuple, Set, Tuple
 
-from drawn import drawn, every_processor, mistaken
+from drawn import Drawn, decimal_text, drawn, every_processor, mistaken
 from exchanged import exchanged
 from parted import SMALL, told_in_parts
 from second import (
-    Asked, Asks, CAUSES, Document, FLAGS, FORMS, HELPS, Judged, MOST_OTHER_NAME, MOST_PASSED, MOST_STEP_BACK, MOST_TEXT, Placed, Told, VALUES, Wrong, as_bytes,
-    asked_by, files_in, is_stamped, later_before, ordered, whole_document,
+    Asked, Asks, CAUSES, Document, FLAGS, FORMS, HELPS, Judged, MOST_OTHER_NAME, MOST_PASSED, MOST_STEP_BACK, MOST_TEXT, MOST_TIME, Placed, Told, VALUES, Wrong, as_bytes,
+    asked_by, begun, decimal, files_in, is_stamped, later_before, ordered, whole_document,
 )
 
 
@@ -66,7 +67,7 @@ WANTED = [
     *(f"line: {cause}" for cause in CAUSES if cause not in ("none", "unwoken", "part written")),
     *(f"whole: {cause}" for cause in ("none", "lost", "a task unseen", "unwoken")),
     *(f"document: {cause}" for cause in ("times", "work", "coarse speed", "no job", "strict")),
-    *(f"word: {reason}" for reason in HELPS),
+    *(f"word: {reason}" for reason in HELPS), "a time that counts from the first line", "no first line",
     *(f"late: {reason}" for reason in REASONS), *(f"left out: {reason}" for reason in REASONS + ["not ended", "after to"]),
     "a job as it is", "a job that moves, in time", "a job that moves, late", "a job that starves", "an overrun", "a job that is preempted",
     "a job that goes on after a sleep", "a job with several wake-ups", "late by nothing", "late by 1 ns", "late by less than a unit",
@@ -94,6 +95,8 @@ def in_words(words: List[str]) -> Iterator[str]:
             yield f"option {name}"
         if name in VALUES and "=" in word:
             yield "a value behind an equals sign"
+        if re.fullmatch(r"(--from=|--to=)?\+[0-9.]+", word):
+            yield "a time that counts from the first line"
     if every_processor(words):
         yield "option --cpu all"
     pairs = [word for word in words if re.fullmatch(r"(--start=)?([0-9]+:[0-9]+,)*[0-9]+:[0-9]+", word)]
@@ -200,13 +203,14 @@ def in_step_back(one: Placed, later: List[Placed], before: List[Placed], asked: 
 
 def out_of_order(words: List[str], trace: bytes, said: Told) -> Set[str]:
     """What a trace's lines out of order show."""
+    found_order = ordered(trace)
     try:
-        asked = asked_by(words)
+        asked = begun(found_order, asked_by(words))
     except (Asks, Wrong):
         return set()
     past: List[Placed] = []
     found: Set[str] = set()
-    order = ordered(trace).placed
+    order = found_order.placed
     numbers = [one.number for one in order]
     # In the order of the text: what is put before a line comes later.
     for one in sorted(order, key=lambda each: each.number):
@@ -307,9 +311,30 @@ def case_of(words: List[str], trace: bytes) -> Case:
     return Case(words, trace, said.text, said.status)
 
 
+def from_first(seed: int, number: int, it: Drawn) -> Drawn:
+    """The trace with times that count from its first line, where its words have times, and some with lost events before that line."""
+    draw = random.Random(f"first {seed} {number}")
+    at = [place for place, word in enumerate(it.words) if word.partition("=")[0] in ("--from", "--to")]
+    if it.shows in ("missing", "no_speed", "edges", "torn", "sharing") and not at and draw.random() < 0.1:
+        return it._replace(words=draw.choice([["--to", "+1"], ["--from=+0.001"]]) + it.words, trace=b"CPU:1 [LOST EVENTS]\n" + it.trace)
+    if not at or draw.random() < 0.4:
+        return it
+    trace = (b"CPU:0 [LOST 2 EVENTS]\n" if draw.random() < 0.1 else b"") + it.trace
+    placed = ordered(trace).placed
+    first = placed[0].line.time if placed and is_stamped(placed[0].line) else 0
+    words = list(it.words)
+    for place in at:
+        name, equals, value = words[place].partition("=")
+        time = decimal(value or words[place + 1], 9, MOST_TIME)
+        if time is not None and time >= first and draw.random() < 0.8:
+            counted = "+" + decimal_text(time - first, 9)
+            words[place : place + (1 if equals else 2)] = [name + equals + counted] if equals else [name, counted]
+    return it._replace(words=words, trace=trace)
+
+
 def drawn_cases(seed: int, number: int, counts: "Counter[str]") -> List[Case]:
     """The trace of this number with its words, with words that have a mistake, and with lines out of order. What is in it is counted."""
-    it = drawn(seed, number)
+    it = from_first(seed, number, drawn(seed, number))
     said = told(it.words, it.trace)
     wrong = mistaken(seed, number, it.words)
     wrong_said = told(wrong, it.trace)
