@@ -101,6 +101,7 @@ pub line_halts : (asked : Asked) (strict : Bool) (bytes : List ℕ) (past : List
     Writes asked strict bytes (Err halt) old now
 line_halts asked strict bytes past said number telling kept.Memory old now behind line front stands is appended =
     some_written asked strict bytes past telling old now front stands appended
+line_halts asked strict bytes past said number telling kept.NoFirst old now behind line front stands is appended = absurd is
 line_halts asked strict bytes past said number telling kept.Endless old now behind line front stands is appended = absurd is
 line_halts asked strict bytes past said number telling kept.ReadFault old now behind line front stands is appended = absurd is
 line_halts asked strict bytes past said number telling kept.WriteFault old now behind line front stands is appended = absurd is
@@ -199,6 +200,7 @@ pub end_halts : (asked : Asked) (strict : Bool) (bytes : List ℕ) (given : List
     Appends old now (told_after asked strict (said_in given)).text → Writes asked strict bytes (Err halt) old now
 end_halts asked strict bytes given lines number telling kept.Memory old now whole last front stands is appended =
     some_written asked strict bytes (said_in given) telling old now front stands appended
+end_halts asked strict bytes given lines number telling kept.NoFirst old now whole last front stands is appended = absurd is
 end_halts asked strict bytes given lines number telling kept.Endless old now whole last front stands is appended = absurd is
 end_halts asked strict bytes given lines number telling kept.ReadFault old now whole last front stands is appended = absurd is
 end_halts asked strict bytes given lines number telling kept.WriteFault old now whole last front stands is appended = absurd is

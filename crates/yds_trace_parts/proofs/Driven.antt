@@ -1,5 +1,5 @@
 -- What the telling of some lines shows of the source and of the sink, step by step.
-use Rattle.yds_model.proofs.Common.{◌≡◌, ℕ, ◌+◌, ◌<◌, ◌≤◌, ◌^◌, inl, inr, List, [], ◌∷◌, ◌++◌, length, Bool, true, Option, Some, None, Ok, Err, refl, sym, ap, subst, ◌∙◌, arith, append_assoc, append-nil, length-append, length-reverse, Appends}
+use Rattle.yds_model.proofs.Common.{◌≡◌, ℕ, ◌+◌, ◌<◌, ◌≤◌, ◌^◌, inl, inr, List, [], ◌∷◌, ◌++◌, length, Bool, Option, Some, None, Ok, Err, refl, sym, ap, subst, ◌∙◌, arith, append_assoc, length-append, length-reverse, Appends}
 use Rattle.std.specs.Prelude.{IfSome}
 use Rattle.std.proofs.KnownBytes.{Appends-nil, Appends-trans}
 use Rattle.yds_port.specs.Sink.{AppendsFront}
@@ -19,7 +19,7 @@ use Rattle.yds_trace.specs.Faults.{first_fault, numbered, said_fault, whole_faul
 use Rattle.yds_trace.specs.Kept.{told_to_forget}
 use Rattle.yds_trace.specs.Parts.{processors_of, parts_fault}
 use Rattle.yds_trace_reading.specs.LineFault.{past_of}
-use Rattle.yds_trace_reading.proofs.Giving.{AreGiven, counts_on, taken_bytes, none_given, one_given, number_given, said_given, first_given, number_of_last}
+use Rattle.yds_trace_reading.proofs.Giving.{AreGiven, counts_on, taken_bytes, one_given, number_given, said_given, first_given, number_of_last}
 use Rattle.yds_trace_parts.specs.declared.halt.Halt.{Halt as HaltKept}
 use Rattle.yds_trace_parts.specs.declared.halt.Halt.TheVariants as kept
 use Rattle.yds_trace_parts.specs.declared.telling.Telling.{Telling}
@@ -35,24 +35,11 @@ use Rattle.yds_trace_parts.proofs.Flushed.{counted_more}
 
 -- # Before the first line
 
-pub at_begin : (asked : Asked) (strict : Bool) (left : Option (List ℕ)) (telling : Telling) (ordering : Ordering) (written : Option (List ℕ)) (flushes : ℕ) →
-    ordering ≡ record { reader = record { left = []; text = []; ended = true; number = 0; taken = 0 }; lines = 0; waiting = []; given = None; stop = None } →
-    IsTelling asked strict [] telling → IsCounted asked strict left telling ordering left 0 written written flushes flushes
-at_begin asked strict left telling ordering written flushes is stands = record {
-  behind = record { given = []; known = none_given left ordering is; many = refl; stands = stands; appended = Appends-nil written };
+pub at_begin : (asked : Asked) (strict : Bool) (input left : Option (List ℕ)) (telling : Telling) (ordering : Ordering) (written : Option (List ℕ)) (flushes : ℕ) →
+    AreGiven input ordering left [] → IsTelling asked strict [] telling → IsCounted asked strict input telling ordering left 0 written written flushes flushes
+at_begin asked strict input left telling ordering written flushes known stands = record {
+  behind = record { given = []; known = known; many = refl; stands = stands; appended = Appends-nil written };
   counted = refl;
-}
-
--- nothing was read or written
-pub nothing_written : (asked : Asked) (strict : Bool) (input : Option (List ℕ)) (written : Option (List ℕ)) →
-    IfSome input (λ bytes. Writes asked strict bytes (Err kept.Memory) written written)
-nothing_written asked strict None written = tt
-nothing_written asked strict (Some bytes) written = record {
-  past = [];
-  behind = past_of (order_of bytes);
-  front = sym (append-nil (past_of (order_of bytes)));
-  goes_on = refl;
-  appended = Appends-nil written;
 }
 
 -- # A line more

@@ -4,6 +4,8 @@ use Rattle.std.specs.Prelude.{⊤, IfSome}
 use Rattle.yds_port.specs.Count.{Rose}
 use Rattle.yds_kernel_order.specs.Order.{order_of}
 use Rattle.yds_trace.specs.Asked.{Asked}
+use Rattle.yds_trace_bounds.specs.declared.bounds.Bounds.{Bounds}
+use Rattle.yds_trace_bounds.specs.Bounds.{asked_in}
 use Rattle.yds_trace_reading.specs.LineFault.{past_of}
 use Rattle.yds_trace_reading.specs.Reading.{IsRest}
 use Rattle.yds_trace_parts.specs.declared.halt.Halt.{Halt as HaltKept}
@@ -11,7 +13,7 @@ use Rattle.yds_trace_parts.specs.declared.halt.Halt.TheVariants as kept
 use Rattle.yds_trace_parts.specs.Told.{Halt}
 use Rattle.yds_trace_parts.specs.Telling.{IsHaltFor}
 use Rattle.yds_trace_parts.specs.Flushing.{count_on, times_told, IsFlushedSince}
-use Rattle.yds_trace_parts.specs.Driving.{Writes, Tells}
+use Rattle.yds_trace_parts.specs.Driving.{WritesIn, Tells}
 
 -- # Neither a read nor a write failed
 
@@ -22,6 +24,7 @@ IsOwn halt = ⊤
 
 pub own_halt : (found : Option Halt) (halt : HaltKept) → IsHaltFor found halt → IsOwn halt
 own_halt found kept.Memory is = tt
+own_halt found kept.NoFirst is = tt
 own_halt found kept.Endless is = tt
 own_halt found kept.ReadFault is = is
 own_halt found kept.WriteFault is = is
@@ -34,6 +37,10 @@ own_halt found (kept.NoPlace name begin late) is = tt
 none_of : {A : Type 0} (option : Option A) → IfSome option (λ one. ⊤)
 none_of None = tt
 none_of (Some one) = tt
+
+none_within : (bounds : Bounds) (asked : Asked) (input : Option (List ℕ)) → IfSome input (λ bytes. IfSome (asked_in bounds asked (order_of bytes)) (λ within. ⊤))
+none_within bounds asked None = tt
+none_within bounds asked (Some bytes) = none_of (asked_in bounds asked (order_of bytes))
 
 not_rose : (before now : ℕ) (P : Type 0) → now ≡ before → before < now → P
 not_rose before now P same rose = absurd (omega (arith, same, rose))
@@ -48,10 +55,10 @@ not_written halt answer P own is same = let one : halt ≡ kept.WriteFault = cc 
 
 -- It halts for a reason of its own.
 pub tells_halt : {S K : Type 0} (left : S → Option (List ℕ)) (read : S → ℕ) (written : K → Option (List ℕ)) (flushed : K → Option ℕ) (flushes wrote : K → ℕ)
-    (asked : Asked) (strict : Bool) (halt : HaltKept) (source from : S) (sink to : K) → IsOwn halt → read from ≡ read source → wrote to ≡ wrote sink →
-    IsFlushedSince written flushed sink to → (times : ℕ) → flushes to ≡ count_on times (flushes sink) → IfSome (left source) (λ input. Writes asked strict input (Err halt) (written sink) (written to)) →
-    IsRest (left source) (left from) → Tells left read written flushed flushes wrote asked strict (Err halt) source from sink to
-tells_halt left read written flushed flushes wrote asked strict halt source from sink to own same_read same_wrote all times counted told rest = record {
+    (bounds : Bounds) (asked : Asked) (strict : Bool) (halt : HaltKept) (source from : S) (sink to : K) → IsOwn halt → read from ≡ read source → wrote to ≡ wrote sink →
+    IsFlushedSince written flushed sink to → (times : ℕ) → flushes to ≡ count_on times (flushes sink) → IfSome (left source) (λ input. WritesIn (asked_in bounds asked (order_of input)) strict input (Err halt) (written sink) (written to)) →
+    IsRest (left source) (left from) → Tells left read written flushed flushes wrote bounds asked strict (Err halt) source from sink to
+tells_halt left read written flushed flushes wrote bounds asked strict halt source from sink to own same_read same_wrote all times counted told rest = record {
   source_later = omega (arith, same_read);
   sink_later = omega (arith, same_wrote);
   no_fault = tt;
@@ -60,7 +67,7 @@ tells_halt left read written flushed flushes wrote asked strict halt source from
   sink_rose = not_rose (wrote sink) (wrote to) _ same_wrote;
   all_flushed = λ other. all;
   flushed_so_often = λ other. (times, counted);
-  flushed_behind_each = none_of (left source);
+  flushed_behind_each = none_within bounds asked (left source);
   told = told;
   none_left = none_of (left source);
   rest = rest;
@@ -71,10 +78,10 @@ later_rose first second third same rose = subst (λ (n : ℕ). Rose n third) sam
 
 -- A read failed.
 pub tells_read_fault : {S K : Type 0} (left : S → Option (List ℕ)) (read : S → ℕ) (written : K → Option (List ℕ)) (flushed : K → Option ℕ) (flushes wrote : K → ℕ)
-    (asked : Asked) (strict : Bool) (source from : S) (sink to : K) (before : ℕ) → before ≡ read source → Rose before (read from) → wrote to ≡ wrote sink →
-    IsFlushedSince written flushed sink to → (times : ℕ) → flushes to ≡ count_on times (flushes sink) → IfSome (left source) (λ input. Writes asked strict input (Err kept.ReadFault) (written sink) (written to)) →
-    IsRest (left source) (left from) → Tells left read written flushed flushes wrote asked strict (Err kept.ReadFault) source from sink to
-tells_read_fault left read written flushed flushes wrote asked strict source from sink to before same_read rose same_wrote all times counted told rest = record {
+    (bounds : Bounds) (asked : Asked) (strict : Bool) (source from : S) (sink to : K) (before : ℕ) → before ≡ read source → Rose before (read from) → wrote to ≡ wrote sink →
+    IsFlushedSince written flushed sink to → (times : ℕ) → flushes to ≡ count_on times (flushes sink) → IfSome (left source) (λ input. WritesIn (asked_in bounds asked (order_of input)) strict input (Err kept.ReadFault) (written sink) (written to)) →
+    IsRest (left source) (left from) → Tells left read written flushed flushes wrote bounds asked strict (Err kept.ReadFault) source from sink to
+tells_read_fault left read written flushed flushes wrote bounds asked strict source from sink to before same_read rose same_wrote all times counted told rest = record {
   source_later = omega (arith, same_read, rose.0);
   sink_later = omega (arith, same_wrote);
   no_fault = tt;
@@ -83,7 +90,7 @@ tells_read_fault left read written flushed flushes wrote asked strict source fro
   sink_rose = not_rose (wrote sink) (wrote to) _ same_wrote;
   all_flushed = λ other. all;
   flushed_so_often = λ other. (times, counted);
-  flushed_behind_each = none_of (left source);
+  flushed_behind_each = none_within bounds asked (left source);
   told = told;
   none_left = none_of (left source);
   rest = rest;
@@ -91,10 +98,10 @@ tells_read_fault left read written flushed flushes wrote asked strict source fro
 
 -- A write failed.
 pub tells_write_fault : {S K : Type 0} (left : S → Option (List ℕ)) (read : S → ℕ) (written : K → Option (List ℕ)) (flushed : K → Option ℕ) (flushes wrote : K → ℕ)
-    (asked : Asked) (strict : Bool) (source from : S) (sink to : K) (before : ℕ) → before ≡ wrote sink → Rose before (wrote to) → read from ≡ read source →
-    IfSome (left source) (λ input. Writes asked strict input (Err kept.WriteFault) (written sink) (written to)) →
-    IsRest (left source) (left from) → Tells left read written flushed flushes wrote asked strict (Err kept.WriteFault) source from sink to
-tells_write_fault left read written flushed flushes wrote asked strict source from sink to before same_wrote rose same_read told rest = record {
+    (bounds : Bounds) (asked : Asked) (strict : Bool) (source from : S) (sink to : K) (before : ℕ) → before ≡ wrote sink → Rose before (wrote to) → read from ≡ read source →
+    IfSome (left source) (λ input. WritesIn (asked_in bounds asked (order_of input)) strict input (Err kept.WriteFault) (written sink) (written to)) →
+    IsRest (left source) (left from) → Tells left read written flushed flushes wrote bounds asked strict (Err kept.WriteFault) source from sink to
+tells_write_fault left read written flushed flushes wrote bounds asked strict source from sink to before same_wrote rose same_read told rest = record {
   source_later = omega (arith, same_read);
   sink_later = omega (arith, same_wrote, rose.0);
   no_fault = tt;
@@ -103,7 +110,7 @@ tells_write_fault left read written flushed flushes wrote asked strict source fr
   sink_rose = λ _. refl;
   all_flushed = λ other. absurd (other refl);
   flushed_so_often = λ other. absurd (other refl);
-  flushed_behind_each = none_of (left source);
+  flushed_behind_each = none_within bounds asked (left source);
   told = told;
   none_left = none_of (left source);
   rest = rest;
@@ -111,13 +118,13 @@ tells_write_fault left read written flushed flushes wrote asked strict source fr
 
 -- All of it was told.
 pub tells_all : {S K : Type 0} (left : S → Option (List ℕ)) (read : S → ℕ) (written : K → Option (List ℕ)) (flushed : K → Option ℕ) (flushes wrote : K → ℕ)
-    (asked : Asked) (strict : Bool) (source from : S) (sink to : K) → read from ≡ read source → wrote to ≡ wrote sink →
+    (bounds : Bounds) (asked : Asked) (strict : Bool) (source from : S) (sink to : K) → read from ≡ read source → wrote to ≡ wrote sink →
     (times : ℕ) → flushes to ≡ count_on times (flushes sink) →
-    IfSome (left source) (λ input. flushes to ≡ count_on (times_told asked strict (past_of (order_of input))) (flushes sink)) →
-    IfSome (left source) (λ input. Writes asked strict input (Ok tt) (written sink) (written to)) →
+    IfSome (left source) (λ input. IfSome (asked_in bounds asked (order_of input)) (λ within. flushes to ≡ count_on (times_told within strict (past_of (order_of input))) (flushes sink))) →
+    IfSome (left source) (λ input. WritesIn (asked_in bounds asked (order_of input)) strict input (Ok tt) (written sink) (written to)) →
     IfSome (left source) (λ input. left from ≡ Some []) → IsRest (left source) (left from) →
-    Tells left read written flushed flushes wrote asked strict (Ok tt) source from sink to
-tells_all left read written flushed flushes wrote asked strict source from sink to same_read same_wrote times counted each told none rest = record {
+    Tells left read written flushed flushes wrote bounds asked strict (Ok tt) source from sink to
+tells_all left read written flushed flushes wrote bounds asked strict source from sink to same_read same_wrote times counted each told none rest = record {
   source_later = omega (arith, same_read);
   sink_later = omega (arith, same_wrote);
   no_fault = same_read;

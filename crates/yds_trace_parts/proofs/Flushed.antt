@@ -1,9 +1,9 @@
 -- How often a sink was flushed behind some lines, step by step.
-use Rattle.yds_model.proofs.Common.{◌≡◌, ℕ, suc, inl, inr, List, [], ◌∷◌, ◌++◌, length, length-append, append-nil, Bool, true, false, nat_lt, lt-ltb, ltb-true, if◌then◌else◌, Option, Some, None, refl, sym, ap, subst, ◌∙◌, arith, Appends}
+use Rattle.yds_model.proofs.Common.{◌≡◌, ℕ, suc, inl, inr, List, [], ◌∷◌, ◌++◌, length, length-append, append-nil, Bool, true, false, nat_lt, lt-ltb, ltb-true, if◌then◌else◌, Option, Some, None, refl, sym, ap, subst, ◌∙◌, arith}
 use Rattle.std.specs.Prelude.{IfSome}
 use Rattle.yds_port.specs.Sink.{IsFlushed}
 use Rattle.yds_kernel.specs.Event.{Said}
-use Rattle.yds_kernel_order.specs.Order.{Placed, said_in, order_of}
+use Rattle.yds_kernel_order.specs.Order.{Placed, order_of}
 use Rattle.yds_kernel_order.specs.Ordering.{Ordering, said_now}
 use Rattle.yds_kernel_order.specs.Advancing.{IsOver}
 use Rattle.yds_trace.specs.Asked.{Asked}
@@ -11,7 +11,7 @@ use Rattle.yds_trace_reading.specs.LineFault.{past_of}
 use Rattle.yds_trace_parts.specs.declared.telling.Telling.{Telling}
 use Rattle.yds_trace_parts.specs.Told.{told_after}
 use Rattle.yds_trace_parts.specs.Telling.{Adds}
-use Rattle.yds_trace_parts.specs.Flushing.{count_on, count_behind, adds_text, times_told, IsFlushedSince}
+use Rattle.yds_trace_parts.specs.Flushing.{count_on, count_behind, times_told, IsFlushedSince}
 use Rattle.yds_trace_parts.proofs.Ahead.{IsCounted, lines_whole}
 
 -- # A line more

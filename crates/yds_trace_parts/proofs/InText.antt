@@ -169,6 +169,7 @@ found_there number (Some halt) told is = (halt, refl)
 -- what is kept of it, by its number
 pub kept_number : (number : ℕ) (found : Option Halt) (halt : HaltKept) → IsHaltFor found halt → IsHaltFor (at_number number found) (with_number number halt)
 kept_number number found kept.Memory is = tt
+kept_number number found kept.NoFirst is = is
 kept_number number found kept.Endless is = is
 kept_number number found kept.ReadFault is = is
 kept_number number found kept.WriteFault is = is

@@ -14,5 +14,6 @@ pub mod Flushed
 pub mod Driven
 pub mod Plain
 pub mod Ending
+pub mod Begun
 pub mod Loops
 pub mod SomeExamples

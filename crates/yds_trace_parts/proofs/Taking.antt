@@ -152,6 +152,7 @@ pieces_forgotten asked strict past said telling next made pass least is are behi
 -- the reason for one is the reason for the other
 pub halts_as : (found other : Option Halt) (halt : HaltKept) → ((one : Halt) → found ≡ Some one → other ≡ Some one) → IsHaltFor found halt → IsHaltFor other halt
 halts_as found other kept.Memory same is = tt
+halts_as found other kept.NoFirst same is = absurd is
 halts_as found other kept.Endless same is = absurd is
 halts_as found other kept.ReadFault same is = absurd is
 halts_as found other kept.WriteFault same is = absurd is

@@ -7,6 +7,8 @@ use Rattle.yds_kernel.specs.Event.{Said}
 use Rattle.yds_kernel_order.specs.Order.{order_of}
 use Rattle.yds_kernel_text.specs.declared.limits.TheConstants.{ROOM}
 use Rattle.yds_trace.specs.Asked.{Asked}
+use Rattle.yds_trace_bounds.specs.declared.bounds.Bounds.{Bounds}
+use Rattle.yds_trace_bounds.specs.Bounds.{asked_in}
 use Rattle.yds_trace_reading.specs.LineFault.{past_of}
 use Rattle.yds_trace_reading.specs.Reading.{IsRest}
 use Rattle.yds_trace_parts.specs.declared.halt.Halt.{Halt as HaltKept}
@@ -35,15 +37,25 @@ pub record WritesTold (asked : Asked) (strict : Bool) (input : List ℕ) (halt :
 
 abbrev pub Writes : Asked → Bool → List ℕ → Result (Unit {0}) HaltKept → Option (List ℕ) → Option (List ℕ) → Type 0
 Writes asked strict input (Ok done) old new = WritesTold asked strict input None old new
+Writes asked strict input (Err kept.NoFirst) old new = ⊥
 Writes asked strict input (Err kept.Memory) old new = WritesSome asked strict input old new
 Writes asked strict input (Err kept.ReadFault) old new = WritesSome asked strict input old new
 Writes asked strict input (Err kept.Endless) old new = IsEndless input × WritesSome asked strict input old new
 Writes asked strict input (Err kept.WriteFault) old new = AppendsFront (told_in_text asked strict input).text old new
 Writes asked strict input (Err halt) old new = WritesTold asked strict input (Some halt) old new
 
+-- What is written by what is asked within the bounds. Where they count from a first event that was lost, it is nothing.
+abbrev pub WritesIn : Option Asked → Bool → List ℕ → Result (Unit {0}) HaltKept → Option (List ℕ) → Option (List ℕ) → Type 0
+WritesIn (Some asked) strict input result old new = Writes asked strict input result old new
+WritesIn None strict input (Err kept.NoFirst) old new = Appends old new []
+WritesIn None strict input (Err kept.Memory) old new = Appends old new []
+WritesIn None strict input (Err kept.ReadFault) old new = Appends old new []
+WritesIn None strict input (Err kept.Endless) old new = IsEndless input × Appends old new []
+WritesIn None strict input result old new = ⊥
+
 -- A trace was told from a source to a sink, whose members stand first, by the answer: what became of both.
 pub record Tells {S K : Type 0} (left : S → Option (List ℕ)) (read : S → ℕ) (written : K → Option (List ℕ)) (flushed : K → Option ℕ) (flushes wrote : K → ℕ)
-    (asked : Asked) (strict : Bool) (result : Result (Unit {0}) HaltKept) (source from : S) (sink to : K) : Type 0 where
+    (bounds : Bounds) (asked : Asked) (strict : Bool) (result : Result (Unit {0}) HaltKept) (source from : S) (sink to : K) : Type 0 where
   pub source_later : read source ≤ read from
   pub sink_later : wrote sink ≤ wrote to
   pub no_fault : OnOk result (read from ≡ read source)
@@ -52,7 +64,8 @@ pub record Tells {S K : Type 0} (left : S → Option (List ℕ)) (read : S → �
   pub sink_rose : wrote sink < wrote to → result ≡ Err kept.WriteFault
   pub all_flushed : IfErr result (λ halt. halt ≢ kept.WriteFault → IsFlushedSince written flushed sink to)
   pub flushed_so_often : result ≢ Err kept.WriteFault → (times : ℕ) × (flushes to ≡ count_on times (flushes sink))
-  pub flushed_behind_each : IfSome (left source) (λ input. OnOk result (flushes to ≡ count_on (times_told asked strict (past_of (order_of input))) (flushes sink)))
-  pub told : IfSome (left source) (λ input. Writes asked strict input result (written sink) (written to))
+  pub flushed_behind_each : IfSome (left source) (λ input. IfSome (asked_in bounds asked (order_of input)) (λ within.
+      OnOk result (flushes to ≡ count_on (times_told within strict (past_of (order_of input))) (flushes sink))))
+  pub told : IfSome (left source) (λ input. WritesIn (asked_in bounds asked (order_of input)) strict input result (written sink) (written to))
   pub none_left : IfSome (left source) (λ input. OnOk result (left from ≡ Some []))
   pub rest : IsRest (left source) (left from)

@@ -1,5 +1,5 @@
 -- How often a sink is flushed to which a trace is told in parts: behind each line with which parts are whole.
-use Rattle.std.specs.Prelude.{◌≡◌, ◌≢◌, ℕ, zero, suc, ◌⊎◌, List, [], ◌∷◌, length, Bool, nat_lt, if◌then◌else◌, Option, Result, Ok, Err, OnOk, IfErr}
+use Rattle.std.specs.Prelude.{◌≡◌, ℕ, zero, suc, ◌⊎◌, List, [], ◌∷◌, length, Bool, nat_lt, if◌then◌else◌, Option, Result, OnOk, IfErr}
 use Rattle.yds_port.specs.Count.{next_count}
 use Rattle.yds_port.specs.Sink.{IsFlushed, Delivers}
 use Rattle.yds_kernel.specs.Event.{Said}

@@ -11,6 +11,8 @@ use Rattle.yds_trace.specs.declared.pass.Pass.{Pass}
 use Rattle.yds_trace_text.specs.declared.fault.NoText.{NoText}
 use Rattle.yds_trace_text.specs.declared.fault.NoText.TheVariants as texts
 use Rattle.yds_trace_text.specs.PartText.{part_text}
+use Rattle.yds_trace_reading.specs.declared.first.NoBegin.{NoBegin}
+use Rattle.yds_trace_reading.specs.declared.first.NoBegin.TheVariants as begins
 use Rattle.yds_trace_parts.specs.declared.halt.Halt.{Halt as HaltKept}
 use Rattle.yds_trace_parts.specs.declared.halt.Halt.TheVariants as kept
 use Rattle.yds_trace_parts.specs.declared.part.Piece.{Piece}
@@ -27,6 +29,13 @@ halt_of_text processor part (texts.Limit fault) = kept.Limit processor part faul
 halt_of_text processor part texts.TooLong = kept.TooLong processor part
 halt_of_text processor part texts.Memory = kept.Memory
 
+-- why a trace isn't told that isn't begun
+abbrev pub halt_of_begin : NoBegin → HaltKept
+halt_of_begin begins.Lost = kept.NoFirst
+halt_of_begin begins.TooLong = kept.Endless
+halt_of_begin begins.ReadFault = kept.ReadFault
+halt_of_begin begins.Memory = kept.Memory
+
 -- the reason as the definition has it; it has none for what isn't of the trace
 abbrev pub halt_read : HaltKept → Option Halt
 halt_read (kept.InForm number fault) = Some (InForm (record { line = number; column = fault.column; reason = fault.reason }))
@@ -34,6 +43,7 @@ halt_read (kept.AtLine number cause) = Some (AtLine number cause)
 halt_read (kept.Limit processor part fault) = Some (OfDocument processor part fault)
 halt_read (kept.TooLong processor part) = Some (OfText processor part)
 halt_read (kept.NoPlace name begin late) = Some (NoPlace name.items begin late)
+halt_read kept.NoFirst = None
 halt_read kept.Endless = None
 halt_read kept.ReadFault = None
 halt_read kept.WriteFault = None
@@ -50,6 +60,7 @@ at_number number found = option_map (by_number (λ _. number)) found
 -- It is the reason that was found. Memory may be wanting at any time.
 abbrev pub IsHaltFor : Option Halt → HaltKept → Type 0
 IsHaltFor found kept.Memory = ⊤
+IsHaltFor found kept.NoFirst = ⊥
 IsHaltFor found kept.Endless = ⊥
 IsHaltFor found kept.ReadFault = ⊥
 IsHaltFor found kept.WriteFault = ⊥

@@ -10,13 +10,14 @@ ghost use Rattle.yds_trace.specs.Faults.{whole_fault};
 ghost use Rattle.yds_trace.specs.Kept.{told_to_forget};
 ghost use Rattle.yds_trace.specs.Parts as parts;
 ghost use Rattle.yds_trace.specs.Views.{asked_read};
+ghost use Rattle.yds_trace_bounds.specs.Bounds.{asked_from, asked_in};
 ghost use Rattle.yds_trace_reading.specs.LineFault.{past_of};
 ghost use Rattle.yds_trace_reading.specs.Reading.{IsReadOut};
 ghost use Rattle.yds_trace_parts.specs.Plain.{HasRoom, IsGranted, IsPlainPass};
 ghost use Rattle.yds_trace_parts.specs.Telling.{IsTelling, IsHaltFor, IsEnd, Adds, at_number};
 ghost use Rattle.yds_trace_parts.specs.Told.{told_after, at_line, last_piece};
 ghost use Rattle.yds_trace_parts.specs.Flushing.{count_on, times_told, IsFlushedSince, PassesOn};
-ghost use Rattle.yds_trace_parts.specs.Driving.{Writes, Tells};
+ghost use Rattle.yds_trace_parts.specs.Driving.{WritesIn, Tells};
 
 use crate::halt::Halt;
 use crate::limits::MOST_LINES;
@@ -25,20 +26,22 @@ use std::alloc::Global;
 use yds_kernel_order::{OrderedReader, Step};
 use yds_port::{Flushed, Sink, Source, write_all};
 use yds_trace::Asked;
-use yds_trace_reading::drain;
+use yds_trace_bounds::Bounds;
+use yds_trace_reading::{begin, drain};
 
-/// Reads a trace in one pass and writes its parts, each as soon as it is whole, and flushes the sink behind them, so that who follows
-/// a trace has each part then. The last parts, behind the trace's end, aren't flushed. A flush that fails is a failed write. Where it
-/// ends before the trace does, the source is still read to its end, so that whoever writes into it isn't stopped; not so where a
-/// write failed.
+/// Reads a trace in one pass and writes its parts within these bounds, each as soon as it is whole, and flushes the sink behind
+/// them, so that who follows a trace has each part then. The last parts, behind the trace's end, aren't flushed. A flush that fails
+/// is a failed write. Where it ends before the trace does, the source is still read to its end, so that whoever writes into it
+/// isn't stopped; not so where a write failed.
 pub fn tell_parts<S: Source, K: Sink>(
     alloc: Global,
     asked: Asked,
+    bounds: Bounds,
     strict: bool,
     source: &mut S,
     sink: &mut K,
 ) -> Result<(), Halt>
-    requires { IsGranted (asked_read asked) }
+    requires { (first : ℕ) → IsGranted (asked_from first bounds (asked_read asked)) }
     ensures source_later { S.faults source.old ≤ S.faults source.new }
     ensures sink_later { K.faults sink.old ≤ K.faults sink.new }
     ensures no_fault { OnOk result (S.faults source.new ≡ S.faults source.old) }
@@ -48,14 +51,15 @@ pub fn tell_parts<S: Source, K: Sink>(
     // Where it ends before the trace does, all that was written is flushed: each read may be the one that fails.
     ensures all_flushed { IfErr result (λ halt. halt ≢ Halt.WriteFault → IsFlushedSince K.written K.flushed sink.old sink.new) }
     ensures flushed_so_often { result ≢ Err Halt.WriteFault → (times : ℕ) × (K.flushes sink.new ≡ count_on times (K.flushes sink.old)) }
-    ensures flushed_behind_each { IfSome (S.left source.old) (λ input.
-        OnOk result (K.flushes sink.new ≡ count_on (times_told (asked_read asked) strict (past_of (order_of input))) (K.flushes sink.old))) }
-    ensures told { IfSome (S.left source.old) (λ input. Writes (asked_read asked) strict input result (K.written sink.old) (K.written sink.new)) }
+    ensures flushed_behind_each { IfSome (S.left source.old) (λ input. IfSome (asked_in bounds (asked_read asked) (order_of input)) (λ within.
+        OnOk result (K.flushes sink.new ≡ count_on (times_told within strict (past_of (order_of input))) (K.flushes sink.old)))) }
+    ensures told { IfSome (S.left source.old) (λ input.
+        WritesIn (asked_in bounds (asked_read asked) (order_of input)) strict input result (K.written sink.old) (K.written sink.new)) }
     ensures none_left { IfSome (S.left source.old) (λ input. OnOk result (S.left source.new ≡ Some [])) }
     ensures read_out { result ≢ Err Halt.WriteFault
         → IfSome (S.left source.old) (λ input. IsReadOut input (S.left source.new) (S.faults source.old) (S.faults source.new)) }
 {
-    match tell(alloc, asked, strict, source, sink) {
+    match tell(alloc, asked, bounds, strict, source, sink) {
         Ok(()) => Ok(()),
         Err(Halt::WriteFault) => Err(Halt::WriteFault),
         Err(halt) => {
@@ -69,15 +73,17 @@ pub fn tell_parts<S: Source, K: Sink>(
 fn tell<S: Source, K: Sink>(
     alloc: Global,
     asked: Asked,
+    bounds: Bounds,
     strict: bool,
     source: &mut S,
     sink: &mut K,
 ) -> Result<(), Halt>
-    requires { IsGranted (asked_read asked) }
-    ensures { Tells S.left S.faults K.written K.flushed K.flushes K.faults (asked_read asked) strict result source.old source.new sink.old sink.new }
+    requires { (first : ℕ) → IsGranted (asked_from first bounds (asked_read asked)) }
+    ensures { Tells S.left S.faults K.written K.flushed K.flushes K.faults bounds (asked_read asked) strict result source.old source.new sink.old sink.new }
 {
     let mut reader = OrderedReader::new(alloc)?;
-    let mut telling = Telling::new(alloc, asked, strict)?;
+    let first = begin(&mut reader, bounds, source)?;
+    let mut telling = Telling::new(alloc, bounds.within(asked, first), strict)?;
     for lines in 0..MOST_LINES {
         match reader.advance(source) {
             Step::Line => {

@@ -8,6 +8,7 @@ use yds_model::Memory;
 use yds_port::WriteFault;
 use yds_trace::Cause;
 use yds_trace_document::DocumentFault;
+use yds_trace_reading::NoBegin;
 use yds_trace_text::NoText;
 
 /// Why a trace isn't told further. The parts that were whole before that are written.
@@ -44,6 +45,8 @@ pub enum Halt {
         begin: u64,
         late: Option<u64>,
     },
+    /// Bounds count from the first event, and the first line tells of lost events.
+    NoFirst,
     /// The trace has as many bytes as 64 bits count, or as many lines as are told.
     Endless,
     /// A read failed.
@@ -84,6 +87,22 @@ impl From<WriteFault> for Halt {
 
     fn from(_error: WriteFault) -> Halt {
         Halt::WriteFault
+    }
+}
+
+impl From<NoBegin> for Halt {
+    ghost use Rattle.std.specs.Prelude.{◌≡◌};
+    ghost use Rattle.yds_trace_parts.specs.Telling.{halt_of_begin};
+
+    ghost from_gives = { λ no_begin halt. halt ≡ halt_of_begin no_begin };
+
+    fn from(no_begin: NoBegin) -> Halt {
+        match no_begin {
+            NoBegin::Lost => Halt::NoFirst,
+            NoBegin::TooLong => Halt::Endless,
+            NoBegin::ReadFault => Halt::ReadFault,
+            NoBegin::Memory => Halt::Memory,
+        }
     }
 }
 
