@@ -315,7 +315,7 @@ def from_first(seed: int, number: int, it: Drawn) -> Drawn:
     """The trace with times that count from its first line, where its words have times, and some with lost events before that line."""
     draw = random.Random(f"first {seed} {number}")
     at = [place for place, word in enumerate(it.words) if word.partition("=")[0] in ("--from", "--to")]
-    if it.shows in ("missing", "no_speed", "edges", "torn", "sharing") and not at and draw.random() < 0.1:
+    if it.shows in ("no_speed", "torn") and not at and draw.random() < 0.2:
         return it._replace(words=draw.choice([["--to", "+1"], ["--from=+0.001"]]) + it.words, trace=b"CPU:1 [LOST EVENTS]\n" + it.trace)
     if not at or draw.random() < 0.4:
         return it
