@@ -25,6 +25,7 @@ pub not_done : (stopped : Stopped) (ended : Status) → (ended ≡ stopped_statu
 not_done stopped ended (inr write) done = let both : statuses.Done ≡ statuses.WriteFault = sym done ∙ write in absurd cc
 not_done (stops.InForm number fault) ended (inl same) done = let both : statuses.Done ≡ statuses.Refused = sym done ∙ same in absurd cc
 not_done (stops.AtLine number cause) ended (inl same) done = let both : statuses.Done ≡ statuses.Refused = sym done ∙ same in absurd cc
+not_done stops.NoFirst ended (inl same) done = let both : statuses.Done ≡ statuses.Refused = sym done ∙ same in absurd cc
 not_done stops.TooLong ended (inl same) done = let both : statuses.Done ≡ statuses.Refused = sym done ∙ same in absurd cc
 not_done stops.ReadFault ended (inl same) done = let both : statuses.Done ≡ statuses.ReadFault = sym done ∙ same in absurd cc
 not_done stops.Memory ended (inl same) done = let both : statuses.Done ≡ statuses.Memory = sym done ∙ same in absurd cc

@@ -1,4 +1,5 @@
 pub mod Joined
+pub mod Within
 pub mod Told
 pub mod Plain
 pub mod InParts

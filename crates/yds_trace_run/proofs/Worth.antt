@@ -28,8 +28,10 @@ use Rattle.yds_trace_run.specs.Fault.{OfText, of_document, of_text, document_fau
 use Rattle.yds_trace_text.specs.Text.{late_comment, text_of}
 use Rattle.yds_trace_reading.specs.LineFault.{past_of}
 use Rattle.yds_trace_parts.specs.Told.{Halt, told_of, by_number}
+use Rattle.yds_trace_bounds.specs.declared.bounds.Bounds.{Bounds}
+use Rattle.yds_trace_bounds.specs.Bounds.{asked_from, asked_in}
 use Rattle.yds_trace_words.specs.Request.{ReadTrace, IsFit}
-use Rattle.yds_trace_run.specs.Answer.{AreParts, IsTold}
+use Rattle.yds_trace_run.specs.Answer.{AreParts, IsTold, IsToldIn}
 use Rattle.yds_trace_files.specs.Unread.{Unread}
 use Rattle.yds_trace_run.specs.Endings.{IsText, Outcome, Writes}
 use Rattle.yds_trace_laws.proofs.Processors.{jobs_are_the_same, each_job_belongs, shares_are_the_whole, only_its_own, none_has_moved}
@@ -38,7 +40,8 @@ use Rattle.yds_trace_whole.proofs.Worth.{parts_are_faithful}
 use Rattle.yds_trace_whole.proofs.Parting.{parts_are_the_whole}
 use Rattle.yds_trace_whole.proofs.Together.{parts_make_the_document}
 use Rattle.yds_trace_whole.proofs.Everywhere.{all_parts_are_kept, parts_are_of_processors, nothing_is_late_anywhere, each_part_is_read}
-use Rattle.yds_trace_run.specs.Worth.{NothingLate, HidesNothing, AreSharedIfAsked, ArePartsReadAgain, IsReadSo, IsFaithfulSo, IsWholeSo}
+use Rattle.yds_trace_run.specs.Worth.{HoldsWithin, NothingLate, HidesNothing, AreSharedIfAsked, ArePartsReadAgain, IsReadSo, IsFaithfulSo, IsWholeSo}
+use Rattle.yds_trace_run.proofs.Within.{fit_within}
 use Rattle.yds_trace_run.proofs.InParts.{IsToldAs, told_as}
 
 told_late : (asked : Asked) (past : List Said) (text : List ℕ) → IsAsked asked → text ≡ text_of asked past → NothingLate asked past text
@@ -49,23 +52,31 @@ told_late asked past text fit is = λ feasible i d within by late. (
 
 -- # What a run that is done wrote
 
-done_so : (unread : Unread) (asked : Asked) (strict : Bool) (bytes text : List ℕ) (status : Status) → statuses.Done ≡ status → IsText unread (Ok (ReadTrace asked strict)) bytes text status
-    → IsTold asked.in_parts asked strict bytes text statuses.Done
-done_so unread asked strict bytes text status done is = elim (subst (λ (s : Status). IsText unread (Ok (ReadTrace asked strict)) bytes text s) (sym done) is) [
+done_so : (unread : Unread) (asked : Asked) (bounds : Bounds) (strict : Bool) (bytes text : List ℕ) (status : Status) → statuses.Done ≡ status
+    → IsText unread (Ok (ReadTrace asked bounds strict)) bytes text status → IsToldIn (asked_in bounds asked (order_of bytes)) strict bytes text statuses.Done
+done_so unread asked bounds strict bytes text status done is = elim (subst (λ (s : Status). IsText unread (Ok (ReadTrace asked bounds strict)) bytes text s) (sym done) is) [
   | inl told ↦ told
   | inr much ↦ let other : statuses.Done ≡ statuses.Refused = much.refused in absurd cc
 ]
 
+-- It is told, so something is asked within the bounds.
+told_within : (Q : Asked → Type 0) (within : Option Asked) (strict : Bool) (bytes text : List ℕ) → IfSome within IsFit
+    → ((one : Asked) → IsFit one → IsTold one.in_parts one strict bytes text statuses.Done → Q one) → IsToldIn within strict bytes text statuses.Done → HoldsWithin within Q
+told_within Q None strict bytes text fit each told = let other : statuses.Done ≡ statuses.Refused = told.0 in absurd cc
+told_within Q (Some one) strict bytes text fit each told = each one fit told
+
 -- What holds of each text that is told holds of what it wrote.
-done_holds : (unread : Unread) (Q : List ℕ → List ℕ → Type 0) (asked : Asked) (strict : Bool)
-    → ((bytes text : List ℕ) → IsTold asked.in_parts asked strict bytes text statuses.Done → Q bytes text)
-    → (input old new : Option (List ℕ)) (flushed : Option ℕ) (ended : Status) → ended ≡ statuses.Done
-    → IfSome input (λ bytes. Writes unread (Ok (ReadTrace asked strict)) bytes ended old new flushed)
-    → IfSome input (λ bytes. (text : List ℕ) × Appends old new text × Q bytes text)
-done_holds unread Q asked strict each None old new flushed ended done writes = tt
-done_holds unread Q asked strict each (Some bytes) old new flushed ended done writes =
+done_holds : (unread : Unread) (Q : Asked → List ℕ → List ℕ → Type 0) (asked : Asked) (bounds : Bounds) (strict : Bool)
+    → ((one : Asked) (bytes text : List ℕ) → IsFit one → IsTold one.in_parts one strict bytes text statuses.Done → Q one bytes text)
+    → (input old new : Option (List ℕ)) (flushed : Option ℕ) (ended : Status) → ((first : ℕ) → IsFit (asked_from first bounds asked)) → ended ≡ statuses.Done
+    → IfSome input (λ bytes. Writes unread (Ok (ReadTrace asked bounds strict)) bytes ended old new flushed)
+    → IfSome input (λ bytes. HoldsWithin (asked_in bounds asked (order_of bytes)) (λ within. (text : List ℕ) × Appends old new text × Q within bytes text))
+done_holds unread Q asked bounds strict each None old new flushed ended fit done writes = tt
+done_holds unread Q asked bounds strict each (Some bytes) old new flushed ended fit done writes =
     let whole = subst (λ (s : Status). Outcome s writes.text writes.status old new flushed) done writes.outcome in
-    (writes.text, whole.whole, each bytes writes.text (done_so unread asked strict bytes writes.text writes.status whole.said writes.is_text))
+    told_within (λ within. (text : List ℕ) × Appends old new text × Q within bytes text) (asked_in bounds asked (order_of bytes)) strict bytes writes.text
+    (fit_within bounds asked (order_of bytes) fit) (λ one fits told. (writes.text, whole.whole, each one bytes writes.text fits told))
+    (done_so unread asked bounds strict bytes writes.text writes.status whole.said writes.is_text)
 
 labelled : (tasks : List Task) → All (λ task. is_label task.label ≡ true) tasks → AllPairs (λ task other. task.label ≢ other.label) tasks → AreLabelled tasks
 labelled tasks labels different = record {
@@ -113,12 +124,14 @@ hides_nothing true asked strict input text fit told =
     let parts = told_parts asked strict input text told in
     nothing_is_late_anywhere asked (past_of (order_of input)) fit.plain parts.sound parts.keeps
 
-pub nothing_late : (unread : Unread) (asked : Asked) (strict : Bool) (input old new : Option (List ℕ)) (flushed : Option ℕ) (ended : Status) → IsFit asked → ended ≡ statuses.Done
-    → IfSome input (λ bytes. Writes unread (Ok (ReadTrace asked strict)) bytes ended old new flushed)
-    → IfSome input (λ bytes. (text : List ℕ) × Appends old new text × HidesNothing asked.in_parts asked (past_of (order_of bytes)) text)
-nothing_late unread asked strict input old new flushed ended fit done writes =
-    done_holds unread (λ bytes text. HidesNothing asked.in_parts asked (past_of (order_of bytes)) text) asked strict
-    (λ bytes text told. hides_nothing asked.in_parts asked strict bytes text fit told) input old new flushed ended done writes
+pub nothing_late : (unread : Unread) (asked : Asked) (bounds : Bounds) (strict : Bool) (input old new : Option (List ℕ)) (flushed : Option ℕ) (ended : Status)
+    → ((first : ℕ) → IsFit (asked_from first bounds asked)) → ended ≡ statuses.Done
+    → IfSome input (λ bytes. Writes unread (Ok (ReadTrace asked bounds strict)) bytes ended old new flushed)
+    → IfSome input (λ bytes. HoldsWithin (asked_in bounds asked (order_of bytes)) (λ within.
+    (text : List ℕ) × Appends old new text × HidesNothing within.in_parts within (past_of (order_of bytes)) text))
+nothing_late unread asked bounds strict input old new flushed ended fit done writes =
+    done_holds unread (λ within bytes text. HidesNothing within.in_parts within (past_of (order_of bytes)) text) asked bounds strict
+    (λ one bytes text fits told. hides_nothing one.in_parts one strict bytes text fits told) input old new flushed ended fit done writes
 
 -- # It is read again
 
@@ -146,23 +159,28 @@ read_so : (in_parts : Bool) (asked : Asked) (strict : Bool) (input text : List �
 read_so false asked strict input text fit told = document_again asked strict (past_of (order_of input)) text fit told.fits told.says
 read_so true asked strict input text fit told = parts_read_again asked strict (past_of (order_of input)) text fit (told_parts asked strict input text told)
 
-pub read_again : (unread : Unread) (asked : Asked) (strict : Bool) (input old new : Option (List ℕ)) (flushed : Option ℕ) (ended : Status) → IsFit asked → ended ≡ statuses.Done
-    → IfSome input (λ bytes. Writes unread (Ok (ReadTrace asked strict)) bytes ended old new flushed)
-    → IfSome input (λ bytes. (text : List ℕ) × Appends old new text × IsReadSo asked.in_parts asked (past_of (order_of bytes)) text)
-read_again unread asked strict input old new flushed ended fit done writes =
-    done_holds unread (λ bytes text. IsReadSo asked.in_parts asked (past_of (order_of bytes)) text) asked strict
-    (λ bytes text told. read_so asked.in_parts asked strict bytes text fit told) input old new flushed ended done writes
+pub read_again : (unread : Unread) (asked : Asked) (bounds : Bounds) (strict : Bool) (input old new : Option (List ℕ)) (flushed : Option ℕ) (ended : Status)
+    → ((first : ℕ) → IsFit (asked_from first bounds asked)) → ended ≡ statuses.Done
+    → IfSome input (λ bytes. Writes unread (Ok (ReadTrace asked bounds strict)) bytes ended old new flushed)
+    → IfSome input (λ bytes. HoldsWithin (asked_in bounds asked (order_of bytes)) (λ within.
+    (text : List ℕ) × Appends old new text × IsReadSo within.in_parts within (past_of (order_of bytes)) text))
+read_again unread asked bounds strict input old new flushed ended fit done writes =
+    done_holds unread (λ within bytes text. IsReadSo within.in_parts within (past_of (order_of bytes)) text) asked bounds strict
+    (λ one bytes text fits told. read_so one.in_parts one strict bytes text fits told) input old new flushed ended fit done writes
 
 -- # It is faithful, and whole
 
 -- What holds of the lines of each trace that is told holds of its lines.
-lines_hold : (unread : Unread) (Q : List ℕ → Type 0) (asked : Asked) (strict : Bool) → ((bytes text : List ℕ) → IsTold asked.in_parts asked strict bytes text statuses.Done → Q bytes)
-    → (input old new : Option (List ℕ)) (flushed : Option ℕ) (ended : Status) → ended ≡ statuses.Done
-    → IfSome input (λ bytes. Writes unread (Ok (ReadTrace asked strict)) bytes ended old new flushed) → IfSome input Q
-lines_hold unread Q asked strict each None old new flushed ended done writes = tt
-lines_hold unread Q asked strict each (Some bytes) old new flushed ended done writes =
+lines_hold : (unread : Unread) (Q : Asked → List ℕ → Type 0) (asked : Asked) (bounds : Bounds) (strict : Bool)
+    → ((one : Asked) (bytes text : List ℕ) → IsFit one → IsTold one.in_parts one strict bytes text statuses.Done → Q one bytes)
+    → (input old new : Option (List ℕ)) (flushed : Option ℕ) (ended : Status) → ((first : ℕ) → IsFit (asked_from first bounds asked)) → ended ≡ statuses.Done
+    → IfSome input (λ bytes. Writes unread (Ok (ReadTrace asked bounds strict)) bytes ended old new flushed)
+    → IfSome input (λ bytes. HoldsWithin (asked_in bounds asked (order_of bytes)) (λ within. Q within bytes))
+lines_hold unread Q asked bounds strict each None old new flushed ended fit done writes = tt
+lines_hold unread Q asked bounds strict each (Some bytes) old new flushed ended fit done writes =
     let whole = subst (λ (s : Status). Outcome s writes.text writes.status old new flushed) done writes.outcome in
-    each bytes writes.text (done_so unread asked strict bytes writes.text writes.status whole.said writes.is_text)
+    told_within (λ within. Q within bytes) (asked_in bounds asked (order_of bytes)) strict bytes writes.text (fit_within bounds asked (order_of bytes) fit)
+    (λ one fits told. each one bytes writes.text fits told) (done_so unread asked bounds strict bytes writes.text writes.status whole.said writes.is_text)
 
 faithful_so : (in_parts : Bool) (asked : Asked) (strict : Bool) (input text : List ℕ) → IsFit asked → IsTold in_parts asked strict input text statuses.Done
     → IsFaithfulSo in_parts asked (past_of (order_of input))
@@ -174,11 +192,13 @@ faithful_so true asked strict input text fit told =
     let processor = get_or (processors_of asked past) i d in
     parts_are_faithful (on processor asked) past (fit_on processor asked fit.plain) (sound_on processor asked past parts.sound) (all_parts_are_kept asked past parts.keeps i d within)
 
-pub faithful : (unread : Unread) (asked : Asked) (strict : Bool) (input old new : Option (List ℕ)) (flushed : Option ℕ) (ended : Status) → IsFit asked → ended ≡ statuses.Done
-    → IfSome input (λ bytes. Writes unread (Ok (ReadTrace asked strict)) bytes ended old new flushed) → IfSome input (λ bytes. IsFaithfulSo asked.in_parts asked (past_of (order_of bytes)))
-faithful unread asked strict input old new flushed ended fit done writes =
-    lines_hold unread (λ bytes. IsFaithfulSo asked.in_parts asked (past_of (order_of bytes))) asked strict
-    (λ bytes text told. faithful_so asked.in_parts asked strict bytes text fit told) input old new flushed ended done writes
+pub faithful : (unread : Unread) (asked : Asked) (bounds : Bounds) (strict : Bool) (input old new : Option (List ℕ)) (flushed : Option ℕ) (ended : Status)
+    → ((first : ℕ) → IsFit (asked_from first bounds asked)) → ended ≡ statuses.Done
+    → IfSome input (λ bytes. Writes unread (Ok (ReadTrace asked bounds strict)) bytes ended old new flushed)
+    → IfSome input (λ bytes. HoldsWithin (asked_in bounds asked (order_of bytes)) (λ within. IsFaithfulSo within.in_parts within (past_of (order_of bytes))))
+faithful unread asked bounds strict input old new flushed ended fit done writes =
+    lines_hold unread (λ within bytes. IsFaithfulSo within.in_parts within (past_of (order_of bytes))) asked bounds strict
+    (λ one bytes text fits told. faithful_so one.in_parts one strict bytes text fits told) input old new flushed ended fit done writes
 
 -- Of a job that moved, no stretch is lost where that is asked for.
 shared : (asked : Asked) (past : List Said) → AreSharedIfAsked asked past
@@ -208,8 +228,10 @@ whole_so true asked strict input text fit told =
       belong = each_job_belongs asked past;
     }
 
-pub whole : (unread : Unread) (asked : Asked) (strict : Bool) (input old new : Option (List ℕ)) (flushed : Option ℕ) (ended : Status) → IsFit asked → ended ≡ statuses.Done
-    → IfSome input (λ bytes. Writes unread (Ok (ReadTrace asked strict)) bytes ended old new flushed) → IfSome input (λ bytes. IsWholeSo asked.in_parts asked (past_of (order_of bytes)))
-whole unread asked strict input old new flushed ended fit done writes =
-    lines_hold unread (λ bytes. IsWholeSo asked.in_parts asked (past_of (order_of bytes))) asked strict
-    (λ bytes text told. whole_so asked.in_parts asked strict bytes text fit told) input old new flushed ended done writes
+pub whole : (unread : Unread) (asked : Asked) (bounds : Bounds) (strict : Bool) (input old new : Option (List ℕ)) (flushed : Option ℕ) (ended : Status)
+    → ((first : ℕ) → IsFit (asked_from first bounds asked)) → ended ≡ statuses.Done
+    → IfSome input (λ bytes. Writes unread (Ok (ReadTrace asked bounds strict)) bytes ended old new flushed)
+    → IfSome input (λ bytes. HoldsWithin (asked_in bounds asked (order_of bytes)) (λ within. IsWholeSo within.in_parts within (past_of (order_of bytes))))
+whole unread asked bounds strict input old new flushed ended fit done writes =
+    lines_hold unread (λ within bytes. IsWholeSo within.in_parts within (past_of (order_of bytes))) asked bounds strict
+    (λ one bytes text fits told. whole_so one.in_parts one strict bytes text fits told) input old new flushed ended fit done writes

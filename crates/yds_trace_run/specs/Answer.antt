@@ -1,10 +1,12 @@
 -- What answers the words over the bytes of an input: a text, and the status of a run that wrote it.
-use Rattle.std.specs.Prelude.{◌≡◌, ℕ, ◌⊎◌, List, [], ◌++◌, Bool, true, false, Some, None, Result, Ok, Err}
+use Rattle.std.specs.Prelude.{◌≡◌, ℕ, ◌⊎◌, List, [], ◌++◌, Bool, true, false, Option, Some, None, Result, Ok, Err}
 use Rattle.yds_model.specs.declared.status.Status.{Status}
 use Rattle.yds_model.specs.declared.status.Status.TheVariants as statuses
 use Rattle.yds_kernel.specs.Event.{Said}
 use Rattle.yds_kernel_order.specs.Order.{order_of}
 use Rattle.yds_trace.specs.Asked.{Asked}
+use Rattle.yds_trace_bounds.specs.declared.bounds.Bounds.{Bounds}
+use Rattle.yds_trace_bounds.specs.Bounds.{asked_in}
 use Rattle.yds_trace_text.specs.Text.{text_of}
 use Rattle.yds_trace_reading.specs.LineFault.{LineFault, past_of, line_fault_of}
 use Rattle.yds_trace_reading.specs.Reading.{IsTooLong}
@@ -16,7 +18,7 @@ use Rattle.yds_trace_words.specs.Texts as texts
 use Rattle.yds_trace_threads.specs.Faults.{line_fault_of as threads_fault}
 use Rattle.yds_trace_threads.specs.Telling.{IsSound, threads_text}
 use Rattle.yds_trace_run.specs.Fault.{TraceFault, OfLine, document_fault, fault_of}
-use Rattle.yds_trace_run.specs.FaultText.{fault_text, halt_text, too_long_text}
+use Rattle.yds_trace_run.specs.FaultText.{fault_text, halt_text, no_first_text, too_long_text}
 
 -- The trace, its lines in order of time, has no fault, its document passes no limit, and the text is that of the definition.
 pub record IsDocument (asked : Asked) (strict : Bool) (input text : List ℕ) : Type 0 where
@@ -58,8 +60,13 @@ abbrev pub WasWritten : Bool → Asked → Bool → List ℕ → List ℕ → Ty
 WasWritten false asked strict input before = before ≡ []
 WasWritten true asked strict input before = ArePartsOfSome asked strict input before
 
+-- the same by what is asked within bounds; nothing, where they count from a first event that was lost
+abbrev pub WasWrittenIn : Option Asked → Bool → List ℕ → List ℕ → Type 0
+WasWrittenIn (Some asked) strict input before = WasWritten asked.in_parts asked strict input before
+WasWrittenIn None strict input before = before ≡ []
+
 abbrev pub StandsBefore : Result Request WordFault → List ℕ → List ℕ → Type 0
-StandsBefore (Ok (ReadTrace asked strict)) input before = WasWritten asked.in_parts asked strict input before
+StandsBefore (Ok (ReadTrace asked bounds strict)) input before = WasWrittenIn (asked_in bounds asked (order_of input)) strict input before
 StandsBefore _ input before = before ≡ []
 
 -- this comment with the line `failed`, behind what was written before
@@ -73,10 +80,10 @@ abbrev pub IsUncounted : Bool → List ℕ → Type 0
 IsUncounted false input = IsTooLong input
 IsUncounted true input = IsEndless input
 
-pub record IsTooMuch (asked : Asked) (strict : Bool) (input text : List ℕ) (status : Status) : Type 0 where
+pub record IsTooMuch (asked : Asked) (bounds : Bounds) (strict : Bool) (input text : List ℕ) (status : Status) : Type 0 where
   pub long : IsUncounted asked.in_parts input
   pub refused : status ≡ statuses.Refused
-  pub ends : EndsWith (Ok (ReadTrace asked strict)) input text too_long_text
+  pub ends : EndsWith (Ok (ReadTrace asked bounds strict)) input text too_long_text
 
 -- # The list of threads
 
@@ -106,21 +113,26 @@ IsTold true asked strict input text statuses.Done = AreParts asked strict input 
 IsTold true asked strict input text statuses.Refused = IsHalted asked strict input text
 IsTold in_parts asked strict input text _ = ⊥
 
+-- The same by what is asked within bounds. Where they count from a first event that was lost, the trace is refused, and the text is just that.
+abbrev pub IsToldIn : Option Asked → Bool → List ℕ → List ℕ → Status → Type 0
+IsToldIn (Some asked) strict input text status = IsTold asked.in_parts asked strict input text status
+IsToldIn None strict input text status = (status ≡ statuses.Refused) × (text ≡ no_first_text)
+
 abbrev pub Answers : Result Request WordFault → List ℕ → List ℕ → Status → Type 0
 Answers (Err fault) input text status = (status ≡ statuses.Usage) × (text ≡ texts.fault_text fault)
 Answers (Ok ShowHelp) input text status = (status ≡ statuses.Done) × (text ≡ texts.help_text)
 Answers (Ok ShowVersion) input text status = (status ≡ statuses.Done) × (text ≡ texts.version_line)
-Answers (Ok (ReadTrace asked strict)) input text status =
-    IsTold asked.in_parts asked strict input text status ⊎ IsTooMuch asked strict input text status
+Answers (Ok (ReadTrace asked bounds strict)) input text status =
+    IsToldIn (asked_in bounds asked (order_of input)) strict input text status ⊎ IsTooMuch asked bounds strict input text status
 Answers (Ok ListThreads) input text status = AreThreads input text status
 
 -- a trace is asked for
 abbrev pub ReadsInput : Result Request WordFault → Type 0
-ReadsInput (Ok (ReadTrace asked strict)) = Unit {0}
+ReadsInput (Ok (ReadTrace asked bounds strict)) = Unit {0}
 ReadsInput (Ok ListThreads) = Unit {0}
 ReadsInput _ = ⊥
 
 -- a trace is to be told in parts
 abbrev pub TellsParts : Result Request WordFault → Type 0
-TellsParts (Ok (ReadTrace asked strict)) = asked.in_parts ≡ true
+TellsParts (Ok (ReadTrace asked bounds strict)) = asked.in_parts ≡ true
 TellsParts _ = ⊥

@@ -23,7 +23,7 @@ use Rattle.yds_trace_parts.specs.declared.halt.Halt.TheVariants as halts
 use Rattle.yds_trace_parts.specs.Told as told
 use Rattle.yds_trace_threads.specs.declared.halt.Halt.{Halt as ThreadsHalt}
 use Rattle.yds_trace_threads.specs.declared.halt.Halt.TheVariants as threads
-use Rattle.yds_trace_run.specs.FaultText.{failed, line_text, fault_text, halt_text, too_long_text, memory_text}
+use Rattle.yds_trace_run.specs.FaultText.{failed, line_text, fault_text, halt_text, no_first_text, too_long_text, memory_text}
 use Rattle.yds_trace_files.specs.Unread.{Unread, read_fault_text}
 
 -- the text with which a run ends so: an answer, or why there is none, after a read that failed of this
@@ -80,6 +80,7 @@ Leaves _ input left faults_before faults_now = Unit {0}
 abbrev pub stopped_text : Unread → Stopped → List ℕ
 stopped_text unread (stops.InForm number fault) = failed (line_text (InForm (record { line = number; column = fault.column; reason = fault.reason })))
 stopped_text unread (stops.AtLine number cause) = failed (line_text (AtLine number cause))
+stopped_text unread stops.NoFirst = no_first_text
 stopped_text unread stops.TooLong = too_long_text
 stopped_text unread stops.ReadFault = read_fault_text unread
 stopped_text unread stops.Memory = memory_text
@@ -87,6 +88,7 @@ stopped_text unread stops.Memory = memory_text
 abbrev pub stopped_status : Stopped → Status
 stopped_status (stops.InForm number fault) = statuses.Refused
 stopped_status (stops.AtLine number cause) = statuses.Refused
+stopped_status stops.NoFirst = statuses.Refused
 stopped_status stops.TooLong = statuses.Refused
 stopped_status stops.ReadFault = statuses.ReadFault
 stopped_status stops.Memory = statuses.Memory
@@ -100,6 +102,7 @@ halted_text unread (halts.AtLine number cause) = halt_text (told.AtLine number c
 halted_text unread (halts.Limit processor part fault) = halt_text (told.OfDocument processor part fault)
 halted_text unread (halts.TooLong processor part) = halt_text (told.OfText processor part)
 halted_text unread (halts.NoPlace name begin late) = halt_text (told.NoPlace name.items begin late)
+halted_text unread halts.NoFirst = no_first_text
 halted_text unread halts.Endless = too_long_text
 halted_text unread halts.ReadFault = read_fault_text unread
 halted_text unread halts.Memory = memory_text

@@ -145,5 +145,9 @@ halt_text (told.NoPlace name begin late) = failed (no_place_text name begin late
 abbrev pub too_long_text : List ℕ
 too_long_text = failed (codes "the trace has more bytes or lines than are counted; give a part of it")
 
+-- bounds count from a first event that was lost
+abbrev pub no_first_text : List ℕ
+no_first_text = failed (codes "events were lost before the first one; give --from and --to as times of the trace's clock")
+
 abbrev pub memory_text : List ℕ
 memory_text = failed (codes "out of memory; ask for fewer tasks, or choose a shorter time by --from and --to")

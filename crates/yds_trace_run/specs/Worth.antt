@@ -1,5 +1,5 @@
 -- What a document, or documents in parts, are worth to whoever asked for them: no late job is hidden, each is read again, and each is faithful.
-use Rattle.std.specs.Prelude.{◌≡◌, ◌≢◌, ℕ, ◌<◌, List, filter, Bool, true, false, Some}
+use Rattle.std.specs.Prelude.{◌≡◌, ◌≢◌, ℕ, ◌<◌, List, filter, Bool, true, false, Option, Some, None}
 use Rattle.std.specs.List.{All, flat_map}
 use Rattle.yds_model.specs.Feasible.{IsFeasible}
 use Rattle.yds_kernel.specs.Event.{Said}
@@ -47,6 +47,13 @@ pub record AreSharedOut (asked : Asked) (past : List Said) : Type 0 where
 -- That is so where it is asked for.
 abbrev pub AreSharedIfAsked : Asked → List Said → Type 0
 AreSharedIfAsked asked past = asked.moved_parts ≡ true → AreSharedOut asked past
+
+-- # Within bounds
+
+-- Something is asked within them, and this holds of it.
+abbrev pub HoldsWithin : Option Asked → (Asked → Type 0) → Type 0
+HoldsWithin (Some asked) Q = Q asked
+HoldsWithin None Q = ⊥
 
 -- # By whether it is told in parts
 

@@ -18,6 +18,10 @@ use yds_trace_words::{LINE_BYTES, MAX_UNIT, push_shown};
 pub(crate) const MEMORY: &[u8] =
     b"# out of memory; ask for fewer tasks, or choose a shorter time by --from and --to\nfailed\n";
 
+/// The text for bounds that count from a first event which was lost.
+pub(crate) const NO_FIRST: &[u8] =
+    b"# events were lost before the first one; give --from and --to as times of the trace's clock\nfailed\n";
+
 /// The text for a trace of as many bytes or lines as are counted.
 pub(crate) const TOO_LONG: &[u8] =
     b"# the trace has more bytes or lines than are counted; give a part of it\nfailed\n";

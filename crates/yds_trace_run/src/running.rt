@@ -10,15 +10,16 @@ ghost use Rattle.yds_trace_reading.specs.LineFault.{past_of};
 ghost use Rattle.yds_trace_document.specs.Kept.{IsPlain};
 ghost use Rattle.yds_trace_parts.specs.Flushing.{count_on, times_told};
 ghost use Rattle.yds_trace.specs.Views.{asked_read};
+ghost use Rattle.yds_trace_bounds.specs.Bounds.{asked_from, asked_in};
 ghost use Rattle.yds_trace_run.specs.Answer.{ReadsInput, TellsParts};
 ghost use Rattle.yds_trace_run.specs.Endings.{Writes, IsEnded, IsDelivered, Tells, TellsHalt, TellsStop, Leaves, stopped_of, stopped_text, stopped_status};
 ghost use Rattle.yds_trace_files.specs.Unread.{unread_read};
-ghost use Rattle.yds_trace_run.specs.Worth.{HidesNothing, IsReadSo, IsFaithfulSo, IsWholeSo};
+ghost use Rattle.yds_trace_run.specs.Worth.{HoldsWithin, HidesNothing, IsReadSo, IsFaithfulSo, IsWholeSo};
 
 use crate::delivery::deliver;
 use crate::fault_text::{
-    MEMORY, TEXT_TOO_LONG, TOO_LONG, cause_line, document_line, form_line, long_part_line,
-    part_line, place_line,
+    MEMORY, NO_FIRST, TEXT_TOO_LONG, TOO_LONG, cause_line, document_line, form_line,
+    long_part_line, part_line, place_line,
 };
 use arrayvec::ArrayString;
 use std::alloc::Global;
@@ -26,6 +27,7 @@ use std::hash::RandomState;
 use yds_model::Status;
 use yds_port::Sink;
 use yds_trace::{Asked, Ended};
+use yds_trace_bounds::Bounds;
 use yds_trace_files::{Input, Unread, read_fault_line};
 use yds_trace_parts::{Halt, tell_parts};
 use yds_trace_reading::{Stopped, read_trace};
@@ -46,7 +48,8 @@ use yds_trace_words::{HELP, LINE_BYTES, NoRequest, Request, VERSION, fault_line,
 ///   couldn't be read; the last line is `failed`. In parts, this stands behind those of some lines.
 /// - `WriteFault`: a front of one of these texts was written.
 ///
-/// The lines of a trace are taken in order of time, and a line is told by its number in the text.
+/// The lines of a trace are taken in order of time, and a line is told by its number in the text. Bounds may count from the first
+/// event. Where the first line then tells of lost events, one of those may have been that event, and the trace is refused.
 ///
 /// The source and the sink need not tell their bytes. Where both do, what was written is what the definitions say of the words and
 /// of all bytes of the source. The code is one for all sources and sinks. Threads are looked up with these keys, on which no
@@ -73,9 +76,9 @@ pub fn run<S: Input, K: Sink>(
         → IfSome (S.left source.old) (λ input. Leaves result input (S.left source.new) (S.faults source.old) (S.faults source.new)) }
     ensures flushed { result ≢ Status.WriteFault → next_count (K.flushes sink.old) ≤ K.flushes sink.new }
     ensures flushed_once { ¬ TellsParts (request_of (words_of words.now)) → result ≢ Status.WriteFault → K.flushes sink.new ≡ next_count (K.flushes sink.old) }
-    ensures flushed_behind_each { (asked : asking.Asked) (strict : Bool) → request_of (words_of words.now) ≡ Ok (ReadTrace asked strict) → asked.in_parts ≡ true
-        → IfSome (S.left source.old) (λ input. result ≡ Status.Done
-        → K.flushes sink.new ≡ next_count (count_on (times_told asked strict (past_of (order_of input))) (K.flushes sink.old))) }
+    ensures flushed_behind_each { (asked : asking.Asked) (bounds : Bounds) (strict : Bool) → request_of (words_of words.now) ≡ Ok (ReadTrace asked bounds strict) → asked.in_parts ≡ true
+        → IfSome (S.left source.old) (λ input. result ≡ Status.Done → HoldsWithin (asked_in bounds asked (order_of input)) (λ within.
+        K.flushes sink.new ≡ next_count (count_on (times_told within strict (past_of (order_of input))) (K.flushes sink.old)))) }
 
     // What was written is one of the texts for the words and all bytes of the source: the document with its status, or why there is none.
     ensures answer { IfSome (S.left source.old) (λ input.
@@ -83,29 +86,37 @@ pub fn run<S: Input, K: Sink>(
 
     // What was written as a document is worth what its reader takes it for: where it is feasible, each job that is known to be late is
     // late by less than a unit of time, and a comment names it.
-    ensures nothing_late { result ≡ Status.Done → (asked : asking.Asked) (strict : Bool) → request_of (words_of words.now) ≡ Ok (ReadTrace asked strict)
-        → IfSome (S.left source.old) (λ input.
-        (text : List ℕ) × Appends (K.written sink.old) (K.written sink.new) text × HidesNothing asked.in_parts asked (past_of (order_of input)) text) }
+    ensures nothing_late { result ≡ Status.Done → (asked : asking.Asked) (bounds : Bounds) (strict : Bool) → request_of (words_of words.now) ≡ Ok (ReadTrace asked bounds strict)
+        → IfSome (S.left source.old) (λ input. HoldsWithin (asked_in bounds asked (order_of input)) (λ within.
+        (text : List ℕ) × Appends (K.written sink.old) (K.written sink.new) text × HidesNothing within.in_parts within (past_of (order_of input)) text)) }
 
     // It is read again by the definition of documents, within the limits, as just its jobs and its runs, in their order.
-    ensures read_again { result ≡ Status.Done → (asked : asking.Asked) (strict : Bool) → request_of (words_of words.now) ≡ Ok (ReadTrace asked strict)
-        → IfSome (S.left source.old) (λ input.
-        (text : List ℕ) × Appends (K.written sink.old) (K.written sink.new) text × IsReadSo asked.in_parts asked (past_of (order_of input)) text) }
+    ensures read_again { result ≡ Status.Done → (asked : asking.Asked) (bounds : Bounds) (strict : Bool) → request_of (words_of words.now) ≡ Ok (ReadTrace asked bounds strict)
+        → IfSome (S.left source.old) (λ input. HoldsWithin (asked_in bounds asked (order_of input)) (λ within.
+        (text : List ℕ) × Appends (K.written sink.old) (K.written sink.new) text × IsReadSo within.in_parts within (past_of (order_of input)) text)) }
 
     // No job and no run of it is invented: each run is stretches of time that the trace shows of its job. And none is missing.
-    ensures faithful { result ≡ Status.Done → (asked : asking.Asked) (strict : Bool) → request_of (words_of words.now) ≡ Ok (ReadTrace asked strict)
-        → IfSome (S.left source.old) (λ input. IsFaithfulSo asked.in_parts asked (past_of (order_of input))) }
+    ensures faithful { result ≡ Status.Done → (asked : asking.Asked) (bounds : Bounds) (strict : Bool) → request_of (words_of words.now) ≡ Ok (ReadTrace asked bounds strict)
+        → IfSome (S.left source.old) (λ input. HoldsWithin (asked_in bounds asked (order_of input)) (λ within.
+        IsFaithfulSo within.in_parts within (past_of (order_of input)))) }
 
     // In parts, a part that was written long ago says of its jobs what the whole trace says of them, and put together the parts are
     // the one document that the trace would have without limits. Where what a job ran is shared out among the processors, none of it
     // is lost.
-    ensures whole { result ≡ Status.Done → (asked : asking.Asked) (strict : Bool) → request_of (words_of words.now) ≡ Ok (ReadTrace asked strict)
-        → IfSome (S.left source.old) (λ input. IsWholeSo asked.in_parts asked (past_of (order_of input))) }
+    ensures whole { result ≡ Status.Done → (asked : asking.Asked) (bounds : Bounds) (strict : Bool) → request_of (words_of words.now) ≡ Ok (ReadTrace asked bounds strict)
+        → IfSome (S.left source.old) (λ input. HoldsWithin (asked_in bounds asked (order_of input)) (λ within.
+        IsWholeSo within.in_parts within (past_of (order_of input)))) }
 {
     match read_words(alloc, words) {
         Ok(Request::Help) => deliver(HELP, Status::Done, sink),
         Ok(Request::Version) => deliver(VERSION, Status::Done, sink),
-        Ok(Request::Trace { asked, strict }) => run_trace(alloc, asked, strict, source, sink),
+        Ok(
+            Request::Trace {
+                asked,
+                bounds,
+                strict,
+            },
+        ) => run_trace(alloc, asked, bounds, strict, source, sink),
         Ok(Request::Threads) => run_threads(alloc, keys, source, sink),
         Err(NoRequest::Fault(fault)) => {
             deliver(fault_line(&fault).as_bytes(), Status::Usage, sink)
@@ -118,11 +129,12 @@ pub fn run<S: Input, K: Sink>(
 fn run_trace<S: Input, K: Sink>(
     alloc: Global,
     asked: Asked,
+    bounds: Bounds,
     strict: bool,
     source: &mut S,
     sink: &mut K,
 ) -> Status
-    requires { IsFit (asked_read asked) }
+    requires { (first : ℕ) → IsFit (asked_from first bounds (asked_read asked)) }
     ensures source_later { S.faults source.old ≤ S.faults source.new }
     ensures read_fault { result ≡ Status.ReadFault → Rose (S.faults source.old) (S.faults source.new) }
     ensures no_fault_passed_over { result ≡ Status.Done → S.faults source.new ≡ S.faults source.old }
@@ -130,14 +142,15 @@ fn run_trace<S: Input, K: Sink>(
     ensures sink { IsEnded K.written K.flushed K.flushes K.faults result sink.old sink.new }
     ensures flushed_once { asked.in_parts ≡ false → result ≢ Status.WriteFault → K.flushes sink.new ≡ next_count (K.flushes sink.old) }
     ensures flushed_behind_each { asked.in_parts ≡ true → IfSome (S.left source.old) (λ input. result ≡ Status.Done
-        → K.flushes sink.new ≡ next_count (count_on (times_told (asked_read asked) strict (past_of (order_of input))) (K.flushes sink.old))) }
+        → HoldsWithin (asked_in bounds (asked_read asked) (order_of input)) (λ within.
+        K.flushes sink.new ≡ next_count (count_on (times_told within strict (past_of (order_of input))) (K.flushes sink.old)))) }
     ensures answer { IfSome (S.left source.old) (λ input.
-        Writes (S.unread source.new) (Ok (ReadTrace (asked_read asked) strict)) input result (K.written sink.old) (K.written sink.new) (K.flushed sink.new)) }
+        Writes (S.unread source.new) (Ok (ReadTrace (asked_read asked) bounds strict)) input result (K.written sink.old) (K.written sink.new) (K.flushed sink.new)) }
 {
     if asked.in_parts {
-        run_in_parts(alloc, asked, strict, source, sink)
+        run_in_parts(alloc, asked, bounds, strict, source, sink)
     } else {
-        run_whole(alloc, asked, strict, source, sink)
+        run_whole(alloc, asked, bounds, strict, source, sink)
     }
 }
 
@@ -145,11 +158,12 @@ fn run_trace<S: Input, K: Sink>(
 fn run_whole<S: Input, K: Sink>(
     alloc: Global,
     asked: Asked,
+    bounds: Bounds,
     strict: bool,
     source: &mut S,
     sink: &mut K,
 ) -> Status
-    requires fit { IsFit (asked_read asked) }
+    requires fit { (first : ℕ) → IsFit (asked_from first bounds (asked_read asked)) }
     requires whole { asked.in_parts ≡ false }
     ensures source_later { S.faults source.old ≤ S.faults source.new }
     ensures read_fault { result ≡ Status.ReadFault → Rose (S.faults source.old) (S.faults source.new) }
@@ -158,9 +172,9 @@ fn run_whole<S: Input, K: Sink>(
     ensures sink { IsEnded K.written K.flushed K.flushes K.faults result sink.old sink.new }
     ensures flushed_once { result ≢ Status.WriteFault → K.flushes sink.new ≡ next_count (K.flushes sink.old) }
     ensures answer { IfSome (S.left source.old) (λ input.
-        Writes (S.unread source.new) (Ok (ReadTrace (asked_read asked) strict)) input result (K.written sink.old) (K.written sink.new) (K.flushed sink.new)) }
+        Writes (S.unread source.new) (Ok (ReadTrace (asked_read asked) bounds strict)) input result (K.written sink.old) (K.written sink.new) (K.flushed sink.new)) }
 {
-    match read_trace(alloc, asked, source) {
+    match read_trace(alloc, asked, bounds, source) {
         Ok(ended) => tell(alloc, &ended, strict, sink),
         Err(stopped) => tell_stopped(stopped, source.unread(), sink),
     }
@@ -170,11 +184,12 @@ fn run_whole<S: Input, K: Sink>(
 fn run_in_parts<S: Input, K: Sink>(
     alloc: Global,
     asked: Asked,
+    bounds: Bounds,
     strict: bool,
     source: &mut S,
     sink: &mut K,
 ) -> Status
-    requires fit { IsFit (asked_read asked) }
+    requires fit { (first : ℕ) → IsFit (asked_from first bounds (asked_read asked)) }
     requires in_parts { asked.in_parts ≡ true }
     ensures source_later { S.faults source.old ≤ S.faults source.new }
     ensures read_fault { result ≡ Status.ReadFault → Rose (S.faults source.old) (S.faults source.new) }
@@ -182,11 +197,12 @@ fn run_in_parts<S: Input, K: Sink>(
     ensures read_to_its_end { IfSome (S.left source.old) (λ input. Leaves result input (S.left source.new) (S.faults source.old) (S.faults source.new)) }
     ensures sink { IsEnded K.written K.flushed K.flushes K.faults result sink.old sink.new }
     ensures flushed_behind_each { IfSome (S.left source.old) (λ input. result ≡ Status.Done
-        → K.flushes sink.new ≡ next_count (count_on (times_told (asked_read asked) strict (past_of (order_of input))) (K.flushes sink.old))) }
+        → HoldsWithin (asked_in bounds (asked_read asked) (order_of input)) (λ within.
+        K.flushes sink.new ≡ next_count (count_on (times_told within strict (past_of (order_of input))) (K.flushes sink.old)))) }
     ensures answer { IfSome (S.left source.old) (λ input.
-        Writes (S.unread source.new) (Ok (ReadTrace (asked_read asked) strict)) input result (K.written sink.old) (K.written sink.new) (K.flushed sink.new)) }
+        Writes (S.unread source.new) (Ok (ReadTrace (asked_read asked) bounds strict)) input result (K.written sink.old) (K.written sink.new) (K.flushed sink.new)) }
 {
-    match tell_parts(alloc, asked, strict, source, sink) {
+    match tell_parts(alloc, asked, bounds, strict, source, sink) {
         Ok(()) => finish(sink),
         Err(halt) => tell_halt(&halt, source.unread(), sink),
     }
@@ -247,6 +263,7 @@ fn tell_halt<K: Sink>(halt: &Halt, unread: Unread<'_>, sink: &mut K) -> Status
         Halt::WriteFault => Status::WriteFault,
         Halt::ReadFault => deliver(read_fault_line(unread).as_bytes(), Status::ReadFault, sink),
         Halt::Memory => deliver(MEMORY, Status::Memory, sink),
+        Halt::NoFirst => deliver(NO_FIRST, Status::Refused, sink),
         Halt::Endless => deliver(TOO_LONG, Status::Refused, sink),
         Halt::InForm { number, fault } => refuse(&form_line(*number, *fault), sink),
         Halt::AtLine { number, cause } => refuse(&cause_line(*number, *cause), sink),
@@ -274,6 +291,7 @@ fn tell_stopped<K: Sink>(stopped: Stopped, unread: Unread<'_>, sink: &mut K) -> 
     match stopped {
         Stopped::ReadFault => deliver(read_fault_line(unread).as_bytes(), Status::ReadFault, sink),
         Stopped::Memory => deliver(MEMORY, Status::Memory, sink),
+        Stopped::NoFirst => deliver(NO_FIRST, Status::Refused, sink),
         Stopped::TooLong => deliver(TOO_LONG, Status::Refused, sink),
         Stopped::InForm { number, fault } => refuse(&form_line(number, fault), sink),
         Stopped::AtLine { number, cause } => refuse(&cause_line(number, cause), sink),

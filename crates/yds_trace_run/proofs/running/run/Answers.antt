@@ -5,66 +5,64 @@ use Rattle.yds_model.specs.declared.status.Status.TheVariants as statuses
 use Rattle.yds_port.specs.Count.{next_count}
 use Rattle.yds_kernel_order.specs.Order.{order_of}
 use Rattle.yds_trace.specs.Views.{asked_read}
+use Rattle.yds_trace_bounds.specs.Bounds.{asked_in}
 use Rattle.yds_trace_reading.specs.LineFault.{past_of}
 use Rattle.yds_trace_parts.specs.Flushing.{count_on, times_told}
 use Rattle.yds_trace_words.specs.declared.request.Request.{Request as RequestMade}
-use Rattle.yds_trace_words.specs.Request.{Request, ShowHelp, ReadTrace, request_of, IsFit, IsFitRequest}
+use Rattle.yds_trace_words.specs.Request.{Request, ShowHelp, ReadTrace, request_of, IsFitRequest}
 use Rattle.yds_trace_words.specs.Texts.{help_text}
 use Rattle.yds_trace_words.specs.Views.{words_of, request_read}
 use Rattle.yds_trace_words.specs.Words.{WordFault}
 use Rattle.yds_trace_files.specs.Unread.{Unread}
 use Rattle.yds_trace_run.specs.Answer.{TellsParts}
 use Rattle.yds_trace_run.specs.FaultText.{memory_text}
+use Rattle.yds_trace_run.specs.Worth.{HoldsWithin}
 use Rattle.yds_trace_run.specs.Endings.{IsText, Writes, IsDelivered}
 use Rattle.yds_trace_run.proofs.Told.{ends_alone}
 use Rattle.yds_trace_run.proofs.Worth.{nothing_late, read_again, faithful, whole}
 use Rattle.yds_trace_run.proofs.running.run.Goals as goal
 
 pub returns-in-Ok-Trace-clause-nothing_late : goal.returns-in-Ok-Trace-clause-nothing_late
-returns-in-Ok-Trace-clause-nothing_late g c = λ done asked strict same.
+returns-in-Ok-Trace-clause-nothing_late g c = λ done asked bounds strict same.
     let made = subst (λ (made : RequestMade). request_of (words_of c.args.words.now) ≡ Ok (request_read made)) c.in-Ok-Trace.field-0-is c.in-Ok-Trace.ensures.request in
-    let joined : Ok (ReadTrace (asked_read c.in-Ok-Trace.asked) c.in-Ok-Trace.strict) ≡ Ok (ReadTrace asked strict) = sym made ∙ same in
-    let both : ReadTrace (asked_read c.in-Ok-Trace.asked) c.in-Ok-Trace.strict ≡ ReadTrace asked strict = cc in
-    let one : asked_read c.in-Ok-Trace.asked ≡ asked = cc in
+    let joined : Ok (ReadTrace (asked_read c.in-Ok-Trace.asked) c.in-Ok-Trace.bounds c.in-Ok-Trace.strict) ≡ Ok (ReadTrace asked bounds strict) = sym made ∙ same in
+    let both : ReadTrace (asked_read c.in-Ok-Trace.asked) c.in-Ok-Trace.bounds c.in-Ok-Trace.strict ≡ ReadTrace asked bounds strict = cc in
     let fit = subst (λ (made : RequestMade). IsFitRequest (request_read made)) c.in-Ok-Trace.field-0-is c.in-Ok-Trace.ensures.fit in
-    nothing_late (g.S.Input.unread c.run_trace.new.source) asked strict (g.S.Source.left c.args.source.now) (g.K.Sink.written c.args.sink.now) (g.K.Sink.written c.run_trace.new.sink) (g.K.Sink.flushed c.run_trace.new.sink)
-    c.run_trace.result (subst IsFit one fit) done
+    nothing_late (g.S.Input.unread c.run_trace.new.source) asked bounds strict (g.S.Source.left c.args.source.now) (g.K.Sink.written c.args.sink.now) (g.K.Sink.written c.run_trace.new.sink) (g.K.Sink.flushed c.run_trace.new.sink)
+    c.run_trace.result (subst IsFitRequest both fit) done
     (subst (λ (request : Request). IfSome (g.S.Source.left c.args.source.now) (λ input. Writes (g.S.Input.unread c.run_trace.new.source) (Ok request) input c.run_trace.result (g.K.Sink.written c.args.sink.now)
     (g.K.Sink.written c.run_trace.new.sink) (g.K.Sink.flushed c.run_trace.new.sink))) both c.run_trace.ensures.answer)
 
 pub returns-in-Ok-Trace-clause-read_again : goal.returns-in-Ok-Trace-clause-read_again
-returns-in-Ok-Trace-clause-read_again g c = λ done asked strict same.
+returns-in-Ok-Trace-clause-read_again g c = λ done asked bounds strict same.
     let made = subst (λ (made : RequestMade). request_of (words_of c.args.words.now) ≡ Ok (request_read made)) c.in-Ok-Trace.field-0-is c.in-Ok-Trace.ensures.request in
-    let joined : Ok (ReadTrace (asked_read c.in-Ok-Trace.asked) c.in-Ok-Trace.strict) ≡ Ok (ReadTrace asked strict) = sym made ∙ same in
-    let both : ReadTrace (asked_read c.in-Ok-Trace.asked) c.in-Ok-Trace.strict ≡ ReadTrace asked strict = cc in
-    let one : asked_read c.in-Ok-Trace.asked ≡ asked = cc in
+    let joined : Ok (ReadTrace (asked_read c.in-Ok-Trace.asked) c.in-Ok-Trace.bounds c.in-Ok-Trace.strict) ≡ Ok (ReadTrace asked bounds strict) = sym made ∙ same in
+    let both : ReadTrace (asked_read c.in-Ok-Trace.asked) c.in-Ok-Trace.bounds c.in-Ok-Trace.strict ≡ ReadTrace asked bounds strict = cc in
     let fit = subst (λ (made : RequestMade). IsFitRequest (request_read made)) c.in-Ok-Trace.field-0-is c.in-Ok-Trace.ensures.fit in
-    read_again (g.S.Input.unread c.run_trace.new.source) asked strict (g.S.Source.left c.args.source.now) (g.K.Sink.written c.args.sink.now) (g.K.Sink.written c.run_trace.new.sink) (g.K.Sink.flushed c.run_trace.new.sink)
-    c.run_trace.result (subst IsFit one fit) done
+    read_again (g.S.Input.unread c.run_trace.new.source) asked bounds strict (g.S.Source.left c.args.source.now) (g.K.Sink.written c.args.sink.now) (g.K.Sink.written c.run_trace.new.sink) (g.K.Sink.flushed c.run_trace.new.sink)
+    c.run_trace.result (subst IsFitRequest both fit) done
     (subst (λ (request : Request). IfSome (g.S.Source.left c.args.source.now) (λ input. Writes (g.S.Input.unread c.run_trace.new.source) (Ok request) input c.run_trace.result (g.K.Sink.written c.args.sink.now)
     (g.K.Sink.written c.run_trace.new.sink) (g.K.Sink.flushed c.run_trace.new.sink))) both c.run_trace.ensures.answer)
 
 pub returns-in-Ok-Trace-clause-faithful : goal.returns-in-Ok-Trace-clause-faithful
-returns-in-Ok-Trace-clause-faithful g c = λ done asked strict same.
+returns-in-Ok-Trace-clause-faithful g c = λ done asked bounds strict same.
     let made = subst (λ (made : RequestMade). request_of (words_of c.args.words.now) ≡ Ok (request_read made)) c.in-Ok-Trace.field-0-is c.in-Ok-Trace.ensures.request in
-    let joined : Ok (ReadTrace (asked_read c.in-Ok-Trace.asked) c.in-Ok-Trace.strict) ≡ Ok (ReadTrace asked strict) = sym made ∙ same in
-    let both : ReadTrace (asked_read c.in-Ok-Trace.asked) c.in-Ok-Trace.strict ≡ ReadTrace asked strict = cc in
-    let one : asked_read c.in-Ok-Trace.asked ≡ asked = cc in
+    let joined : Ok (ReadTrace (asked_read c.in-Ok-Trace.asked) c.in-Ok-Trace.bounds c.in-Ok-Trace.strict) ≡ Ok (ReadTrace asked bounds strict) = sym made ∙ same in
+    let both : ReadTrace (asked_read c.in-Ok-Trace.asked) c.in-Ok-Trace.bounds c.in-Ok-Trace.strict ≡ ReadTrace asked bounds strict = cc in
     let fit = subst (λ (made : RequestMade). IsFitRequest (request_read made)) c.in-Ok-Trace.field-0-is c.in-Ok-Trace.ensures.fit in
-    faithful (g.S.Input.unread c.run_trace.new.source) asked strict (g.S.Source.left c.args.source.now) (g.K.Sink.written c.args.sink.now) (g.K.Sink.written c.run_trace.new.sink) (g.K.Sink.flushed c.run_trace.new.sink)
-    c.run_trace.result (subst IsFit one fit) done
+    faithful (g.S.Input.unread c.run_trace.new.source) asked bounds strict (g.S.Source.left c.args.source.now) (g.K.Sink.written c.args.sink.now) (g.K.Sink.written c.run_trace.new.sink) (g.K.Sink.flushed c.run_trace.new.sink)
+    c.run_trace.result (subst IsFitRequest both fit) done
     (subst (λ (request : Request). IfSome (g.S.Source.left c.args.source.now) (λ input. Writes (g.S.Input.unread c.run_trace.new.source) (Ok request) input c.run_trace.result (g.K.Sink.written c.args.sink.now)
     (g.K.Sink.written c.run_trace.new.sink) (g.K.Sink.flushed c.run_trace.new.sink))) both c.run_trace.ensures.answer)
 
 pub returns-in-Ok-Trace-clause-whole : goal.returns-in-Ok-Trace-clause-whole
-returns-in-Ok-Trace-clause-whole g c = λ done asked strict same.
+returns-in-Ok-Trace-clause-whole g c = λ done asked bounds strict same.
     let made = subst (λ (made : RequestMade). request_of (words_of c.args.words.now) ≡ Ok (request_read made)) c.in-Ok-Trace.field-0-is c.in-Ok-Trace.ensures.request in
-    let joined : Ok (ReadTrace (asked_read c.in-Ok-Trace.asked) c.in-Ok-Trace.strict) ≡ Ok (ReadTrace asked strict) = sym made ∙ same in
-    let both : ReadTrace (asked_read c.in-Ok-Trace.asked) c.in-Ok-Trace.strict ≡ ReadTrace asked strict = cc in
-    let one : asked_read c.in-Ok-Trace.asked ≡ asked = cc in
+    let joined : Ok (ReadTrace (asked_read c.in-Ok-Trace.asked) c.in-Ok-Trace.bounds c.in-Ok-Trace.strict) ≡ Ok (ReadTrace asked bounds strict) = sym made ∙ same in
+    let both : ReadTrace (asked_read c.in-Ok-Trace.asked) c.in-Ok-Trace.bounds c.in-Ok-Trace.strict ≡ ReadTrace asked bounds strict = cc in
     let fit = subst (λ (made : RequestMade). IsFitRequest (request_read made)) c.in-Ok-Trace.field-0-is c.in-Ok-Trace.ensures.fit in
-    whole (g.S.Input.unread c.run_trace.new.source) asked strict (g.S.Source.left c.args.source.now) (g.K.Sink.written c.args.sink.now) (g.K.Sink.written c.run_trace.new.sink) (g.K.Sink.flushed c.run_trace.new.sink)
-    c.run_trace.result (subst IsFit one fit) done
+    whole (g.S.Input.unread c.run_trace.new.source) asked bounds strict (g.S.Source.left c.args.source.now) (g.K.Sink.written c.args.sink.now) (g.K.Sink.written c.run_trace.new.sink) (g.K.Sink.flushed c.run_trace.new.sink)
+    c.run_trace.result (subst IsFitRequest both fit) done
     (subst (λ (request : Request). IfSome (g.S.Source.left c.args.source.now) (λ input. Writes (g.S.Input.unread c.run_trace.new.source) (Ok request) input c.run_trace.result (g.K.Sink.written c.args.sink.now)
     (g.K.Sink.written c.run_trace.new.sink) (g.K.Sink.flushed c.run_trace.new.sink))) both c.run_trace.ensures.answer)
 
@@ -76,15 +74,16 @@ returns-in-Ok-Trace-clause-flushed_once g c = λ whole.
 
 -- what is said of how often the sink is flushed for a trace that is told in parts
 abbrev FlushesEach : Request → Option (List ℕ) → Status → ℕ → ℕ → Type 0
-FlushesEach (ReadTrace asked strict) input ended old new = asked.in_parts ≡ true
-    → IfSome input (λ bytes. ended ≡ statuses.Done → new ≡ next_count (count_on (times_told asked strict (past_of (order_of bytes))) old))
+FlushesEach (ReadTrace asked bounds strict) input ended old new = asked.in_parts ≡ true
+    → IfSome input (λ bytes. ended ≡ statuses.Done
+    → HoldsWithin (asked_in bounds asked (order_of bytes)) (λ within. new ≡ next_count (count_on (times_told within strict (past_of (order_of bytes))) old)))
 FlushesEach other input ended old new = ⊤
 
 pub returns-in-Ok-Trace-clause-flushed_behind_each : goal.returns-in-Ok-Trace-clause-flushed_behind_each
-returns-in-Ok-Trace-clause-flushed_behind_each g c = λ asked strict same.
+returns-in-Ok-Trace-clause-flushed_behind_each g c = λ asked bounds strict same.
     let made = subst (λ (made : RequestMade). request_of (words_of c.args.words.now) ≡ Ok (request_read made)) c.in-Ok-Trace.field-0-is c.in-Ok-Trace.ensures.request in
-    let joined : Ok (ReadTrace (asked_read c.in-Ok-Trace.asked) c.in-Ok-Trace.strict) ≡ Ok (ReadTrace asked strict) = sym made ∙ same in
-    let both : ReadTrace (asked_read c.in-Ok-Trace.asked) c.in-Ok-Trace.strict ≡ ReadTrace asked strict = cc in
+    let joined : Ok (ReadTrace (asked_read c.in-Ok-Trace.asked) c.in-Ok-Trace.bounds c.in-Ok-Trace.strict) ≡ Ok (ReadTrace asked bounds strict) = sym made ∙ same in
+    let both : ReadTrace (asked_read c.in-Ok-Trace.asked) c.in-Ok-Trace.bounds c.in-Ok-Trace.strict ≡ ReadTrace asked bounds strict = cc in
     subst (λ (request : Request). FlushesEach request (g.S.Source.left c.args.source.now) c.run_trace.result (g.K.Sink.flushes c.args.sink.now) (g.K.Sink.flushes c.run_trace.new.sink))
     both c.run_trace.ensures.flushed_behind_each
 

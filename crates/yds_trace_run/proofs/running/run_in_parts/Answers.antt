@@ -1,6 +1,7 @@
 use Rattle.yds_model.proofs.Common.{◌≡◌, [], Result, Ok, Err, subst}
 use Rattle.yds_model.specs.declared.status.Status.TheVariants as statuses
 use Rattle.yds_trace.specs.Views.{asked_read}
+use Rattle.yds_trace_bounds.specs.Bounds.{asked_from}
 use Rattle.yds_trace_parts.specs.declared.halt.Halt.{Halt as HaltKept}
 use Rattle.yds_trace_parts.specs.declared.halt.Halt.TheVariants as halts
 use Rattle.yds_trace_files.specs.Unread.{Unread, unread_read}
@@ -26,18 +27,18 @@ same_end : (one other : HaltKept) → one ≡ other → ended one ≡ ended othe
 same_end one other same = cc
 
 pub tell_parts-requires : goal.tell_parts-requires
-tell_parts-requires g c = granted (asked_read c.args.asked) c.requires.fit
+tell_parts-requires g c = λ first. granted (asked_from first c.args.bounds (asked_read c.args.asked)) (c.requires.fit first)
 
 pub returns-in-Ok-clause-answer : goal.returns-in-Ok-clause-answer
 returns-in-Ok-clause-answer g c =
-    done_writes g.K.Sink.written g.K.Sink.flushed g.K.Sink.flushes g.K.Sink.faults (g.S.Input.unread c.tell_parts.new.source) (asked_read c.args.asked) c.args.strict (g.S.Source.left c.args.source.now) c.finish.result
+    done_writes g.K.Sink.written g.K.Sink.flushed g.K.Sink.flushes g.K.Sink.faults (g.S.Input.unread c.tell_parts.new.source) (asked_read c.args.asked) c.args.bounds c.args.strict (g.S.Source.left c.args.source.now) c.finish.result
     c.args.sink.now c.tell_parts.new.sink c.finish.new.sink c.requires.in_parts c.in-Ok.ensures.told c.finish.ensures
 
 pub returns-in-Err-clause-answer : goal.returns-in-Err-clause-answer
 returns-in-Err-clause-answer g c =
     let tells = subst (λ (unread : Unread). TellsHalt g.K.Sink.written g.K.Sink.flushed g.K.Sink.flushes g.K.Sink.faults unread c.in-Err.halt c.tell_halt.result c.tell_parts.new.sink
     c.tell_halt.new.sink) c.unread.ensures c.tell_halt.ensures in
-    halted_writes g.K.Sink.written g.K.Sink.flushed g.K.Sink.flushes g.K.Sink.faults (g.S.Input.unread c.tell_parts.new.source) (asked_read c.args.asked) c.args.strict (g.S.Source.left c.args.source.now) c.in-Err.halt c.tell_halt.result
+    halted_writes g.K.Sink.written g.K.Sink.flushed g.K.Sink.flushes g.K.Sink.faults (g.S.Input.unread c.tell_parts.new.source) (asked_read c.args.asked) c.args.bounds c.args.strict (g.S.Source.left c.args.source.now) c.in-Err.halt c.tell_halt.result
     c.args.sink.now c.tell_parts.new.sink c.tell_halt.new.sink c.requires.in_parts c.in-Err.ensures.told tells
 
 pub returns-in-Ok-clause-sink : goal.returns-in-Ok-clause-sink
@@ -55,12 +56,13 @@ returns-in-Err-clause-sink g c =
 -- Behind the last parts there is one flush more.
 pub returns-in-Ok-clause-flushed_behind_each : goal.returns-in-Ok-clause-flushed_behind_each
 returns-in-Ok-clause-flushed_behind_each g c =
-    flushed_last (asked_read c.args.asked) c.args.strict (g.S.Source.left c.args.source.now) c.finish.result (g.K.Sink.flushes c.args.sink.now) (g.K.Sink.flushes c.tell_parts.new.sink)
-    (g.K.Sink.flushes c.finish.new.sink) c.in-Ok.ensures.flushed_behind_each c.finish.ensures.flushed_once
+    flushed_last (asked_read c.args.asked) c.args.bounds c.args.strict (g.S.Source.left c.args.source.now) (g.K.Sink.written c.args.sink.now) (g.K.Sink.written c.tell_parts.new.sink) c.finish.result
+    (g.K.Sink.flushes c.args.sink.now) (g.K.Sink.flushes c.tell_parts.new.sink) (g.K.Sink.flushes c.finish.new.sink) c.in-Ok.ensures.told c.in-Ok.ensures.flushed_behind_each
+    c.finish.ensures.flushed_once
 
 pub returns-in-Err-clause-flushed_behind_each : goal.returns-in-Err-clause-flushed_behind_each
 returns-in-Err-clause-flushed_behind_each g c =
-    never_done (asked_read c.args.asked) c.args.strict (g.S.Source.left c.args.source.now) c.tell_halt.result (g.K.Sink.flushes c.args.sink.now) (g.K.Sink.flushes c.tell_halt.new.sink)
+    never_done (asked_read c.args.asked) c.args.bounds c.args.strict (g.S.Source.left c.args.source.now) c.tell_halt.result (g.K.Sink.flushes c.args.sink.now) (g.K.Sink.flushes c.tell_halt.new.sink)
     (halted_not_done g.K.Sink.written g.K.Sink.flushed g.K.Sink.flushes g.K.Sink.faults (unread_read c.unread.result) c.in-Err.halt c.tell_halt.result c.tell_parts.new.sink c.tell_halt.new.sink c.tell_halt.ensures)
 
 pub returns-in-Ok-clause-read_to_its_end : goal.returns-in-Ok-clause-read_to_its_end
