@@ -1,12 +1,15 @@
-//! What no clause says: that two parts are written, each as soon as it is whole, and what is left of them behind a fault.
-ghost use Rattle.std.specs.Prelude.{IfOk};
+//! What no clause says: that two parts are written, each as soon as it is whole, what is left of them behind a fault, and that none
+//! is where bounds count from a lost event.
+ghost use Rattle.std.specs.Prelude.{ℕ, IfOk};
 ghost use Rattle.yds_trace.specs.Views.{asked_read};
+ghost use Rattle.yds_trace_bounds.specs.Bounds.{asked_from};
 ghost use Rattle.yds_trace_parts.specs.Plain.{IsGranted};
 
 use std::alloc::{AllocError, Global};
 use std::test::Fail;
 use yds_port::{MemorySink, MemorySource};
 use yds_trace::{Asked, Start, Task, Which};
+use yds_trace_bounds::{Bounds, Moment};
 use yds_trace_parts::{Halt, tell_parts};
 
 /// How many jobs are in the trace. Behind line 4,096 it is looked for a part, and more than 2,000 wait. More than 64 lines come
@@ -28,9 +31,22 @@ const EACH: &[u8] = b"\
 # part 2: jobs 2047 to 2099, from 40940 to 41990, shift 40940, cpu 1, the last
 ";
 
+/// The whole trace.
+const WHOLE: Bounds = Bounds {
+    from: None,
+    to: None,
+};
+
+/// From the first event on.
+const FROM_FIRST: Bounds = Bounds {
+    from: Some(Moment::AfterFirst(0)),
+    to: None,
+};
+
 /// The jobs of `t` on processor 0, or on each one, each due 10 microseconds after its first run.
 fn asked(alloc: Global, everywhere: bool) -> Result<Asked, AllocError>
-    ensures { IfOk result (λ asked. IsGranted (asked_read asked)) }
+    ensures whole { IfOk result (λ asked. (first : ℕ) → IsGranted (asked_from first WHOLE (asked_read asked))) }
+    ensures from_first { IfOk result (λ asked. (first : ℕ) → IsGranted (asked_from first FROM_FIRST (asked_read asked))) }
 {
     let task = Task {
         label: b"t".to_vec(alloc)?,
@@ -113,6 +129,7 @@ fn letter(told: &Result<(), Halt>) -> u8 {
         Ok(()) => b'.',
         Err(Halt::ReadFault) => b'r',
         Err(Halt::WriteFault) => b'w',
+        Err(Halt::NoFirst) => b'n',
         Err(_) => b'?',
     }
 }
@@ -134,7 +151,14 @@ fn parts_are_written_as_they_are_whole(rt: HostRuntime) -> Result<(), Fail> {
     for (read, write, end, parts) in cases {
         let mut source = MemorySource::new(trace(alloc, 0)?, 1_000_000, [read].to_vec(alloc)?);
         let mut sink = MemorySink::with_room(alloc, 200_000, 200_000, [write].to_vec(alloc)?)?;
-        let told = tell_parts(alloc, asked(alloc, false)?, false, &mut source, &mut sink);
+        let told = tell_parts(
+            alloc,
+            asked(alloc, false)?,
+            WHOLE,
+            false,
+            &mut source,
+            &mut sink,
+        );
         assert_eq!(rt; letter(&told), end);
         assert_eq!(rt; heads(alloc, sink.bytes())?.as_slice(), parts);
     }
@@ -146,8 +170,41 @@ fn each_processor_has_parts_of_its_own(rt: HostRuntime) -> Result<(), Fail> {
     let alloc = rt.alloc();
     let mut source = MemorySource::new(trace(alloc, 1)?, 1_000_000, Vec::new(alloc));
     let mut sink = MemorySink::with_room(alloc, 400_000, 400_000, Vec::new(alloc))?;
-    let told = tell_parts(alloc, asked(alloc, true)?, false, &mut source, &mut sink);
+    let told = tell_parts(
+        alloc,
+        asked(alloc, true)?,
+        WHOLE,
+        false,
+        &mut source,
+        &mut sink,
+    );
     assert_eq!(rt; letter(&told), b'.');
     assert_eq!(rt; heads(alloc, sink.bytes())?.as_slice(), EACH);
+    Ok(())
+}
+
+#[test]
+fn bounds_count_from_no_lost_event(rt: HostRuntime) -> Result<(), Fail> {
+    let alloc = rt.alloc();
+    let cases = [
+        ("", b'.', BOTH),
+        ("CPU:0 [LOST 5 EVENTS]\n", b'n', b"".as_slice()),
+    ];
+    for (front, end, parts) in cases {
+        let mut text = front.as_bytes().to_vec(alloc)?;
+        text.extend_from_slice(trace(alloc, 0)?.as_slice())?;
+        let mut source = MemorySource::new(text, 1_000_000, Vec::new(alloc));
+        let mut sink = MemorySink::with_room(alloc, 200_000, 200_000, Vec::new(alloc))?;
+        let told = tell_parts(
+            alloc,
+            asked(alloc, false)?,
+            FROM_FIRST,
+            false,
+            &mut source,
+            &mut sink,
+        );
+        assert_eq!(rt; letter(&told), end);
+        assert_eq!(rt; heads(alloc, sink.bytes())?.as_slice(), parts);
+    }
     Ok(())
 }
