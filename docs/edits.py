@@ -62,7 +62,7 @@ MOST_OF = {
     "yds_trace_words": 11,
     "yds_trace_reading": 10,
     "yds_trace_parts": 9,
-    "yds_trace_run": 10,
+    "yds_trace_run": 11,
 }
 NEEDED = [
     ("yds_plan", "plan"),

@@ -2,11 +2,13 @@
 
 import io
 import os
+import re
 import subprocess
 import sys
 import tempfile
 import unittest
 from pathlib import Path
+from typing import Tuple
 from unittest import mock
 
 from called import ROOT, SAMPLES, call
@@ -92,6 +94,42 @@ class EveryCommandTest(unittest.TestCase):
         for path in MODULES:
             body = path.read_text(encoding="utf-8").split("\ndef main(", 1)[1].split("\n\n\n")[0]
             self.assertLessEqual(body.count("\n"), 60, path.stem)
+
+
+class ProgramsTest(unittest.TestCase):
+    """The words of the two programs stand in their sources. Their manual pages and completions are written by hand."""
+
+    def test_words_of_yds_trace(self) -> None:
+        source = (ROOT / "crates" / "yds_trace_words" / "src" / "texts.rt").read_text(encoding="utf-8")
+        shown = source.split('pub const HELP: &[u8] = b"', 1)[1].split('\n";\n', 1)[0]
+        words = set(re.findall(r"^  --([a-z]+)", shown, re.MULTILINE))
+        self.assertGreater(len(words), 10)
+        synopsis, told = self.page("yds_trace")
+        self.assertEqual(set(re.findall(r"Fl -([a-z]+)", synopsis)), words)
+        self.assertEqual(set(re.findall(r"Fl -([a-z]+)", told)), words - {"help", "version"})
+        offered = self.completion("yds_trace").split('*) words="', 1)[1].split('"', 1)[0]
+        self.assertEqual(set(offered.split()), {f"--{word}" for word in words})
+
+    def test_words_of_yds_cli(self) -> None:
+        source = (ROOT / "crates" / "yds_answer" / "src" / "refusal.rt").read_text(encoding="utf-8")
+        usage = source.split('b"usage: yds_cli ', 1)[1].split("\\n", 1)[0]
+        words = set(re.findall(r"\b[a-z]+\b", usage))
+        self.assertGreater(len(words), 10)
+        for part in self.page("yds_cli"):
+            self.assertEqual(set(re.findall(r"\b[a-z]+\b", part)), words)
+        text = self.completion("yds_cli")
+        offered = text.split('1:*) words="', 1)[1].split('"', 1)[0].split() + re.findall(r"words=--([a-z]+)", text)
+        self.assertEqual(set(offered), words)
+
+    def page(self, name: str) -> Tuple[str, str]:
+        """The synopsis of a manual page, and the words that its description tells of."""
+        page = (ROOT / "docs" / f"{name}.1").read_text(encoding="utf-8")
+        synopsis, told = page.split(".Sh SYNOPSIS\n", 1)[1].split(".Sh DESCRIPTION\n", 1)
+        lines = told.split("\n.Sh ", 1)[0].split("\n")
+        return synopsis, "\n".join(line for line in lines if line.startswith(".It "))
+
+    def completion(self, name: str) -> str:
+        return (ROOT / "completions" / f"{name}.bash").read_text(encoding="utf-8")
 
 
 class EndsTest(unittest.TestCase):
