@@ -189,6 +189,85 @@ fn a_job_that_moved_is_shared_out(rt: HostRuntime) -> Result<(), Fail> {
     Ok(())
 }
 
+/// The first line of its only part where `--from` is the job's begin, from which the part counts.
+const PART_FROM: &[u8] = b"# part 1: jobs 1 to 1, from 0 to 1000, shift 0, the last\n";
+
+/// Why no job of it is written where `--from` is behind its begin.
+const BEFORE: &[u8] =
+    b"# no job can be written: 1 of 1 left out (before from); choose an earlier --from\nfailed\n";
+
+#[test]
+fn bounds_count_from_the_first_event(rt: HostRuntime) -> Result<(), Fail> {
+    let mut part = PART_FROM.to_vec(rt.alloc())?;
+    part.extend_from_slice(DOCUMENT)?;
+    // The first event is at 5 seconds of the trace's clock, and the job begins a millisecond behind it.
+    let cases = [
+        ("--tasks t:10 --from 5.001 --to 5.1", Status::Done, DOCUMENT),
+        (
+            "--tasks t:10 --from +0.001 --to +0.1",
+            Status::Done,
+            DOCUMENT,
+        ),
+        ("--tasks t:10 --from 5.001000001", Status::Refused, BEFORE),
+        ("--tasks t:10 --from +0.001000001", Status::Refused, BEFORE),
+        (
+            "--parts --tasks t:10 --from 5.001",
+            Status::Done,
+            part.as_slice(),
+        ),
+        (
+            "--parts --tasks t:10 --from +0.001",
+            Status::Done,
+            part.as_slice(),
+        ),
+    ];
+    for (line, status, want) in cases {
+        let (ended, written) = told(&rt, line, TRACE.to_vec(rt.alloc())?, 0)?;
+        assert_eq!(rt; ended, status, "{line}");
+        assert_eq!(rt; written.as_slice(), want, "{line}");
+    }
+    Ok(())
+}
+
+/// Why it isn't told from an event on that was lost.
+const NO_FIRST: &[u8] =
+    b"# events were lost before the first one; give --from and --to as times of the trace's clock\nfailed\n";
+
+#[test]
+fn a_lost_first_event_is_refused_where_bounds_count_from_it(rt: HostRuntime) -> Result<(), Fail> {
+    let mut trace = b"CPU:0 [LOST 12 EVENTS]\n".to_vec(rt.alloc())?;
+    trace.extend_from_slice(TRACE)?;
+    let cases = [
+        ("--tasks t:10 --from +0.001", 0, Status::Refused, NO_FIRST),
+        ("--tasks t:10 --to +9", 0, Status::Refused, NO_FIRST),
+        (
+            "--parts --tasks t:10 --from 5 --to +9",
+            0,
+            Status::Refused,
+            NO_FIRST,
+        ),
+        (
+            "--cpu all --tasks t:10 --from +0.001",
+            0,
+            Status::Refused,
+            NO_FIRST,
+        ),
+        (
+            "--tasks t:10 --from +0.001",
+            1,
+            Status::ReadFault,
+            b"# the input couldn't be read to its end; give it anew\nfailed\n".as_slice(),
+        ),
+        ("--tasks t:10 --from 5.001", 0, Status::Done, DOCUMENT),
+    ];
+    for (line, failing, status, want) in cases {
+        let (ended, written) = told(&rt, line, trace.as_slice().to_vec(rt.alloc())?, failing)?;
+        assert_eq!(rt; ended, status, "{line}");
+        assert_eq!(rt; written.as_slice(), want, "{line}");
+    }
+    Ok(())
+}
+
 /// A line for each of these jobs, which has its processor for ten microseconds: two threads take turns.
 fn turns(alloc: Global, jobs: u16) -> Result<Vec<u8>, AllocError> {
     let mut text = Vec::new(alloc);
