@@ -111,7 +111,7 @@ def words_for(number: int, piece: bytes) -> List[str]:
     first = float(stamp[1]) if stamp else 0.0
     more: List[List[str]] = [
         [], ["--us", "1", "--khz", "100000"], ["--lost", "cut"], ["--begin", "run"], ["--from", f"{first + 0.05:.6f}", "--lost", "cut"],
-        ["--to", f"{first + 0.15:.6f}"], ["--strict"], ["--parts", "--lost", "cut"],
+        ["--to", f"{first + 0.15:.6f}"], ["--strict"], ["--parts", "--lost", "cut"], ["--from", "+0.05", "--to", "+0.15", "--lost", "cut"],
         ["--moved", "parts", "--lost", "cut"], ["--others", "spans", "--lost", "cut"], ["--parts", "--others", "spans", "--moved", "parts", "--lost", "cut"],
     ]
     chosen = more[number % len(more)]
