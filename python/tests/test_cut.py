@@ -59,6 +59,16 @@ class CutTest(unittest.TestCase):
         self.assertEqual(sum(text.count(b"# left out: j.7\n") for text in found), 1)
         self.assertEqual(sum(text.count(b"# first\n") for text in found), 1)
 
+    def test_a_part_has_no_period(self) -> None:
+        """What repeats is the whole: the hours of a part's energies would be those of a processor that sleeps for the rest."""
+        document = lines("# period 2000", *(line.decode().strip() for line in SHORT))
+        parts = texts(document, 1)
+        self.assertGreater(len(parts), 1)
+        self.assertFalse([text for text in parts if b"# period" in text])
+        self.assertEqual(sum(text.count(b"# no period: a part of what repeats after 2000\n") for text in parts), 1)
+        whole = texts(document, 4000)
+        self.assertEqual((len(whole), b"# period 2000\n" in whole[0]), (1, True))
+
     def test_windows_line_ends_tabs_and_empty_lines(self) -> None:
         other = [line.replace(b" ", b"\t ").replace(b"\n", b"\r\n") for line in SHORT for line in (b"\n", line)]
         self.assertEqual(texts(other, 1), texts(SHORT, 1))

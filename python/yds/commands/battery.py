@@ -21,7 +21,7 @@ from yds._heads import closing
 from yds._hours import Prices, SideEnergy, SideHours, battery
 from yds._priced import decimal
 from yds._spelling import read_fraction
-from yds._text import Comment, Fault, Line, Other, Point, Rows, lines
+from yds._text import Comment, Fault, Job, Line, Other, Point, Rows, lines
 from yds._words import DONE, Command, Files, Given, Option, WordsError, run
 
 COMMAND = Command(
@@ -44,7 +44,8 @@ to the last deadline, and how long nothing runs after that isn't known.
 Output: a table parted by tabs: side, milliwatts, hours, and the hours in hundredths of the plan's; a side that misses
 deadlines, as yds-energy tells, has no hours. Comments below it tell of jobs whose energy, or part of whose energy, is
 in no line. The points have to be those of the energies: each side's energy is power times time on them, and its lines
-have their speeds.
+have their speeds. So have the jobs, where there are some: each side takes the time from their first release to their
+last deadline. The energies of a part are those of no period.
 """,
     [
         Option("mah", "milliampere-hours of the battery", "N"),
@@ -126,6 +127,7 @@ class Reading:
         self._rows = Rows()
         self._sides: Dict[str, Optional[Fraction]] = {}
         self._times: Dict[str, List[Tuple[int, Fraction]]] = {}
+        self._windows: List[Tuple[int, int]] = []
         self._misses: Dict[str, str] = {}
         self._period: Optional[int] = None
         self._no_period = ""
@@ -143,6 +145,8 @@ class Reading:
                     self.prices.take(row.speed, row.power)
                 except Fault as fault:
                     raise row.line.fault(fault.told) from None
+            elif isinstance(row, Job):
+                self._windows.append((row.release, row.deadline))
             elif isinstance(row, Other):
                 self._take_line(row.line, row.fields)
         self.prices.finish()
@@ -247,6 +251,16 @@ class Reading:
             if not points and side.time < period - Fraction(len(times), 1000):
                 advice = "give the points before the lines, whose first has the power of the rest"
                 raise Fault(f"{takes} of the {decimal(period)} units of time of the period; {advice}")
+            self._check_span(side.time, len(times), takes)
+
+    def _check_span(self, time: Fraction, rounded: int, takes: str) -> None:
+        """Whether a side takes the time of the document's jobs, so that none is left out, as in a part's energies."""
+        if not self._windows:
+            return
+        span = max(deadline for _, deadline in self._windows) - min(release for release, _ in self._windows)
+        if abs(time - span) > Fraction(rounded, 1000):
+            told = f"the document's jobs {span}, from the first release to the last deadline"
+            raise Fault(f"{takes} units of time, and {told}; give the energies of all of these jobs")
 
     def caveats(self) -> List[str]:
         """What is told of energy that is in no line."""
