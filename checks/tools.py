@@ -23,7 +23,7 @@ TESTS = ROOT / "python" / "tests"
 LEAST = 298
 """There are at least so many tests. Who adds some writes the new number here."""
 
-LEAST_BUILT = 315
+LEAST_BUILT = 317
 """And so many that ask the program and the library."""
 
 _NEEDS = re.compile(r'^NEEDS = \((?!"libyds",\))', re.MULTILINE)

@@ -13,8 +13,10 @@ from yds._comments import (
     NOT_ENDED,
     WITHOUT_RUNS,
     left_out_of,
+    moved_of,
     period_of,
     unknown_works,
+    with_moved,
     without_runs,
 )
 from yds._heads import closing
@@ -133,6 +135,7 @@ class Reading:
         self._no_period = ""
         self._caveats: Dict[str, None] = {}
         self._noted: Dict[str, None] = {}
+        self._moved: Dict[str, None] = {}
 
     def read(self, rows: Rows) -> None:
         """Reads all rows."""
@@ -175,8 +178,10 @@ class Reading:
 
     def _take_comment(self, comment: Comment) -> None:
         text = comment.text
-        period, misses, closed = period_of(comment), _MISSES(text), closing(text)
-        if period is not None:
+        period, misses, closed, moved = period_of(comment), _MISSES(text), closing(text), moved_of(text)
+        if moved is not None:
+            self._moved[moved[0]] = None
+        elif period is not None:
             if self._period not in (None, period):
                 raise comment.line.fault(f"the period {period} here and {self._period} before; give one document", 2)
             self._period = period
@@ -270,6 +275,7 @@ class Reading:
         if self._noted:
             first = next(iter(self._noted)).split(": ", 1)[1].split(" ")[0].rstrip(",")
             told.append("# " + unknown_works(len(self._noted), first))
+        told += [with_moved(len(self._moved))] if self._moved else []
         return list(dict.fromkeys(told))
 
 
