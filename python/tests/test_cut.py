@@ -93,7 +93,7 @@ class CutTest(unittest.TestCase):
             (("job a 0 4 8", "jobs b 4 6 1"), "line 2: jobs is no kind of line"),
             (("job a 0 4 8", "slot a 0 1+1/ 8"), "line 2: a slot is: slot NAME FROM TO WORK"),
             (("job a 0 4 8", "slot a\x0b0 4 8"), "line 2: a byte that stands in no line but a comment"),
-            (("# time unit 10 us", "job a 0 4 8", "# time unit 1 us"), "line 3: a unit of time of 1 us here and 10 us before"),
+            (("# time unit 10 us", "job a 0 4 8", "# time unit 1 us"), "line 3: a unit of time of 1 us here and 10 us before; give both the same --us"),
             (("point 0 1", "# no job"), "no job line; look at what wrote the input"),
             ((), "the input is empty; look at what wrote it"),
         ]:
