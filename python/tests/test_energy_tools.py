@@ -300,6 +300,9 @@ class BatteryTest(unittest.TestCase):
             called = call("battery", *self.WORDS, given=head + jobs + lines)
             self.assertEqual((called.status, called.out), (1, ""))
             self.assertIn(f"{told} deadline; give the energies of all of these jobs", called.err)
+        called = call("battery", *self.WORDS, given=head + b"job a 20 30 51\n" + lines)
+        told = "the side plan does 50 units of work, and the document's jobs have 51; give the energies of all of these jobs"
+        self.assertEqual((called.status, called.out, called.err), (1, "", f"yds-battery: {told}\n"))
 
     def test_words(self) -> None:
         for words in (

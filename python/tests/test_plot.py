@@ -510,6 +510,8 @@ class Samples(unittest.TestCase):
         text = "job a 0 2000 9000\nslot a 0 2000 9000\n"
         picture = speed([read(text, units_of("1ms,1kHz"))], [""], Choice())
         self.assertEqual((picture.frame.x_label, picture.frame.y_label), ("time (s)", "speed (kHz)"))
+        thirds = speed([read(text, units_of("1/3ms,1kHz"))], [""], Choice()).frame
+        self.assertEqual((thirds.x_label, round(thirds.x[1], 6)), ("time (ms)", 666.666667))
         own = (ROOT / "examples" / "own-slots.txt").read_text()
         picture = drawn_speed(own)
         self.assertEqual(

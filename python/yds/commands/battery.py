@@ -47,7 +47,7 @@ Output: a table parted by tabs: side, milliwatts, hours, and the hours in hundre
 deadlines, as yds-energy tells, has no hours. Comments below it tell of jobs whose energy, or part of whose energy, is
 in no line. The points have to be those of the energies: each side's energy is power times time on them, and its lines
 have their speeds. So have the jobs, where there are some: each side takes the time from their first release to their
-last deadline. The energies of a part are those of no period.
+last deadline, and does their work. The energies of a part are those of no period.
 """,
     [
         Option("mah", "milliampere-hours of the battery", "N"),
@@ -129,7 +129,7 @@ class Reading:
         self._rows = Rows()
         self._sides: Dict[str, Optional[Fraction]] = {}
         self._times: Dict[str, List[Tuple[int, Fraction]]] = {}
-        self._windows: List[Tuple[int, int]] = []
+        self._jobs: List[Tuple[int, int, int]] = []
         self._misses: Dict[str, str] = {}
         self._period: Optional[int] = None
         self._no_period = ""
@@ -149,7 +149,7 @@ class Reading:
                 except Fault as fault:
                     raise row.line.fault(fault.told) from None
             elif isinstance(row, Job):
-                self._windows.append((row.release, row.deadline))
+                self._jobs.append((row.release, row.deadline, row.work))
             elif isinstance(row, Other):
                 self._take_line(row.line, row.fields)
         self.prices.finish()
@@ -256,16 +256,22 @@ class Reading:
             if not points and side.time < period - Fraction(len(times), 1000):
                 advice = "give the points before the lines, whose first has the power of the rest"
                 raise Fault(f"{takes} of the {decimal(period)} units of time of the period; {advice}")
-            self._check_span(side.time, len(times), takes)
+            self._check_jobs(side.time, times, f"the side {side.side}")
 
-    def _check_span(self, time: Fraction, rounded: int, takes: str) -> None:
-        """Whether a side takes the time of the document's jobs, so that none is left out, as in a part's energies."""
-        if not self._windows:
+    def _check_jobs(self, time: Fraction, times: Sequence[Tuple[int, Fraction]], side: str) -> None:
+        """Whether a side takes the time and does the work of all jobs of the document: a part's takes less."""
+        if not self._jobs:
             return
-        span = max(deadline for _, deadline in self._windows) - min(release for release, _ in self._windows)
-        if abs(time - span) > Fraction(rounded, 1000):
+        span = max(deadline for _, deadline, _ in self._jobs) - min(release for release, _, _ in self._jobs)
+        work = sum((speed * units for speed, units in times), Fraction(0))
+        all_work = sum(work for _, _, work in self._jobs)
+        all_of_them = "give the energies of all of these jobs"
+        if abs(time - span) > Fraction(len(times), 1000) + Fraction(span, 10**6):
             told = f"the document's jobs {span}, from the first release to the last deadline"
-            raise Fault(f"{takes} units of time, and {told}; give the energies of all of these jobs")
+            raise Fault(f"{side} takes {decimal(time)} units of time, and {told}; {all_of_them}")
+        if abs(work - all_work) > Fraction(sum(speed for speed, _ in times), 1000) + Fraction(all_work, 10**6):
+            told = f"the document's jobs have {all_work}"
+            raise Fault(f"{side} does {decimal(work)} units of work, and {told}; {all_of_them}")
 
     def caveats(self) -> List[str]:
         """What is told of energy that is in no line."""
