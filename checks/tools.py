@@ -20,10 +20,10 @@ from typing import List, NamedTuple, Sequence
 ROOT = Path(__file__).resolve().parent.parent
 TESTS = ROOT / "python" / "tests"
 
-LEAST = 294
+LEAST = 300
 """There are at least so many tests. Who adds some writes the new number here."""
 
-LEAST_BUILT = 315
+LEAST_BUILT = 317
 """And so many that ask the program and the library."""
 
 _NEEDS = re.compile(r'^NEEDS = \((?!"libyds",\))', re.MULTILINE)

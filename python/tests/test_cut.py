@@ -59,6 +59,16 @@ class CutTest(unittest.TestCase):
         self.assertEqual(sum(text.count(b"# left out: j.7\n") for text in found), 1)
         self.assertEqual(sum(text.count(b"# first\n") for text in found), 1)
 
+    def test_a_part_has_no_period(self) -> None:
+        """What repeats is the whole: the hours of a part's energies would be those of a processor that sleeps for the rest."""
+        document = lines("# period 2000", *(line.decode().strip() for line in SHORT))
+        parts = texts(document, 1)
+        self.assertGreater(len(parts), 1)
+        self.assertFalse([text for text in parts if b"# period" in text])
+        self.assertEqual(sum(text.count(b"# no period: a part of what repeats after 2000\n") for text in parts), 1)
+        whole = texts(document, 4000)
+        self.assertEqual((len(whole), b"# period 2000\n" in whole[0]), (1, True))
+
     def test_windows_line_ends_tabs_and_empty_lines(self) -> None:
         other = [line.replace(b" ", b"\t ").replace(b"\n", b"\r\n") for line in SHORT for line in (b"\n", line)]
         self.assertEqual(texts(other, 1), texts(SHORT, 1))
@@ -83,7 +93,7 @@ class CutTest(unittest.TestCase):
             (("job a 0 4 8", "jobs b 4 6 1"), "line 2: jobs is no kind of line"),
             (("job a 0 4 8", "slot a 0 1+1/ 8"), "line 2: a slot is: slot NAME FROM TO WORK"),
             (("job a 0 4 8", "slot a\x0b0 4 8"), "line 2: a byte that stands in no line but a comment"),
-            (("# time unit 10 us", "job a 0 4 8", "# time unit 1 us"), "line 3: a unit of time of 1 us here and 10 us before"),
+            (("# time unit 10 us", "job a 0 4 8", "# time unit 1 us"), "line 3: a unit of time of 1 us here and 10 us before; give both the same --us"),
             (("point 0 1", "# no job"), "no job line; look at what wrote the input"),
             ((), "the input is empty; look at what wrote it"),
         ]:

@@ -290,6 +290,20 @@ class BatteryTest(unittest.TestCase):
             "flat\tmisses 3\t-\t-", "avr\ttoo slow\t-\t-", "# 1 job was left out of the document, with its energy", "# not due by 9: b: this energy is in no line",
         ])  # fmt: skip
 
+    def test_energies_of_some_of_the_jobs(self) -> None:
+        """The energies of a part beside the whole document: the rest isn't time in which nothing runs."""
+        head = b"# power unit 10 uW\n# period 40\npoint 0 5\npoint 10 75\n"
+        lines = self.LINES[:46]
+        self.assertEqual(call("battery", *self.WORDS, given=head + b"job a 20 30 50\n" + lines).status, 0)
+        for jobs, span in ((b"job a 20 30 50\njob b 0 40 9\n", 40), (b"job a 20 29 50\n", 9)):
+            told = f"the side plan takes 10 units of time, and the document's jobs {span}, from the first release to the last"
+            called = call("battery", *self.WORDS, given=head + jobs + lines)
+            self.assertEqual((called.status, called.out), (1, ""))
+            self.assertIn(f"{told} deadline; give the energies of all of these jobs", called.err)
+        called = call("battery", *self.WORDS, given=head + b"job a 20 30 51\n" + lines)
+        told = "the side plan does 50 units of work, and the document's jobs have 51; give the energies of all of these jobs"
+        self.assertEqual((called.status, called.out, called.err), (1, "", f"yds-battery: {told}\n"))
+
     def test_words(self) -> None:
         for words in (
             ["--mah", "0", "--volts", "3"],

@@ -97,6 +97,20 @@ class MovedTest(unittest.TestCase):
             file.flush()
             self.assertIn(words, call("collect", file.name).out)
 
+    def test_energies_beside_the_document_say_it_once(self) -> None:
+        """The program's answer has no comments: the document with moved deadlines, given with it, has."""
+        told = "\n".join(self.moved(POINTS + LATE)) + "\n"
+        energy = call("energy", "--name", "plan", given=told.encode()).out
+        bare = "\n".join(line for line in energy.splitlines() if not line.startswith("#")) + "\n"
+        words = "with 1 deadline moved to where late jobs ended"
+        for lines in (energy, bare):
+            hours = call("battery", "--mah=1", "--volts=1", "--period=20", "--uw=1", given=(told + lines).encode())
+            self.assertEqual((hours.status, hours.out.count(words)), (0, 1))
+            with tempfile.NamedTemporaryFile() as file:
+                file.write((told + lines).encode())
+                file.flush()
+                self.assertEqual(call("plot", "energy", "-t", "text", file.name).out.count(words), 1)
+
     def test_stored_traces(self) -> None:
         """Of jobs that never ended, ended in a run within a tick, or by less than a unit too late."""
         for name, wanted in [

@@ -510,6 +510,8 @@ class Samples(unittest.TestCase):
         text = "job a 0 2000 9000\nslot a 0 2000 9000\n"
         picture = speed([read(text, units_of("1ms,1kHz"))], [""], Choice())
         self.assertEqual((picture.frame.x_label, picture.frame.y_label), ("time (s)", "speed (kHz)"))
+        thirds = speed([read(text, units_of("1/3ms,1kHz"))], [""], Choice()).frame
+        self.assertEqual((thirds.x_label, round(thirds.x[1], 6)), ("time (ms)", 666.666667))
         own = (ROOT / "examples" / "own-slots.txt").read_text()
         picture = drawn_speed(own)
         self.assertEqual(
@@ -611,6 +613,29 @@ class Words(unittest.TestCase):
         self.assertRegex(found.out, r"decode\.2 .*!.* late")
         found = call("plot", "ratios", "-t", "text", EXPECTED / "folder.tsv")
         self.assertIn("* avr, o oa", found.out)
+
+    def test_signs_say_no_more_than_they_can(self) -> None:
+        """Of runs narrower than a sign a row tells no part of the time, and each of twelve tasks has a sign of its own."""
+        jobs = [f"job task{place % 12}.{place // 12} {place * 9} {place * 9 + 9} 4" for place in range(1200)]
+        runs = [f"run task{place % 12}.{place // 12} {place * 9} {place * 9 + 2} 2" for place in range(1200)]
+        path = self.file("\n".join([*jobs, "ticks 1", *runs]) + "\n")
+        told = call("plot", "gantt", "-t", "text", path).out.split("\n")
+        self.assertIn("a run that is narrower than a sign is drawn as wide as one", told)
+        self.assertFalse([line for line in told if "as high as" in line])
+        key = call("plot", "speed", "-t", "text", path).out.split("\n")[-2]
+        self.assertEqual([entry[2:] for entry in key.split(", ")], [f"task{place}" for place in range(12)])
+        self.assertEqual(len({entry[0] for entry in key.split(", ")}), 12)
+
+    def test_two_documents_have_two_names(self) -> None:
+        """Files that differ in their endings or folders alone are told apart in the key."""
+        for names in (["a.plan", "a.oa"], ["one/a.txt", "two/a.txt"]):
+            files = [self.folder / name for name in names]
+            for file in files:
+                file.parent.mkdir(exist_ok=True)
+                file.write_text(DOCUMENT)
+            key = call("plot", "speed", "-t", "text", *files).out.split("\n")[-2]
+            wanted = names if names[0] == "a.plan" else [str(file) for file in files]
+            self.assertEqual([entry[2:] for entry in key.split(", ")], wanted)
 
     def test_faults_of_the_input(self) -> None:
         path = self.file("job a 0 9 1\nslot a 3 3 1\n")

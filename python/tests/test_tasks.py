@@ -272,6 +272,18 @@ class RtappTest(unittest.TestCase):
         for words in ([], ["-m", "0"], ["-m", "1", "-c", "x"], ["-m", "1", "-H", "."], ["-m", "1", "-u", "1.5"]):
             self.assertEqual(call("rtapp", *words, workload)[:2], (2, "failed\n"))
 
+    def test_the_units_that_are_proposed_can_be_taken(self) -> None:
+        """Periods of 16,667 and 10,000 us need units of 1 us, in which 12 ms at 2 GHz are 2,400,000 of 10 MHz."""
+        timed = '{{"run":{},"timer":{{"ref":"u","period":{}}}}}'
+        tasks = f'"a":{timed.format(12000, 16667)},"b":{timed.format(1000, 10000)}'
+        text = f'{{"tasks":{{{tasks}}},"global":{{"duration":1}}}}'.encode()
+        told = "give -u 1, which divides all times, and -k 50000, so that no work is too great, or -j"
+        refused = call("rtapp", "-m", "2000", given=text)
+        whole = "a: the period is no multiple of the time unit, 10 microseconds"
+        self.assertEqual(refused, (1, "failed\n", f"yds-rtapp: {whole}; {told}\n"))
+        lines = call("rtapp", "-m", "2000", "-u", "1", "-k", "50000", given=text).out.splitlines()[1:]
+        self.assertEqual(lines, ["horizon 1000000", "task a 0 16667 16667 480000", "task b 0 10000 10000 40000"])
+
     def test_comments_and_spare_commas(self) -> None:
         text = b'{ // "x"\n"tasks" : { "a//b" : { "run" : 500, /* , } */ "timer" : { "period" : 10000, }, // , }\n}, }, "global" : { "duration" : 1, } , }\n'
         self.assertEqual(

@@ -164,6 +164,16 @@ class EndsTest(unittest.TestCase):
         self.assertEqual(done.returncode, 1)
         self.assertEqual(done.stderr, b"yds-scale: the output can't be written: No space left on device\n")
 
+    @unittest.skipUnless(Path("/dev/full").exists(), "there is no full device")
+    def test_a_full_disk_is_told_once_where_lines_are_written_as_they_come(self) -> None:
+        with open("/dev/full", "wb") as full, tempfile.NamedTemporaryFile() as long:
+            long.write(b"job a 0 9 4\n" * 4000)
+            long.flush()
+            command = [sys.executable, str(START), "yds-join", str(TASKS), long.name]
+            done = subprocess.run(command, stdout=full, stderr=subprocess.PIPE, check=False)
+        self.assertEqual(done.returncode, 1)
+        self.assertEqual(done.stderr, b"yds-join: the output can't be written: No space left on device\n")
+
     def test_an_interrupt(self) -> None:
         def interrupted(given: object, write: object) -> int:
             raise KeyboardInterrupt

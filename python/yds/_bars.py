@@ -6,7 +6,7 @@ import re
 from fractions import Fraction
 from typing import Dict, Iterable, List, NamedTuple, Optional, Sequence, Tuple
 
-from yds._comments import BESIDE
+from yds._comments import BESIDE, moved_of, with_moved
 from yds._framed import Choice, Frame, Key, in_words
 from yds._passed import check
 from yds._pixels import text_width
@@ -80,18 +80,21 @@ def read_energies(rows: Iterable[Row]) -> Energies:
     points: List[Tuple[int, int]] = []
     misses: Dict[str, int] = {}
     caveats: Dict[str, None] = {}
+    moved: Dict[str, None] = {}
     units = ToldUnits()
     for row in rows:
         if isinstance(row, Point):
             points.append((row.speed, row.power))
         elif isinstance(row, Comment):
-            late, caveat = _MISSES(row.text), _CAVEAT(row.text)
+            late, caveat, deadline = _MISSES(row.text), _CAVEAT(row.text), moved_of(row.text)
             if " unit " in row.text:
                 units.take(row.line)
             if late:
                 misses[late.group(1)] = int(late.group(2))
             if caveat:
                 caveats[caveat.group(1)] = None
+            if deadline:
+                moved[deadline[0]] = None
         elif isinstance(row, Other):
             _take(sides, row)
     if not sides:
@@ -99,6 +102,8 @@ def read_energies(rows: Iterable[Row]) -> Energies:
     for side in sides.values():
         if side.energy is None and side.times is not None:
             raise Fault(f"the side {side.name} has times and no energy")
+    if moved:
+        caveats[with_moved(len(moved))[2:]] = None
     found = [side._replace(misses=misses.get(side.name, 0)) for side in sides.values()]
     return Energies(found, points, list(caveats), units_of_told(units))
 

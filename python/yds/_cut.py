@@ -2,6 +2,7 @@
 
 from __future__ import annotations
 
+import re
 import tempfile
 from array import array
 from bisect import bisect_right
@@ -18,6 +19,8 @@ SOME_RUNS = 1 << 16
 """The parts of so many runs are looked up at once."""
 HELD_BYTES = 1 << 22
 """So many bytes of runs that are out of order are held before they go to the files of their parts."""
+
+_PERIOD = re.compile(rb"# period ([0-9]+)(?=\s*$)")
 
 
 class Range(NamedTuple):
@@ -238,6 +241,9 @@ class Writer:
     def _part(self, number: int, part: Range) -> Part:
         long = self._long
         lines = self._job_lines(part)
+        kept = [line + b"\n" for line in long.kept]
+        if len(self._parts) > 1:
+            lines, kept = [_of_part(line) for line in lines], [_of_part(line) for line in kept]
         jobs = [line.split() for line in lines if line.startswith(b"job ")]
         start, end = int(jobs[0][2]), max(int(job[3]) for job in jobs)
         shift = min(long.begins[part.first : part.end]) if long.shift else 0
@@ -251,7 +257,7 @@ class Writer:
         text += [] if last else [line.encode("latin-1") + b"\n" for line in long.lacking.comments()]
         text += [_shifted_job(line, shift) for line in lines] if shift else lines
         text += [line + b"\n" for line in long.points]
-        text += [line + b"\n" for line in long.kept] if number == 0 else []
+        text += kept if number == 0 else []
         text += [] if long.ticks is None else [b"ticks %d\n" % long.ticks]
         ticks = long.ticks or 1
         runs = self._runs.lines(number)
@@ -274,6 +280,11 @@ class Writer:
             lines.append(self._next)
             self._next = next(self._lines, None)
         return lines
+
+
+def _of_part(line: bytes) -> bytes:
+    """A line of the document in a part of it: what repeats after the period is the whole."""
+    return _PERIOD.sub(rb"# no period: a part of what repeats after \1", line) if line.startswith(b"# period ") else line
 
 
 def _shifted_job(line: bytes, shift: int) -> bytes:

@@ -16,6 +16,7 @@ MOST_ROWS = 200
 MOST_BARS = 5000
 WINDOW, OVERRUN, OTHERS = "#e9e9e9", "#f5a623", "#8c8c8c"
 LEFT_OUT_ROW, OTHERS_ROW = "left out", "others"
+NARROW = "where runs are narrower than a pixel, a bar is as high as the part of its time that ran"
 
 
 class Bar(NamedTuple):
@@ -269,9 +270,7 @@ def gantt(document: Timeline, choice: Choice) -> Gantt:
     key = _key(not are_near and bool(deadlines), overruns, misses, others, crosses)
     hints = drawing.of_others()
     hints += [f"{len(deadlines)} deadlines are too near to be drawn"] if are_near else []
-    hints += (
-        ["where runs are narrower than a pixel, a bar is as high as the part of its time that ran"] if columns else []
-    )
+    hints += [NARROW] if columns else []
     x = drawing.first * time.factor, drawing.end * time.factor
     frame = Frame(
         f"Who runs when, by {drawing.groups.kind}",

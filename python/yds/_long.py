@@ -39,9 +39,9 @@ BUCKETS = 64
 NO_RUN = 0xFFFFFFFF
 
 _UNIT_HINTS = {
-    b"time": "give both the same us=",
-    b"speed": "give points and trace the same khz=",
-    b"power": "give the points of one uw=",
+    b"time": "give both the same --us",
+    b"speed": "give points and trace the same --khz",
+    b"power": "give the points of one --uw",
 }
 
 

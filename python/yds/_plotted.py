@@ -4,7 +4,7 @@ from __future__ import annotations
 
 import os
 import re
-from typing import Callable, Dict, NamedTuple, Optional, Sequence, Tuple
+from typing import Callable, Dict, List, NamedTuple, Optional, Sequence, Tuple
 
 from yds._framed import Choice, Range
 from yds._scales import Units, units_of
@@ -119,8 +119,18 @@ def _speed(files: Sequence[str], wanted: Wanted) -> Drawing:
 
     files = files or [STANDARD_INPUT]
     read = [timeline(Rows(lines([file])), wanted.units) for file in files]
-    names = [os.path.splitext(os.path.basename(file))[0] for file in files]
-    return Drawing("speed", lambda choice: speed(read, names, choice), 960, 400)
+    return Drawing("speed", lambda choice: speed(read, names_of(files), choice), 960, 400)
+
+
+def names_of(files: Sequence[str]) -> List[str]:
+    """The files' names without folder and ending; with what tells them apart where two would be one.
+
+    >>> names_of(["out/plan.txt", "oa.txt"]), names_of(["a.plan", "a.oa"]), names_of(["1/a.txt", "2/a.txt"])
+    (['plan', 'oa'], ['a.plan', 'a.oa'], ['1/a.txt', '2/a.txt'])
+    """
+    bases = [os.path.basename(file) for file in files]
+    choices = [os.path.splitext(base)[0] for base in bases], bases
+    return next((names for names in choices if len(set(names)) == len(names)), list(files))
 
 
 def _slack(files: Sequence[str], wanted: Wanted) -> Drawing:

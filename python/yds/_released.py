@@ -23,12 +23,22 @@ class Scale(NamedTuple):
 
     def work(self, phase: Phase) -> int:
         """The work of a period's runs, in units of work, rounded up."""
-        exact = phase.events.run * self.mhz * 1000 / (self.us * self.khz)
+        exact = self._exact(phase)
         work = -(-exact.numerator // exact.denominator)
         if work > MOST_WORK:
-            fits = next(unit for unit in _coarser(self.khz) if exact * self.khz <= MOST_WORK * unit)
+            fits = self.fitting(phase)
             raise Fault(f"{phase.where}: a work of {work}, above {MOST_WORK}; give a coarser -u or -k, as -k {fits}")
         return work
+
+    def fitting(self, phase: Phase) -> int:
+        """A unit of speed in which the work isn't too great: this one, or a coarser one."""
+        exact = self._exact(phase)
+        if exact <= MOST_WORK:
+            return self.khz
+        return next(unit for unit in _coarser(self.khz) if exact * self.khz <= MOST_WORK * unit)
+
+    def _exact(self, phase: Phase) -> Fraction:
+        return phase.events.run * self.mhz * 1000 / (self.us * self.khz)
 
 
 def _coarser(khz: int) -> Iterator[int]:
@@ -81,10 +91,19 @@ def _only_phase(one: Instance) -> Tuple[Fraction, Fraction, Fraction, Phase]:
 def _units(one: Instance, time: Fraction, what: str, scale: Scale, found: Sequence[Instance]) -> int:
     units = time / scale.us
     if units.denominator != 1:
-        fits = _divisor(found)
-        advice = f"give -u {fits}, which divides all times, or -j" if fits else "give -j"
+        advice = _advice(scale, found)
         raise Fault(f"{one.name}: {what} is no multiple of the time unit, {scale.us} microseconds; {advice}")
     return units.numerator
+
+
+def _advice(scale: Scale, found: Sequence[Instance]) -> str:
+    """Units in which all times are whole, and no work is too great."""
+    fits = _divisor(found)
+    if not fits:
+        return "give -j"
+    khz = max(scale._replace(us=fits).fitting(_only_phase(one)[3]) for one in found)
+    coarser = f", and -k {khz}, so that no work is too great" if khz > scale.khz else ""
+    return f"give -u {fits}, which divides all times{coarser}, or -j"
 
 
 def _divisor(found: Sequence[Instance]) -> int:

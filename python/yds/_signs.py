@@ -7,16 +7,19 @@ from typing import Any, Callable, Dict, Iterable, List, NamedTuple, Sequence, Tu
 from yds._bars import Bars
 from yds._excess import Excess
 from yds._framed import Frame
-from yds._gantt import Gantt
+from yds._gantt import NARROW, Gantt
 from yds._pixels import shortened
 from yds._ratios import Ratios
 from yds._scales import short
 from yds._slacks import Slacks
 from yds._speeds import Speed
 
-MARKS = "*o+x#%@&"
-"""The signs of groups, documents and sides, in turn."""
+MARKS = "*o+x#%@&swmvznkheutcyadq"
+"""The signs of groups, documents and sides: as many as there are colours, and then in turn."""
 WIDTH, HEIGHT = 100, 28
+
+_NARROW = "a run that is narrower than a sign is drawn as wide as one"
+"""A row of signs has no height by which it could tell a part of the time."""
 
 
 class Place(NamedTuple):
@@ -84,7 +87,8 @@ def axis(frame: Frame, left: int, columns: int) -> List[str]:
 
 
 def _head(frame: Frame) -> List[str]:
-    return [line for line in (frame.title, *frame.notes, *frame.hints) if line]
+    hints = [_NARROW if hint == NARROW else hint for hint in frame.hints]
+    return [line for line in (frame.title, *frame.notes, *hints) if line]
 
 
 def text(kind: str, picture: Any, width: int, height: int) -> List[str]:

@@ -182,6 +182,8 @@ def _answer(command: Command, words: Sequence[str], work: Work) -> int:
         return _fail(command, "", INTERRUPTED)
     except BrokenPipeError:
         raise
+    except UnwrittenError as fault:
+        return _fail(command, str(fault), NO, unwritten=True)
     except (OSError, MemoryError, ValueError, ArithmeticError, ImportError) as fault:
         return _fail(command, _told(fault), NO)
     except Exception as fault:
@@ -189,9 +191,21 @@ def _answer(command: Command, words: Sequence[str], work: Work) -> int:
     return _put(command, held, status)
 
 
+class UnwrittenError(Exception):
+    """The output can't be written, as where a disk is full."""
+
+    def __init__(self, fault: OSError) -> None:
+        super().__init__(f"the output can't be written: {fault.strerror}")
+
+
 def _write(line: Written) -> None:
     """Writes a line as it comes."""
-    sys.stdout.buffer.write(_bytes_of(line))
+    try:
+        sys.stdout.buffer.write(_bytes_of(line))
+    except BrokenPipeError:
+        raise
+    except OSError as fault:
+        raise UnwrittenError(fault) from fault
 
 
 def _bytes_of(line: Written) -> bytes:
@@ -205,16 +219,16 @@ def _told(fault: BaseException) -> str:
     return str(fault) or "there isn't memory enough"
 
 
-def _fail(command: Command, told: str, status: int) -> int:
-    """Tells a fault, and says to the output that it isn't whole."""
+def _fail(command: Command, told: str, status: int, unwritten: bool = False) -> int:
+    """Tells a fault, and says to the output that it isn't whole; of an output that can't be written that is told once."""
     if told:
         shown = "".join(sign if sign.isprintable() else "?" for sign in f"{command.name}: {told}")
         sys.stderr.buffer.write(shown.encode("utf-8", "surrogateescape") + b"\n")
         sys.stderr.flush()
-    return _put(command, ["failed"] if command.writes_document else [], status)
+    return _put(command, ["failed"] if command.writes_document else [], status, unwritten)
 
 
-def _put(command: Command, lines: Sequence[Written], status: int) -> int:
+def _put(command: Command, lines: Sequence[Written], status: int, unwritten: bool = False) -> int:
     """Writes the lines; a disk that is full is a fault, too."""
     try:
         sys.stdout.buffer.writelines(map(_bytes_of, lines))
@@ -223,7 +237,8 @@ def _put(command: Command, lines: Sequence[Written], status: int) -> int:
         raise
     except OSError as fault:
         _let_go()
-        sys.stderr.write(f"{command.name}: the output can't be written: {fault.strerror}\n")
+        if not unwritten:
+            sys.stderr.write(f"{command.name}: {UnwrittenError(fault)}\n")
         return NO
     return status
 

@@ -40,7 +40,7 @@ test_battery() {
 	points_of_another_device
 	refuses "battery: no energy" 1 "" "yds-battery: no energy line; is this the answer of compare?" battery --period 1000 "$work/device"
 	refuses "battery: no number of the period" 2 "" "yds-battery: --period 0 is no number above 0; see yds-battery --help" battery --period 0 "$work/device"
-	printf 'job energy 0 5 3\njob time 0 5 3\n' | cat "$work/device" - >"$work/named"
+	printf 'job energy 0 5 0\njob time 0 5 0\n' | cat "$work/device" - >"$work/named"
 	hours "battery: jobs with the names of lines" plan 0.207 3185.9 battery "$work/named" "$work/energies"
 }
 
@@ -80,11 +80,12 @@ jobs_that_are_missing() {
 	answers "battery: jobs are missing, and told" 0 "# not due by 1000: slow, 1 of 1 jobs, work 8000: this energy is in no line" \
 		eval "tool battery --mah 220 --volts 3 --period 1000 '$work/cut' '$work/cut-energies' | tail -n 1"
 	cat "$expected/points.txt" "$expected/document-starving.txt" >"$work/starving"
-	printf 'plan energy 10\nplan time 0 10\n' >"$work/plan"
+	printf 'plan energy 9\nplan time 0 3125+7/100\nplan time 100 2024+93/100\n' >"$work/plan"
 	answers "battery: jobs that a trace's document hasn't" 0 "# 3 jobs were left out of the document, with their energy" \
-		eval "tool battery --mah 220 --volts 3 --uw 1 --period=10 '$expected/document-lost.txt' '$work/plan' | tail -n 1"
+		eval "tool battery --mah 220 --volts 3 --uw 1 --period=5150 '$expected/document-lost.txt' '$work/plan' | tail -n 1"
+	printf 'plan energy 9\nplan time 0 1399+49/50\nplan time 100 300+1/50\n' >"$work/plan"
 	answers "battery: jobs that never ended" 0 "# the work of 2 jobs isn't known, since they never ended or have no runs: what serves them whole may spend more and be later, the first render.0" \
-		eval "tool battery --mah 220 --volts 3 --uw 1 --period=10 '$expected/document-starving.txt' '$work/plan' | tail -n 1"
+		eval "tool battery --mah 220 --volts 3 --uw 1 --period=1700 '$expected/document-starving.txt' '$work/plan' | tail -n 1"
 }
 
 points_of_another_device() {

@@ -4,9 +4,9 @@ join() { tool join "$@"; }
 
 test_units() {
 	texts_together
-	for try in "time@a unit of time of 100 us here and 10 us before; give both the same us=" \
-		"speed@a unit of speed of 1000 kHz here and 10000 kHz before; give points and trace the same khz=" \
-		"power@a unit of power of 10 uW here and 1000 uW before; give the points of one uw="; do
+	for try in "time@a unit of time of 100 us here and 10 us before; give both the same --us" \
+		"speed@a unit of speed of 1000 kHz here and 10000 kHz before; give points and trace the same --khz" \
+		"power@a unit of power of 10 uW here and 1000 uW before; give the points of one --uw"; do
 		reads_together "${try%%@*}" "${try#*@}"
 	done
 }
@@ -60,7 +60,6 @@ faulty() {
 # Each tool that reads a document refuses two units in it.
 reads_together() {
 	kind=$1 text=$2
-	dashed=$(echo "$text" | sed 's/\([a-z]*\)=$/--\1/')
 	case $kind in time) column=15 ;; speed) column=32 ;; power) column=54 ;; esac
 	printf '%s\n' '# table: speed unit 10000 kHz, power unit 1000 uW' 'point 0 0' 'point 10 20' '# time unit 10 us' 'job a 0 10 10' 'slot a 0 1 10' >"$work/one"
 	{
@@ -72,18 +71,18 @@ reads_together() {
 		esac
 	} >"$work/two"
 	grep -v '^slot' "$work/two" >"$work/two-jobs"
-	refuses "units: energy, $kind" 1 "" "yds-energy: $work/two, line 7, column $column: $dashed" energy "$work/two"
-	refuses "units: jobs, $kind" 1 "" "yds-jobs: $work/two, line 7, column $column: $dashed" tool jobs "$work/two"
-	refuses "units: changes, $kind" 1 "" "yds-changes: $work/two, line 7, column $column: $dashed" tool changes "$work/two"
-	refuses "units: slots, $kind" 1 failed "yds-slots: $work/two, line 7, column $column: $dashed" tool slots "$work/two"
-	refuses "units: scale, $kind" 1 failed "yds-scale: $work/two-jobs, line 6, column $column: $dashed" tool scale --work 2 "$work/two-jobs"
-	refuses "units: battery, $kind" 1 "" "yds-battery: $work/two, line 7, column $column: $dashed" tool battery --mah 1 --volts 1 --period 1 "$work/two"
-	refuses "units: answer, $kind" 1 "" "yds-answer: line 7, column $column: $dashed" from "$work/two" tool answer
-	refuses "units: misses, $kind" 1 "" "yds-misses: $work/two, line 7, column $column: $dashed" tool misses "$work/two"
+	refuses "units: energy, $kind" 1 "" "yds-energy: $work/two, line 7, column $column: $text" energy "$work/two"
+	refuses "units: jobs, $kind" 1 "" "yds-jobs: $work/two, line 7, column $column: $text" tool jobs "$work/two"
+	refuses "units: changes, $kind" 1 "" "yds-changes: $work/two, line 7, column $column: $text" tool changes "$work/two"
+	refuses "units: slots, $kind" 1 failed "yds-slots: $work/two, line 7, column $column: $text" tool slots "$work/two"
+	refuses "units: scale, $kind" 1 failed "yds-scale: $work/two-jobs, line 6, column $column: $text" tool scale --work 2 "$work/two-jobs"
+	refuses "units: battery, $kind" 1 "" "yds-battery: $work/two, line 7, column $column: $text" tool battery --mah 1 --volts 1 --period 1 "$work/two"
+	refuses "units: answer, $kind" 1 "" "yds-answer: line 7, column $column: $text" from "$work/two" tool answer
+	refuses "units: misses, $kind" 1 "" "yds-misses: $work/two, line 7, column $column: $text" tool misses "$work/two"
 	refuses "units: parts, $kind" 1 "" "yds-parts: line 7: $text" tool parts --folder "$work/parts" "$work/two"
 	text_of_part=$(cat "$work/parts/part-00001.txt" 2>/dev/null)
 	if [ "$text_of_part" = failed ]; then pass; else fail "units: parts, $kind: $text_of_part"; fi
-	refuses "units: plot, $kind" 1 "" "yds-plot: $work/two, line 7, column $column: $dashed" tool plot gantt "$work/two"
-	refuses "units: plot with units of its own, $kind" 1 "" "yds-plot: $work/two, line 7, column $column: $dashed" tool plot gantt -u 10us,10MHz,1mW "$work/two"
+	refuses "units: plot, $kind" 1 "" "yds-plot: $work/two, line 7, column $column: $text" tool plot gantt "$work/two"
+	refuses "units: plot with units of its own, $kind" 1 "" "yds-plot: $work/two, line 7, column $column: $text" tool plot gantt -u 10us,10MHz,1mW "$work/two"
 	if energy "$work/one" >"$work/out" 2>&1 && tool misses "$work/one" >"$work/out" 2>&1; then pass; else fail "units: one unit of $kind"; cat "$work/out"; fi
 }

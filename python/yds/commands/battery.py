@@ -13,15 +13,17 @@ from yds._comments import (
     NOT_ENDED,
     WITHOUT_RUNS,
     left_out_of,
+    moved_of,
     period_of,
     unknown_works,
+    with_moved,
     without_runs,
 )
 from yds._heads import closing
 from yds._hours import Prices, SideEnergy, SideHours, battery
 from yds._priced import decimal
 from yds._spelling import read_fraction
-from yds._text import Comment, Fault, Line, Other, Point, Rows, lines
+from yds._text import Comment, Fault, Job, Line, Other, Point, Rows, lines
 from yds._words import DONE, Command, Files, Given, Option, WordsError, run
 
 COMMAND = Command(
@@ -44,7 +46,8 @@ to the last deadline, and how long nothing runs after that isn't known.
 Output: a table parted by tabs: side, milliwatts, hours, and the hours in hundredths of the plan's; a side that misses
 deadlines, as yds-energy tells, has no hours. Comments below it tell of jobs whose energy, or part of whose energy, is
 in no line. The points have to be those of the energies: each side's energy is power times time on them, and its lines
-have their speeds.
+have their speeds. So have the jobs, where there are some: each side takes the time from their first release to their
+last deadline, and does their work. The energies of a part are those of no period.
 """,
     [
         Option("mah", "milliampere-hours of the battery", "N"),
@@ -126,11 +129,13 @@ class Reading:
         self._rows = Rows()
         self._sides: Dict[str, Optional[Fraction]] = {}
         self._times: Dict[str, List[Tuple[int, Fraction]]] = {}
+        self._jobs: List[Tuple[int, int, int]] = []
         self._misses: Dict[str, str] = {}
         self._period: Optional[int] = None
         self._no_period = ""
         self._caveats: Dict[str, None] = {}
         self._noted: Dict[str, None] = {}
+        self._moved: Dict[str, None] = {}
 
     def read(self, rows: Rows) -> None:
         """Reads all rows."""
@@ -143,6 +148,8 @@ class Reading:
                     self.prices.take(row.speed, row.power)
                 except Fault as fault:
                     raise row.line.fault(fault.told) from None
+            elif isinstance(row, Job):
+                self._jobs.append((row.release, row.deadline, row.work))
             elif isinstance(row, Other):
                 self._take_line(row.line, row.fields)
         self.prices.finish()
@@ -171,8 +178,10 @@ class Reading:
 
     def _take_comment(self, comment: Comment) -> None:
         text = comment.text
-        period, misses, closed = period_of(comment), _MISSES(text), closing(text)
-        if period is not None:
+        period, misses, closed, moved = period_of(comment), _MISSES(text), closing(text), moved_of(text)
+        if moved is not None:
+            self._moved[moved[0]] = None
+        elif period is not None:
             if self._period not in (None, period):
                 raise comment.line.fault(f"the period {period} here and {self._period} before; give one document", 2)
             self._period = period
@@ -247,6 +256,22 @@ class Reading:
             if not points and side.time < period - Fraction(len(times), 1000):
                 advice = "give the points before the lines, whose first has the power of the rest"
                 raise Fault(f"{takes} of the {decimal(period)} units of time of the period; {advice}")
+            self._check_jobs(side.time, times, f"the side {side.side}")
+
+    def _check_jobs(self, time: Fraction, times: Sequence[Tuple[int, Fraction]], side: str) -> None:
+        """Whether a side takes the time and does the work of all jobs of the document: a part's takes less."""
+        if not self._jobs:
+            return
+        span = max(deadline for _, deadline, _ in self._jobs) - min(release for release, _, _ in self._jobs)
+        work = sum((speed * units for speed, units in times), Fraction(0))
+        all_work = sum(work for _, _, work in self._jobs)
+        all_of_them = "give the energies of all of these jobs"
+        if abs(time - span) > Fraction(len(times), 1000) + Fraction(span, 10**6):
+            told = f"the document's jobs {span}, from the first release to the last deadline"
+            raise Fault(f"{side} takes {decimal(time)} units of time, and {told}; {all_of_them}")
+        if abs(work - all_work) > Fraction(sum(speed for speed, _ in times), 1000) + Fraction(all_work, 10**6):
+            told = f"the document's jobs have {all_work}"
+            raise Fault(f"{side} does {decimal(work)} units of work, and {told}; {all_of_them}")
 
     def caveats(self) -> List[str]:
         """What is told of energy that is in no line."""
@@ -256,6 +281,7 @@ class Reading:
         if self._noted:
             first = next(iter(self._noted)).split(": ", 1)[1].split(" ")[0].rstrip(",")
             told.append("# " + unknown_works(len(self._noted), first))
+        told += [with_moved(len(self._moved))] if self._moved else []
         return list(dict.fromkeys(told))
 
 
