@@ -23,7 +23,7 @@ TESTS = ROOT / "python" / "tests"
 LEAST = 300
 """There are at least so many tests. Who adds some writes the new number here."""
 
-LEAST_BUILT = 317
+LEAST_BUILT = 321
 """And so many that ask the program and the library."""
 
 _NEEDS = re.compile(r'^NEEDS = \((?!"libyds",\))', re.MULTILINE)

@@ -132,6 +132,13 @@ class CommandsTest(unittest.TestCase):
         self.assertIn("nowhere can't be read: No such file or directory", err)
         self.assertEqual((self.folder / "part-00001.txt").read_bytes(), b"failed\n")
 
+    def test_a_fault_of_a_file_tells_its_name(self) -> None:
+        file = self.folder.parent / "long.txt"
+        file.write_bytes(b"job a 4 4 8\n")
+        status, _, err = self.cut(b"", str(file))
+        told = f"yds-parts: {file}, line 1: job a has its deadline 4 at or before its release 4\n"
+        self.assertEqual((status, err), (1, told))
+
     def test_left_out_levels(self) -> None:
         status, out, err = self.cut(b"job a 0 4 8\nslot a 0 4 8\nlevel 8 4\npiece 0 4\nmember a\n")
         self.assertEqual((status, out), (0, b""))

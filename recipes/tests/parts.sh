@@ -91,20 +91,20 @@ test_parts_faults() {
 	refuses "parts: no folder" 2 "" "yds-parts: no --folder DIR is given; see yds-parts --help" parts "$work/long"
 	refuses "parts: too many jobs for a part" 2 "" "yds-parts: --jobs 4001 is no number from 1 to 4000; see yds-parts --help" parts --folder "$work/cut" --jobs 4001 "$work/long"
 	order="the jobs need the order of their releases: (grep '^job' LONG | sort -k3n; grep -v '^job' LONG)"
-	cut_fails "out of order" "line 3: job c is released at 3, and one above it at 5; $order" 'job a 0 4 8' 'job b 5 6 1' 'job c 3 9 1'
+	cut_fails "out of order" "$work/long, line 3: job c is released at 3, and one above it at 5; $order" 'job a 0 4 8' 'job b 5 6 1' 'job c 3 9 1'
 	cut_fails "no place to cut" "there is no place to cut from job a to job b: a window is always open, and a job always has runs on both sides. With the next one these jobs are 3, above 2. The one whose runs reach furthest is a; take it out, or let it be a job for each piece" \
 		'job a 0 9 2' 'job b 1 9 1' 'job c 2 9 1' 'ticks 1' 'run a 0 1 1' 'run b 1 2 1' 'run c 2 3 1' 'run a 3 4 1'
-	cut_fails "a name twice, in two parts" "line 3: a job of the name a is there already, at line 1" 'job a 0 4 8' 'job b 4 6 1' 'job a 6 9 1'
-	cut_fails "a slot of no job" "line 2: no job of the name b" 'job a 0 4 8' 'slot b 0 4 8'
-	cut_fails "a slot before its job" "line 2: the line of job b comes after it, as line 3" 'job a 0 4 8' 'slot b 4 5 8' 'job b 4 5 8'
-	cut_fails "a run before the ticks" "line 2: a run before any line of ticks" 'job a 0 4 8' 'run a 0 4 2' 'ticks 1'
-	cut_fails "ticks twice" "line 2: a second line of ticks" 'ticks 1' 'ticks 1' 'job a 0 4 8'
-	cut_fails "a line cut short" "line 2: a job is: job NAME RELEASE DEADLINE WORK, in whole numbers" 'job a 0 4 8' 'job b 4 6'
-	cut_fails "a leading zero" "line 2: a job is: job NAME RELEASE DEADLINE WORK, in whole numbers" 'job a 0 4 8' 'job b 04 6 1'
-	cut_fails "an empty window" "line 1: job a has its deadline 4 at or before its release 4" 'job a 4 4 8'
-	cut_fails "a late time" "line 1: a time above 1000000000; shift the times of each part (--shift)" 'job a 0 1000000001 8'
-	cut_fails "an answer of no" "line 1: the input is an answer of no: failed" failed
-	cut_fails "another kind of line" "line 2: jobs is no kind of line" 'job a 0 4 8' 'jobs b 4 6 1'
+	cut_fails "a name twice, in two parts" "$work/long, line 3: a job of the name a is there already, at line 1" 'job a 0 4 8' 'job b 4 6 1' 'job a 6 9 1'
+	cut_fails "a slot of no job" "$work/long, line 2: no job of the name b" 'job a 0 4 8' 'slot b 0 4 8'
+	cut_fails "a slot before its job" "$work/long, line 2: the line of job b comes after it, as line 3" 'job a 0 4 8' 'slot b 4 5 8' 'job b 4 5 8'
+	cut_fails "a run before the ticks" "$work/long, line 2: a run before any line of ticks" 'job a 0 4 8' 'run a 0 4 2' 'ticks 1'
+	cut_fails "ticks twice" "$work/long, line 2: a second line of ticks" 'ticks 1' 'ticks 1' 'job a 0 4 8'
+	cut_fails "a line cut short" "$work/long, line 2: a job is: job NAME RELEASE DEADLINE WORK, in whole numbers" 'job a 0 4 8' 'job b 4 6'
+	cut_fails "a leading zero" "$work/long, line 2: a job is: job NAME RELEASE DEADLINE WORK, in whole numbers" 'job a 0 4 8' 'job b 04 6 1'
+	cut_fails "an empty window" "$work/long, line 1: job a has its deadline 4 at or before its release 4" 'job a 4 4 8'
+	cut_fails "a late time" "$work/long, line 1: a time above 1000000000; shift the times of each part (--shift)" 'job a 0 1000000001 8'
+	cut_fails "an answer of no" "$work/long, line 1: the input is an answer of no: failed" failed
+	cut_fails "another kind of line" "$work/long, line 2: jobs is no kind of line" 'job a 0 4 8' 'jobs b 4 6 1'
 	cut_fails "points and no job" "no job line; look at what wrote the input" 'point 0 1' '# no job'
 	rm -rf "$work/cut"
 	refuses "parts: an empty input" 1 "" "yds-parts: the input is empty; look at what wrote it" from /dev/null parts --folder "$work/cut"

@@ -79,7 +79,7 @@ reads_together() {
 	refuses "units: battery, $kind" 1 "" "yds-battery: $work/two, line 7, column $column: $text" tool battery --mah 1 --volts 1 --period 1 "$work/two"
 	refuses "units: answer, $kind" 1 "" "yds-answer: line 7, column $column: $text" from "$work/two" tool answer
 	refuses "units: misses, $kind" 1 "" "yds-misses: $work/two, line 7, column $column: $text" tool misses "$work/two"
-	refuses "units: parts, $kind" 1 "" "yds-parts: line 7: $text" tool parts --folder "$work/parts" "$work/two"
+	refuses "units: parts, $kind" 1 "" "yds-parts: $work/two, line 7: $text" tool parts --folder "$work/parts" "$work/two"
 	text_of_part=$(cat "$work/parts/part-00001.txt" 2>/dev/null)
 	if [ "$text_of_part" = failed ]; then pass; else fail "units: parts, $kind: $text_of_part"; fi
 	refuses "units: plot, $kind" 1 "" "yds-plot: $work/two, line 7, column $column: $text" tool plot gantt "$work/two"

@@ -5,7 +5,8 @@ from __future__ import annotations
 import os
 import re
 import sys
-from typing import Callable, Iterable, Optional, Sequence
+from contextlib import contextmanager
+from typing import Callable, Iterable, Iterator, Optional, Sequence
 
 from yds import parts
 from yds._heads import MOST_JOBS
@@ -60,7 +61,7 @@ def cut(given: Given, write: Callable[[str], None]) -> int:
         os.makedirs(given.folder, exist_ok=True)
         take_away_old(given.folder)
         file = given.files[0] if given.files else "-"
-        with sys.stdin.buffer if file == "-" else open(file, "rb") as source:
+        with sys.stdin.buffer if file == "-" else open(file, "rb") as source, lines_of(file):
             found = parts.split(source) if given.split else parts.cut(source, jobs, given.shift, given.folder)
             left_out = write_parts(given.folder, found)
     except BaseException:
@@ -73,6 +74,17 @@ def cut(given: Given, write: Callable[[str], None]) -> int:
         text = "lines of levels, pieces and members are left out; a part has no answer of check"
         beside(f"yds-parts: {left_out} {text}\n")
     return DONE
+
+
+@contextmanager
+def lines_of(file: str) -> Iterator[None]:
+    """A fault of a line tells the file, too, where it has a name."""
+    try:
+        yield
+    except parts.PartsError as fault:
+        if file == "-" or fault.line is None:
+            raise
+        raise parts.PartsError(f"{file}, {fault}") from fault
 
 
 def most_jobs(word: Optional[str]) -> int:
