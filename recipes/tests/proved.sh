@@ -3,7 +3,7 @@
 test_proved() {
 	proved=$here/../docs/proved.md list=$here/../crates.txt
 	wrong=
-	$AWK -F '|' '/^\| `yds_/ {
+	$AWK -F '|' '/^\| `[a-z_]+` \|/ {
 		crate = $2
 		gsub(/[` ]/, "", crate)
 		n = split($4, part, "`")
@@ -17,7 +17,7 @@ test_proved() {
 		grep -q "^| \`$crate\` |" "$here/../docs/architecture.md" || wrong="$wrong $crate isn't in docs/architecture.md;"
 	done
 	# The files of the crates that a page names are there.
-	for file in $(grep -ohE '(crates/)?yds_[a-z]+/(src|specs|proofs)(/[A-Za-z_]+)*\.(antt|rt)' "$here"/../docs/*.md "$here/../README.md" | sort -u); do
+	for file in $(grep -ohE '(crates/)?[a-z_]+/(src|specs|proofs)(/[A-Za-z_]+)*\.(antt|rt)' "$here"/../docs/*.md "$here/../README.md" | sort -u); do
 		[ -f "$here/../crates/${file#crates/}" ] || wrong="$wrong there is no $file;"
 	done
 	if [ -s "$work/contracts" ] && [ -z "$wrong" ]; then pass; else fail "proved:$wrong"; fi

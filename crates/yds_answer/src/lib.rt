@@ -1,6 +1,6 @@
 //! Answers: what a command writes, with the status of a run that wrote it, and how it is delivered to a sink.
 //!
-//! It stands on `yds_document`, whose buffer makes a line, and on `yds_port`, whose sinks take bytes. It has the answers that several
+//! It stands on `text_line`, whose buffer makes a line, and on `yds_port`, whose sinks take bytes. It has the answers that several
 //! commands give: a line that says yes or no, one for want of operating points, and the refusals. It carries the promise that an answer
 //! that was delivered stands in the sink whole and flushed, or that the status tells the fault that came between.
 #![tactic(auto)]

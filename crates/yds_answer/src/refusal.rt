@@ -3,7 +3,7 @@ ghost use Rattle.std.specs.Prelude.{◌≡◌, ◌≤◌, length};
 ghost use Rattle.yds_model.specs.Answer.{refusal_line};
 
 use crate::answer::Answer;
-use yds_document::LineBuffer;
+use text_line::LineBuffer;
 use yds_model::Status;
 use yds_port::{Sink, WriteFault, write_all};
 

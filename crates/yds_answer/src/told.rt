@@ -1,5 +1,5 @@
 use crate::answer::Answer;
-use yds_document::LineBuffer;
+use text_line::LineBuffer;
 use yds_model::Status;
 use yds_port::{Sink, WriteFault, write_all};
 

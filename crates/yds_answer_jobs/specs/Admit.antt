@@ -4,7 +4,7 @@ use Rattle.std.specs.List.{flat_map}
 use Rattle.yds_model.specs.Document.{name_at}
 use Rattle.yds_model.specs.Text.{line, canonical_text}
 use Rattle.yds_model.specs.Admission.{Refusal}
-use Rattle.yds_document.specs.Documents.{document_view}
+use Rattle.document_value.specs.Documents.{document_view}
 use Rattle.yds_answer_jobs.specs.declared.admitted.AdmittedDocument.{AdmittedDocument}
 
 -- the comment of a refusal, where the jobs have these names

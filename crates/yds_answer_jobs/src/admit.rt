@@ -9,14 +9,16 @@ ghost use Rattle.yds_port.specs.Sink.{Puts};
 ghost use Rattle.yds_answer.specs.Endings.{Replies};
 ghost use Rattle.yds_model.specs.Answer.{AnswersQuestion};
 ghost use Rattle.yds_model.specs.Request.{AskAdmit};
-ghost use Rattle.yds_document.specs.Documents.{document_view};
+ghost use Rattle.document_value.specs.Documents.{document_view};
 ghost use Rattle.yds_answer_jobs.specs.Admit.{comment_text, comments_text, admitted_text, RiseFrom};
 
 use crate::admitted::AdmittedDocument;
+use document_text::print;
+use document_value::Document;
 use std::alloc::Global;
+use text_line::LineBuffer;
 use yds_admit::{Refusal, admit};
 use yds_answer::{Answer, reply};
-use yds_document::{Document, LineBuffer, print};
 use yds_instance::Instance;
 use yds_model::limits::MAX_TOP;
 use yds_model::{Memory, Status};

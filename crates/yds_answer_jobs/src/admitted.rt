@@ -1,8 +1,8 @@
 ghost use Rattle.std.specs.Prelude.{◌<◌, length};
 ghost use Rattle.std.specs.List.{All};
 
+use document_value::Document;
 use yds_admit::Refusal;
-use yds_document::Document;
 use yds_instance::Instance;
 
 /// A document of the admitted jobs, and why the others aren't: what `admit` answers.

@@ -4,14 +4,15 @@ ghost use Rattle.yds_model.specs.CurveAnswer.{CurveAnswer, break_line};
 ghost use Rattle.yds_answer.specs.Endings.{Replies};
 ghost use Rattle.yds_model.specs.Answer.{AnswersQuestion};
 ghost use Rattle.yds_model.specs.Request.{AskCurve};
-ghost use Rattle.yds_document.specs.Documents.{document_view};
+ghost use Rattle.document_value.specs.Documents.{document_view};
 ghost use Rattle.yds_port.specs.Sink.{Puts};
 ghost use Rattle.yds_answer_plans.specs.Curve.{breaks_text};
 
+use document_value::Document;
 use std::alloc::Global;
+use text_line::LineBuffer;
 use yds_answer::{Answer, reply};
 use yds_curve::{Break, curve};
-use yds_document::{Document, LineBuffer};
 use yds_fraction::Amount;
 use yds_model::{Memory, Status};
 use yds_plan::plan_levels;

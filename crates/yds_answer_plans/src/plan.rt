@@ -4,12 +4,13 @@ ghost use Rattle.yds_model.specs.PlanAnswer.{PlanAnswer};
 ghost use Rattle.yds_answer.specs.Endings.{Replies};
 ghost use Rattle.yds_model.specs.Answer.{AnswersQuestion};
 ghost use Rattle.yds_model.specs.Request.{AskPlan};
-ghost use Rattle.yds_document.specs.Documents.{document_view};
+ghost use Rattle.document_value.specs.Documents.{document_view};
 ghost use Rattle.yds_answer_plans.specs.Plan.{plan_text};
 
+use document_text::print;
+use document_value::Document;
 use std::alloc::Global;
 use yds_answer::{Answer, reply};
-use yds_document::{Document, print};
 use yds_model::{Memory, Status};
 use yds_plan::plan;
 use yds_port::{Sink, WriteFault};

@@ -6,14 +6,15 @@ ghost use Rattle.yds_model.specs.Within.{IsDocument};
 ghost use Rattle.yds_answer.specs.Endings.{Replies};
 ghost use Rattle.yds_model.specs.Answer.{AnswersQuestion};
 ghost use Rattle.yds_model.specs.Request.{AskAverageRate, AskOptimalAvailable};
-ghost use Rattle.yds_document.specs.Documents.{document_view};
+ghost use Rattle.document_value.specs.Documents.{document_view};
 ghost use Rattle.yds_answer_plans.specs.Policies.{policy_text};
 
+use document_text::print;
+use document_value::{Document, Grid};
 use std::alloc::Global;
 use yds_answer::{Answer, reply};
 use yds_avr::avr;
 use yds_certificate::Certificate;
-use yds_document::{Document, Grid, print};
 use yds_edf::PolicyRun;
 use yds_model::limits::{MAX_GRID, MAX_ROUNDED};
 use yds_model::{Memory, Status};

@@ -4,13 +4,13 @@ ghost use Rattle.yds_model.specs.ReportAnswer.{ReportAnswer};
 ghost use Rattle.yds_answer.specs.Endings.{Replies};
 ghost use Rattle.yds_model.specs.Answer.{AnswersQuestion};
 ghost use Rattle.yds_model.specs.Request.{AskReport};
-ghost use Rattle.yds_document.specs.Documents.{document_view};
+ghost use Rattle.document_value.specs.Documents.{document_view};
 ghost use Rattle.yds_answer_plans.specs.Report.{table_text};
 
+use document_value::Document;
 use std::alloc::Global;
 use yds_answer::{Answer, reply};
 use yds_certificate::Certificate;
-use yds_document::Document;
 use yds_model::{Memory, Status};
 use yds_plan::plan_levels;
 use yds_port::{Sink, WriteFault};

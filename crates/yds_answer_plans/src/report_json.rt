@@ -4,12 +4,12 @@ ghost use Rattle.yds_model.specs.JsonAnswer.{JsonAnswer};
 ghost use Rattle.yds_answer.specs.Endings.{Replies};
 ghost use Rattle.yds_model.specs.Answer.{AnswersQuestion};
 ghost use Rattle.yds_model.specs.Request.{AskReportAsJson};
-ghost use Rattle.yds_document.specs.Documents.{document_view};
+ghost use Rattle.document_value.specs.Documents.{document_view};
 ghost use Rattle.yds_answer_plans.specs.ReportJson.{json_text};
 
+use document_value::Document;
 use std::alloc::Global;
 use yds_answer::{Answer, reply};
-use yds_document::Document;
 use yds_model::{Memory, Status};
 use yds_plan::plan_levels;
 use yds_port::{Sink, WriteFault, write_all};

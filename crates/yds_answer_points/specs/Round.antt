@@ -3,7 +3,7 @@ use Rattle.std.specs.Prelude.{ℕ, List}
 use Rattle.yds_model.specs.declared.status.Status.{Status}
 use Rattle.yds_model.specs.declared.status.Status.TheVariants as statuses
 use Rattle.yds_model.specs.Text.{canonical_text}
-use Rattle.yds_document.specs.Documents.{document_view}
+use Rattle.document_value.specs.Documents.{document_view}
 use Rattle.yds_answer_points.specs.declared.round.RoundedDocument.{RoundedDocument}
 use Rattle.yds_answer_points.specs.declared.round.RoundedDocument.TheVariants.{Rounded, TooSlow}
 

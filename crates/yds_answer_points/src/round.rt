@@ -5,14 +5,16 @@ ghost use Rattle.yds_model.specs.Text.{line};
 ghost use Rattle.yds_model.specs.Answer.{AnswersQuestion};
 ghost use Rattle.yds_model.specs.Request.{AskRound};
 ghost use Rattle.yds_answer.specs.Endings.{Replies};
-ghost use Rattle.yds_document.specs.Documents.{document_view};
+ghost use Rattle.document_value.specs.Documents.{document_view};
 ghost use Rattle.yds_answer_points.specs.Round.{rounded_text, rounded_status};
 ghost use Rattle.yds_answer.specs.WithPoints.{text_with_points, status_with_points};
 
+use document_text::print;
+use document_value::Document;
 use std::alloc::Global;
+use text_line::LineBuffer;
 use yds_answer::{Answer, WithPoints, reply};
 use yds_certificate::Certificate;
-use yds_document::{Document, LineBuffer, print};
 use yds_model::{Memory, Status};
 use yds_plan::plan;
 use yds_port::{Sink, WriteFault, write_all};

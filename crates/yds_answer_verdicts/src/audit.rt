@@ -6,14 +6,14 @@ ghost use Rattle.yds_model.specs.AuditAnswer.{AuditAnswer, verdict_status};
 ghost use Rattle.yds_model.specs.Request.{AskAudit, AskAuditOnPoints};
 ghost use Rattle.yds_audit.specs.Verdict.{verdict_view};
 ghost use Rattle.yds_answer.specs.Endings.{Replies};
-ghost use Rattle.yds_document.specs.Documents.{document_view};
+ghost use Rattle.document_value.specs.Documents.{document_view};
 ghost use Rattle.yds_answer.specs.Told.{told_line, told_status};
 ghost use Rattle.yds_answer.specs.WithPoints.{text_with_points, status_with_points};
 
 use crate::verdict_line::verdict_line;
+use document_value::Document;
 use yds_answer::{Told, WithPoints, deliver};
 use yds_audit::{Verdict, audit};
-use yds_document::Document;
 use yds_model::Status;
 use yds_port::Sink;
 use yds_table::Table;

@@ -8,15 +8,16 @@ ghost use Rattle.yds_checker.specs.Judgement.{judgement_view};
 ghost use Rattle.yds_answer.specs.Endings.{Replies};
 ghost use Rattle.yds_model.specs.Answer.{AnswersQuestion};
 ghost use Rattle.yds_model.specs.Request.{AskCheck};
-ghost use Rattle.yds_document.specs.Documents.{document_view};
+ghost use Rattle.document_value.specs.Documents.{document_view};
 ghost use Rattle.yds_answer.specs.Told.{told_line, told_status};
 ghost use Rattle.yds_answer_verdicts.specs.Check.{NamesPlaces};
 
 use crate::verdict_line::{add_place, first_word, name_of};
+use document_value::Document;
 use std::alloc::Global;
+use text_line::LineBuffer;
 use yds_answer::{Told, reply};
 use yds_checker::{Judgement, check};
-use yds_document::{Document, LineBuffer};
 use yds_model::limits::MAX_NAME;
 use yds_model::{Memory, Status};
 use yds_port::Sink;

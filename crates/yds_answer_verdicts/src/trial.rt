@@ -9,10 +9,10 @@ ghost use Rattle.yds_answer_verdicts.specs.Trial.{tried_text, counts_text};
 
 use crate::check::is_accepted;
 use std::alloc::Global;
+use text_line::LineBuffer;
 use yds_answer::{Answer, reply};
 use yds_certificate::Level;
 use yds_checker::check;
-use yds_document::LineBuffer;
 use yds_model::{JobRow, Memory, Status};
 use yds_plan::{Planned, plan};
 use yds_port::{Sink, WriteFault, write_all};

@@ -6,13 +6,14 @@ ghost use Rattle.yds_model.specs.Document.{name_at};
 ghost use Rattle.yds_model.specs.Text.{line, fraction_text};
 ghost use Rattle.yds_model.specs.AuditAnswer.{slot_in, job_name, previous_end, verdict_words};
 ghost use Rattle.yds_audit.specs.Verdict.{verdict_view};
-ghost use Rattle.yds_document.specs.Documents.{document_view};
+ghost use Rattle.document_value.specs.Documents.{document_view};
 ghost use Rattle.yds_answer.specs.Spaced.{spaced};
 ghost use Rattle.yds_answer_verdicts.specs.VerdictLine.{later_words, verdict_word, NamesSlots};
 
+use document_value::Document;
+use text_line::LineBuffer;
+use text_line::line_buffer::{FRACTION_BYTES, NUMBER_BYTES};
 use yds_audit::Verdict;
-use yds_document::line_buffer::{FRACTION_BYTES, NUMBER_BYTES};
-use yds_document::{Document, LineBuffer};
 use yds_fraction::Amount;
 use yds_model::JobRow;
 use yds_model::limits::MAX_NAME;

@@ -12,10 +12,11 @@ ghost use Rattle.yds_report.specs.JsonValue.{level_value, report_value, ReportsA
 ghost use Rattle.yds_report.specs.JsonSent.{SendsNumber};
 
 use crate::numbers::{idle_time, speed_of, total_work};
+use document_value::Document;
 use serde::{Described, Serialize, Serializer};
 use std::alloc::Global;
+use text_line::LineBuffer;
 use yds_certificate::{Certificate, Level};
-use yds_document::{Document, LineBuffer};
 use yds_events::{first_release, last_deadline};
 use yds_model::Memory;
 

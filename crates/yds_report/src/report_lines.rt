@@ -8,8 +8,8 @@ ghost use Rattle.yds_model.specs.ReportAnswer.{jobs_row, level_row, idle_row};
 ghost use Rattle.yds_model.specs.Within.{IsLevel};
 
 use crate::numbers::{idle_time, speed_of, total_work};
+use text_line::LineBuffer;
 use yds_certificate::Level;
-use yds_document::LineBuffer;
 use yds_events::{first_release, last_deadline};
 use yds_model::JobRow;
 

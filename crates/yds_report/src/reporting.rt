@@ -4,8 +4,9 @@ ghost use Rattle.yds_model.specs.ReportAnswer.{level_row, report_text};
 ghost use Rattle.yds_port.specs.Sink.{Puts};
 
 use crate::report_lines::{idle_line, jobs_line, put_level};
+use document_value::Document;
+use text_line::LineBuffer;
 use yds_certificate::{Certificate, Level};
-use yds_document::{Document, LineBuffer};
 use yds_port::{Sink, WriteFault, write_all};
 
 /// Appends the report of the levels of a plan of the document's jobs, or after a fault a front of it: a line with the

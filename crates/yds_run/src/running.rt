@@ -5,7 +5,7 @@ ghost use Rattle.yds_model.specs.Answer.{AnswersReading, AnswersQuestion};
 ghost use Rattle.yds_model.specs.Reading.{reading};
 ghost use Rattle.yds_model.specs.Request.{usage_line, OfDocument};
 ghost use Rattle.yds_port.specs.Count.{Rose, next_count};
-ghost use Rattle.yds_document.specs.Documents.{document_view};
+ghost use Rattle.document_value.specs.Documents.{document_view};
 ghost use Rattle.yds_words.specs.Words.{words_of, asked, IsTrial, ReadsInput, question_view, IsAskable};
 ghost use Rattle.yds_answer.specs.Endings.{Outcome, IsWhole, CountTells, IsDelivered, Replies, AnswersBytes, AnswersTaken, IsTooLong};
 ghost use Rattle.yds_run.specs.Worth.{IsWorth};

@@ -1,0 +1,10 @@
+pub mod Fields
+pub mod Job
+pub mod Point
+pub mod Slot
+pub mod Run
+pub mod Member
+pub mod Draft
+pub mod LineKinds
+pub mod Documents
+pub mod Plain

@@ -1,0 +1,3 @@
+mod Named
+pub mod Batches
+pub mod LevelLines
