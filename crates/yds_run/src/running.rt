@@ -10,6 +10,8 @@ ghost use Rattle.yds_words.specs.Words.{words_of, asked, IsTrial, ReadsInput, qu
 ghost use Rattle.yds_answer.specs.Endings.{Outcome, IsWhole, CountTells, IsDelivered, Replies, AnswersBytes, AnswersTaken, IsTooLong};
 ghost use Rattle.yds_run.specs.Worth.{IsWorth};
 
+use document_reader::{DocFault, read_document};
+use document_value::Document;
 use std::alloc::Global;
 use std::hash::RandomState;
 use yds_answer::{RefusedAt, TooLong, Usage, deliver};
@@ -20,7 +22,6 @@ use yds_answer_plans::{
 };
 use yds_answer_points::{answer_compare, answer_round};
 use yds_answer_verdicts::{answer_audit, answer_audit_on_points, answer_check, answer_trial};
-use yds_document::{DocFault, Document, read_document};
 use yds_model::Status;
 use yds_model::limits::MAX_INPUT;
 use yds_port::{ReadAllFault, Sink, Source, read_all};
