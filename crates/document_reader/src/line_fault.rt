@@ -36,6 +36,7 @@ impl From<FieldFault> for LineFault {
 }
 
 impl From<FieldCount> for LineFault {
+    ghost use Rattle.std.specs.Prelude.{◌≡◌};
     ghost use Rattle.document_reader.specs.Fields.{count_fault, line_fault_of};
 
     ghost from_gives = { λ count fault. fault ≡ line_fault_of (count_fault count) };

@@ -1,8 +1,7 @@
 use Rattle.yds_model.proofs.Common.{ℕ, List, ◌∙◌, ap, subst, sym, Job, Document, no_document, jobs_with, IsAdmission, IsAdmittedRun, with_taken}
 use Rattle.yds_answer_jobs.specs.Admit.{RiseFrom}
 use Rattle.yds_instance.specs.Named.{Named}
-use Rattle.document_value.specs.Documents.{document_view}
-use Rattle.document_value.specs.Documents.{points_of}
+use Rattle.document_value.specs.Documents.{document_view, points_of}
 use Rattle.yds_answer_jobs.proofs.Admitting.{admit_answered, admitted_rise}
 use Rattle.yds_answer_jobs.proofs.admit.admit_document.Goals as goal
 

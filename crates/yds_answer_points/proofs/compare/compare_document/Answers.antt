@@ -1,6 +1,5 @@
 use Rattle.yds_model.proofs.Common.{◌≤◌, List, length, sym, ap, subst, Job, IsPlan, Point}
-use Rattle.document_value.specs.Documents.{document_view}
-use Rattle.document_value.specs.Documents.{points_of}
+use Rattle.document_value.specs.Documents.{document_view, points_of}
 use Rattle.yds_round.specs.declared.fault.RoundFault.TheVariants as faults
 use Rattle.yds_round.specs.Fault.{IsCauseOfRoundFault, HasFastLevel}
 use Rattle.yds_answer_points.proofs.TooSlow.{too_slow_compared}

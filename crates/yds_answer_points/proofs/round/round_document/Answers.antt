@@ -1,8 +1,7 @@
 use Rattle.yds_model.proofs.Common.{◌≡◌, ◌≤◌, List, [], length, sym, refl, ap, subst, ◌∙◌, inr, Some, None, Job, Fraction, WrittenSlot, Level, IsPlan, IsRounding, Point, with_answer, canonical_text, IsDocument, RoundAnswer}
 use Rattle.yds_model.specs.declared.status.Status.TheVariants as statuses
 use Rattle.yds_texts.proofs.RoundText.{points_answer}
-use Rattle.document_value.specs.Documents.{document_view}
-use Rattle.document_value.specs.Documents.{points_of}
+use Rattle.document_value.specs.Documents.{document_view, points_of}
 use Rattle.yds_round.specs.declared.fault.RoundFault.TheVariants as faults
 use Rattle.yds_round.specs.Fault.{IsCauseOfRoundFault}
 use Rattle.yds_answer_points.proofs.TooSlow.{too_slow_on_points}
