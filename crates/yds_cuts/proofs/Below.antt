@@ -83,10 +83,6 @@ cost_at_least_idle (low ∷ high ∷ points) slots table cheapest =
 abbrev energy_of : List Job → List Point → ℕ → Group → ℤ
 energy_of jobs points scale group = interpolated_energy (jobs_with jobs group.numbers) points scale group.slots
 
--- the groups' horizons
-pub groups_horizons : List Job → List Group → ℕ
-groups_horizons jobs groups = horizons jobs (map (λ group. group.numbers) groups)
-
 abbrev IsLeastGroup : List Job → ℕ → Group → Type 0
 IsLeastGroup jobs scale group = IsLeastAt (jobs_with jobs group.numbers) scale group.slots
 

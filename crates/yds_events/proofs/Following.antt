@@ -1,5 +1,5 @@
 -- Slots of which each follows those before it: they run one at a time, and by the earliest deadline.
-use Rattle.yds_model.proofs.Common.{◌≡◌, ℕ, zero, suc, ◌*◌, ◌<◌, ◌≤◌, ◌==◌, List, [], ◌∷◌, ◌++◌, ◌∙◌, length, sym, refl, ap, arith, inl, inr, cond, All, AllPairs, cases_eq, eq-eqb, ne_eqb, append_assoc, sum_by-cons, sum_by-append, All-head, All-tail, Job, job_at, WholeSlot, slot_at, work_given, RunFrom, LiesIn, stretches, ComesFirst, EarliestAfter}
+use Rattle.yds_model.proofs.Common.{◌≡◌, ℕ, zero, suc, ◌*◌, ◌<◌, ◌≤◌, ◌==◌, List, [], ◌∷◌, ◌++◌, ◌∙◌, length, sym, refl, ap, arith, inl, inr, cond, All, AllPairs, cases_eq, eq-eqb, ne_eqb, append_assoc, sum_by-cons, sum_by-append, All-head, All-tail, Job, job_at, WholeSlot, slot_at, work_given, LiesIn, stretches, ComesFirst, EarliestAfter}
 
 -- what a slot and a later one are to each other
 pub record Follows (jobs : List Job) (scale : ℕ) (one other : WholeSlot) : Type 0 where
@@ -9,18 +9,6 @@ pub record Follows (jobs : List Job) (scale : ℕ) (one other : WholeSlot) : Typ
 
 abbrev pub StartsFrom : ℕ → WholeSlot → Type 0
 StartsFrom start slot = (start ≤ slot.from) × (slot.from < slot.to)
-
-pub run_from_pairs : (jobs : List Job) (scale start : ℕ) (slots : List WholeSlot) → All (StartsFrom start) slots →
-    AllPairs (Follows jobs scale) slots → RunFrom start slots
-run_from_pairs jobs scale start [] forward pairs = tt
-run_from_pairs jobs scale start (slot ∷ slots) forward pairs =
-    let first = All-head (StartsFrom start) slot slots forward in (
-      first.0,
-      first.1,
-      run_from_pairs jobs scale slot.to slots
-          (λ k d within. ((pairs 0 (suc k) d (omega arith) (omega arith)).after, (forward (suc k) d (omega arith)).1))
-          (λ i j d order within. pairs (suc i) (suc j) d (omega arith) (omega arith)),
-    )
 
 -- a job that slots give work has one of them
 abbrev Given : List WholeSlot → ℕ → Type 0

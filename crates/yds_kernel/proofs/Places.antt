@@ -139,8 +139,3 @@ pub opens_more : (bytes : List ℕ) (i : ℕ) → i < length bytes → opens (dr
 opens_more bytes i within other =
     ap opens_somewhere (drop_more bytes i 0 within)
     ∙ ap (λ found. found || opens_somewhere (drop (i + 1) bytes)) (ap opens (sym (drop_more bytes i 0 within)) ∙ other)
-
-pub opens_here : (bytes : List ℕ) (i : ℕ) → i < length bytes → opens (drop i bytes) ≡ true → opens_somewhere (drop i bytes) ≡ true
-opens_here bytes i within same =
-    ap opens_somewhere (drop_more bytes i 0 within)
-    ∙ ap (λ found. found || opens_somewhere (drop (i + 1) bytes)) (ap opens (sym (drop_more bytes i 0 within)) ∙ same)

@@ -1,19 +1,11 @@
 -- A line that changes places with those before it, one after another.
-use Rattle.yds_model.proofs.Common.{◌≡◌, ℕ, ◌+◌, ◌-◌, ◌<◌, List, length, get_or, refl, sym, ◌∙◌, arith, inl, inr, cases_lt}
+use Rattle.yds_model.proofs.Common.{◌≡◌, ℕ, ◌+◌, ◌-◌, ◌<◌, List, length, get_or, sym, ◌∙◌, arith, inl, inr, cases_lt}
 use Rattle.std.specs.List.{swap}
 use Rattle.std.proofs.lemmas.List.Edits.{Swapped, swapped_from_swap}
 use Rattle.yds_kernel_order.specs.declared.ring.TheConstants.{SLOTS}
 use Rattle.yds_kernel_order.specs.Order.{Placed}
 use Rattle.yds_kernel_order.specs.Ring.{no_line, wrapped, IsMovedDown}
 use Rattle.yds_kernel_order.proofs.Places.{at_place, wrapped_within, wrapped_apart}
-
--- it was put before none so far
-pub moves_none : (slots : List Placed) (first held : ℕ) → IsMovedDown first held 0 slots slots
-moves_none slots first held = record {
-  below = λ place within. refl;
-  moved = λ place same. at_place slots (first + place) (first + held) (omega (arith, same));
-  above = λ place beyond within. absurd (omega arith);
-}
 
 -- it was put before one more
 pub moves_one : (old now new : List Placed) (first held count place : ℕ) → first < SLOTS → held < SLOTS → count < held → place + count ≡ first + held →

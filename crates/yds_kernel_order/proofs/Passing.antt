@@ -22,19 +22,9 @@ abbrev pub HasPassed : List Placed → ℕ → ℕ → ℕ → ℕ → Type 0
 HasPassed slots first held time count =
     passed_in MAX_PASSED time (held_from slots first held) ≡ plus count (passed_in (MAX_PASSED - count) time (held_from slots first (held - count)))
 
-plus_none : (found : Option ℕ) → found ≡ plus 0 found
-plus_none None = refl
-plus_none (Some count) = ap Some (omega arith)
-
 plus_suc : (count : ℕ) (found : Option ℕ) → plus count (option_map suc found) ≡ plus (count + 1) found
 plus_suc count None = refl
 plus_suc count (Some more) = ap Some (omega arith)
-
-pub passes_none : (slots : List Placed) (first held time : ℕ) → HasPassed slots first held time 0
-passes_none slots first held time =
-    let all : held ≡ held - 0 = omega arith in
-    plus_none (passed_in MAX_PASSED time (held_from slots first held))
-    ∙ ap (λ (n : ℕ). plus 0 (passed_in MAX_PASSED time (held_from slots first n))) all
 
 last_of : (slots : List Placed) (first held count : ℕ) (last : Placed) → count < held → last ≡ slot_at slots (first + (held - 1 - count)) →
     held_from slots first (held - count) ≡ last ∷ held_from slots first (held - 1 - count)
@@ -95,9 +85,3 @@ passes_on slots first held time count last within is stands far less passed =
     ∙ next_passed (MAX_PASSED - (count + 1)) time last (held_from slots first (held - 1 - count)) stands far)
     ∙ plus_suc count (passed_in (MAX_PASSED - (count + 1)) time (held_from slots first (held - 1 - count)))
     ∙ ap (λ (n : ℕ). plus (count + 1) (passed_in (MAX_PASSED - (count + 1)) time (held_from slots first n))) rest
-
--- the event is put before all
-pub passes_all : (slots : List Placed) (first held time : ℕ) → HasPassed slots first held time held → passed_in MAX_PASSED time (held_from slots first held) ≡ Some held
-passes_all slots first held time passed =
-    let none : held - held ≡ 0 = omega arith in
-    passed ∙ ap (λ (n : ℕ). plus held (passed_in (MAX_PASSED - held) time (held_from slots first n))) none ∙ ap Some (omega arith)

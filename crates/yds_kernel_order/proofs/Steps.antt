@@ -1,6 +1,5 @@
 -- What the steps of a reader make of the order for which it stands.
 use Rattle.yds_model.proofs.Common.{◌≡◌, ℕ, ◌+◌, ◌-◌, ◌^◌, ◌<◌, ◌≤◌, List, [], ◌∷◌, ◌++◌, length, true, false, nat_le, Option, Some, None, Result, Ok, Err, refl, sym, ap, ◌∙◌, arith, subst, append_assoc, length-append, eq-eqb, leb-false, leb-true, false≢true, true≢false, OnOk, Fault, Spot}
-use Rattle.std.specs.Io.KnownBytes.{IsAtEnd}
 use Rattle.std.specs.Result.{is_err}
 use Rattle.yds_port.specs.Count.{Rose}
 use Rattle.yds_kernel.specs.declared.fault.Reason.{Reason}
@@ -8,7 +7,7 @@ use Rattle.yds_kernel.specs.declared.fault.LineFault.{LineFault}
 use Rattle.yds_kernel.specs.Event.{Said}
 use Rattle.yds_kernel.specs.Text.{Trace, trace_of, trace_from, then_says}
 use Rattle.yds_kernel_text.specs.Reading.{Reading, said_by, unread}
-use Rattle.yds_kernel_text.specs.Advancing.{Gives, Counts, GivesLine as ReadsLine, IsOver as IsReadOut}
+use Rattle.yds_kernel_text.specs.Advancing.{Gives, GivesLine as ReadsLine}
 use Rattle.yds_kernel_order.specs.declared.limits.TheConstants.{MAX_PASSED}
 use Rattle.yds_kernel_order.specs.Order.{Placed, next_placed, placed_from, number_at}
 use Rattle.yds_kernel_order.specs.Ring.{Held, IsBehind, Places}
@@ -16,7 +15,7 @@ use Rattle.yds_kernel_order.specs.Ordering.{Order, Ordering, Stop, AtEnd, AtFaul
 use Rattle.yds_kernel_order.specs.declared.step.Step.{Step}
 use Rattle.yds_kernel_order.specs.declared.step.Step.TheVariants as steps
 use Rattle.yds_kernel_order.specs.Advancing.{Advances, GivesLine, IsOver, IsRefused}
-use Rattle.yds_kernel_order.specs.Taking.{PutsSaid, PutsLine, Puts, TakesOne, Takes, ReadsAhead, ReadsOn, GivesWaiting, GivesNext, lines_left, may_come, needs_more}
+use Rattle.yds_kernel_order.specs.Taking.{PutsSaid, PutsLine, TakesOne, Takes, ReadsAhead, ReadsOn, GivesWaiting, GivesNext, lines_left, may_come, needs_more}
 
 -- # A line of the text
 
@@ -157,31 +156,6 @@ ended ordering reader = record {
   stop = Some AtEnd;
 }
 
-end_order : (input : List ℕ) (old : Ordering) (reader : Reading) (given : List Placed) (before now : Option (List ℕ)) →
-    old.stop ≡ None → IsAtEnd (unread old.reader before) → IsAtEnd now → Counts before now old.reader.taken reader.taken → IsOrderOf input old given before → IsOrderOf input (ended old reader) given now
-end_order input old reader given None now none end left told stands = absurd stands
-end_order input old reader given (Some before) None none end left told stands = absurd told
-end_order input old reader given (Some before) (Some now) none end left told stands = record {
-  order =
-      stands.order
-      ∙ ap (λ (stop : Option Stop). order_at stop old.lines (old.waiting ++ given) (old.reader.left ++ before)) none
-      ∙ ap (order_behind old.lines (old.waiting ++ given)) end
-      ∙ fault_found old.lines (old.waiting ++ given) None;
-  read_to = left;
-  counted = tt;
-}
-
--- the text ended
-pub takes_end : (old : Ordering) (reader : Reading) (before now : Option (List ℕ)) (first second : ℕ) →
-    old.stop ≡ None → Counts before now old.reader.taken reader.taken → IsReadOut old.reader before now first second →
-    TakesOne old (ended old reader) before now first second
-takes_end old reader before now first second none told over = record {
-  given = λ given is_given. still_given old (ended old reader) given refl tt is_given;
-  order = λ input given is_given stands. end_order input old reader given before now none over.at_end over.none_left told stands;
-  fewer = omega (arith, left_while old none);
-  no_fault = over.no_fault;
-}
-
 -- # A line that is given
 
 gives_order : (input : List ℕ) (old new : Ordering) (line : Placed) (given : List Placed) (left : Option (List ℕ)) →
@@ -209,9 +183,6 @@ pub record Reads (old now : Ordering) (left rest : Option (List ℕ)) (first sec
   pub given : (given : List Placed) → IsGiven old given → IsGiven now given
   pub order : (input : List ℕ) (given : List Placed) → IsGiven old given → IsOrderOf input old given left → IsOrderOf input now given rest
   pub no_fault : second ≡ first
-
-pub reads_none : (old : Ordering) (left : Option (List ℕ)) (faults : ℕ) → Reads old old left left faults faults
-reads_none old left faults = record { given = λ given is_given. is_given; order = λ input given is_given stands. stands; no_fault = refl }
 
 pub reads_more : (old now new : Ordering) (left rest end : Option (List ℕ)) (first second third : ℕ) → Reads old now left rest first second →
     TakesOne now new rest end second third → Reads old new left end first third
@@ -296,32 +267,6 @@ goes_on ordering more = reading ordering.stop refl where
   reading None is = (is, leb-true (length ordering.waiting) MAX_PASSED (subst (λ (s : Option Stop). may_come s (length ordering.waiting) ≡ true) is more))
   reading (Some stop) is = absurd (false≢true (subst (λ (s : Option Stop). may_come s (length ordering.waiting) ≡ true) is more))
 
--- what became of a line that was read
-pub takes_put : (result : Result (Unit {0}) Step) (old new : Ordering) (reader : Reading) (before now : Option (List ℕ)) (first second : ℕ) →
-    needs_more old ≡ true → ReadsLine old.reader reader before now first second → Puts result (with_reader old reader) new → Takes result old new before now first second
-takes_put (Ok done) old new reader before now first second more reads puts = takes_line old new reader before now first second (goes_on old more).0 reads puts
-takes_put (Err steps.Memory) old new reader before now first second more reads puts = reads.no_fault
-takes_put (Err steps.Line) old new reader before now first second more reads puts = absurd puts
-takes_put (Err steps.End) old new reader before now first second more reads puts = absurd puts
-takes_put (Err (steps.Refused number fault)) old new reader before now first second more reads puts = absurd puts
-takes_put (Err steps.Failed) old new reader before now first second more reads puts = absurd puts
-takes_put (Err steps.TooLong) old new reader before now first second more reads puts = absurd puts
-
-put_reader : (result : Result (Unit {0}) Step) (old new : Ordering) → Puts result old new → new.reader ≡ old.reader
-put_reader (Ok done) old new puts = puts.reader
-put_reader (Err steps.Memory) old new puts = puts
-put_reader (Err steps.Line) old new puts = absurd puts
-put_reader (Err steps.End) old new puts = absurd puts
-put_reader (Err (steps.Refused number fault)) old new puts = absurd puts
-put_reader (Err steps.Failed) old new puts = absurd puts
-put_reader (Err steps.TooLong) old new puts = absurd puts
-
--- as many bytes were taken
-pub counts_put : (result : Result (Unit {0}) Step) (old new : Ordering) (reader : Reading) (before now : Option (List ℕ)) → Puts result (with_reader old reader) new →
-    Counts before now old.reader.taken reader.taken → Counts before now old.reader.taken new.reader.taken
-counts_put result old new reader before now puts counts =
-    subst (λ (r : Reading). Counts before now old.reader.taken r.taken) (sym (put_reader result (with_reader old reader) new puts)) counts
-
 -- what can't go on is told behind the lines that were taken
 pub reads_stopped : (step : Step) (old now new : Ordering) (left rest end : Option (List ℕ)) (first second third : ℕ) → Reads old now left rest first second →
     Takes (Err step) now new rest end second third → ReadsOn (Err step) old new left end first third
@@ -362,12 +307,6 @@ given_reader steps.Failed old new gives = absurd gives
 given_reader steps.TooLong old new gives = absurd gives
 given_reader steps.Memory old new gives = absurd gives
 
--- nothing is taken where a line is given
-pub counts_given : (step : Step) (old new : Ordering) (before now : Option (List ℕ)) (taken : ℕ) → GivesNext step old new → Counts before now taken old.reader.taken →
-    Counts before now taken new.reader.taken
-counts_given step old new before now taken gives counts =
-    subst (λ (r : Reading). Counts before now taken r.taken) (sym (given_reader step old new gives)) counts
-
 -- # A line among those that wait
 
 -- the lines that wait, and the one that was given last
@@ -396,16 +335,6 @@ puts_said old new said more reader fits stop lines is places =
         (λ given is_given. places.placed given (behind_given old given none is_given)),
       );
     }
-
--- the reading stopped at a line
-pub puts_fault : (old new : Ordering) (spot : Spot Reason) → new.reader ≡ old.reader → old.reader.number < 2 ^ 64 →
-    new.stop ≡ Some (AtFault (record { line = old.reader.number; column = spot.column; reason = spot.reason })) → new.lines ≡ old.lines →
-    new.waiting ≡ old.waiting → new.given ≡ old.given → said_by old.reader ≡ Err spot → PutsLine old new
-puts_fault old new spot reader fits stop lines waiting given is = record {
-  reader = reader;
-  counted = fits;
-  said = subst (λ (r : Result Said (Spot Reason)). PutsSaid r old new) (sym is) (stop, lines, waiting, given);
-}
 
 -- what is ensured where nothing failed
 pub unless_failed : {E P : Type 0} (result : Result (Unit {0}) E) → is_err result ≡ false → OnOk result P → P

@@ -57,11 +57,6 @@ ends_kept None now kept end = tt
 ends_kept (Some bytes) None kept end = absurd kept
 ends_kept (Some bytes) (Some rest) kept end = sym kept ∙ end
 
-pub ends_empty : (left : Option (List ℕ)) (held : List ℕ) → length held ≡ 0 → IsAtEnd left → IsAtEnd (prepend_known held left)
-ends_empty None held none end = tt
-ends_empty (Some rest) [] none end = end
-ends_empty (Some rest) (byte ∷ held) none end = absurd (omega arith)
-
 gives_kept : (number : ℕ) (said : Result Said (Spot Reason)) (before middle now : Option (List ℕ)) → Keeps before middle → Gives number said middle now → Gives number said before now
 gives_kept number said None middle now kept gives = tt
 gives_kept number said (Some bytes) None now kept gives = absurd kept

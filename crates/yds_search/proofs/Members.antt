@@ -37,14 +37,6 @@ one_filter P p (x ∷ xs) one = elim one [
       cond_both (p x) (x ∷ filter p xs) (filter p xs) (HasOne P) (λ yes. inr rest) (λ no. rest)
 ]
 
--- who is such is also otherwise
-pub one_weaker : {X : Type 0} (P Q : X → Type 0) (xs : List X) → All (λ x. P x → Q x) xs → HasOne P xs → HasOne Q xs
-one_weaker P Q [] all one = one
-one_weaker P Q (x ∷ xs) all one = elim one [
-  | inl here ↦ inl (all 0 x (omega arith) here)
-  | inr later ↦ inr (one_weaker P Q xs (All-tail (λ x. P x → Q x) x xs all) later)
-]
-
 -- one of the list has the number, or none
 pub one_or_none : {X : Type 0} (number : X → ℕ) (xs : List X) (k : ℕ) → HasOne (λ x. number x ≡ k) xs ⊎ (HasOne (λ x. number x ≡ k) xs → ⊥)
 one_or_none number [] k = inr (λ one. one)

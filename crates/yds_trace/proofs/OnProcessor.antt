@@ -1,5 +1,5 @@
 -- What is known of the tasks doesn't depend on the processor that is asked for: only why a job isn't written as it stands does.
-use Rattle.yds_model.proofs.Common.{◌≡◌, ◌∙◌, ℕ, suc, ◌+◌, ◌<◌, ◌≤◌, List, [], ◌∷◌, reverse, length, filter, Bool, true, false, not, ◌&&◌, ◌||◌, nat_lt, nat_le, if◌then◌else◌, Option, Some, None, is_some, is_none, All-weaker, refl, sym, ap, ap₂, arith, ltb-false, le-ltb}
+use Rattle.yds_model.proofs.Common.{◌≡◌, ◌∙◌, ℕ, suc, ◌+◌, ◌<◌, ◌≤◌, List, [], ◌∷◌, reverse, length, filter, Bool, true, false, ◌&&◌, ◌||◌, nat_lt, nat_le, if◌then◌else◌, Option, Some, None, is_some, All-weaker, refl, sym, ap, ap₂, arith, ltb-false, le-ltb}
 use Rattle.yds_kernel.specs.Parts.{or_else}
 use Rattle.yds_kernel.specs.Event.{Thread, Happening, Switch, WakeUp, Speed, Loss, Marker, Other, Event, Said, Stamped, Lost, Nothing}
 use Rattle.yds_trace.specs.declared.counted.Counted.{Counted}
@@ -17,7 +17,7 @@ use Rattle.yds_trace.specs.Past.{last_time, is_first_switch, up_to}
 use Rattle.yds_trace.specs.Jobs.{Job, Known, stands_on, after_event, loses, known_after}
 use Rattle.yds_trace.specs.Late.{last_asked}
 use Rattle.yds_trace.specs.Document.{Judged, closed, jobs_of, began_before}
-use Rattle.yds_trace.specs.Faults.{pid_in, pid_before, is_another, is_two_tasks, thread_fault, first_thread_fault, state_fault, both_fault, happening_fault, is_torn, stamped_fault, place_fault, runs_on, touches, touched, length_fault, said_fault, numbered, first_fault, wakes_task, has_wake_up, has_stamp, lost_just_before, unseen_from, unseen_fault, whole_fault}
+use Rattle.yds_trace.specs.Faults.{pid_in, pid_before, is_another, is_two_tasks, thread_fault, first_thread_fault, state_fault, both_fault, happening_fault, is_torn, stamped_fault, place_fault, runs_on, touches, touched, length_fault, said_fault, numbered, first_fault, wakes_task, has_wake_up}
 use Rattle.yds_trace.specs.Parts.{last_begin, last_begin_of, is_over, is_settled, may_write, changes_parts}
 use Rattle.yds_trace.specs.Kept.{IsFollowed, AreOthers, IsCounted, IsLines}
 use Rattle.yds_trace.specs.Others.{Span, Spans, is_waiting, one_waits, any_waits, who_has, other_of, in_the_way, ended_at, spans_by, spans_after, spans_on, others_of, goes_behind, others_from}
@@ -207,20 +207,6 @@ first_fault_on asked processor [] = refl
 first_fault_on asked processor (said ∷ past) =
     ap₂ (λ before (fault : Option Cause). or_else before (numbered (length past + 1) fault)) (first_fault_on asked processor past)
     (said_fault_on asked processor past said)
-
-unseen_from_on : (asked : Asked) (processor : ℕ) (past : List Said) (number : ℕ) (tasks : List Task) →
-    unseen_from (on processor asked) past number tasks ≡ unseen_from asked past number tasks
-unseen_from_on asked processor past number [] = refl
-unseen_from_on asked processor past number (task ∷ tasks) =
-    ap₂ (λ (pid rest : Option ℕ). if is_none pid then Some number else rest) (pid_before_on asked processor number past)
-    (unseen_from_on asked processor past (number + 1) tasks)
-
-pub whole_fault_on : (asked : Asked) (processor : ℕ) (past : List Said) → whole_fault (on processor asked) past ≡ whole_fault asked past
-whole_fault_on asked processor past =
-    ap₂ {C = Option Cause} (λ (unseen : Option ℕ) (woken : Bool). if not (has_stamp past) then Some causes.NoLine
-    else (if not asked.cut_losses && lost_just_before asked.to past then Some causes.EventsLost
-    else or_else (unseen_fault unseen) (if asked.begin_at_run || woken then None else Some causes.NoWakeUp)))
-    (unseen_from_on asked processor past 0 asked.tasks) (has_wake_up_on asked processor past)
 
 pub changes_parts_on : (asked : Asked) (processor : ℕ) (past : List Said) (cut : Cut) (said : Said) →
     changes_parts (on processor asked) past cut said ≡ changes_parts asked past cut said

@@ -113,20 +113,6 @@ share_end asked job = by (asked.moved_parts && is_shared_by asked.processor job)
     by true = refl
     by false = refl
 
-pub share_wake_ups : (asked : Asked) (job : Job) → (share_of asked job).wake_ups ≡ job.wake_ups
-share_wake_ups asked job = by (asked.moved_parts && is_shared_by asked.processor job)
-  where
-    by : (b : Bool) → (share_if b asked.processor job).wake_ups ≡ job.wake_ups
-    by true = refl
-    by false = refl
-
-pub share_switch_missing : (asked : Asked) (job : Job) → (share_of asked job).switch_missing ≡ job.switch_missing
-share_switch_missing asked job = by (asked.moved_parts && is_shared_by asked.processor job)
-  where
-    by : (b : Bool) → (share_if b asked.processor job).switch_missing ≡ job.switch_missing
-    by true = refl
-    by false = refl
-
 -- Its stretches are some of the job's.
 pub share_all : (asked : Asked) (job : Job) (P : Stretch → Type 0) → All P job.stretches → All P (share_of asked job).stretches
 share_all asked job P all = by (asked.moved_parts && is_shared_by asked.processor job)
@@ -213,17 +199,6 @@ share_stranger asked job off = by asked.moved_parts (has_run_on asked.processor 
     by true true off = cc
     by false here off = refl
 
--- what a share has in common with its job
-abbrev pub apart_from_stretches : Job → Job
-apart_from_stretches job = record job { stretches = []; shared = false }
-
-pub share_rest : (asked : Asked) (job : Job) → apart_from_stretches (share_of asked job) ≡ apart_from_stretches job
-share_rest asked job = by (asked.moved_parts && is_shared_by asked.processor job)
-  where
-    by : (b : Bool) → apart_from_stretches (share_if b asked.processor job) ≡ apart_from_stretches job
-    by true = refl
-    by false = refl
-
 -- What a job ran on the processor is in its share.
 pub share_keeps : (asked : Asked) (job : Job) (stretch : Stretch) → stretch.processor ≡ asked.processor → Contains job.stretches stretch →
     Contains (share_of asked job).stretches stretch
@@ -249,16 +224,9 @@ all_alone asked all alone = map_same (map (share_of asked)) (λ jobs. jobs_alone
 pub shares_alone : (asked : Asked) (past : List Said) (number : ℕ) → asked.moved_parts ≡ false → shares_of asked past number ≡ jobs_of asked past number
 shares_alone asked past number alone = jobs_alone asked (jobs_of asked past number) alone
 
-pub shares_many : (asked : Asked) (past : List Said) (number : ℕ) → length (shares_of asked past number) ≡ length (jobs_of asked past number)
-shares_many asked past number = length-map (jobs_of asked past number) (share_of asked)
-
 map_after : {A B C : Type 0} (g : B → C) (h : A → C) (f : A → B) → ((x : A) → g (f x) ≡ h x) → (xs : List A) → map g (map f xs) ≡ map h xs
 map_after g h f same [] = refl
 map_after {A} {B} {C} g h f same (x ∷ xs) = ap₂ (λ (y : C) (ys : List C). y ∷ ys) (same x) (map_after g h f same xs)
-
-pub shares_begin : (asked : Asked) (past : List Said) (number : ℕ) → map (λ job. job.begin) (shares_of asked past number) ≡ map (λ job. job.begin) (jobs_of asked past number)
-shares_begin asked past number =
-    map_after (λ (job : Job). job.begin) (λ (job : Job). job.begin) (share_of asked) (share_begin asked) (jobs_of asked past number)
 
 pub shares_began_before : (asked : Asked) (jobs : List Job) → began_before (map (share_of asked) jobs) ≡ began_before jobs
 shares_began_before asked [] = refl

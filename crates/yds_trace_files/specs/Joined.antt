@@ -34,9 +34,6 @@ left_of left (Some opened) = left opened
 
 -- # Files as they are read
 
-abbrev pub opens_of : {O S : Type 0} → Files O S → O
-opens_of files = files.opens
-
 abbrev pub opened_of : {O S : Type 0} → Files O S → Option S
 opened_of files = files.opened
 

@@ -1,5 +1,5 @@
 -- Lists as they are kept and as they are read.
-use Rattle.yds_model.proofs.Common.{◌≡◌, ℕ, zero, suc, ◌+◌, ◌-◌, ◌<◌, ◌≤◌, Bool, List, [], ◌∷◌, ◌++◌, map, reverse, filter, length, get_or, take, ◌∙◌, refl, sym, ap, ap₂, arith, map_more, filter-append, append-nil, append_assoc, flat_map, min, zip}
+use Rattle.yds_model.proofs.Common.{◌≡◌, ℕ, zero, suc, ◌+◌, ◌-◌, ◌<◌, ◌≤◌, List, [], ◌∷◌, ◌++◌, map, reverse, length, get_or, take, ◌∙◌, refl, sym, ap, ap₂, arith, append-nil, append_assoc, flat_map, min, zip}
 use Rattle.std.proofs.lemmas.List.{reverse-reverse}
 use Rattle.yds_trace.specs.declared.job.Stretch.{Stretch}
 use Rattle.yds_trace_document.specs.declared.judged.Judged.{Judged as JudgedKept}
@@ -39,11 +39,6 @@ pub next_same : {x y : List ℕ} {xs ys : List (List ℕ)} → x ≡ y → xs �
 next_same one more = ap₂ (λ (text : List ℕ) (texts : List (List ℕ)). text ∷ texts) one more
 
 -- # Groups
-
-pub filter_map_more : {A B : Type 0} (p : B → Bool) (f : A → B) (xs : List A) (i : ℕ) (d : A) → i < length xs →
-    filter p (map f (take (i + 1) xs)) ≡ filter p (map f (take i xs)) ++ filter p (f (get_or xs i d) ∷ [])
-filter_map_more p f xs i d within =
-    ap (filter p) (map_more f xs i d within) ∙ filter-append p (map f (take i xs)) (f (get_or xs i d) ∷ [])
 
 -- # Tasks and their jobs
 

@@ -3,7 +3,7 @@ use Rattle.yds_model.proofs.Common.{◌≡◌, ℕ, List, [], ◌∷◌, ◌++�
 use Rattle.yds_trace_words.specs.declared.fault.Reason.TheVariants as reasons
 pub use Rattle.yds_trace_words.proofs.Ahead.{ahead}
 use Rattle.yds_trace_words.proofs.Ahead.{ahead_more}
-use Rattle.yds_trace_words.specs.Words.{WordFault, Setting, Word, Whole, Waits, Wrong, word_of, last_setting, before, settings_from, settings_of, ends_words, refuse}
+use Rattle.yds_trace_words.specs.Words.{WordFault, Setting, Word, Whole, Waits, Wrong, word_of, last_setting, before, settings_from, settings_of, ends_words}
 
 choice : (b : Bool) (one other : Result (List Setting) WordFault) → b ≡ false → (if b then one else other) ≡ other
 choice true one other is = ap (λ (c : Bool). if c then one else other) is
@@ -53,16 +53,3 @@ takes_next all done rest word next others behind name so_far is more said =
     so_far ∙ ap (λ (words : List (List ℕ)). ahead done (settings_of words)) (is ∙ ap (λ (words : List (List ℕ)). word ∷ words) more)
     ∙ ap (λ (read : Word). ahead done (settings_from read next (settings_of (next ∷ behind)) (settings_of behind))) said
     ∙ ahead_more done (record { name = name; value = next }) (settings_of behind)
-
-pub lacks_next : (all : List (List ℕ)) (done : List Setting) (rest : List (List ℕ)) (word : List ℕ) (others : List (List ℕ)) (name : List ℕ)
-    → settings_of all ≡ ahead done (settings_of rest) → rest ≡ word ∷ others → others ≡ [] → word_of word ≡ Waits name
-    → settings_of all ≡ refuse name reasons.NoValue
-lacks_next all done rest word others name so_far is none said =
-    so_far ∙ ap (λ (words : List (List ℕ)). ahead done (settings_of words)) (is ∙ ap (λ (words : List (List ℕ)). word ∷ words) none)
-    ∙ ap (λ (read : Word). ahead done (last_setting read)) said
-
-pub wrong_here : (all : List (List ℕ)) (done : List Setting) (rest : List (List ℕ)) (word : List ℕ) (others : List (List ℕ)) (fault : WordFault)
-    → settings_of all ≡ ahead done (settings_of rest) → rest ≡ word ∷ others → word_of word ≡ Wrong fault
-    → settings_of all ≡ Err fault
-wrong_here all done rest word others fault so_far is said =
-    so_far ∙ ap (λ (words : List (List ℕ)). ahead done (settings_of words)) is ∙ ap (ahead done) (wrong_ends word others fault said)
