@@ -169,12 +169,12 @@ class Over(InFolder):
         self.assertTrue(over.was_put_back(self.folder / "crates", ["a", "b"]))
 
     def test_a_copy_has_the_sources_and_nothing_that_is_built(self) -> None:
-        made = over.copy_of(ROOT / "crates", ["yds_model", "yds_port"], self.folder)
-        self.assertEqual(sorted(place.name for place in made.iterdir()), ["yds_model", "yds_port"])
+        made = over.copy_of(ROOT / "crates", ["base", "yds_port"], self.folder)
+        self.assertEqual(sorted(place.name for place in made.iterdir()), ["base", "yds_port"])
         self.assertTrue((made / "yds_port" / "src" / "lib.rt").is_file())
         self.assertFalse((made / "yds_port" / "out").exists())
         lines = (self.folder / "crates.txt").read_text(encoding="utf-8").splitlines()
-        self.assertEqual(lines, ["yds_model: thiserror", "yds_port: yds_model thiserror"])
+        self.assertEqual(lines, ["base: thiserror", "yds_port: base thiserror"])
 
 
 class Pages(InFolder):

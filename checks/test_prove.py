@@ -121,9 +121,9 @@ class Runs(unittest.TestCase):
         folder = tempfile.TemporaryDirectory()
         self.addCleanup(folder.cleanup)
         self.root = Path(folder.name)
-        for name in ("bin", "packaging", "crates/yds_model", "crates/yds_run", "crates/yds_cli"):
+        for name in ("bin", "packaging", "crates/base", "crates/yds_run", "crates/yds_cli"):
             (self.root / name).mkdir(parents=True)
-        graph = "yds_model: std\nyds_run: yds_model\nyds_cli: yds_run\nyds_other: yds_model\n"
+        graph = "base: std\nyds_run: base\nyds_cli: yds_run\nyds_other: base\n"
         (self.root / "crates.txt").write_text(graph)
         (self.root / "document").write_text("job a 0 4 8\n")
 
@@ -142,10 +142,10 @@ class Runs(unittest.TestCase):
 
     def test_each_crate_is_told_once(self) -> None:
         lines, status = self.run_with(
-            "case $1 in all) echo == yds_model; echo == yds_run; echo == yds_cli; echo == summary ;; esac", "program"
+            "case $1 in all) echo == base; echo == yds_run; echo == yds_cli; echo == summary ;; esac", "program"
         )
         self.assertEqual([line.split(",")[0] for line in lines[:4]],
-                         ["0 of 3", "yds_model: 1 of 3", "yds_run: 2 of 3", "yds_cli: 3 of 3"])
+                         ["0 of 3", "base: 1 of 3", "yds_run: 2 of 3", "yds_cli: 3 of 3"])
         self.assertEqual((lines[4][:14], len(lines), status), ("Proved program", 5, 0))
 
     def test_a_failure_ends_it(self) -> None:
@@ -165,7 +165,7 @@ class Runs(unittest.TestCase):
         self.assertEqual(lines[1], "It could not be run unproved, as build/try.log says.")
 
     def test_the_others(self) -> None:
-        lines, _ = self.run_with("echo == yds_model; echo == yds_other", "others")
+        lines, _ = self.run_with("echo == base; echo == yds_other", "others")
         self.assertEqual(lines[1].split(",")[0], "yds_other: 1 of 1")
 
 

@@ -26,7 +26,7 @@ BUILD = ROOT / "build"
 LOG = BUILD / "log"
 
 # The crate on which all others stand, and what they are made into.
-LOWEST, PROGRAM, TRACE, LIBRARY = "yds_model", "yds_cli", "yds_trace_cli", "yds_c"
+LOWEST, PROGRAM, TRACE, LIBRARY = "base", "yds_cli", "yds_trace_cli", "yds_c"
 
 # A crate that took less than this part of its time was proved before, and tells nothing of the pace.
 WAS_KEPT = 0.1

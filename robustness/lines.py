@@ -330,7 +330,7 @@ def write_part(folder: Path, name: str, lines: List[bytes], ended: bool, counts:
 def try_program(top: Path, cases: Path) -> int:
     """Builds the program in a copy of the crates, and runs it on each case."""
     copy = top / "copy"
-    needed = ["yds_model", "yds_port", "yds_kernel", "yds_kernel_text"]
+    needed = ["base", "yds_port", "yds_kernel", "yds_kernel_text"]
     for crate in needed:
         left = shutil.ignore_patterns("out", "must-fail")
         shutil.copytree(Path("crates") / crate, copy / "crates" / crate, ignore=left)

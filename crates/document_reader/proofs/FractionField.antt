@@ -1,7 +1,7 @@
 -- A fraction that a field spells is within its limit.
 use Rattle.yds_model.proofs.Common.{◌≡◌, ℕ, ◌≤◌, Bool, true, false, List, Result, Ok, Err, refl, sym, ap, arith, ◌&&◌, if◌then◌else◌, leb-true, digits_value, Fraction, of_whole, kept, fraction_at, is_number, is_mixed, mixed_of}
-use Rattle.yds_model.specs.declared.number_fault.NumberFault.{NumberFault}
-use Rattle.yds_model.specs.declared.number_fault.NumberFault.TheVariants as faults
+use Rattle.base.specs.declared.number_fault.NumberFault.{NumberFault}
+use Rattle.base.specs.declared.number_fault.NumberFault.TheVariants as faults
 
 abbrev kept_one : Bool → Fraction → Result Fraction NumberFault
 kept_one none x = Ok (if none then of_whole x.whole else x)

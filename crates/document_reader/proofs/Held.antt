@@ -1,6 +1,7 @@
 -- What a draft holds after one more entry.
-use Rattle.yds_model.proofs.Common.{◌≡◌, ℕ, false, ◌+◌, ◌≤◌, List, [], ◌∷◌, ◌++◌, length, Option, Some, None, refl, sym, ap, ◌∙◌, subst, append-nil, Job, Fraction, WrittenSlot, Piece, Level, Point, Grid, Entry, JobEntry, PointEntry, SlotEntry, LevelEntry, PieceEntry, MemberEntry, TicksEntry, GridEntry, EnergyEntry, ticks_said, is_level, IsOfLevels, of_piece, of_member, says_other, said-ticks, says-job, says-point, says-slot, says-level, says-last, says-grid, says-energy, with_entry, more_said, none_said}
-use Rattle.yds_model.proofs.Said.{Says}
+use Rattle.yds_model.proofs.Common.{◌≡◌, ℕ, false, ◌+◌, ◌≤◌, List, [], ◌∷◌, ◌++◌, length, Option, Some, None, refl, sym, ap, ◌∙◌, subst, append-nil, Job, Fraction, WrittenSlot, Piece, Level, Point, Grid, Entry, JobEntry, PointEntry, SlotEntry, LevelEntry, PieceEntry, MemberEntry, TicksEntry, GridEntry, EnergyEntry, ticks_said, is_level}
+use Rattle.model_lemmas.proofs.Said.{IsOfLevels, of_piece, of_member, says_other, said-ticks, says-job, says-point, says-slot, says-level, says-last, says-grid, says-energy, with_entry, more_said, none_said}
+use Rattle.model_lemmas.proofs.Said.{Says}
 use Rattle.yds_certificate.specs.Certificate.{with_last}
 use Rattle.yds_certificate.specs.Level.{with_piece, with_member}
 use Rattle.yds_instance.specs.Named.{Named}

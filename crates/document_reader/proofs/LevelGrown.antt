@@ -1,5 +1,6 @@
 -- A certificate whose last level has one more piece or member.
-use Rattle.yds_model.proofs.Common.{◌≡◌, ℕ, ◌<◌, ◌≤◌, List, [], ◌∷◌, ◌++◌, length, refl, sym, ap, ◌∙◌, arith, All, All-cons, All-nil, All-head, All-tail, All-push, Piece, Level, all_pieces, all_members, last_longer}
+use Rattle.yds_model.proofs.Common.{◌≡◌, ℕ, ◌<◌, ◌≤◌, List, [], ◌∷◌, ◌++◌, length, refl, sym, ap, ◌∙◌, arith, All, All-cons, All-nil, All-head, All-tail, All-push, Piece, Level, all_pieces, all_members}
+use Rattle.model_lemmas.proofs.Said.{last_longer}
 use Rattle.yds_certificate.specs.Certificate.{with_last}
 use Rattle.yds_certificate.specs.Level.{with_piece, with_member}
 

@@ -1,6 +1,7 @@
 -- Where a line may stand, by what the draft holds.
-use Rattle.yds_model.proofs.Common.{◌≡◌, ℕ, List, [], ◌∷◌, length, Option, Some, None, Bool, true, false, Result, Err, refl, sym, ap, ◌∙◌, subst, arith, eqb-true, inl, inr, is_some, is_none, nat_lt, ◌==◌, if◌then◌else◌, filter_map, Document, Entry, grid_said, energy_said, first_of_them, is_level, cases_Bool, Field, Spot, ◌>>=◌, demand, refuse, field_at, Kind, may_follow, has_room, kind_of, read_fields, levels_counted}
-use Rattle.yds_model.specs.declared.limits.TheConstants.{MAX_JOBS, MAX_POINTS, MAX_SLOTS, MAX_LEVELS, MAX_PIECES, MAX_MEMBERS}
+use Rattle.yds_model.proofs.Common.{◌≡◌, ℕ, List, [], ◌∷◌, length, Option, Some, None, Bool, true, false, Result, Err, refl, sym, ap, ◌∙◌, subst, arith, eqb-true, inl, inr, is_some, is_none, nat_lt, ◌==◌, if◌then◌else◌, filter_map, Document, Entry, grid_said, energy_said, first_of_them, is_level, cases_Bool, Field, Spot, ◌>>=◌, demand, refuse, field_at, Kind, may_follow, has_room, kind_of, read_fields}
+use Rattle.model_lemmas.proofs.Said.{levels_counted}
+use Rattle.base.specs.declared.limits.TheConstants.{MAX_JOBS, MAX_POINTS, MAX_SLOTS, MAX_LEVELS, MAX_PIECES, MAX_MEMBERS}
 use Rattle.yds_model.specs.declared.reason.Reason.{Reason}
 use Rattle.yds_model.specs.declared.reason.Reason.TheVariants as reasons
 use Rattle.document_reader.specs.declared.draft.Draft.{Draft}

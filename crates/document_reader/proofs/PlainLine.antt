@@ -1,6 +1,6 @@
 -- What the fields of a line say where they were read in one pass.
 use Rattle.yds_model.proofs.Common.{◌≡◌, ℕ, ◌<◌, ◌*◌, ◌-◌, ◌/◌, Bool, true, false, List, [], ◌∷◌, None, Result, Ok, refl, sym, ap, ◌∙◌, nat_lt, nat_le, unwrap_or, lt-ltb, Field, Entry, JobEntry, SlotEntry, MemberEntry, Spot, ◌>>=◌, demand, count_fields, SlotLine, RunLine, are_alike, fraction_in, Fraction, of_parts, WrittenSlot, is_name, number_at, fraction_at}
-use Rattle.yds_model.specs.declared.limits.TheConstants.{MAX_TIME, MAX_WORK, MAX_SLOT_WORK, MAX_RUN_SPEED}
+use Rattle.base.specs.declared.limits.TheConstants.{MAX_TIME, MAX_WORK, MAX_SLOT_WORK, MAX_RUN_SPEED}
 use Rattle.yds_model.specs.declared.reason.Reason.{Reason}
 use Rattle.yds_model.specs.declared.reason.Reason.TheVariants as reasons
 use Rattle.yds_instance.specs.Named.{number_of}

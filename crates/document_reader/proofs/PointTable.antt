@@ -1,6 +1,6 @@
 -- Whether a point may stand after those of a table.
 use Rattle.yds_model.proofs.Common.{◌≡◌, ℕ, suc, ◌-◌, ◌<◌, ◌≤◌, List, [], ◌∷◌, ◌++◌, length, Bool, true, false, Ok, refl, ap, subst, arith, lt-ltb, inl, inr, nat_lt, nat_le, if◌then◌else◌, take-length, le-leb, leb-true, ltb-true, cases_Bool, Point, point_at, AreRising, hull_multiple, PointEntry, refuse}
-use Rattle.yds_model.specs.declared.limits.TheConstants.{MAX_GAPS}
+use Rattle.base.specs.declared.limits.TheConstants.{MAX_GAPS}
 use Rattle.yds_model.specs.declared.reason.Reason.TheVariants as reasons
 use Rattle.yds_table.specs.Table.{IsPointTable, last_of}
 use Rattle.yds_table.specs.Fault.{IsCause}

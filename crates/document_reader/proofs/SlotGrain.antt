@@ -1,5 +1,6 @@
 -- Whether a work is alike with each earlier work of its job: it goes by the job's grain.
-use Rattle.yds_model.proofs.Common.{◌≡◌, ℕ, zero, suc, ◌<◌, ◌⊎◌, inl, inr, List, [], ◌∷◌, length, refl, sym, ap, ◌∙◌, arith, Bool, true, false, eqb-true, ◌==◌, ◌||◌, cases_Bool, eq-eqb, true≢false, false≢true, Fraction, WrittenSlot, written_slot_at, AreSlots, grain_of, grain_takes}
+use Rattle.yds_model.proofs.Common.{◌≡◌, ℕ, zero, suc, ◌<◌, ◌⊎◌, inl, inr, List, [], ◌∷◌, length, refl, sym, ap, ◌∙◌, arith, Bool, true, false, eqb-true, ◌==◌, ◌||◌, cases_Bool, eq-eqb, true≢false, false≢true, Fraction, WrittenSlot, written_slot_at, AreSlots, grain_of}
+use Rattle.model_lemmas.proofs.Grain.{grain_takes}
 use Rattle.yds_slots.proofs.Grains.{grain_found}
 use Rattle.document_reader.specs.Slot.{fits_among, fits_test, FitsGrainOf}
 

@@ -2,7 +2,7 @@
 use Rattle.yds_model.proofs.Common.{◌≡◌, ℕ, List, [], ◌∷◌, Bool, true, Option, Some, None, Result, Ok, Err, sym, ap, ◌∙◌, subst, unwrap_or, filter_map, slice_index_or, Point, Field, Document, Entry, point_said, ticks_said, Spot, ◌>>=◌, count_fields, Kind, JobLine, PointLine, SlotLine, RunLine, number_in, fields_wanted, read_kind}
 use Rattle.yds_model.specs.declared.reason.Reason.{Reason}
 use Rattle.yds_model.specs.declared.reason.Reason.TheVariants as reasons
-use Rattle.yds_model.specs.declared.limits.TheConstants.{MAX_POINT_SPEED, MAX_POINT_POWER}
+use Rattle.base.specs.declared.limits.TheConstants.{MAX_POINT_SPEED, MAX_POINT_POWER}
 use Rattle.document_reader.specs.declared.draft.Draft.{Draft}
 use Rattle.document_reader.specs.declared.field_fault.FieldFault.{FieldFault}
 use Rattle.document_reader.specs.declared.line_fault.LineFault.{LineFault}

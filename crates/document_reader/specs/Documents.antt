@@ -2,9 +2,9 @@
 use Rattle.std.specs.Prelude.{◌≡◌, List, ◌∷◌, Result, Ok, Err}
 use Rattle.yds_model.specs.declared.reason.Reason.{Reason}
 use Rattle.yds_model.specs.Document.{Document as DocumentText}
-use Rattle.yds_model.specs.Lines.{Line}
+use Rattle.base.specs.Lines.{Line}
 use Rattle.yds_model.specs.Entry.{Entry}
-use Rattle.yds_model.specs.Fields.{Fault}
+use Rattle.base.specs.Fields.{Fault}
 use Rattle.yds_model.specs.Reading.{live_lines, read_after}
 use Rattle.document_reader.specs.declared.draft.Draft.{Draft}
 use Rattle.document_value.specs.declared.document.Document.{Document}

@@ -3,12 +3,12 @@ use Rattle.std.specs.Prelude.{◌≡◌, ◌<◌, ◌≤◌, List, [], ◌∷◌
 use Rattle.std.specs.List.{All, filter_map}
 use Rattle.yds_model.specs.declared.reason.Reason.{Reason}
 use Rattle.yds_model.specs.declared.reason.Reason.TheVariants as reasons
-use Rattle.yds_model.specs.declared.limits.TheConstants.{MAX_TICKS, MAX_ENERGY}
+use Rattle.base.specs.declared.limits.TheConstants.{MAX_TICKS, MAX_ENERGY}
 use Rattle.yds_model.specs.Level.{all_pieces, all_members}
-use Rattle.yds_model.specs.Lines.{Field}
+use Rattle.base.specs.Lines.{Field}
 use Rattle.yds_model.specs.Document.{Document}
 use Rattle.yds_model.specs.Entry.{Entry, piece_said, member_said, ticks_said, document_said}
-use Rattle.yds_model.specs.Fields.{Spot, ◌>>=◌, count_fields}
+use Rattle.base.specs.Fields.{Spot, ◌>>=◌, count_fields}
 use Rattle.yds_model.specs.Reading.{Kind, fields_wanted, read_kind}
 use Rattle.document_value.specs.Documents.{points_of}
 use Rattle.document_reader.specs.declared.draft.Draft.{Draft}

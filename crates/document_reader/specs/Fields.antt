@@ -1,11 +1,11 @@
 -- What a reader of a field or of a line returned, against what the definition of reading says there; and what a name says
 -- by the names of the jobs before it.
 use Rattle.std.specs.Prelude.{◌≡◌, ℕ, List, Some, None, is_none, Result, Ok, Err}
-use Rattle.yds_model.specs.Lines.{Field}
-use Rattle.yds_model.specs.Spelling.{is_name}
+use Rattle.base.specs.Lines.{Field}
+use Rattle.base.specs.Spelling.{is_name}
 use Rattle.yds_model.specs.declared.reason.Reason.{Reason}
 use Rattle.yds_model.specs.declared.reason.Reason.TheVariants as reasons
-use Rattle.yds_model.specs.Fields.{Spot, ◌>>=◌, refuse, demand}
+use Rattle.base.specs.Fields.{Spot, ◌>>=◌, refuse, demand}
 use Rattle.yds_instance.specs.Named.{number_of}
 use Rattle.yds_text.specs.declared.count.FieldCount.{FieldCount}
 use Rattle.document_reader.specs.declared.field_fault.FieldFault.{FieldFault}

@@ -1,11 +1,11 @@
 -- What the line of a job says, by its fields and by the names of the jobs before it.
 use Rattle.std.specs.Prelude.{ℕ, List, Result, Ok, nat_lt}
-use Rattle.yds_model.specs.declared.limits.TheConstants.{MAX_TIME, MAX_WORK}
+use Rattle.base.specs.declared.limits.TheConstants.{MAX_TIME, MAX_WORK}
 use Rattle.yds_model.specs.declared.reason.Reason.{Reason}
 use Rattle.yds_model.specs.declared.reason.Reason.TheVariants as reasons
-use Rattle.yds_model.specs.Lines.{Field}
+use Rattle.base.specs.Lines.{Field}
 use Rattle.yds_model.specs.Entry.{Entry, JobEntry}
-use Rattle.yds_model.specs.Fields.{Spot, ◌>>=◌, demand}
+use Rattle.base.specs.Fields.{Spot, ◌>>=◌, demand}
 use Rattle.yds_model.specs.Reading.{number_in}
 use Rattle.document_reader.specs.Fields.{new_name_of}
 

@@ -1,7 +1,7 @@
 -- The kinds of line of the code, as those of the definition.
 use Rattle.std.specs.Prelude.{Option, Some, None, is_some, is_none, Bool, true, nat_lt, length}
 use Rattle.yds_model.specs.Reading.{Kind, JobLine, PointLine, SlotLine, LevelLine, PieceLine, MemberLine, TicksLine, RunLine, GridLine, EnergyLine}
-use Rattle.yds_model.specs.declared.limits.TheConstants.{MAX_JOBS, MAX_POINTS, MAX_SLOTS, MAX_LEVELS, MAX_PIECES, MAX_MEMBERS}
+use Rattle.base.specs.declared.limits.TheConstants.{MAX_JOBS, MAX_POINTS, MAX_SLOTS, MAX_LEVELS, MAX_PIECES, MAX_MEMBERS}
 use Rattle.document_reader.specs.declared.draft.Draft.{Draft}
 use Rattle.document_reader.specs.declared.line_kind.LineKind.{LineKind}
 use Rattle.document_reader.specs.declared.line_kind.LineKind.TheVariants as kinds

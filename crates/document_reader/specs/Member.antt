@@ -1,9 +1,9 @@
 -- What the line of a member says, by its field and by the names of the jobs before it.
 use Rattle.std.specs.Prelude.{ℕ, List, Result, Ok}
 use Rattle.yds_model.specs.declared.reason.Reason.{Reason}
-use Rattle.yds_model.specs.Lines.{Field}
+use Rattle.base.specs.Lines.{Field}
 use Rattle.yds_model.specs.Entry.{Entry, MemberEntry}
-use Rattle.yds_model.specs.Fields.{Spot, ◌>>=◌}
+use Rattle.base.specs.Fields.{Spot, ◌>>=◌}
 use Rattle.document_reader.specs.Fields.{known_job_of}
 
 abbrev pub member_of : List (List ℕ) → Field → Result Entry (Spot Reason)

@@ -1,9 +1,9 @@
 -- What the fields of a line say where they were read in one pass, as plain ones: an entry, and no fault.
 use Rattle.std.specs.Prelude.{◌≡◌, List, [], ◌∷◌, Result, Ok}
 use Rattle.yds_model.specs.declared.reason.Reason.{Reason}
-use Rattle.yds_model.specs.Lines.{Field}
+use Rattle.base.specs.Lines.{Field}
 use Rattle.yds_model.specs.Entry.{Entry}
-use Rattle.yds_model.specs.Fields.{Spot, no_field}
+use Rattle.base.specs.Fields.{Spot, no_field}
 use Rattle.yds_model.specs.Reading.{read_level, read_piece}
 
 -- this is one field, read as this entry

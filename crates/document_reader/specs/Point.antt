@@ -1,11 +1,11 @@
 -- What the line of a point says, by its fields and by the points before it.
 use Rattle.std.specs.Prelude.{ℕ, List, [], ◌∷◌, ◌++◌, Result, Ok, nat_le}
-use Rattle.yds_model.specs.declared.limits.TheConstants.{MAX_POINT_SPEED, MAX_POINT_POWER, MAX_GAPS}
+use Rattle.base.specs.declared.limits.TheConstants.{MAX_POINT_SPEED, MAX_POINT_POWER, MAX_GAPS}
 use Rattle.yds_model.specs.declared.reason.Reason.{Reason}
 use Rattle.yds_model.specs.declared.reason.Reason.TheVariants as reasons
-use Rattle.yds_model.specs.Lines.{Field}
+use Rattle.base.specs.Lines.{Field}
 use Rattle.yds_model.specs.Entry.{Entry, PointEntry}
-use Rattle.yds_model.specs.Fields.{Spot, ◌>>=◌, demand}
+use Rattle.base.specs.Fields.{Spot, ◌>>=◌, demand}
 use Rattle.yds_model.specs.Reading.{number_in, follows_points}
 use Rattle.yds_model.specs.Table.{Point, hull_multiple}
 use Rattle.yds_table.specs.declared.fault.TableFault.{TableFault}

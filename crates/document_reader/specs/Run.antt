@@ -1,13 +1,13 @@
 -- What the line of a run says, by its fields, by the ticks and by the names of the jobs and the slots before it.
 use Rattle.std.specs.Prelude.{ℕ, ◌*◌, ◌-◌, ◌/◌, List, Result, Ok, nat_le}
-use Rattle.yds_model.specs.declared.limits.TheConstants.{MAX_TIME, MAX_RUN_SPEED, MAX_SLOT_WORK}
+use Rattle.base.specs.declared.limits.TheConstants.{MAX_TIME, MAX_RUN_SPEED, MAX_SLOT_WORK}
 use Rattle.yds_model.specs.declared.reason.Reason.{Reason}
 use Rattle.yds_model.specs.declared.reason.Reason.TheVariants as reasons
 use Rattle.yds_model.specs.Scale.{of_parts}
 use Rattle.yds_model.specs.Slot.{WrittenSlot}
-use Rattle.yds_model.specs.Lines.{Field}
+use Rattle.base.specs.Lines.{Field}
 use Rattle.yds_model.specs.Entry.{Entry, SlotEntry}
-use Rattle.yds_model.specs.Fields.{Spot, ◌>>=◌, demand}
+use Rattle.base.specs.Fields.{Spot, ◌>>=◌, demand}
 use Rattle.yds_model.specs.Reading.{number_in}
 use Rattle.document_reader.specs.Fields.{known_job_of}
 use Rattle.document_reader.specs.Slot.{fits_among}

@@ -1,14 +1,14 @@
 -- What the line of a slot says, by its fields and by the names of the jobs and the slots before it.
 use Rattle.std.specs.Prelude.{◌≡◌, ◌⊎◌, ℕ, List, Some, None, Result, Ok, Bool, ◌==◌, ◌||◌, if◌then◌else◌}
 use Rattle.std.specs.List.{list_all, filter_map}
-use Rattle.yds_model.specs.declared.limits.TheConstants.{MAX_TIME, MAX_SLOT_WORK}
+use Rattle.base.specs.declared.limits.TheConstants.{MAX_TIME, MAX_SLOT_WORK}
 use Rattle.yds_model.specs.declared.reason.Reason.{Reason}
 use Rattle.yds_model.specs.declared.reason.Reason.TheVariants as reasons
 use Rattle.yds_model.specs.Scale.{Fraction}
 use Rattle.yds_model.specs.Slot.{WrittenSlot}
-use Rattle.yds_model.specs.Lines.{Field}
+use Rattle.base.specs.Lines.{Field}
 use Rattle.yds_model.specs.Entry.{Entry, SlotEntry}
-use Rattle.yds_model.specs.Fields.{Spot, ◌>>=◌, demand}
+use Rattle.base.specs.Fields.{Spot, ◌>>=◌, demand}
 use Rattle.yds_model.specs.Reading.{fraction_in, are_alike}
 use Rattle.yds_model.specs.Audit.{grain_of}
 use Rattle.document_reader.specs.Fields.{known_job_of}

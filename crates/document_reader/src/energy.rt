@@ -1,9 +1,9 @@
 //! The line of the energy that the slots take.
 
 ghost use Rattle.std.specs.Prelude.{◌≡◌, ◌≤◌, ◌∷◌, [], None, OnOk, IfOk};
-ghost use Rattle.yds_model.specs.declared.limits.TheConstants.{MAX_ENERGY};
+ghost use Rattle.base.specs.declared.limits.TheConstants.{MAX_ENERGY};
 ghost use Rattle.yds_model.specs.Entry.{EnergyEntry};
-ghost use Rattle.yds_model.specs.Fields.{no_field};
+ghost use Rattle.base.specs.Fields.{no_field};
 ghost use Rattle.yds_model.specs.Reading.{EnergyLine, read_energy};
 ghost use Rattle.yds_text.specs.Read.{field_read};
 ghost use Rattle.document_reader.specs.Draft.{IsDraft, ReadsFields, Takes};

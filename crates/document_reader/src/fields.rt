@@ -1,9 +1,10 @@
 //! What a field of a line is tried for: a number, a fraction, the name of a job.
 
 ghost use Rattle.std.specs.Prelude.{◌≡◌, ◌<◌, ◌≤◌, length, None, Ok, IfOk, IfSome, IsTrue};
-ghost use Rattle.yds_model.specs.declared.limits.TheConstants.{MAX_WHOLE};
+ghost use Rattle.base.specs.declared.limits.TheConstants.{MAX_WHOLE};
 ghost use Rattle.yds_model.specs.Reading.{number_in, fraction_in};
-ghost use Rattle.yds_model.specs.Spelling.{is_name, fraction_at};
+ghost use Rattle.base.specs.Spelling.{is_name};
+ghost use Rattle.yds_model.specs.Spelling.{fraction_at};
 ghost use Rattle.yds_model.specs.Within.{IsFraction};
 ghost use Rattle.yds_instance.specs.Named.{number_of};
 ghost use Rattle.yds_text.specs.Read.{field_read};

@@ -2,7 +2,7 @@
 
 ghost use Rattle.std.specs.Prelude.{◌≡◌, ◌∷◌, [], None, OnOk};
 ghost use Rattle.yds_model.specs.Entry.{GridEntry};
-ghost use Rattle.yds_model.specs.Fields.{no_field};
+ghost use Rattle.base.specs.Fields.{no_field};
 ghost use Rattle.yds_model.specs.Reading.{GridLine, read_grid};
 ghost use Rattle.yds_text.specs.Read.{field_read};
 ghost use Rattle.document_reader.specs.Draft.{IsDraft, ReadsFields, Takes};

@@ -1,10 +1,10 @@
 //! The lines of jobs: a job with a name of its own.
 
 ghost use Rattle.std.specs.Prelude.{◌≡◌, ◌<◌, ◌∷◌, ℕ, List, length, None, OnOk, OnErr, IfOk, IfSome, IsTrue, IsFalse};
-ghost use Rattle.yds_model.specs.declared.limits.TheConstants.{MAX_JOBS};
+ghost use Rattle.base.specs.declared.limits.TheConstants.{MAX_JOBS};
 ghost use Rattle.yds_model.specs.Entry.{JobEntry};
 ghost use Rattle.yds_model.specs.Reading.{JobLine};
-ghost use Rattle.yds_model.specs.Spelling.{is_name};
+ghost use Rattle.base.specs.Spelling.{is_name};
 ghost use Rattle.yds_instance.specs.Named.{number_of};
 ghost use Rattle.yds_text.specs.Read.{field_read};
 ghost use Rattle.document_reader.specs.Draft.{IsDraft, Reads, Takes};

@@ -1,9 +1,9 @@
 //! The lines of levels: the work and the length of a level. Its pieces and members stand on the lines after it.
 
 ghost use Rattle.std.specs.Prelude.{◌<◌, ◌≤◌, ◌∷◌, [], length, OnOk, IfOk, IfSome};
-ghost use Rattle.yds_model.specs.declared.limits.TheConstants.{MAX_LEVELS, MAX_LEVEL_WORK, MAX_LEVEL_LENGTH};
+ghost use Rattle.base.specs.declared.limits.TheConstants.{MAX_LEVELS, MAX_LEVEL_WORK, MAX_LEVEL_LENGTH};
 ghost use Rattle.yds_model.specs.Entry.{LevelEntry};
-ghost use Rattle.yds_model.specs.Fields.{no_field};
+ghost use Rattle.base.specs.Fields.{no_field};
 ghost use Rattle.yds_model.specs.Reading.{LevelLine, read_level};
 ghost use Rattle.yds_text.specs.Read.{field_read};
 ghost use Rattle.document_reader.specs.Draft.{IsDraft, Reads, Takes};

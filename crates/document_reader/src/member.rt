@@ -1,7 +1,7 @@
 //! The lines of members: a job of the level before, by its name.
 
 ghost use Rattle.std.specs.Prelude.{◌<◌, ◌≤◌, ◌∷◌, length, OnOk, IfOk, IfSome};
-ghost use Rattle.yds_model.specs.declared.limits.TheConstants.{MAX_MEMBERS};
+ghost use Rattle.base.specs.declared.limits.TheConstants.{MAX_MEMBERS};
 ghost use Rattle.yds_model.specs.Entry.{MemberEntry};
 ghost use Rattle.yds_model.specs.Reading.{MemberLine};
 ghost use Rattle.yds_text.specs.Read.{field_read};

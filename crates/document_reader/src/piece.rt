@@ -1,9 +1,9 @@
 //! The lines of pieces: from one time to another, of the level before. A piece that takes no time is kept too.
 
 ghost use Rattle.std.specs.Prelude.{◌<◌, ◌≤◌, ◌∷◌, [], length, OnOk, IfSome};
-ghost use Rattle.yds_model.specs.declared.limits.TheConstants.{MAX_PIECES};
+ghost use Rattle.base.specs.declared.limits.TheConstants.{MAX_PIECES};
 ghost use Rattle.yds_model.specs.Entry.{PieceEntry};
-ghost use Rattle.yds_model.specs.Fields.{no_field};
+ghost use Rattle.base.specs.Fields.{no_field};
 ghost use Rattle.yds_model.specs.Reading.{PieceLine, read_piece};
 ghost use Rattle.yds_text.specs.Read.{field_read};
 ghost use Rattle.document_reader.specs.Draft.{IsDraft, Reads, Takes};

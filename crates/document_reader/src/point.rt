@@ -1,7 +1,7 @@
 //! The lines of operating points: a point faster than those before it.
 
 ghost use Rattle.std.specs.Prelude.{◌≡◌, ◌<◌, ◌∷◌, ◌++◌, [], length, OnOk, IfOk};
-ghost use Rattle.yds_model.specs.declared.limits.TheConstants.{MAX_POINTS};
+ghost use Rattle.base.specs.declared.limits.TheConstants.{MAX_POINTS};
 ghost use Rattle.yds_model.specs.Entry.{PointEntry};
 ghost use Rattle.yds_model.specs.Reading.{PointLine};
 ghost use Rattle.yds_text.specs.Read.{field_read};

@@ -1,5 +1,5 @@
 ghost use Rattle.std.specs.Prelude.{ℕ, ◌≤◌, List, length, OnOk, IfOk};
-ghost use Rattle.yds_model.specs.declared.limits.TheConstants.{MAX_BYTES};
+ghost use Rattle.base.specs.declared.limits.TheConstants.{MAX_BYTES};
 ghost use Rattle.yds_model.specs.Entry.{Entry};
 ghost use Rattle.yds_model.specs.Reading.{reading};
 ghost use Rattle.yds_model.specs.Within.{IsDocument};

@@ -2,7 +2,7 @@
 //! time, and is printed as one.
 
 ghost use Rattle.std.specs.Prelude.{◌≡◌, ◌*◌, ◌<◌, ◌≤◌, ◌∷◌, length, OnOk, IfOk, IfSome};
-ghost use Rattle.yds_model.specs.declared.limits.TheConstants.{MAX_RUN_SPEED, MAX_SLOTS, MAX_TICKS, MAX_TIME};
+ghost use Rattle.base.specs.declared.limits.TheConstants.{MAX_RUN_SPEED, MAX_SLOTS, MAX_TICKS, MAX_TIME};
 ghost use Rattle.yds_model.specs.Entry.{SlotEntry};
 ghost use Rattle.yds_model.specs.Reading.{RunLine};
 ghost use Rattle.yds_slots.specs.Schedule.{FitsGrain};

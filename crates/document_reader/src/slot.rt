@@ -1,7 +1,7 @@
 //! The lines of slots: a job by its name, two ends that are alike, and a work alike with its job's others.
 
 ghost use Rattle.std.specs.Prelude.{◌≡◌, ◌<◌, ◌∷◌, length, OnOk, IfOk, IfSome, IsTrue};
-ghost use Rattle.yds_model.specs.declared.limits.TheConstants.{MAX_SLOTS};
+ghost use Rattle.base.specs.declared.limits.TheConstants.{MAX_SLOTS};
 ghost use Rattle.yds_model.specs.Entry.{SlotEntry};
 ghost use Rattle.yds_model.specs.Reading.{SlotLine};
 ghost use Rattle.yds_slots.specs.Schedule.{FitsGrain};

@@ -1,9 +1,9 @@
 //! The line of ticks: in how many a time unit is divided, for the runs after it. It isn't printed.
 
 ghost use Rattle.std.specs.Prelude.{◌≡◌, ◌≤◌, ◌∷◌, [], None, OnOk, IfOk};
-ghost use Rattle.yds_model.specs.declared.limits.TheConstants.{MAX_TICKS};
+ghost use Rattle.base.specs.declared.limits.TheConstants.{MAX_TICKS};
 ghost use Rattle.yds_model.specs.Entry.{TicksEntry};
-ghost use Rattle.yds_model.specs.Fields.{no_field};
+ghost use Rattle.base.specs.Fields.{no_field};
 ghost use Rattle.yds_model.specs.Reading.{TicksLine, read_ticks};
 ghost use Rattle.yds_text.specs.Read.{field_read};
 ghost use Rattle.document_reader.specs.Draft.{IsDraft, ReadsFields, Takes};

@@ -1,7 +1,8 @@
 //! Prints the line of the energy that the slots take.
 
 ghost use Rattle.std.specs.Prelude.{◌≡◌, ◌∷◌, [], codes};
-ghost use Rattle.yds_model.specs.Text.{line, fraction_text, energy_lines};
+ghost use Rattle.base.specs.Lines.{line};
+ghost use Rattle.yds_model.specs.Text.{fraction_text, energy_lines};
 ghost use Rattle.yds_port.specs.Sink.{Puts};
 
 use crate::kept_text::{NumberText, put_fraction};

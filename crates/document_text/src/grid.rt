@@ -1,7 +1,8 @@
 //! Prints the line of the grid.
 
 ghost use Rattle.std.specs.Prelude.{◌≡◌, ◌∷◌, [], codes, decimal};
-ghost use Rattle.yds_model.specs.Text.{line, grid_lines};
+ghost use Rattle.base.specs.Lines.{line};
+ghost use Rattle.yds_model.specs.Text.{grid_lines};
 ghost use Rattle.yds_port.specs.Sink.{Puts};
 
 use crate::tail_buffer::Line;

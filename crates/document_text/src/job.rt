@@ -1,7 +1,7 @@
 //! Prints the lines of jobs.
 
 ghost use Rattle.std.specs.Prelude.{◌≡◌, ◌+◌, ◌<◌, ◌≤◌, ◌++◌, length};
-ghost use Rattle.yds_model.specs.declared.limits.TheConstants.{MAX_NAME};
+ghost use Rattle.base.specs.declared.limits.TheConstants.{MAX_NAME};
 ghost use Rattle.yds_model.specs.Document.{name_at};
 ghost use Rattle.yds_model.specs.Text.{job_line, job_lines};
 ghost use Rattle.yds_port.specs.Sink.{Puts};

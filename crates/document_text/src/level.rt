@@ -2,7 +2,8 @@
 
 ghost use Rattle.std.specs.Prelude.{◌≡◌, ◌+◌, ◌*◌, ◌<◌, ◌≤◌, ◌∷◌, ◌++◌, [], length, take, codes, decimal};
 ghost use Rattle.std.specs.List.{All, flat_map};
-ghost use Rattle.yds_model.specs.Text.{line, level_lines};
+ghost use Rattle.base.specs.Lines.{line};
+ghost use Rattle.yds_model.specs.Text.{level_lines};
 ghost use Rattle.yds_port.specs.Sink.{Puts};
 ghost use Rattle.document_text.specs.Level.{line_count, line_total};
 

@@ -1,6 +1,6 @@
 -- What the parts of a document keep is all that the model asks of a document within the limits.
 use Rattle.yds_model.proofs.Common.{ℕ, ◌<◌, ◌≤◌, List, [], ◌∷◌, take, take_all, refl, sym, subst, arith, inl, All, All-nil, All-append, All-head, All-tail, Level, all_members, Point, hull_multiple, IsPoint, ArePoints, AreLevelsOf}
-use Rattle.yds_model.specs.declared.limits.TheConstants.{MAX_GAPS}
+use Rattle.base.specs.declared.limits.TheConstants.{MAX_GAPS}
 use Rattle.yds_certificate.specs.Certificate.{IsCertificate}
 
 no_gaps : (n : ℕ) → hull_multiple (take n []) ≤ MAX_GAPS

@@ -1,7 +1,7 @@
 ghost use Rattle.std.specs.Prelude.{◌≡◌, ◌<◌, ◌≤◌, length};
 ghost use Rattle.std.specs.List.{All};
 ghost use Rattle.std.specs.Option.{ForSome};
-ghost use Rattle.yds_model.specs.declared.limits.TheConstants.{MAX_ENERGY};
+ghost use Rattle.base.specs.declared.limits.TheConstants.{MAX_ENERGY};
 
 use crate::grid::Grid;
 use crate::point::points_in;

@@ -2,7 +2,7 @@
 
 ghost use Rattle.std.specs.Prelude.{◌≤◌, MatchOption};
 ghost use Rattle.std.specs.Option.{ForSome};
-ghost use Rattle.yds_model.specs.declared.limits.TheConstants.{MAX_ENERGY};
+ghost use Rattle.base.specs.declared.limits.TheConstants.{MAX_ENERGY};
 ghost use Rattle.yds_model.specs.Within.{IsFraction};
 
 use yds_fraction::Amount;

@@ -1,6 +1,7 @@
 -- The work of jobs whose windows lie in an interval, job by job, and where it first is too much.
-use Rattle.yds_model.proofs.Common.{◌≡◌, ℕ, ◌+◌, ◌-◌, ◌*◌, ◌<◌, ◌≤◌, List, [], ◌∷◌, ◌++◌, length, get_or, take, drop, ◌∙◌, sym, arith, inl, inr, ap, All, Any, sum_by, IsNonDecreasingBy, cases_lt, cases_eq, get_or-take, get_or-drop, get_or_default, get_or_append_left, get_or_push, length_push, length-take-le, length-drop, sum_by_more, sum_by_push, sum_by-take-drop, mul-le-mul_left, Job, IsJob, no_job, job_at, part_within, part_inside, part_early, part_late, part_released, is_released, not_released, sum_by_same, sum_by_zero, work_within, released_work}
-use Rattle.yds_model.specs.declared.limits.TheConstants.{MAX_WORK}
+use Rattle.yds_model.proofs.Common.{◌≡◌, ℕ, ◌+◌, ◌-◌, ◌*◌, ◌<◌, ◌≤◌, List, [], ◌∷◌, ◌++◌, length, get_or, take, drop, ◌∙◌, sym, arith, inl, inr, ap, All, Any, sum_by, IsNonDecreasingBy, cases_lt, cases_eq, get_or-take, get_or-drop, get_or_default, get_or_append_left, get_or_push, length_push, length-take-le, length-drop, sum_by_more, sum_by_push, sum_by-take-drop, mul-le-mul_left, Job, IsJob, no_job, job_at, sum_by_same, sum_by_zero, work_within, released_work}
+use Rattle.model_lemmas.proofs.Confined.{part_within, part_inside, part_early, part_late, part_released, is_released, not_released}
+use Rattle.base.specs.declared.limits.TheConstants.{MAX_WORK}
 use Rattle.yds_admit.specs.Interval.{HasRoomFrom, IsFirstFrom}
 
 -- # The walk by rising deadlines

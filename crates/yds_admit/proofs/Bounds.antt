@@ -1,7 +1,8 @@
 -- Pieces and what is idle beside them: one job more among them, and what they say of another.
-use Rattle.yds_model.proofs.Common.{◌≡◌, ℕ, zero, suc, ◌+◌, ◌-◌, ◌*◌, ◌<◌, ◌≤◌, ◌⊎◌, List, [], ◌∷◌, ◌++◌, insert, length, get_or, ◌∙◌, refl, sym, subst, arith, inl, inr, ap, cond, nat_le, All, Any, sum_by, IsNonDecreasing, cases_lt, cases_eq, get_or_default, get_or_append_left, get_or_push, length_push, get_or-insert_below, get_or-insert_at, get_or-insert_above, length-insert, sum_by_push, sum_by-insert, mul-sub, mul-le-mul_left, mul-le-mul_right, Job, no_job, job_at, Any-append_left, work_within, part_within, part_inside, part_early, part_late}
-use Rattle.yds_model.specs.declared.limits.TheConstants.{MAX_JOBS, MAX_WORK}
-use Rattle.yds_model.proofs.SumsBelow.{sum_below_same}
+use Rattle.yds_model.proofs.Common.{◌≡◌, ℕ, zero, suc, ◌+◌, ◌-◌, ◌*◌, ◌<◌, ◌≤◌, ◌⊎◌, List, [], ◌∷◌, ◌++◌, insert, length, get_or, ◌∙◌, refl, sym, subst, arith, inl, inr, ap, cond, nat_le, All, Any, sum_by, IsNonDecreasing, cases_lt, cases_eq, get_or_default, get_or_append_left, get_or_push, length_push, get_or-insert_below, get_or-insert_at, get_or-insert_above, length-insert, sum_by_push, sum_by-insert, mul-sub, mul-le-mul_left, mul-le-mul_right, Job, no_job, job_at, Any-append_left, work_within}
+use Rattle.model_lemmas.proofs.Confined.{part_within, part_inside, part_early, part_late}
+use Rattle.base.specs.declared.limits.TheConstants.{MAX_JOBS, MAX_WORK}
+use Rattle.model_lemmas.proofs.SumsBelow.{sum_below_same}
 use Rattle.yds_admit.specs.Chain.{IsFalling, IsEnd, HasRoomOver}
 use Rattle.yds_admit.specs.Pieces.{went, AreDue, IsCount, AreBounds, AreExact, AreUsed, AreMore, IsAdded, IsLeastBound, HasTooMuch}
 use Rattle.yds_admit.specs.Idle.{HasIdle, IsIdleFrom, IsTakenFrom, Fits, idle_before}

@@ -1,8 +1,9 @@
 -- One piece more, and what the pieces before a place say of the work that is due.
-use Rattle.yds_model.proofs.Common.{◌≡◌, ℕ, zero, suc, ◌+◌, ◌-◌, ◌*◌, ◌<◌, ◌≤◌, List, [], ◌∷◌, ◌++◌, length, get_or, take, ◌∙◌, refl, sym, subst, arith, inl, inr, ap, cond, nat_le, ◌&&◌, Bool, true, false, append_assoc, All, sum_by, cases_lt, cases_eq, le-leb, lt-leb, ne_eqb, get_or_append_left, get_or_push, length_push, take_all, take-append-le, append-nil, All-nil, All-push, sum_by_push, sum_by_more, sum_by-take-drop, Job, no_job, job_at, sum_by_same, sum_by_zero, part_within}
-use Rattle.yds_model.specs.declared.limits.TheConstants.{MAX_JOBS, MAX_WORK}
-use Rattle.yds_model.specs.Numbers.{sum_below}
-use Rattle.yds_model.proofs.SumsBelow.{sum_below_same, sum_below_front}
+use Rattle.yds_model.proofs.Common.{◌≡◌, ℕ, zero, suc, ◌+◌, ◌-◌, ◌*◌, ◌<◌, ◌≤◌, List, [], ◌∷◌, ◌++◌, length, get_or, take, ◌∙◌, refl, sym, subst, arith, inl, inr, ap, cond, nat_le, ◌&&◌, Bool, true, false, append_assoc, All, sum_by, cases_lt, cases_eq, le-leb, lt-leb, ne_eqb, get_or_append_left, get_or_push, length_push, take_all, take-append-le, append-nil, All-nil, All-push, sum_by_push, sum_by_more, sum_by-take-drop, Job, no_job, job_at, sum_by_same, sum_by_zero}
+use Rattle.model_lemmas.proofs.Confined.{part_within}
+use Rattle.base.specs.declared.limits.TheConstants.{MAX_JOBS, MAX_WORK}
+use Rattle.base.specs.Numbers.{sum_below}
+use Rattle.model_lemmas.proofs.SumsBelow.{sum_below_same, sum_below_front}
 use Rattle.yds_admit.specs.Chain.{IsChain, due_work, AreEmpty}
 use Rattle.yds_admit.specs.Board.{AreGaps}
 use Rattle.yds_admit.specs.Pieces.{went, IsGreatest, IsCutting, IsCutInto}

@@ -3,9 +3,9 @@ use Rattle.yds_model.proofs.Common.{◌≡◌, ℕ, zero, suc, ◌+◌, ◌-◌,
 use Rattle.yds_events.specs.Stretch.{no_stretch}
 use Rattle.yds_events.proofs.Times.{release_at, deadline_at, not_later}
 use Rattle.yds_events.proofs.Neighbours.{count_stretches, stretch_begins, stretch_ends}
-use Rattle.yds_model.specs.Numbers.{sum_below}
+use Rattle.base.specs.Numbers.{sum_below}
 use Rattle.yds_edf.specs.Demand.{capacity_at, capacity_between, IsWithinCapacity}
-use Rattle.yds_model.proofs.SumsBelow.{sum_below_front}
+use Rattle.model_lemmas.proofs.SumsBelow.{sum_below_front}
 use Rattle.yds_laws.specs.AdmissionLaws.{HasRoom}
 use Rattle.yds_admit.specs.Serving.{top_units}
 use Rattle.yds_laws.proofs.Served.{room_from, confined_sum}

@@ -1,5 +1,6 @@
 -- The walk by falling releases over all deadlines: marked jobs that each find their room after their release leave no interval overfull.
-use Rattle.yds_model.proofs.Common.{◌≡◌, ℕ, ◌+◌, ◌-◌, ◌*◌, ◌<◌, ◌≤◌, Bool, true, false, List, length, get_or, map, take, ◌∙◌, refl, sym, subst, arith, inl, inr, ap, cond, nat_le, ◌&&◌, ◌==◌, Any, cases_lt, cases_eq, get_or-map, get_or_default, length-map, sum_by-IsPermutation, Contains-permutation, IsPermutation-refl, get_or-range_with_len, length-range_with_len, mul-sub, mul-le-mul_left, Job, no_job, job_at, numbers_of, sum_by_same, sum_by-map, work_within, part_within}
+use Rattle.yds_model.proofs.Common.{◌≡◌, ℕ, ◌+◌, ◌-◌, ◌*◌, ◌<◌, ◌≤◌, Bool, true, false, List, length, get_or, map, take, ◌∙◌, refl, sym, subst, arith, inl, inr, ap, cond, nat_le, ◌&&◌, ◌==◌, Any, cases_lt, cases_eq, get_or-map, get_or_default, length-map, sum_by-IsPermutation, Contains-permutation, IsPermutation-refl, get_or-range_with_len, length-range_with_len, mul-sub, mul-le-mul_left, Job, no_job, job_at, numbers_of, sum_by_same, sum_by-map, work_within}
+use Rattle.model_lemmas.proofs.Confined.{part_within}
 use Rattle.yds_laws.specs.AdmissionLaws.{HasRoom}
 use Rattle.yds_admit.specs.declared.board.Board.{Board}
 use Rattle.yds_admit.specs.declared.board.Spot.{Spot}

@@ -1,6 +1,7 @@
 -- What is idle between the times, jobs that take it, and what a cut leaves of it.
-use Rattle.yds_model.proofs.Common.{◌≡◌, ℕ, zero, suc, ◌+◌, ◌-◌, ◌*◌, ◌<◌, ◌≤◌, List, [], ◌∷◌, ◌++◌, length, get_or, take, drop, set, ◌∙◌, subst, arith, inl, inr, ap, cond, nat_le, get_or-set_same, get_or-set_other, All, sum_by, IsNonDecreasing, cases_lt, cases_eq, le-leb, lt-leb, get_or_default, drop_all, append-nil, take_all, sum_by_push, mul-sub, mul-le-mul_left, Job, IsJob, job_at, work_within, part_within, part_inside, part_early, part_late}
-use Rattle.yds_model.proofs.SumsBelow.{sum_below_same, sum_below_front}
+use Rattle.yds_model.proofs.Common.{◌≡◌, ℕ, zero, suc, ◌+◌, ◌-◌, ◌*◌, ◌<◌, ◌≤◌, List, [], ◌∷◌, ◌++◌, length, get_or, take, drop, set, ◌∙◌, subst, arith, inl, inr, ap, cond, nat_le, get_or-set_same, get_or-set_other, All, sum_by, IsNonDecreasing, cases_lt, cases_eq, le-leb, lt-leb, get_or_default, drop_all, append-nil, take_all, sum_by_push, mul-sub, mul-le-mul_left, Job, IsJob, job_at, work_within}
+use Rattle.model_lemmas.proofs.Confined.{part_within, part_inside, part_early, part_late}
+use Rattle.model_lemmas.proofs.SumsBelow.{sum_below_same, sum_below_front}
 use Rattle.yds_laws.specs.AdmissionLaws.{HasRoom}
 use Rattle.yds_admit.specs.Chain.{IsFalling, due_work}
 use Rattle.yds_admit.specs.Board.{AreGaps}

@@ -1,5 +1,6 @@
 -- The work in an interval, of jobs by falling releases and of jobs that leave none overfull.
-use Rattle.yds_model.proofs.Common.{◌≡◌, ℕ, zero, suc, ◌+◌, ◌-◌, ◌*◌, ◌<◌, ◌≤◌, List, [], ◌∷◌, ◌++◌, length, get_or, take, drop, ◌∙◌, sym, subst, arith, inl, inr, ap, cond, nat_le, ◌==◌, All, Any, sum_by, IsPermutation, IsNonDecreasing, cases_lt, eqb-true, eqb-false, get_or_default, get_or-take, get_or-drop, get_or_append_left, get_or_push, length-take-le, length-drop, length_push, sum_by-take-drop, sum_by-IsPermutation, mul-le-mul_left, Job, IsJob, no_job, job_at, numbers_of, sum_by_same, sum_by_zero, found_or_none, work_within, part_within, part_inside, part_early, part_late}
+use Rattle.yds_model.proofs.Common.{◌≡◌, ℕ, zero, suc, ◌+◌, ◌-◌, ◌*◌, ◌<◌, ◌≤◌, List, [], ◌∷◌, ◌++◌, length, get_or, take, drop, ◌∙◌, sym, subst, arith, inl, inr, ap, cond, nat_le, ◌==◌, All, Any, sum_by, IsPermutation, IsNonDecreasing, cases_lt, eqb-true, eqb-false, get_or_default, get_or-take, get_or-drop, get_or_append_left, get_or_push, length-take-le, length-drop, length_push, sum_by-take-drop, sum_by-IsPermutation, mul-le-mul_left, Job, IsJob, no_job, job_at, numbers_of, sum_by_same, sum_by_zero, found_or_none, work_within}
+use Rattle.model_lemmas.proofs.Confined.{part_within, part_inside, part_early, part_late}
 use Rattle.yds_admit.specs.Interval.{HasRoomFrom}
 use Rattle.yds_admit.specs.Chain.{due_work}
 use Rattle.yds_admit.specs.Pieces.{AreDue}

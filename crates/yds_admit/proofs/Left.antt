@@ -1,6 +1,7 @@
 -- What a cut of the admitted jobs leaves of a board's gaps.
-use Rattle.yds_model.proofs.Common.{◌≡◌, ℕ, ◌+◌, ◌*◌, ◌<◌, ◌≤◌, List, length, map, get_or, ◌∙◌, arith, sym, false, All, filter, sum_by, All-map, All-filter, length-map, length-range_with_len, sum_by-le, length-filter, count_by-le-length, mul-le-mul_right, sum_by-IsPermutation, length_permutation, Job, IsJob, no_job, job_at, numbers_of, sum_by-map, sum_by-filter, part_within}
-use Rattle.yds_model.specs.declared.limits.TheConstants.{MAX_JOBS, MAX_WORK}
+use Rattle.yds_model.proofs.Common.{◌≡◌, ℕ, ◌+◌, ◌*◌, ◌<◌, ◌≤◌, List, length, map, get_or, ◌∙◌, arith, sym, false, All, filter, sum_by, All-map, All-filter, length-map, length-range_with_len, sum_by-le, length-filter, count_by-le-length, mul-le-mul_right, sum_by-IsPermutation, length_permutation, Job, IsJob, no_job, job_at, numbers_of, sum_by-map, sum_by-filter}
+use Rattle.model_lemmas.proofs.Confined.{part_within}
+use Rattle.base.specs.declared.limits.TheConstants.{MAX_JOBS, MAX_WORK}
 use Rattle.yds_laws.specs.AdmissionLaws.{HasRoom}
 use Rattle.yds_admit.specs.declared.board.Board.{Board}
 use Rattle.yds_admit.specs.declared.board.Spot.{Spot}

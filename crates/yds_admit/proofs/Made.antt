@@ -1,5 +1,6 @@
 -- The pieces of jobs, job by job.
-use Rattle.yds_model.proofs.Common.{◌≡◌, ℕ, ◌+◌, ◌<◌, ◌≤◌, List, [], ◌∷◌, ◌++◌, Bool, true, false, if◌then◌else◌, map, take, length, get_or, ◌∙◌, refl, sym, subst, arith, inl, inr, ap, Any, filter, sum_by, cases_lt, get_or_append_left, get_or-append_right, get_or_default, get_or_push, length-append, length_push, append-nil, map-append, filter_more, sum_by-append, sum_by_push, Job, no_job, job_at, Any-append_left, work_within, part_within}
+use Rattle.yds_model.proofs.Common.{◌≡◌, ℕ, ◌+◌, ◌<◌, ◌≤◌, List, [], ◌∷◌, ◌++◌, Bool, true, false, if◌then◌else◌, map, take, length, get_or, ◌∙◌, refl, sym, subst, arith, inl, inr, ap, Any, filter, sum_by, cases_lt, get_or_append_left, get_or-append_right, get_or_default, get_or_push, length-append, length_push, append-nil, map-append, filter_more, sum_by-append, sum_by_push, Job, no_job, job_at, Any-append_left, work_within}
+use Rattle.model_lemmas.proofs.Confined.{part_within}
 use Rattle.yds_admit.specs.declared.board.Spot.{Spot}
 use Rattle.yds_admit.specs.Board.{falling_jobs}
 use Rattle.yds_admit.specs.Pieces.{IsCutInto, AreCut}

@@ -1,7 +1,7 @@
 -- Marks of jobs, one job more.
 use Rattle.yds_model.proofs.Common.{◌≡◌, ℕ, ◌+◌, ◌<◌, ◌≤◌, Bool, true, false, List, [], ◌∷◌, ◌++◌, length, get_or, set, take, drop, ◌∙◌, sym, arith, ap, cond, get_or-set_same, get_or-set_other, length-set, Any, sum_by, range_with_len, get_or_default, take_more, drop-append-le, length-take-le, map-id, All-push, All-nil, sum_by_push, get_or-range_with_len, length-range_with_len, map-range_with_len_more, Job, no_job, job_at, numbers_of}
-use Rattle.yds_model.specs.Numbers.{sum_below}
-use Rattle.yds_model.proofs.SumsBelow.{sum_below_same, sum_below_zero, sum_below_change, sum_places}
+use Rattle.base.specs.Numbers.{sum_below}
+use Rattle.model_lemmas.proofs.SumsBelow.{sum_below_same, sum_below_zero, sum_below_change, sum_places}
 use Rattle.yds_admit.specs.Board.{IsMarked, AreMarked, NoneFrom, if_marked}
 
 numbers_sum : (rows : List Job) (g : ℕ → ℕ) → sum_by g (numbers_of rows) ≡ sum_below (length rows) g

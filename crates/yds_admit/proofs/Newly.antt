@@ -1,5 +1,6 @@
 -- One job more than jobs that leave no interval overfull: only an interval that begins before its deadline and ends then or later can be.
-use Rattle.yds_model.proofs.Common.{◌≡◌, ℕ, suc, ◌-◌, ◌*◌, ◌<◌, ◌≤◌, ◌⊎◌, List, [], ◌∷◌, ◌++◌, Option, Some, None, MatchOption, length, ◌∙◌, refl, sym, subst, arith, inl, inr, ap, cond, ◌==◌, get_or, All, Any, sum_by, IsPermutation, cases_lt, cases_eq, cases_order, eq-eqb, ne_eqb, get_or_default, get_or_append_left, get_or_push, length_push, sum_by_push, sum_by-cons, get_or-le-sum_by, sum_by-IsPermutation, Job, IsJob, no_job, job_at, numbers_of, IsOverfull, IsFirstOverfull, All-front, All-last, work_within, part_within, part_early, part_late}
+use Rattle.yds_model.proofs.Common.{◌≡◌, ℕ, suc, ◌-◌, ◌*◌, ◌<◌, ◌≤◌, ◌⊎◌, List, [], ◌∷◌, ◌++◌, Option, Some, None, MatchOption, length, ◌∙◌, refl, sym, subst, arith, inl, inr, ap, cond, ◌==◌, get_or, All, Any, sum_by, IsPermutation, cases_lt, cases_eq, cases_order, eq-eqb, ne_eqb, get_or_default, get_or_append_left, get_or_push, length_push, sum_by_push, sum_by-cons, get_or-le-sum_by, sum_by-IsPermutation, Job, IsJob, no_job, job_at, numbers_of, IsOverfull, IsFirstOverfull, All-front, All-last, work_within}
+use Rattle.model_lemmas.proofs.Confined.{part_within, part_early, part_late}
 use Rattle.yds_laws.specs.AdmissionLaws.{HasRoom}
 use Rattle.yds_laws.proofs.Served.{room_from, confined_sum, confined_term}
 use Rattle.yds_admit.specs.Interval.{IsFirstFrom, IsFirstWith}

@@ -1,5 +1,6 @@
 -- Overfull intervals of jobs, of their numbers, and of the jobs in another order.
-use Rattle.yds_model.proofs.Common.{◌≡◌, ℕ, ◌<◌, List, ◌++◌, length, get_or, ◌∙◌, sym, subst, arith, ap, Any, get_or-map, get_or_default, length-map, sum_by-append, Job, job_at, numbers_of, jobs_with, confined_work, IsOverfull, IsFirstOverfull, Any-append_left, sum_by-map, work_within, part_within}
+use Rattle.yds_model.proofs.Common.{◌≡◌, ℕ, ◌<◌, List, ◌++◌, length, get_or, ◌∙◌, sym, subst, arith, ap, Any, get_or-map, get_or_default, length-map, sum_by-append, Job, job_at, numbers_of, jobs_with, confined_work, IsOverfull, IsFirstOverfull, Any-append_left, sum_by-map, work_within}
+use Rattle.model_lemmas.proofs.Confined.{part_within}
 use Rattle.yds_laws.specs.AdmissionLaws.{HasRoom}
 use Rattle.yds_laws.proofs.JobNumbers.{all_jobs}
 use Rattle.yds_laws.proofs.Served.{confined_sum}

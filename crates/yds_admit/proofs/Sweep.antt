@@ -1,5 +1,6 @@
 -- The walk by falling releases over a chain, and what it finds.
-use Rattle.yds_model.proofs.Common.{◌≡◌, ℕ, zero, suc, ◌+◌, ◌*◌, ◌<◌, ◌≤◌, List, length, get_or, take, drop, ◌∙◌, refl, sym, arith, inl, inr, ap, cond, Bool, true, false, ◌==◌, nat_le, Any, sum_by, IsPermutation, cases_lt, cases_eq, cases_Bool, eq-eqb, ne_eqb, le-leb, lt-leb, leb-true, leb-false, true≢false, get_or_default, get_or-take, get_or-drop, length-take-le, length-drop, sum_by_more, sum_by-take-drop, Job, no_job, job_at, sum_by_same, sum_by_zero, work_within, part_within, part_early}
+use Rattle.yds_model.proofs.Common.{◌≡◌, ℕ, zero, suc, ◌+◌, ◌*◌, ◌<◌, ◌≤◌, List, length, get_or, take, drop, ◌∙◌, refl, sym, arith, inl, inr, ap, cond, Bool, true, false, ◌==◌, nat_le, Any, sum_by, IsPermutation, cases_lt, cases_eq, cases_Bool, eq-eqb, ne_eqb, le-leb, lt-leb, leb-true, leb-false, true≢false, get_or_default, get_or-take, get_or-drop, length-take-le, length-drop, sum_by_more, sum_by-take-drop, Job, no_job, job_at, sum_by_same, sum_by_zero, work_within}
+use Rattle.model_lemmas.proofs.Confined.{part_within, part_early}
 use Rattle.yds_admit.specs.Chain.{IsFalling, AreTimes, due_work, IsChain, Takes}
 use Rattle.yds_admit.proofs.GoingOn.{ended}
 

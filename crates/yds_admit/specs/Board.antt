@@ -2,7 +2,7 @@
 use Rattle.std.specs.Prelude.{◌≡◌, ℕ, ◌+◌, ◌*◌, ◌<◌, ◌≤◌, Bool, false, if◌then◌else◌, List, length, map, slice_index, sum_by}
 use Rattle.std.specs.List.{All, Any, filter, slice_index_or}
 use Rattle.std.specs.List.Sorted.{IsPermutation}
-use Rattle.yds_model.specs.declared.limits.TheConstants.{MAX_JOBS, MAX_TIME, MAX_TOP}
+use Rattle.base.specs.declared.limits.TheConstants.{MAX_JOBS, MAX_TIME, MAX_TOP}
 use Rattle.yds_model.specs.Job.{Job, IsJob, job_at}
 use Rattle.yds_model.specs.Policy.{numbers_of}
 use Rattle.yds_admit.specs.declared.board.Board.{Board}

@@ -1,7 +1,7 @@
 -- What is idle between rising times, so that later jobs may take it.
 use Rattle.std.specs.Prelude.{◌≡◌, ℕ, ◌+◌, ◌-◌, ◌*◌, ◌<◌, ◌≤◌, List, length, slice_index}
 use Rattle.yds_model.specs.Job.{Job}
-use Rattle.yds_model.specs.Numbers.{sum_below}
+use Rattle.base.specs.Numbers.{sum_below}
 use Rattle.yds_model.specs.Confined.{work_within}
 
 -- what is idle in the gaps before a place

@@ -1,9 +1,9 @@
 -- Jobs cut into pieces, each of which takes room in one gap between rising times.
 use Rattle.std.specs.Prelude.{◌≡◌, ℕ, ◌+◌, ◌-◌, ◌*◌, ◌<◌, ◌≤◌, ◌++◌, ◌∷◌, [], nat_le, if◌then◌else◌, List, length, insert, take, slice_index, sum_by}
 use Rattle.std.specs.List.{All, Any, Contains}
-use Rattle.yds_model.specs.declared.limits.TheConstants.{MAX_JOBS, MAX_WORK}
+use Rattle.base.specs.declared.limits.TheConstants.{MAX_JOBS, MAX_WORK}
 use Rattle.yds_model.specs.Job.{Job, job_at}
-use Rattle.yds_model.specs.Numbers.{sum_below}
+use Rattle.base.specs.Numbers.{sum_below}
 use Rattle.yds_admit.specs.declared.pieces.Pieces.{Pieces}
 use Rattle.yds_model.specs.Confined.{work_within}
 use Rattle.yds_admit.specs.Chain.{IsFalling, IsChain, due_work}

@@ -1,6 +1,6 @@
 ghost use Rattle.std.specs.Prelude.{◌≡◌, ◌*◌, ◌<◌, ◌≤◌, ◌++◌, ◌∷◌, [], nat_le, if◌then◌else◌, IfOk, MatchOption, length, take, All};
 ghost use Rattle.std.specs.List.Sorted.{IsPermutation, IsNonDecreasingBy};
-ghost use Rattle.yds_model.specs.declared.limits.TheConstants.{MAX_WORK};
+ghost use Rattle.base.specs.declared.limits.TheConstants.{MAX_WORK};
 ghost use Rattle.yds_model.specs.Job.{IsJob, job_at};
 ghost use Rattle.yds_model.specs.Confined.{released_work};
 ghost use Rattle.yds_admit.specs.Interval.{HasRoomFrom, IsFirstFrom};

@@ -1,5 +1,5 @@
 ghost use Rattle.std.specs.Prelude.{◌≡◌, ℕ, ◌+◌, ◌*◌, ◌<◌, ◌≤◌, ◌⊎◌, nat_le, if◌then◌else◌, length, slice_index, sum_by};
-ghost use Rattle.yds_model.specs.declared.limits.TheConstants.{MAX_WORK};
+ghost use Rattle.base.specs.declared.limits.TheConstants.{MAX_WORK};
 ghost use Rattle.yds_model.specs.Job.{job_at};
 ghost use Rattle.yds_admit.specs.Pieces.{went};
 

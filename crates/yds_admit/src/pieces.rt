@@ -1,6 +1,6 @@
 ghost use Rattle.std.specs.Prelude.{◌≡◌, ℕ, ◌+◌, ◌*◌, ◌<◌, ◌≤◌, All, List, IfOk, IfSome, MatchOption, length, slice_index};
 ghost use Rattle.yds_admit.specs.Board.{IsBoard, falling_jobs};
-ghost use Rattle.yds_model.specs.declared.limits.TheConstants.{MAX_WORK};
+ghost use Rattle.base.specs.declared.limits.TheConstants.{MAX_WORK};
 ghost use Rattle.yds_model.specs.Job.{Job};
 ghost use Rattle.yds_admit.specs.Chain.{IsFalling, IsPlace, IsEnd, AreLinks};
 ghost use Rattle.yds_admit.specs.Idle.{Fits, IsIdleFrom, idle_before};

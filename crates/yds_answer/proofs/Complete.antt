@@ -1,8 +1,8 @@
 -- From the bytes that were taken to all bytes of the input.
 use Rattle.yds_model.proofs.Common.{◌≡◌, ◌⊎◌, ℕ, ◌+◌, ◌<◌, ◌≤◌, List, [], ◌++◌, length, Option, Some, None, refl, subst, sym, ap, ◌∙◌, arith, inl, inr, length-append, lt-ltb, le-ltb, IfSome, append-nil, Question, Request, OfDocument, OfTasks, OfTrial, usage_line, AnswersRequest, AnswersReading, AnswersTasks, UnlessTooLong, is_too_long, reading, task_reading, TrialAnswer}
-use Rattle.yds_model.specs.declared.limits.TheConstants.{MAX_INPUT}
-use Rattle.yds_model.specs.declared.status.Status.{Status}
-use Rattle.yds_model.specs.declared.status.Status.TheVariants as statuses
+use Rattle.base.specs.declared.limits.TheConstants.{MAX_INPUT}
+use Rattle.base.specs.declared.status.Status.{Status}
+use Rattle.base.specs.declared.status.Status.TheVariants as statuses
 use Rattle.yds_answer.specs.Endings.{IsWhole, Writes, WritesWhole, AnswersBytes, AnswersTaken, Outcome}
 
 -- what is an answer to one thing and so to another

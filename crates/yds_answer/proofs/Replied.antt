@@ -1,7 +1,7 @@
 -- From an answer that was delivered to what was asked for.
 use Rattle.yds_model.proofs.Common.{◌≡◌, ◌≢◌, ◌⊎◌, ℕ, List, Option, Result, Ok, Err, inl, inr, subst, sym, ap, arith, ◌∙◌, IfOk, MatchResult}
-use Rattle.yds_model.specs.declared.status.Status.{Status}
-use Rattle.yds_model.specs.declared.status.Status.TheVariants as statuses
+use Rattle.base.specs.declared.status.Status.{Status}
+use Rattle.base.specs.declared.status.Status.TheVariants as statuses
 use Rattle.yds_answer.specs.Endings.{IsWhole, IsDelivered, Replies}
 use Rattle.yds_answer.proofs.Complete.{writes_of}
 

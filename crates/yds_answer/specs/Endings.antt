@@ -1,9 +1,9 @@
 -- What a run of the program does, by its status.
 use Rattle.std.specs.Prelude.{◌≡◌, ◌≢◌, ℕ, ◌+◌, ◌<◌, ◌≤◌, ◌⊎◌, List, length, Option}
 use Rattle.std.specs.Io.KnownBytes.{Appends, Consumes, IsAtEnd}
-use Rattle.yds_model.specs.declared.limits.TheConstants.{MAX_INPUT}
-use Rattle.yds_model.specs.declared.status.Status.{Status}
-use Rattle.yds_model.specs.declared.status.Status.TheVariants as statuses
+use Rattle.base.specs.declared.limits.TheConstants.{MAX_INPUT}
+use Rattle.base.specs.declared.status.Status.{Status}
+use Rattle.base.specs.declared.status.Status.TheVariants as statuses
 use Rattle.yds_model.specs.Request.{Request}
 use Rattle.yds_model.specs.Answer.{AnswersRequest, too_long_line}
 use Rattle.yds_port.specs.Count.{Rose, next_count}

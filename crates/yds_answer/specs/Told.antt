@@ -1,7 +1,7 @@
 -- A verdict or a judgement that is told in a line.
 use Rattle.std.specs.Prelude.{ℕ, List, Bool, true, false}
-use Rattle.yds_model.specs.declared.status.Status.{Status}
-use Rattle.yds_model.specs.declared.status.Status.TheVariants as statuses
+use Rattle.base.specs.declared.status.Status.{Status}
+use Rattle.base.specs.declared.status.Status.TheVariants as statuses
 use Rattle.yds_answer.specs.declared.told.Told.{Told}
 
 abbrev pub told_line : Told → List ℕ

@@ -1,7 +1,7 @@
 -- The text and the status of the answer to a question that needs operating points.
 use Rattle.std.specs.Prelude.{ℕ, List}
-use Rattle.yds_model.specs.declared.status.Status.{Status}
-use Rattle.yds_model.specs.declared.status.Status.TheVariants as statuses
+use Rattle.base.specs.declared.status.Status.{Status}
+use Rattle.base.specs.declared.status.Status.TheVariants as statuses
 use Rattle.yds_model.specs.Answer.{no_table_line}
 use Rattle.yds_answer.specs.declared.with_points.WithPoints.{WithPoints}
 use Rattle.yds_answer.specs.declared.with_points.WithPoints.TheVariants.{NoTable, Answered}

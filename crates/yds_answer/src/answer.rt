@@ -8,7 +8,7 @@ use yds_port::{Sink, WriteFault};
 /// An answer is computed before it is written, and is a value: the text is made line by line.
 pub trait Answer {
     ghost use Rattle.std.specs.Prelude.{ℕ, List};
-    ghost use Rattle.yds_model.specs.declared.status.Status.{Status};
+    ghost use Rattle.base.specs.declared.status.Status.{Status};
     ghost use Rattle.yds_port.specs.Sink.{Puts};
     ghost use Rattle.yds_answer.specs.Endings.{IsWhole};
 

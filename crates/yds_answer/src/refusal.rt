@@ -16,7 +16,7 @@ const USAGE_LINE: &[u8] =
 pub struct Usage;
 
 impl Answer for Usage {
-    ghost use Rattle.yds_model.specs.declared.status.Status.TheVariants as statuses;
+    ghost use Rattle.base.specs.declared.status.Status.TheVariants as statuses;
     ghost use Rattle.yds_model.specs.Request.{usage_line};
 
     ghost text = { λ _. usage_line };
@@ -37,7 +37,7 @@ impl Answer for Usage {
 pub struct TooLong;
 
 impl Answer for TooLong {
-    ghost use Rattle.yds_model.specs.declared.status.Status.TheVariants as statuses;
+    ghost use Rattle.base.specs.declared.status.Status.TheVariants as statuses;
     ghost use Rattle.yds_model.specs.Answer.{too_long_line};
 
     ghost text = { λ _. too_long_line };
@@ -66,7 +66,7 @@ pub struct RefusedAt {
 }
 
 impl Answer for RefusedAt {
-    ghost use Rattle.yds_model.specs.declared.status.Status.TheVariants as statuses;
+    ghost use Rattle.base.specs.declared.status.Status.TheVariants as statuses;
     ghost use Rattle.yds_model.specs.Answer.{refusal_line};
 
     ghost text = { λ refused. refusal_line refused.line refused.column refused.word.now };

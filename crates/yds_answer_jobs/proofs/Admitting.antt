@@ -3,7 +3,7 @@ use Rattle.yds_model.proofs.Common.{◌≡◌, ℕ, zero, suc, ◌+◌, ◌<◌,
 use Rattle.yds_instance.specs.Named.{number_of}
 use Rattle.yds_instance.proofs.Names.{has_name}
 use Rattle.yds_answer_jobs.specs.Admit.{RiseFrom}
-use Rattle.yds_model.specs.declared.status.Status.TheVariants as statuses
+use Rattle.base.specs.declared.status.Status.TheVariants as statuses
 
 pub admit_answered : (document : Document) (top : ℕ) (taken : List ℕ) (refused : List Refusal) (slots : List WrittenSlot) (shown : Document) →
     IsAdmission document.jobs top taken refused → IsAdmittedRun (jobs_with document.jobs taken) top slots → IsDocument shown →

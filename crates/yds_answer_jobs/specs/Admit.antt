@@ -2,7 +2,8 @@
 use Rattle.std.specs.Prelude.{ℕ, ◌+◌, ◌≤◌, List, [], ◌∷◌, ◌++◌, codes, decimal}
 use Rattle.std.specs.List.{flat_map}
 use Rattle.yds_model.specs.Document.{name_at}
-use Rattle.yds_model.specs.Text.{line, canonical_text}
+use Rattle.base.specs.Lines.{line}
+use Rattle.yds_model.specs.Text.{canonical_text}
 use Rattle.yds_model.specs.Admission.{Refusal}
 use Rattle.document_value.specs.Documents.{document_view}
 use Rattle.yds_answer_jobs.specs.declared.admitted.AdmittedDocument.{AdmittedDocument}

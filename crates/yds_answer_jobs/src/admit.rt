@@ -25,7 +25,7 @@ use yds_model::{Memory, Status};
 use yds_port::{Sink, WriteFault, write_all};
 
 impl Answer for AdmittedDocument<'_> {
-    ghost use Rattle.yds_model.specs.declared.status.Status.TheVariants as statuses;
+    ghost use Rattle.base.specs.declared.status.Status.TheVariants as statuses;
     ghost use Rattle.yds_answer_jobs.specs.Admit.{admitted_text};
 
     ghost text = { admitted_text };

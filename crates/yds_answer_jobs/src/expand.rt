@@ -1,6 +1,6 @@
 //! `expand`: the jobs of the periodic tasks in the input, and their one level where they have one.
 ghost use Rattle.std.specs.Prelude.{◌≡◌, ◌≢◌, ◌⊎◌, ◌≤◌, length, Some};
-ghost use Rattle.yds_model.specs.declared.limits.TheConstants.{MAX_INPUT};
+ghost use Rattle.base.specs.declared.limits.TheConstants.{MAX_INPUT};
 ghost use Rattle.yds_model.specs.Answer.{AnswersRequest, AnswersTasks};
 ghost use Rattle.yds_model.specs.TaskReading.{task_reading};
 ghost use Rattle.yds_model.specs.Request.{OfTasks};
@@ -22,7 +22,7 @@ pub struct Expansion<'a> {
 }
 
 impl Answer for Expansion<'_> {
-    ghost use Rattle.yds_model.specs.declared.status.Status.TheVariants as statuses;
+    ghost use Rattle.base.specs.declared.status.Status.TheVariants as statuses;
     ghost use Rattle.yds_answer_jobs.specs.Expand.{expanded_text};
 
     ghost text = { expanded_text };

@@ -25,7 +25,7 @@ pub struct Breaks {
 }
 
 impl Answer for Breaks {
-    ghost use Rattle.yds_model.specs.declared.status.Status.TheVariants as statuses;
+    ghost use Rattle.base.specs.declared.status.Status.TheVariants as statuses;
     ghost use Rattle.yds_answer_plans.specs.Curve.{breaks_text};
 
     ghost text = { breaks_text };

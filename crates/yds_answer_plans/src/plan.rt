@@ -22,7 +22,7 @@ pub struct PlannedDocument<'a> {
 }
 
 impl Answer for PlannedDocument<'_> {
-    ghost use Rattle.yds_model.specs.declared.status.Status.TheVariants as statuses;
+    ghost use Rattle.base.specs.declared.status.Status.TheVariants as statuses;
     ghost use Rattle.yds_answer_plans.specs.Plan.{plan_text};
 
     ghost text = { plan_text };

@@ -28,7 +28,7 @@ pub struct PolicyDocument<'a> {
 }
 
 impl Answer for PolicyDocument<'_> {
-    ghost use Rattle.yds_model.specs.declared.status.Status.TheVariants as statuses;
+    ghost use Rattle.base.specs.declared.status.Status.TheVariants as statuses;
     ghost use Rattle.yds_answer_plans.specs.Policies.{policy_text};
 
     ghost text = { policy_text };

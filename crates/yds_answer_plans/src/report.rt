@@ -24,7 +24,7 @@ pub struct PlanTable<'a> {
 }
 
 impl Answer for PlanTable<'_> {
-    ghost use Rattle.yds_model.specs.declared.status.Status.TheVariants as statuses;
+    ghost use Rattle.base.specs.declared.status.Status.TheVariants as statuses;
     ghost use Rattle.yds_answer_plans.specs.Report.{table_text};
 
     ghost text = { table_text };

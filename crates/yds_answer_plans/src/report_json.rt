@@ -22,7 +22,7 @@ pub struct JsonReport {
 }
 
 impl Answer for JsonReport {
-    ghost use Rattle.yds_model.specs.declared.status.Status.TheVariants as statuses;
+    ghost use Rattle.base.specs.declared.status.Status.TheVariants as statuses;
     ghost use Rattle.yds_answer_plans.specs.ReportJson.{json_text};
 
     ghost text = { json_text };

@@ -1,6 +1,6 @@
 -- A comparison is answered by what the plan and the runs spend.
 use Rattle.yds_model.proofs.Common.{◌≡◌, ℕ, ◌<◌, ◌≤◌, ◌⊎◌, List, [], ◌∷◌, ◌++◌, length, get_or, refl, sym, ap, ap₂, subst, ◌∙◌, append_assoc, arith, inl, inr, codes, Job, Document, WrittenSlot, Level, Point, line, IsPlan, IsAverageRateRun, IsOptimalAvailableRun, IsSpent, CompareAnswer, spent_lines, side_lines, rounded_line, OnPoints, zip, append-nil, length-zip, get_or-zip, Fraction}
-use Rattle.yds_model.specs.declared.status.Status.TheVariants as statuses
+use Rattle.base.specs.declared.status.Status.TheVariants as statuses
 use Rattle.yds_round.specs.Fault.{HasFastLevel}
 use Rattle.yds_round.proofs.Faults.{all_slow}
 use Rattle.yds_compare.specs.declared.comparison.Comparison.{Comparison}

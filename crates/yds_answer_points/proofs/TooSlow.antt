@@ -1,6 +1,6 @@
 -- A plan that is too fast for the points is answered by its first level.
 use Rattle.yds_model.proofs.Common.{◌≡◌, ℕ, ◌≤◌, List, [], ◌∷◌, length, refl, ap, ◌∙◌, inl, codes, decimal, Document, WrittenSlot, Level, line, IsPlan, top_of, TooSlowAnswer, RoundAnswer, CompareAnswer, OnPoints}
-use Rattle.yds_model.specs.declared.status.Status.TheVariants as statuses
+use Rattle.base.specs.declared.status.Status.TheVariants as statuses
 use Rattle.yds_texts.proofs.RoundText.{points_answer}
 use Rattle.yds_round.specs.declared.fault.RoundFault.TheVariants as faults
 use Rattle.yds_round.specs.Fault.{IsCauseOfRoundFault}

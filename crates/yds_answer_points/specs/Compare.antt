@@ -1,10 +1,11 @@
 -- The text and the status of a comparison of a document's plan with the policies.
 use Rattle.std.specs.Prelude.{ℕ, List, [], ◌∷◌, ◌++◌, codes, decimal}
-use Rattle.yds_model.specs.declared.status.Status.{Status}
-use Rattle.yds_model.specs.declared.status.Status.TheVariants as statuses
+use Rattle.base.specs.declared.status.Status.{Status}
+use Rattle.base.specs.declared.status.Status.TheVariants as statuses
 use Rattle.yds_model.specs.Scale.{Fraction}
 use Rattle.yds_model.specs.Table.{Point}
-use Rattle.yds_model.specs.Text.{line, fraction_text}
+use Rattle.base.specs.Lines.{line}
+use Rattle.yds_model.specs.Text.{fraction_text}
 use Rattle.yds_model.specs.Comparison.{Side}
 use Rattle.yds_model.specs.CompareAnswer.{spent_lines, side_lines, rounded_line}
 use Rattle.yds_compare.specs.Side.{side_view}

@@ -1,7 +1,7 @@
 -- The text and the status of a document's plan on its operating points.
 use Rattle.std.specs.Prelude.{ℕ, List}
-use Rattle.yds_model.specs.declared.status.Status.{Status}
-use Rattle.yds_model.specs.declared.status.Status.TheVariants as statuses
+use Rattle.base.specs.declared.status.Status.{Status}
+use Rattle.base.specs.declared.status.Status.TheVariants as statuses
 use Rattle.yds_model.specs.Text.{canonical_text}
 use Rattle.document_value.specs.Documents.{document_view}
 use Rattle.yds_answer_points.specs.declared.round.RoundedDocument.{RoundedDocument}

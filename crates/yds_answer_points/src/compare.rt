@@ -2,8 +2,9 @@
 //! level for which the points are too slow.
 ghost use Rattle.std.specs.Prelude.{◌≡◌, ◌≤◌, ◌++◌, ◌∷◌, [], length, codes, decimal, flat_map, IfOk};
 ghost use Rattle.std.specs.List.{zip};
-ghost use Rattle.yds_model.specs.declared.limits.TheConstants.{MAX_GRID};
-ghost use Rattle.yds_model.specs.Text.{line, fraction_text};
+ghost use Rattle.base.specs.declared.limits.TheConstants.{MAX_GRID};
+ghost use Rattle.base.specs.Lines.{line};
+ghost use Rattle.yds_model.specs.Text.{fraction_text};
 ghost use Rattle.yds_model.specs.Rounding.{top_of};
 ghost use Rattle.yds_model.specs.CompareAnswer.{spent_lines, side_lines, rounded_line};
 ghost use Rattle.yds_model.specs.Answer.{AnswersQuestion};

@@ -1,7 +1,7 @@
 //! `round`: the document's jobs and points with a plan's slots on the points and their energy, or the level for which the
 //! points are too slow.
 ghost use Rattle.std.specs.Prelude.{◌≡◌, ◌∷◌, [], codes, decimal, IfOk};
-ghost use Rattle.yds_model.specs.Text.{line};
+ghost use Rattle.base.specs.Lines.{line};
 ghost use Rattle.yds_model.specs.Answer.{AnswersQuestion};
 ghost use Rattle.yds_model.specs.Request.{AskRound};
 ghost use Rattle.yds_answer.specs.Endings.{Replies};

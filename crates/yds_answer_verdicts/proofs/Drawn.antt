@@ -1,6 +1,6 @@
 -- The jobs that a trial draws.
 use Rattle.yds_model.proofs.Common.{◌≡◌, ℕ, zero, suc, ◌+◌, ◌-◌, ◌<◌, ◌≤◌, List, [], ◌∷◌, ◌++◌, length, ap, ◌∙◌, sym, append_assoc, refl, arith, append-nil, Job, next_state, drawn_job, drawn_jobs}
-use Rattle.yds_model.specs.declared.limits.TheConstants.{MAX_JOBS, MAX_TRIAL_JOBS}
+use Rattle.base.specs.declared.limits.TheConstants.{MAX_JOBS, MAX_TRIAL_JOBS}
 
 -- as many jobs are drawn as are asked for
 pub length-drawn_jobs : (n state : ℕ) → length (drawn_jobs n state) ≡ n

@@ -1,6 +1,6 @@
 -- The text that tells the numbers of a trial's plan.
 use Rattle.std.specs.Prelude.{ℕ, List, [], ◌∷◌, ◌++◌, length, codes, decimal}
-use Rattle.yds_model.specs.Text.{line}
+use Rattle.base.specs.Lines.{line}
 use Rattle.yds_model.specs.TrialAnswer.{trial_text}
 use Rattle.yds_answer_verdicts.specs.declared.trial.Tried.{Tried}
 

@@ -1,7 +1,7 @@
 //! `check`: whether the document's levels show that its slots are least, and if not, the first condition
 //! that fails. Levels and slots are told by their numbers from 1, and jobs by their names.
 ghost use Rattle.std.specs.Prelude.{◌≡◌, ◌+◌, ◌≤◌, ◌∷◌, [], length, codes, decimal, IfOk};
-ghost use Rattle.yds_model.specs.Text.{line};
+ghost use Rattle.base.specs.Lines.{line};
 ghost use Rattle.yds_model.specs.AuditAnswer.{CheckAnswer, judgement_words, judgement_status};
 ghost use Rattle.yds_model.specs.Judgement.{IsJudgement};
 ghost use Rattle.yds_checker.specs.Judgement.{judgement_view};

@@ -1,7 +1,7 @@
 //! `trial`: jobs that are drawn from a seed, planned, and their plan checked; its numbers are told.
 ghost use Rattle.std.specs.Prelude.{◌≡◌, ◌<◌, ◌≤◌, ◌∷◌, [], length, decimal, IfOk};
-ghost use Rattle.yds_model.specs.declared.limits.TheConstants.{MAX_TRIAL_JOBS};
-ghost use Rattle.yds_model.specs.Text.{line};
+ghost use Rattle.base.specs.declared.limits.TheConstants.{MAX_TRIAL_JOBS};
+ghost use Rattle.base.specs.Lines.{line};
 ghost use Rattle.yds_model.specs.TrialAnswer.{next_state, draw, drawn_job, drawn_jobs, peak_words, TrialAnswer};
 ghost use Rattle.yds_port.specs.Sink.{Puts};
 ghost use Rattle.yds_answer.specs.Endings.{Replies};
@@ -27,7 +27,7 @@ pub struct Tried {
 }
 
 impl Answer for Tried {
-    ghost use Rattle.yds_model.specs.declared.status.Status.TheVariants as statuses;
+    ghost use Rattle.base.specs.declared.status.Status.TheVariants as statuses;
     ghost use Rattle.yds_answer_verdicts.specs.Trial.{tried_text};
 
     ghost text = { tried_text };

@@ -3,7 +3,8 @@
 ghost use Rattle.std.specs.Prelude.{◌≡◌, ◌+◌, ◌<◌, ◌≤◌, ◌∷◌, ◌++◌, [], length, codes, decimal};
 ghost use Rattle.yds_model.specs.Job.{job_at};
 ghost use Rattle.yds_model.specs.Document.{name_at};
-ghost use Rattle.yds_model.specs.Text.{line, fraction_text};
+ghost use Rattle.base.specs.Lines.{line};
+ghost use Rattle.yds_model.specs.Text.{fraction_text};
 ghost use Rattle.yds_model.specs.AuditAnswer.{slot_in, job_name, previous_end, verdict_words};
 ghost use Rattle.yds_audit.specs.Verdict.{verdict_view};
 ghost use Rattle.document_value.specs.Documents.{document_view};

@@ -1,5 +1,7 @@
 -- What the program's verdict 'feasible' says.
-use Rattle.yds_model.proofs.Common.{◌≡◌, List, length, subst, Option, Some, None, refl, ◌↔◌, MatchOption, All, Job, WrittenSlot, Point, IsFeasible, Feasible, IsVerdict, IsOnTable, AreSlots, verdict_is_exact, table_verdict_is_exact, verdict_is_unique}
+use Rattle.yds_model.proofs.Common.{◌≡◌, List, length, subst, Option, Some, None, refl, ◌↔◌, MatchOption, All, Job, WrittenSlot, Point, IsFeasible, Feasible, IsVerdict, IsOnTable, AreSlots}
+use Rattle.model_lemmas.proofs.Verdicts.{verdict_is_exact, table_verdict_is_exact}
+use Rattle.model_lemmas.proofs.OneVerdict.{verdict_is_unique}
 use Rattle.yds_audit.specs.declared.verdict.Verdict.{Verdict}
 use Rattle.yds_audit.specs.declared.verdict.Verdict.TheVariants as verdicts
 use Rattle.yds_audit.specs.Verdict.{verdict_view}

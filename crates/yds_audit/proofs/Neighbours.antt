@@ -1,6 +1,6 @@
 -- What a slot and the one before it, as they are read, say of their places.
 use Rattle.yds_model.proofs.Common.{◌≡◌, ℕ, ◌+◌, ◌-◌, ◌<◌, ◌≤◌, List, length, get_or, Bool, subst, arith, MatchBool, get_or_read, IsLess, IsAtMost, WrittenSlot, no_written_slot, written_slot_at, IsAfterOthers}
-use Rattle.yds_model.proofs.TestFacts.{told_more}
+use Rattle.model_lemmas.proofs.TestFacts.{told_more}
 
 -- the two tell whether the slot overlaps the one before it
 pub overlap_told : (slots : List WrittenSlot) (i : ℕ) (slot before : WrittenSlot) (told : Bool) → 1 ≤ i → i < length slots →

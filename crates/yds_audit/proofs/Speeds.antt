@@ -1,5 +1,6 @@
 -- A slot's speed by its work, and by the product of its length and the speed.
-use Rattle.yds_model.proofs.Common.{◌≡◌, ℕ, ◌+◌, ◌-◌, ◌*◌, ◌≤◌, ap, arith, ◌↔◌, mul-sub, mul-pos, Fraction, numerator, IsSum, IsSame, IsMultiple, crossed_length, tied_equality}
+use Rattle.yds_model.proofs.Common.{◌≡◌, ℕ, ◌+◌, ◌-◌, ◌*◌, ◌≤◌, ap, arith, ◌↔◌, mul-sub, mul-pos, Fraction, numerator, IsSum, IsSame, IsMultiple, crossed_length}
+use Rattle.fraction_lemmas.proofs.Fractions.{tied_equality}
 
 -- the length's parts are those of the ends crossed
 length_crossed : (f fd t td d dd : ℕ) → t * (dd * fd) ≡ (d * fd + f * dd) * td → dd * (t * fd - f * td) ≡ d * (fd * td)

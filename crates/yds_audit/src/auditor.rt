@@ -1,7 +1,7 @@
 ghost use Rattle.std.specs.Prelude.{◌≡◌, ◌*◌, ◌≤◌, ◌<◌, ◌↔◌, length, List, Option, Some, MatchOption, IsTrue, option_copied};
 ghost use Rattle.std.specs.List.{All};
-ghost use Rattle.yds_model.specs.declared.limits.TheConstants.{MAX_JOBS, MAX_SLOTS};
-ghost use Rattle.yds_model.specs.Numbers.{Each};
+ghost use Rattle.base.specs.declared.limits.TheConstants.{MAX_JOBS, MAX_SLOTS};
+ghost use Rattle.base.specs.Numbers.{Each};
 ghost use Rattle.yds_model.specs.Feasible.{IsFeasible};
 ghost use Rattle.yds_model.specs.Audit.{IsOnTable, grain_of, parts_given, Stands, GetsItsWork, IsVerdict, AreSlots};
 ghost use Rattle.yds_model.specs.Table.{Point as TablePoint};

@@ -1,6 +1,6 @@
 ghost use Rattle.std.specs.Prelude.{◌≡◌, ◌≤◌, ◌↔◌, IsTrue, option_map, Option};
 ghost use Rattle.std.specs.List.{All, Any};
-ghost use Rattle.yds_model.specs.declared.limits.TheConstants.{MAX_POINT_SPEED};
+ghost use Rattle.base.specs.declared.limits.TheConstants.{MAX_POINT_SPEED};
 ghost use Rattle.yds_model.specs.Scale.{IsLess};
 ghost use Rattle.yds_model.specs.Audit.{RunsAt, IsOnTable};
 ghost use Rattle.yds_model.specs.Within.{IsSlot, IsPoint};

@@ -1,7 +1,7 @@
 ghost use Rattle.std.specs.Prelude.{◌≡◌, ℕ, ◌+◌, ◌<◌, ◌≤◌, ◌↔◌, ◌⊎◌, IsTrue, length, MatchBool, MatchOption, option_copied};
 ghost use Rattle.std.specs.List.{All};
-ghost use Rattle.yds_model.specs.declared.limits.TheConstants.{MAX_SLOTS};
-ghost use Rattle.yds_model.specs.Numbers.{Each};
+ghost use Rattle.base.specs.declared.limits.TheConstants.{MAX_SLOTS};
+ghost use Rattle.base.specs.Numbers.{Each};
 ghost use Rattle.yds_model.specs.Scale.{IsLess, IsAtMost};
 ghost use Rattle.yds_model.specs.Slot.{written_slot_at};
 ghost use Rattle.yds_model.specs.Audit.{IsOnTable, IsAfterOthers, Stands, IsVerdict};

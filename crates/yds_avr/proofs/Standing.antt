@@ -1,6 +1,6 @@
 -- The jobs in three parts, as time goes on: those that are over and those that are to come have no part of the stretch.
 use Rattle.yds_model.proofs.Common.{◌≡◌, ℕ, ◌+◌, ◌-◌, ◌*◌, ◌%◌, ◌<◌, ◌≤◌, List, [], ◌∷◌, ◌++◌, length, get_or, take, drop, drop-cons, add-one, ◌∙◌, refl, sym, ap, subst, arith, inl, inr, cond, true, false, Bool, ◌&&◌, ◌||◌, ◌==◌, not, nat_lt, nat_le, All, sum_by, filter, insert, list_any, IsPermutation, IsNonDecreasingBy, IsPartitionedBy, IsPartitionPoint, div-add-mod', cases_Bool, le-leb, lt-leb, lt-ltb, leb-true, leb-false, take-append-drop, get_or-take, get_or-drop, get_or_append_left, length-append, length-take, length-drop, append_assoc, append-nil, length-map, sum_by-cons, sum_by-le, filter-append, All-from_get_or, All-cons, All-append, All-take, All-map, All-weaker, All-permutation, IsPermutation-trans, IsPermutation-append_left, IsPermutation-middle, IsNonDecreasingBy-insert, length_permutation, sum_by_pushed, sum_by-IsPermutation, list_any-IsPermutation, Job, IsJob, Piece, stretches, div_up, is_live, term_of, terms_of, rounds_term, average_rate_rounds, stretch_at, sum_by-filter, filter_none, filter_all}
-use Rattle.yds_model.specs.declared.limits.TheConstants.{MAX_GRID, MAX_JOBS, MAX_TIME}
+use Rattle.base.specs.declared.limits.TheConstants.{MAX_GRID, MAX_JOBS, MAX_TIME}
 use Rattle.yds_events.specs.Stretch.{IsOutside}
 use Rattle.yds_avr.specs.declared.rate.Rate.{Rate}
 use Rattle.yds_avr.specs.Rate.{rate_of, rate_units, rate_term, rate_rounds, IsRate, IsLive}

@@ -4,12 +4,12 @@ use Rattle.yds_events.specs.Stretch.{no_stretch, length_of, IsOutside}
 use Rattle.yds_events.proofs.Times.{not_later, deadline_at, release_at}
 use Rattle.yds_events.proofs.Neighbours.{count_stretches, stretch_begins, stretch_ends, stretch_forward, release_outside, deadline_outside}
 use Rattle.yds_edf.specs.Pending.{units_wanted}
-use Rattle.yds_model.specs.Numbers.{sum_below}
+use Rattle.base.specs.Numbers.{sum_below}
 use Rattle.yds_edf.specs.Demand.{capacity_at, capacity_between, IsWithinCapacity}
 use Rattle.yds_edf.specs.PolicyRun.{IsPolicyRun}
 use Rattle.yds_edf.proofs.Capped.{set_run}
 use Rattle.yds_edf.proofs.Demand.{confined_is}
-use Rattle.yds_model.proofs.SumsBelow.{sum_below_same, sum_below_at_most, sum_below_zero, sum_places, sum_below_swap, sum_below-mul}
+use Rattle.model_lemmas.proofs.SumsBelow.{sum_below_same, sum_below_at_most, sum_below_zero, sum_places, sum_below_swap, sum_below-mul}
 
 -- # The lengths of the stretches in a window
 

@@ -2,7 +2,7 @@
 use Rattle.std.specs.Prelude.{◌≡◌, ℕ, ◌+◌, ◌-◌, ◌<◌, ◌≤◌, List, ◌++◌, length, map, drop, sum_by, All, vec_capacity}
 use Rattle.std.specs.List.{slice_index_or}
 use Rattle.std.specs.List.Sorted.{IsPermutation, IsNonDecreasingBy}
-use Rattle.yds_model.specs.declared.limits.TheConstants.{MAX_GRID, MAX_JOBS, MAX_TIME}
+use Rattle.base.specs.declared.limits.TheConstants.{MAX_GRID, MAX_JOBS, MAX_TIME}
 use Rattle.yds_model.specs.Job.{Job}
 use Rattle.yds_model.specs.Event.{stretches, stretch_at}
 use Rattle.yds_avr.specs.declared.rate.Rate.{Rate}

@@ -1,7 +1,7 @@
 -- A text that was written whole into a sink that was empty is an answer.
 use Rattle.yds_model.proofs.Common.{◌≡◌, ◌≢◌, ◌++◌, ℕ, List, [], Some, None, ap, refl, subst, sym, ◌∙◌, AnswersRequest}
-use Rattle.yds_model.specs.declared.status.Status.{Status}
-use Rattle.yds_model.specs.declared.status.Status.TheVariants as statuses
+use Rattle.base.specs.declared.status.Status.{Status}
+use Rattle.base.specs.declared.status.Status.TheVariants as statuses
 use Rattle.yds_words.specs.Words.{asked}
 use Rattle.yds_answer.specs.Endings.{IsWhole, Writes, WritesWhole}
 use Rattle.yds_answer.proofs.Complete.{whole_outcome}

@@ -1,8 +1,8 @@
 -- An answer, and what a call has put of it into the caller's room.
 use Rattle.std.specs.Prelude.{◌≡◌, ℕ, List}
-use Rattle.yds_model.specs.declared.status.Status.{Status}
+use Rattle.base.specs.declared.status.Status.{Status}
 use Rattle.yds_model.specs.Answer.{AnswersRequest}
-use Rattle.yds_model.specs.Status.{status_code}
+use Rattle.base.specs.Status.{status_code}
 use Rattle.yds_words.specs.Words.{asked}
 use Rattle.yds_answer.specs.Endings.{IsWhole}
 use Rattle.yds_run.specs.Worth.{IsWorth}

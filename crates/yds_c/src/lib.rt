@@ -8,7 +8,7 @@
 #![tactic(auto)]
 
 ghost use Rattle.std.specs.Prelude.{◌≡◌, ◌≢◌, ◌↔◌, ◌⊎◌};
-ghost use Rattle.yds_model.specs.Status.{status_code};
+ghost use Rattle.base.specs.Status.{status_code};
 ghost use Rattle.yds_c.specs.Given.{bytes_of, AreText};
 ghost use Rattle.yds_c.specs.Answered.{IsAnswered, IsUntouched};
 

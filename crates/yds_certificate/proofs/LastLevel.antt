@@ -1,6 +1,6 @@
 -- A certificate with its last level changed.
 use Rattle.yds_model.proofs.Common.{◌≡◌, ℕ, suc, ◌+◌, ◌-◌, ◌<◌, ◌≤◌, List, [], ◌∷◌, ◌++◌, length, sym, ap, ◌∙◌, subst, arith, ◌==◌, cond, All, slice_index_or, slice_set, flat_map, length-append, length-set, append-nil, length-flat_map, flat_map-cons, sum_by-set, sum_by-append, length_permutation, All-push, All-set, count, Piece, AreApart, Level, level_at, all_members, all_pieces, IsPiece, IsLevel, All-back}
-use Rattle.yds_model.specs.declared.limits.TheConstants.{MAX_PIECES, MAX_MEMBERS}
+use Rattle.base.specs.declared.limits.TheConstants.{MAX_PIECES, MAX_MEMBERS}
 use Rattle.yds_certificate.specs.Level.{with_piece, with_member}
 use Rattle.yds_certificate.specs.Certificate.{IsCertificate, with_last}
 use Rattle.yds_certificate.specs.Merging.{IsNewTo, AreTogether, last_level}

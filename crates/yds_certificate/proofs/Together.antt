@@ -1,5 +1,6 @@
 -- The pieces and the members of two levels, together.
-use Rattle.yds_model.proofs.Common.{◌≡◌, ℕ, suc, ◌+◌, ◌-◌, ◌<◌, ◌≤◌, inl, inr, List, [], ◌∷◌, ◌++◌, length, Bool, true, false, sym, ap, ◌∙◌, subst, arith, ◌↔◌, nat_lt, ◌&&◌, eqb, cond, All, AllByRecursion, IsDistinct, slice_index_or, IsPermutation, IsNonDecreasing, IsNonDecreasingBy, IsStrictlyIncreasing, lt-ltb, le-ltb, ne_eqb, eq-eqb, cases_lt, cases_eq, false≢true, and_left, and_right, and_comm, length-append, All-tail, All-append, recursion_from_All, All-from_recursion, All-permutation, sum_by-IsPermutation, length_permutation, Contains-permutation, IsPermutation-sym, sum_by-append, sum_by-cons, IsDistinct-IsPermutation, IsStrictlyIncreasing-from_distinct, count, Piece, IsForward, AreApart, PiecesFrom, Covers, Level, pieces_forward}
+use Rattle.yds_model.proofs.Common.{◌≡◌, ℕ, suc, ◌+◌, ◌-◌, ◌<◌, ◌≤◌, inl, inr, List, [], ◌∷◌, ◌++◌, length, Bool, true, false, sym, ap, ◌∙◌, subst, arith, ◌↔◌, nat_lt, ◌&&◌, eqb, cond, All, AllByRecursion, IsDistinct, slice_index_or, IsPermutation, IsNonDecreasing, IsNonDecreasingBy, IsStrictlyIncreasing, lt-ltb, le-ltb, ne_eqb, eq-eqb, cases_lt, cases_eq, false≢true, and_left, and_right, and_comm, length-append, All-tail, All-append, recursion_from_All, All-from_recursion, All-permutation, sum_by-IsPermutation, length_permutation, Contains-permutation, IsPermutation-sym, sum_by-append, sum_by-cons, IsDistinct-IsPermutation, IsStrictlyIncreasing-from_distinct, count, Piece, IsForward, AreApart, PiecesFrom, Covers, Level}
+use Rattle.model_lemmas.proofs.Front.{pieces_forward}
 use Rattle.yds_certificate.specs.Merging.{IsOrderly, IsNewTo, IsJoined, AreTogether}
 use Rattle.yds_certificate.proofs.Cover.{Covers-append}
 

@@ -1,7 +1,7 @@
 -- What a certificate keeps, and a certificate with its last level changed.
 use Rattle.std.specs.Prelude.{◌≤◌, List, [], ◌∷◌, length}
 use Rattle.std.specs.List.{All}
-use Rattle.yds_model.specs.declared.limits.TheConstants.{MAX_LEVELS, MAX_PIECES, MAX_MEMBERS}
+use Rattle.base.specs.declared.limits.TheConstants.{MAX_LEVELS, MAX_PIECES, MAX_MEMBERS}
 use Rattle.yds_model.specs.Level.{Level, all_members, all_pieces}
 use Rattle.yds_model.specs.Within.{IsLevel}
 

@@ -2,8 +2,8 @@
 use Rattle.std.specs.Prelude.{◌≡◌, ◌↔◌, ℕ, ◌+◌, ◌*◌, ◌-◌, ◌<◌, ◌≤◌, ◌⊎◌, List, [], ◌∷◌, ◌++◌, length}
 use Rattle.std.specs.List.{All, slice_index_or}
 use Rattle.std.specs.List.Sorted.{IsPermutation, IsStrictlyIncreasing}
-use Rattle.yds_model.specs.declared.limits.TheConstants.{MAX_LEVEL_WORK, MAX_LEVEL_LENGTH}
-use Rattle.yds_model.specs.Numbers.{count}
+use Rattle.base.specs.declared.limits.TheConstants.{MAX_LEVEL_WORK, MAX_LEVEL_LENGTH}
+use Rattle.base.specs.Numbers.{count}
 use Rattle.yds_model.specs.Piece.{Piece, AreApart, PiecesFrom, Covers, total_length}
 use Rattle.yds_model.specs.Level.{Level, level_at}
 use Rattle.yds_model.specs.Within.{IsPiece}

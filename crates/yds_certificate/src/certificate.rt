@@ -1,6 +1,6 @@
 ghost use Rattle.std.specs.Prelude.{◌≡◌, ◌+◌, ◌<◌, ◌≤◌, [], ◌∷◌, ◌++◌, ◌↔◌, length, IsTrue, OnOk, OnErr};
 ghost use Rattle.std.specs.List.{All};
-ghost use Rattle.yds_model.specs.declared.limits.TheConstants.{MAX_LEVELS, MAX_PIECES, MAX_MEMBERS};
+ghost use Rattle.base.specs.declared.limits.TheConstants.{MAX_LEVELS, MAX_PIECES, MAX_MEMBERS};
 ghost use Rattle.yds_model.specs.Level.{all_members, all_pieces, levels_above};
 ghost use Rattle.yds_model.specs.Within.{IsLevel};
 ghost use Rattle.yds_certificate.specs.Level.{with_piece, with_member};

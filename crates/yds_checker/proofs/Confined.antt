@@ -1,6 +1,6 @@
 -- A job's window, and the pieces that hold it.
 use Rattle.yds_model.proofs.Common.{◌≡◌, ℕ, ◌+◌, ◌<◌, ◌≤◌, List, length, take, Bool, arith, ◌↔◌, IsTrue, Job, job_at, IsConfined, Level, all_pieces, IsWindowCovered}
-use Rattle.yds_model.specs.declared.limits.TheConstants.{MAX_LEVELS}
+use Rattle.base.specs.declared.limits.TheConstants.{MAX_LEVELS}
 use Rattle.yds_checker.specs.declared.home.Home.{Home}
 use Rattle.yds_checker.specs.declared.home.Home.TheVariants.{In}
 use Rattle.yds_checker.specs.declared.placed.Placed.{Placed}

@@ -1,6 +1,6 @@
 -- The parts of levels that are joined.
 use Rattle.yds_model.proofs.Common.{◌≡◌, ℕ, ◌<◌, ◌≤◌, List, length, get_or, arith, flat_map, length-flat_map, get_or-le-sum_by, Level}
-use Rattle.yds_model.specs.declared.limits.TheConstants.{MAX_PIECES, MAX_MEMBERS}
+use Rattle.base.specs.declared.limits.TheConstants.{MAX_PIECES, MAX_MEMBERS}
 use Rattle.yds_certificate.specs.Certificate.{IsCertificate}
 
 -- a part is no longer than all parts together

@@ -1,9 +1,10 @@
 -- A job that stands at most once among all members is a member of one level at most.
-use Rattle.yds_model.proofs.Common.{◌≡◌, ℕ, ◌<◌, ◌≤◌, List, length, arith, inl, inr, Bool, subst, ◌⊎◌, ◌↔◌, IsTrue, Contains, count, Level, level_at, all_members, member_counted}
+use Rattle.yds_model.proofs.Common.{◌≡◌, ℕ, ◌<◌, ◌≤◌, List, length, arith, inl, inr, Bool, subst, ◌⊎◌, ◌↔◌, IsTrue, Contains, count, Level, level_at, all_members}
+use Rattle.model_lemmas.proofs.Counted.{member_counted}
 use Rattle.yds_checker.specs.declared.home.Home.{Home}
 use Rattle.yds_checker.specs.declared.home.Home.TheVariants.{Nowhere, In, Often}
 use Rattle.yds_checker.specs.Home.{IsHome}
-use Rattle.yds_model.proofs.Counted.{one_level}
+use Rattle.model_lemmas.proofs.Counted.{one_level}
 
 -- So a fact about each level of which a job is a member is one about the level in which it stands,
 pub fact_in : (levels : List Level) (number level : ℕ) (P : ℕ → Type 0) (told : Bool) (home : Home) → home ≡ In level →

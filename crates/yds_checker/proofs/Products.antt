@@ -1,5 +1,6 @@
 -- A slot's speed and a level's: the work times the level's length, and the length times the level's work.
-use Rattle.yds_model.proofs.Common.{◌≡◌, ℕ, ◌*◌, ◌≤◌, ap, arith, ◌↔◌, Fraction, numerator, IsSum, IsSame, IsMultiple, crossed_length, tied_equality}
+use Rattle.yds_model.proofs.Common.{◌≡◌, ℕ, ◌*◌, ◌≤◌, ap, arith, ◌↔◌, Fraction, numerator, IsSum, IsSame, IsMultiple, crossed_length}
+use Rattle.fraction_lemmas.proofs.Fractions.{tied_equality}
 use Rattle.yds_audit.proofs.Speeds.{speed_of_product}
 
 -- the first product's parts are the work's times the level's length

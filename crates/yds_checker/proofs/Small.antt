@@ -1,5 +1,8 @@
 -- Of slots that stand, a slot's work is at most its job's.
-use Rattle.yds_model.proofs.Common.{◌≡◌, ℕ, ◌+◌, ◌*◌, ◌/◌, ◌<◌, ◌≤◌, List, length, sym, arith, None, length-map, get_or-le-sum_by, eq-eqb, le_of_mul-le-mul_right, Job, job_at, WrittenSlot, WholeSlot, slot_at, work_given, no_written_slot, slot_at_scale, slots_at, written_slot_at, AllStand, AreSlots, scale_exists, slot_read, stand_is_feasible}
+use Rattle.yds_model.proofs.Common.{◌≡◌, ℕ, ◌+◌, ◌*◌, ◌/◌, ◌<◌, ◌≤◌, List, length, sym, arith, None, length-map, get_or-le-sum_by, eq-eqb, le_of_mul-le-mul_right, Job, job_at, WrittenSlot, WholeSlot, slot_at, work_given, no_written_slot, slot_at_scale, slots_at, written_slot_at, AllStand, AreSlots}
+use Rattle.model_lemmas.proofs.Scale.{scale_exists}
+use Rattle.model_lemmas.proofs.Runs.{slot_read}
+use Rattle.model_lemmas.proofs.Verdicts.{stand_is_feasible}
 
 -- a slot's work at a scale is at most what its job is given
 one_given : (slots : List WholeSlot) (i : ℕ) (slot : WholeSlot) → i < length slots → slot ≡ slot_at slots i → slot.work ≤ work_given slots slot.job

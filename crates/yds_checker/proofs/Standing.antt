@@ -1,5 +1,6 @@
 -- Levels whose pieces stand, and the list of all their pieces.
-use Rattle.yds_model.proofs.Common.{◌≡◌, ℕ, zero, suc, ◌+◌, ◌<◌, ◌≤◌, List, length, get_or, take, max, cond, arith, below_more, inl, inr, add-one, length-take, get_or-take, All, cases_lt, get_or_default, sum_by-append, Each, Piece, IsForward, AreApart, Level, no_level, level_at, all_pieces, PiecesStand, IsFirstFailure, flat_map-take, All-flat, pieces_forward}
+use Rattle.yds_model.proofs.Common.{◌≡◌, ℕ, zero, suc, ◌+◌, ◌<◌, ◌≤◌, List, length, get_or, take, max, cond, arith, below_more, inl, inr, add-one, length-take, get_or-take, All, cases_lt, get_or_default, sum_by-append, Each, Piece, IsForward, AreApart, Level, no_level, level_at, all_pieces, PiecesStand, IsFirstFailure, flat_map-take, All-flat}
+use Rattle.model_lemmas.proofs.Front.{pieces_forward}
 use Rattle.yds_checker.specs.declared.placed.Placed.{Placed}
 use Rattle.yds_checker.specs.Placed.{has_unit, covering, ArePlaced, AreByStart, AreApartBelow}
 use Rattle.yds_checker.specs.Standing.{IsOrdered, AreInRun}

@@ -2,7 +2,7 @@
 use Rattle.yds_model.proofs.Common.{◌≡◌, ℕ, zero, suc, ◌+◌, ◌-◌, ◌<◌, ◌≤◌, true, false, List, length, arith, inl, inr, ◌↔◌, nat_le, nat_lt, IsPartitionPoint, IsPartitionedBy, cases_lt, leb-true, leb-false, ltb-true, ltb-false, get_or_default, IsPartitionedBy-leb, IsPartitionedBy-ltb, Level}
 use Rattle.yds_checker.specs.declared.placed.Placed.{Placed}
 use Rattle.yds_checker.specs.Placed.{holding}
-use Rattle.yds_model.specs.declared.limits.TheConstants.{MAX_LEVELS}
+use Rattle.base.specs.declared.limits.TheConstants.{MAX_LEVELS}
 use Rattle.yds_checker.specs.Heights.{no_placed, placed_at, AreHeights, AreWithin}
 use Rattle.yds_checker.specs.PiecesInTurn.{AreInTurn, AreJoined}
 use Rattle.yds_checker.specs.Standing.{AreInRun}

@@ -1,7 +1,7 @@
 -- How high pieces stand that lie in rising order, and the greatest heights of parts of them.
 use Rattle.std.specs.Prelude.{◌≡◌, ℕ, ◌+◌, ◌*◌, ◌<◌, ◌≤◌, ◌↔◌, List, length, max, slice_index}
 use Rattle.std.specs.List.{slice_index_or}
-use Rattle.yds_model.specs.declared.limits.TheConstants.{MAX_LEVELS}
+use Rattle.base.specs.declared.limits.TheConstants.{MAX_LEVELS}
 use Rattle.yds_checker.specs.declared.placed.Placed.{Placed}
 
 -- the piece at a place; one of no time stands where there is none

@@ -1,8 +1,8 @@
 -- Where jobs stand among members of levels.
 use Rattle.std.specs.Prelude.{◌≡◌, ℕ, ◌<◌, ◌≤◌, List, length}
 use Rattle.std.specs.List.{Contains, slice_index_or}
-use Rattle.yds_model.specs.declared.limits.TheConstants.{MAX_LEVELS}
-use Rattle.yds_model.specs.Numbers.{count, Each}
+use Rattle.base.specs.declared.limits.TheConstants.{MAX_LEVELS}
+use Rattle.base.specs.Numbers.{count, Each}
 use Rattle.yds_model.specs.Job.{Job}
 use Rattle.yds_model.specs.Level.{Level, level_at, all_members}
 use Rattle.yds_model.specs.Proper.{StandsOnce}

@@ -1,10 +1,10 @@
 -- Levels whose pieces lie in order, and what is found of the pieces of all levels.
 use Rattle.std.specs.Prelude.{◌≤◌, List, length}
-use Rattle.yds_model.specs.Numbers.{Each}
+use Rattle.base.specs.Numbers.{Each}
 use Rattle.yds_model.specs.Piece.{PiecesFrom}
 use Rattle.yds_model.specs.Level.{Level}
 use Rattle.yds_model.specs.Proper.{PiecesStand}
-use Rattle.yds_model.specs.Numbers.{IsFirstFailure}
+use Rattle.base.specs.Numbers.{IsFirstFailure}
 use Rattle.yds_checker.specs.declared.placed.Placed.{Placed}
 use Rattle.yds_checker.specs.declared.pieces.Standing.{Standing}
 use Rattle.yds_checker.specs.declared.pieces.Standing.TheVariants.{Apart, Wrong}

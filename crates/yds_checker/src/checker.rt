@@ -1,6 +1,6 @@
 ghost use Rattle.std.specs.Prelude.{◌≡◌, ◌<◌, ◌≤◌, ◌↔◌, length, IfOk};
 ghost use Rattle.std.specs.List.{All};
-ghost use Rattle.yds_model.specs.declared.limits.TheConstants.{MAX_JOBS, MAX_SLOTS};
+ghost use Rattle.base.specs.declared.limits.TheConstants.{MAX_JOBS, MAX_SLOTS};
 ghost use Rattle.yds_model.specs.Excess.{IsLeast};
 ghost use Rattle.yds_model.specs.Audit.{AreSlots};
 ghost use Rattle.yds_model.specs.Proper.{IsProper};

@@ -1,8 +1,8 @@
 ghost use Rattle.std.specs.Prelude.{◌≡◌, ◌<◌, ◌≤◌, ◌↔◌, IsTrue, length, MatchOption};
-ghost use Rattle.yds_model.specs.declared.limits.TheConstants.{MAX_LEVELS};
-ghost use Rattle.yds_model.specs.Numbers.{Each};
+ghost use Rattle.base.specs.declared.limits.TheConstants.{MAX_LEVELS};
+ghost use Rattle.base.specs.Numbers.{Each};
 ghost use Rattle.yds_model.specs.Proper.{IsNotFaster};
-ghost use Rattle.yds_model.specs.Numbers.{IsFirstFailure};
+ghost use Rattle.base.specs.Numbers.{IsFirstFailure};
 
 use yds_certificate::Level;
 

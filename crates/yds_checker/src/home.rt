@@ -1,6 +1,6 @@
 ghost use Rattle.std.specs.Prelude.{◌≡◌, ℕ, ◌<◌, ◌≤◌, [], ◌∷◌, ◌++◌, List, length, vec_len, IfOk};
 ghost use Rattle.std.specs.List.{All, Contains};
-ghost use Rattle.yds_model.specs.declared.limits.TheConstants.{MAX_LEVELS};
+ghost use Rattle.base.specs.declared.limits.TheConstants.{MAX_LEVELS};
 ghost use Rattle.yds_model.specs.Level.{Level as LevelOfPlan, level_at, all_members};
 ghost use Rattle.yds_checker.specs.Home.{IsHome, AreHomes};
 

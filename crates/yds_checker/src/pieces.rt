@@ -1,6 +1,6 @@
 ghost use Rattle.std.specs.Prelude.{◌<◌, ◌≤◌, ◌↔◌, IsTrue, IfOk, length};
-ghost use Rattle.yds_model.specs.declared.limits.TheConstants.{MAX_LEVELS};
-ghost use Rattle.yds_model.specs.Numbers.{Each};
+ghost use Rattle.base.specs.declared.limits.TheConstants.{MAX_LEVELS};
+ghost use Rattle.base.specs.Numbers.{Each};
 ghost use Rattle.yds_model.specs.Piece.{PiecesFrom};
 ghost use Rattle.yds_model.specs.Level.{level_at};
 ghost use Rattle.yds_checker.specs.Standing.{IsOrdered, IsFound};

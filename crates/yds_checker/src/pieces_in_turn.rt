@@ -1,6 +1,6 @@
 ghost use Rattle.std.specs.Prelude.{◌≡◌, ℕ, ◌+◌, ◌<◌, ◌≤◌, ◌↔◌, IsTrue, IfOk, length, true, false, nat_le, nat_lt};
 ghost use Rattle.std.specs.List.Sorted.{IsPartitionPoint};
-ghost use Rattle.yds_model.specs.declared.limits.TheConstants.{MAX_LEVELS};
+ghost use Rattle.base.specs.declared.limits.TheConstants.{MAX_LEVELS};
 ghost use Rattle.yds_checker.specs.Placed.{holding};
 ghost use Rattle.yds_checker.specs.PiecesInTurn.{AreInTurn, AreJoined};
 

@@ -1,6 +1,6 @@
 ghost use Rattle.std.specs.Prelude.{◌+◌, ◌<◌, ◌≤◌, ◌↔◌, IsTrue, IfOk, OnOk, length};
 ghost use Rattle.std.specs.List.{All};
-ghost use Rattle.yds_model.specs.declared.limits.TheConstants.{MAX_LEVELS};
+ghost use Rattle.base.specs.declared.limits.TheConstants.{MAX_LEVELS};
 ghost use Rattle.yds_model.specs.Piece.{IsForward};
 ghost use Rattle.yds_checker.specs.Placed.{PlacesMore, ArePlaced, AreByStart, AreApartBelow};
 

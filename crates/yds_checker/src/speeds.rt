@@ -1,11 +1,11 @@
 ghost use Rattle.std.specs.Prelude.{◌≡◌, ◌<◌, ◌≤◌, ◌↔◌, IsTrue, length, MatchOption};
-ghost use Rattle.yds_model.specs.declared.limits.TheConstants.{MAX_WORK, MAX_SLOTS};
-ghost use Rattle.yds_model.specs.Numbers.{Each};
+ghost use Rattle.base.specs.declared.limits.TheConstants.{MAX_WORK, MAX_SLOTS};
+ghost use Rattle.base.specs.Numbers.{Each};
 ghost use Rattle.yds_model.specs.Level.{all_members};
 ghost use Rattle.yds_model.specs.Proper.{StandsOnce};
 ghost use Rattle.yds_model.specs.Audit.{AreSlots};
 ghost use Rattle.yds_model.specs.Judgement.{HasWrittenSpeed, SlotsHold};
-ghost use Rattle.yds_model.specs.Numbers.{IsFirstFailure};
+ghost use Rattle.base.specs.Numbers.{IsFirstFailure};
 ghost use Rattle.yds_checker.specs.Home.{AreHomes};
 ghost use Rattle.yds_model.specs.Scale.{IsLess};
 ghost use Rattle.yds_checker.specs.Speed.{HasSpeedOf};

@@ -1,11 +1,11 @@
 ghost use Rattle.std.specs.Prelude.{◌≡◌, ◌<◌, ◌≤◌, ◌↔◌, IsTrue, length, MatchOption};
 ghost use Rattle.std.specs.List.{All};
-ghost use Rattle.yds_model.specs.declared.limits.TheConstants.{MAX_PIECES, MAX_MEMBERS};
-ghost use Rattle.yds_model.specs.Numbers.{Each};
+ghost use Rattle.base.specs.declared.limits.TheConstants.{MAX_PIECES, MAX_MEMBERS};
+ghost use Rattle.base.specs.Numbers.{Each};
 ghost use Rattle.yds_model.specs.Job.{work_of};
 ghost use Rattle.yds_model.specs.Piece.{total_length};
 ghost use Rattle.yds_model.specs.Proper.{SumsAgree};
-ghost use Rattle.yds_model.specs.Numbers.{IsFirstFailure};
+ghost use Rattle.base.specs.Numbers.{IsFirstFailure};
 ghost use Rattle.yds_certificate.specs.Certificate.{IsCertificate};
 
 use yds_certificate::{Level, Piece};

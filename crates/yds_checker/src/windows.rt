@@ -1,9 +1,9 @@
 ghost use Rattle.std.specs.Prelude.{◌≡◌, ◌<◌, ◌≤◌, ◌↔◌, List, IsTrue, length, MatchOption};
-ghost use Rattle.yds_model.specs.declared.limits.TheConstants.{MAX_JOBS};
-ghost use Rattle.yds_model.specs.Numbers.{Each};
+ghost use Rattle.base.specs.declared.limits.TheConstants.{MAX_JOBS};
+ghost use Rattle.base.specs.Numbers.{Each};
 ghost use Rattle.yds_model.specs.Level.{Level as LevelOfPlan};
 ghost use Rattle.yds_model.specs.Proper.{IsWindowCovered};
-ghost use Rattle.yds_model.specs.Numbers.{IsFirstFailure};
+ghost use Rattle.base.specs.Numbers.{IsFirstFailure};
 ghost use Rattle.yds_checker.specs.Home.{AreSettled};
 ghost use Rattle.yds_checker.specs.Standing.{AreInRun};
 

@@ -6,13 +6,13 @@
 //! Nothing is written to standard error.
 #![tactic(auto)]
 
+use base::Status;
 use std::hash::RandomState;
 use std::io::BufWriter;
 use std::process::ExitCode;
 use std::random::RandomSource;
 use std::rt::Env;
 use std::{env, io};
-use yds_model::Status;
 use yds_port::{StdSink, StdSource};
 use yds_run::run;
 use yds_words::exit_code;

@@ -1,5 +1,5 @@
 ghost use Rattle.std.specs.Prelude.{◌≡◌, ◌≤◌, List, length, IfOk, IfErr, Err};
-ghost use Rattle.yds_model.specs.declared.limits.TheConstants.{MAX_GRID, MAX_JOBS, MAX_ROUNDED};
+ghost use Rattle.base.specs.declared.limits.TheConstants.{MAX_GRID, MAX_JOBS, MAX_ROUNDED};
 ghost use Rattle.yds_model.specs.Slot.{WrittenSlot};
 ghost use Rattle.yds_model.specs.Plan.{IsPlan};
 ghost use Rattle.yds_model.specs.Comparison.{IsSpent};

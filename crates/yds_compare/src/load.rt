@@ -1,7 +1,7 @@
 ghost use Rattle.std.specs.Prelude.{◌≡◌, ◌≤◌, length, IfOk, MatchOption};
 ghost use Rattle.std.specs.List.{All};
-ghost use Rattle.yds_model.specs.declared.limits.TheConstants.{MAX_GRID};
-ghost use Rattle.yds_model.specs.Numbers.{IsFirstFailure};
+ghost use Rattle.base.specs.declared.limits.TheConstants.{MAX_GRID};
+ghost use Rattle.base.specs.Numbers.{IsFirstFailure};
 ghost use Rattle.yds_compare.specs.Load.{loads_of};
 ghost use Rattle.yds_spending.specs.Load.{load_at, IsHeldAt};
 

@@ -1,5 +1,5 @@
 ghost use Rattle.std.specs.Prelude.{◌≡◌, ◌≤◌, IfOk, sum_by};
-ghost use Rattle.yds_model.specs.declared.limits.TheConstants.{MAX_GRID, MAX_TIME};
+ghost use Rattle.base.specs.declared.limits.TheConstants.{MAX_GRID, MAX_TIME};
 ghost use Rattle.yds_model.specs.Event.{stretches as job_stretches};
 ghost use Rattle.yds_model.specs.Comparison.{IsSide};
 ghost use Rattle.yds_events.specs.Stretch.{length_of};

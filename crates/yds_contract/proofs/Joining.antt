@@ -1,6 +1,6 @@
 -- A walk over removed stretches that joins one more to them.
 use Rattle.yds_model.proofs.Common.{◌≡◌, ℕ, suc, ◌+◌, ◌-◌, ◌<◌, ◌≤◌, List, [], ◌∷◌, ◌++◌, ◌∙◌, length, get_or, drop, ap, sym, subst, arith, All, append_assoc, at_drop_more, at_drop_all, All-cons, All-nil, sum_by-append, All-front, All-back, Piece, IsForward, total_length, IsPiece}
-use Rattle.yds_model.specs.declared.limits.TheConstants.{MAX_TIME}
+use Rattle.base.specs.declared.limits.TheConstants.{MAX_TIME}
 use Rattle.yds_contract.specs.declared.removed.Removed.{Removed}
 use Rattle.yds_contract.specs.Contracted.{AreApartFrom, place, Removes}
 use Rattle.yds_contract.specs.Removed.{removed_stretches, AreSummed, IsContraction}

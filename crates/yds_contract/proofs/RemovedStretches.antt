@@ -1,6 +1,6 @@
 -- What a contraction keeps of its removed stretches, each beside the removed time before it.
 use Rattle.yds_model.proofs.Common.{◌≡◌, ℕ, suc, ◌+◌, ◌-◌, ◌<◌, ◌≤◌, min, max, List, ◌∷◌, ◌++◌, ◌∙◌, length, take, drop, ap, sym, subst, arith, All, IsNonDecreasingBy, get_or-map, length-map, get_or_default, append_assoc, at_drop_more, at_drop_all, take_more, All-weaker, sum_by-take-le, sum_by_push, Piece, total_length, IsPiece}
-use Rattle.yds_model.specs.declared.limits.TheConstants.{MAX_TIME}
+use Rattle.base.specs.declared.limits.TheConstants.{MAX_TIME}
 use Rattle.yds_contract.specs.declared.removed.Removed.{Removed}
 use Rattle.yds_contract.specs.Contracted.{AreApartFrom, removed_before, place, ArePieces}
 use Rattle.yds_contract.specs.Removed.{removed_at, no_removed, stretch_of, removed_stretches, AreBegun, IsContraction}

@@ -1,6 +1,6 @@
 -- Removed stretches in parts of a time unit.
 use Rattle.yds_model.proofs.Common.{◌≡◌, ℕ, suc, ◌+◌, ◌-◌, ◌*◌, ◌<◌, ◌≤◌, List, [], ◌∷◌, ◌∙◌, length, map, ap, arith, get_or-map, length-map, sum_by-cons, mul-le-mul_right, mul-lt-mul_of_pos_right, mul-sub, Piece, total_length}
-use Rattle.yds_model.specs.declared.limits.TheConstants.{MAX_TIME}
+use Rattle.base.specs.declared.limits.TheConstants.{MAX_TIME}
 use Rattle.yds_contract.specs.declared.removed.Removed.{Removed}
 use Rattle.yds_contract.specs.Contracted.{AreApartFrom, removed_before, place}
 use Rattle.yds_contract.specs.Removed.{removed_at, stretch_of, removed_stretches, IsContraction}

@@ -1,6 +1,7 @@
 -- Slots over spans that are cut at events.
-use Rattle.yds_model.proofs.Common.{◌≡◌, ℕ, suc, ◌+◌, ◌-◌, ◌*◌, ◌/◌, ◌<◌, ◌≤◌, ◌⊎◌, List, [], ◌∷◌, ◌++◌, ◌∙◌, length, get_or, take, drop, map, min, max, ap, sym, subst, inl, inr, add-one, arith, refl, All, ◌∣◌, IsStrictlyIncreasing, append_assoc, at_drop_more, get_or-map, length-map, map-append, All-map, All-cons, All-nil, All-append, All-from_get_or, get_or-le-sum_by, sum_by-cons, cases_eq, eq-eqb, ne_eqb, dvd_refl, mul-le-mul_right, one-dvd, eq_of_mul-eq-mul_right, le-div_iff_mul-le, div-mul-le_self, Fraction, Quotient, at_scale, of_parts, WrittenSlot, Piece, PiecesFrom, Covers, total_length, parts_den, flat_map-take}
-use Rattle.yds_model.specs.declared.limits.TheConstants.{MAX_TIME, MAX_SLOT_WORK}
+use Rattle.yds_model.proofs.Common.{◌≡◌, ℕ, suc, ◌+◌, ◌-◌, ◌*◌, ◌/◌, ◌<◌, ◌≤◌, ◌⊎◌, List, [], ◌∷◌, ◌++◌, ◌∙◌, length, get_or, take, drop, map, min, max, ap, sym, subst, inl, inr, add-one, arith, refl, All, ◌∣◌, IsStrictlyIncreasing, append_assoc, at_drop_more, get_or-map, length-map, map-append, All-map, All-cons, All-nil, All-append, All-from_get_or, get_or-le-sum_by, sum_by-cons, cases_eq, eq-eqb, ne_eqb, dvd_refl, mul-le-mul_right, one-dvd, eq_of_mul-eq-mul_right, le-div_iff_mul-le, div-mul-le_self, Fraction, Quotient, at_scale, of_parts, WrittenSlot, Piece, PiecesFrom, Covers, total_length, flat_map-take}
+use Rattle.fraction_lemmas.proofs.Fractions.{parts_den}
+use Rattle.base.specs.declared.limits.TheConstants.{MAX_TIME, MAX_SLOT_WORK}
 use Rattle.yds_slots.proofs.WorkParts.{of_parts_at}
 use Rattle.yds_contract.specs.Contracted.{AreApartFrom, ArePieces}
 use Rattle.yds_contract.specs.Clipped.{clipped, pieces_after}

@@ -2,7 +2,7 @@
 -- each end of a slot at that speed is a whole number of them.
 use Rattle.std.specs.Prelude.{◌≡◌, ℕ, ◌-◌, ◌*◌, ◌/◌, ◌<◌, ◌≤◌, ◌↔◌, ◌⊎◌, List, [], ◌∷◌, map}
 use Rattle.std.specs.List.{All, Contains}
-use Rattle.yds_model.specs.declared.limits.TheConstants.{MAX_TIME, MAX_SLOT_WORK}
+use Rattle.base.specs.declared.limits.TheConstants.{MAX_TIME, MAX_SLOT_WORK}
 use Rattle.yds_model.specs.Scale.{Quotient, at_scale, of_parts}
 use Rattle.yds_model.specs.Slot.{WrittenSlot}
 use Rattle.yds_model.specs.Piece.{Piece, PiecesFrom, Covers}

@@ -1,6 +1,6 @@
 ghost use Rattle.std.specs.Prelude.{◌≡◌, ◌<◌, ◌≤◌, ◌-◌, ◌*◌, [], IfOk, OnOk, OnErr};
 ghost use Rattle.std.specs.List.Sorted.{IsStrictlyIncreasing};
-ghost use Rattle.yds_model.specs.declared.limits.TheConstants.{MAX_TIME};
+ghost use Rattle.base.specs.declared.limits.TheConstants.{MAX_TIME};
 ghost use Rattle.yds_contract.specs.Contracted.{place, ArePieces, Removes};
 ghost use Rattle.yds_contract.specs.Spread.{IsSpread};
 ghost use Rattle.yds_model.specs.Scale.{at_scale, of_parts};

@@ -1,5 +1,5 @@
 ghost use Rattle.std.specs.Prelude.{◌≡◌, ◌<◌, ◌≤◌, ◌+◌, ◌-◌, [], ◌∷◌, ◌++◌, length, IfOk, OnOk};
-ghost use Rattle.yds_model.specs.declared.limits.TheConstants.{MAX_TIME};
+ghost use Rattle.base.specs.declared.limits.TheConstants.{MAX_TIME};
 ghost use Rattle.yds_contract.specs.Contracted.{removed_before, place, ArePieces};
 ghost use Rattle.yds_contract.specs.Removed.{removed_stretches, AreBegun, IsContraction};
 ghost use Rattle.yds_contract.specs.Clipped.{clipped};

@@ -1,6 +1,6 @@
 ghost use Rattle.std.specs.Prelude.{◌≡◌, ◌<◌, ◌≤◌, ◌+◌, [], ◌∷◌, ◌++◌, length, IfOk, OnOk};
 ghost use Rattle.std.specs.List.{All};
-ghost use Rattle.yds_model.specs.declared.limits.TheConstants.{MAX_TIME};
+ghost use Rattle.base.specs.declared.limits.TheConstants.{MAX_TIME};
 ghost use Rattle.yds_model.specs.Piece.{IsForward, total_length};
 ghost use Rattle.yds_contract.specs.Contracted.{place, Removes};
 ghost use Rattle.yds_contract.specs.Removed.{removed_stretches, AreSummed, IsContraction};

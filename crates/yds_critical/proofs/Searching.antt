@@ -1,5 +1,6 @@
 -- The best interval of those seen so far, and of all.
-use Rattle.yds_model.proofs.Common.{◌≡◌, ℕ, ◌+◌, ◌-◌, ◌*◌, ◌<◌, ◌≤◌, ◌∙◌, List, Option, Some, None, length, map, inl, inr, sym, ap, subst, refl, arith, IfSome, All, Contains, cases_lt, cases_eq, get_or-map, length-map, get_or_default, nil_from_length, get_or-le-sum_by, mul-pos, mul-lt-mul_of_pos_left, Job, IsJob, job_at, no_job, place_cases, work_within, part_within, part_inside}
+use Rattle.yds_model.proofs.Common.{◌≡◌, ℕ, ◌+◌, ◌-◌, ◌*◌, ◌<◌, ◌≤◌, ◌∙◌, List, Option, Some, None, length, map, inl, inr, sym, ap, subst, refl, arith, IfSome, All, Contains, cases_lt, cases_eq, get_or-map, length-map, get_or_default, nil_from_length, get_or-le-sum_by, mul-pos, mul-lt-mul_of_pos_left, Job, IsJob, job_at, no_job, place_cases, work_within}
+use Rattle.model_lemmas.proofs.Confined.{part_within, part_inside}
 use Rattle.yds_intensity.specs.declared.sweeping.Sum.{Sum}
 use Rattle.yds_intensity.specs.Sums.{AreSums, sum_at, no_sum}
 use Rattle.yds_critical.specs.declared.interval.Interval.{Interval}

@@ -1,5 +1,6 @@
 -- An interval shrinks to a release and a deadline, and loses none of the work confined to it.
-use Rattle.yds_model.proofs.Common.{◌≡◌, ℕ, zero, suc, ◌-◌, ◌<◌, ◌≤◌, ◌≢◌, ◌⊎◌, List, [], ◌∷◌, ◌∙◌, get_or, map, inl, inr, sym, subst, refl, arith, All, Contains, cases_lt, cases_eq, All-cons, All-nil, get_or-map, length-map, Job, IsJob, sum_by_same, sum_by_zero, work_within, part_within, part_inside, part_early, part_late}
+use Rattle.yds_model.proofs.Common.{◌≡◌, ℕ, zero, suc, ◌-◌, ◌<◌, ◌≤◌, ◌≢◌, ◌⊎◌, List, [], ◌∷◌, ◌∙◌, get_or, map, inl, inr, sym, subst, refl, arith, All, Contains, cases_lt, cases_eq, All-cons, All-nil, get_or-map, length-map, Job, IsJob, sum_by_same, sum_by_zero, work_within}
+use Rattle.model_lemmas.proofs.Confined.{part_within, part_inside, part_early, part_late}
 
 -- a number stands in a list or differs from each
 stands_or_not : (numbers : List ℕ) (number : ℕ) → Contains numbers number ⊎ All (λ other. other ≢ number) numbers

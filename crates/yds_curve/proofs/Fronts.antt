@@ -3,7 +3,7 @@ use Rattle.yds_model.proofs.Common.{◌≡◌, ℕ, ◌+◌, ◌-◌, ◌*◌, �
 use Rattle.yds_certificate.specs.Certificate.{IsCertificate}
 use Rattle.yds_laws.proofs.Curve.{AreFalling, are_falling}
 use Rattle.yds_laws.proofs.LeastAbove.{level_excess, zero_excess}
-use Rattle.yds_model.specs.declared.limits.TheConstants.{MAX_LEVELS, MAX_LEVEL_WORK, MAX_WHOLE}
+use Rattle.base.specs.declared.limits.TheConstants.{MAX_LEVELS, MAX_LEVEL_WORK, MAX_WHOLE}
 
 -- a map of a list from its end
 map-reverse : {X Y : Type 0} (f : X → Y) (xs : List X) → map f (reverse xs) ≡ reverse (map f xs)

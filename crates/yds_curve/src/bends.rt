@@ -1,6 +1,6 @@
 ghost use Rattle.std.specs.Prelude.{◌≡◌, ◌-◌, ◌*◌, ◌≤◌, length, IfOk};
-ghost use Rattle.yds_model.specs.declared.limits.TheConstants.{MAX_WHOLE};
-ghost use Rattle.yds_model.specs.Numbers.{Each};
+ghost use Rattle.base.specs.declared.limits.TheConstants.{MAX_WHOLE};
+ghost use Rattle.base.specs.Numbers.{Each};
 ghost use Rattle.yds_model.specs.Divisor.{in_lowest_terms};
 ghost use Rattle.yds_model.specs.Plan.{IsSlower};
 ghost use Rattle.yds_model.specs.Curve.{breaks_of};

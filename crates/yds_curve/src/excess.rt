@@ -1,5 +1,5 @@
 ghost use Rattle.std.specs.Prelude.{◌≡◌, ◌-◌, ◌*◌, ◌≤◌};
-ghost use Rattle.yds_model.specs.declared.limits.TheConstants.{MAX_LEVEL_WORK};
+ghost use Rattle.base.specs.declared.limits.TheConstants.{MAX_LEVEL_WORK};
 ghost use Rattle.yds_model.specs.Curve.{least_above};
 
 use yds_certificate::{Certificate, Level};

@@ -1,5 +1,8 @@
 -- Windows that are shortened: what is feasible for them is feasible for the jobs, and costs at least what is least.
-use Rattle.yds_model.proofs.Common.{◌≡◌, ℕ, ◌+◌, ◌-◌, ◌*◌, ◌<◌, ◌≤◌, List, [], ◌∷◌, ◌++◌, length, get_or, map, refl, sym, ap, subst, ◌∙◌, arith, inl, inr, ℤ, pos, ◌+ℤ◌, ◌≤ℤ◌, ints, All, AllZip, Contains, sum, sum_by-cons, sum_by-append, get_or-map, length-map, All-nil, All-head, All-tail, All-append, All-map, All-front, All-back, Contains-get_or, Contains-append_left, Contains-append_right, Contains-append_cases, get_or_default, mul-le-mul_right, AreDifferent, count_joined, contained_counted, Job, no_job, job_at, jobs_with, Fraction, numerator, WholeSlot, RunFrom, IsInWindow, IsFeasibleAt, work_given, Point, point_at, gaps_of, busy, idle, horizon, product, total, interpolated_energy, SpendsAtPoints, IsEnergyOnPoints, busy_and_idle, run_joined, run_later, run_earlier}
+use Rattle.yds_model.proofs.Common.{◌≡◌, ℕ, ◌+◌, ◌-◌, ◌*◌, ◌<◌, ◌≤◌, List, [], ◌∷◌, ◌++◌, length, get_or, map, refl, sym, ap, subst, ◌∙◌, arith, inl, inr, ℤ, pos, ◌+ℤ◌, ◌≤ℤ◌, ints, All, AllZip, Contains, sum, sum_by-cons, sum_by-append, get_or-map, length-map, All-nil, All-head, All-tail, All-append, All-map, All-front, All-back, Contains-get_or, Contains-append_left, Contains-append_right, Contains-append_cases, get_or_default, mul-le-mul_right, AreDifferent, Job, no_job, job_at, jobs_with, Fraction, numerator, WholeSlot, RunFrom, IsInWindow, IsFeasibleAt, work_given, Point, point_at, gaps_of, busy, idle, horizon, product, total, interpolated_energy, SpendsAtPoints, IsEnergyOnPoints}
+use Rattle.model_lemmas.proofs.Counted.{count_joined, contained_counted}
+use Rattle.model_lemmas.proofs.Horizon.{busy_and_idle}
+use Rattle.model_lemmas.proofs.Runs.{run_joined, run_later, run_earlier}
 use Rattle.std.proofs.lemmas.List.Elements.{AllZip-get_or, length_all_zip}
 use Rattle.yds_energy.proofs.Differences.{total-cons}
 use Rattle.yds_energy.proofs.Energy.{least_is_cheapest}

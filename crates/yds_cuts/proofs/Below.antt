@@ -1,5 +1,7 @@
 -- What groups of jobs cost is together at most what any schedule of all jobs does.
-use Rattle.yds_model.proofs.Common.{◌≡◌, ℕ, ◌+◌, ◌-◌, ◌*◌, ◌≤◌, ◌⊎◌, List, [], ◌∷◌, ◌++◌, get_or, map, refl, sym, ap, ◌∙◌, arith, Bool, true, not, inl, inr, false≢true, ℤ, pos, ◌+ℤ◌, ◌≤ℤ◌, ints, cases_Bool, All, Contains, filter_passes, sum_by-cons, All-head, All-tail, All-filter, Contains-append_right, Contains-append_cases, mul-le-mul_right, AreDifferent, count_joined, contained_counted, Job, job_at, jobs_with, WholeSlot, work_given, IsFeasibleAt, IsLeastAt, All-front, Point, point_at, IsTable, IsConvex, gaps_of, busy, idle, horizon, product, total, interpolated_energy, busy_and_idle}
+use Rattle.yds_model.proofs.Common.{◌≡◌, ℕ, ◌+◌, ◌-◌, ◌*◌, ◌≤◌, ◌⊎◌, List, [], ◌∷◌, ◌++◌, get_or, map, refl, sym, ap, ◌∙◌, arith, Bool, true, not, inl, inr, false≢true, ℤ, pos, ◌+ℤ◌, ◌≤ℤ◌, ints, cases_Bool, All, Contains, filter_passes, sum_by-cons, All-head, All-tail, All-filter, Contains-append_right, Contains-append_cases, mul-le-mul_right, AreDifferent, Job, job_at, jobs_with, WholeSlot, work_given, IsFeasibleAt, IsLeastAt, All-front, Point, point_at, IsTable, IsConvex, gaps_of, busy, idle, horizon, product, total, interpolated_energy}
+use Rattle.model_lemmas.proofs.Counted.{count_joined, contained_counted}
+use Rattle.model_lemmas.proofs.Horizon.{busy_and_idle}
 use Rattle.std.proofs.lemmas.List.Filters.{sum_by-filter_both}
 use Rattle.yds_energy.proofs.Differences.{total-cons, at_most_in_turn}
 use Rattle.yds_energy.proofs.Energy.{least_is_cheapest}

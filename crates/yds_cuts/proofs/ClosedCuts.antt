@@ -1,5 +1,7 @@
 -- Any number of cuts at which no window is open: feasible parts follow one another, and what is least in each part is least in all.
-use Rattle.yds_model.proofs.Common.{ℕ, ◌+◌, ◌*◌, ◌≤◌, List, [], ◌∷◌, length, map, sym, subst, arith, All, AllZip, All-nil, All-cons, All-head, All-tail, All-append, All-weaker, mul-le-mul_right, one-dvd, of_whole, Job, no_job, IsSolid, slots_at, RunFrom, IsInWindow, IsFeasible, IsFeasibleAt, IsLeast, Level, IsPlan, scale_exists, run_joined, run_later, run_earlier}
+use Rattle.yds_model.proofs.Common.{ℕ, ◌+◌, ◌*◌, ◌≤◌, List, [], ◌∷◌, length, map, sym, subst, arith, All, AllZip, All-nil, All-cons, All-head, All-tail, All-append, All-weaker, mul-le-mul_right, one-dvd, of_whole, Job, no_job, IsSolid, slots_at, RunFrom, IsInWindow, IsFeasible, IsFeasibleAt, IsLeast, Level, IsPlan}
+use Rattle.model_lemmas.proofs.Scale.{scale_exists}
+use Rattle.model_lemmas.proofs.Runs.{run_joined, run_later, run_earlier}
 use Rattle.yds_laws.proofs.Plans.{plans_are_least}
 use Rattle.yds_energy.proofs.PlansEnergy.{least_is_cheapest_among_written}
 use Rattle.yds_parts.specs.Parts.{ArePartedAt, moved}

@@ -1,5 +1,6 @@
 -- Two jobs of work 2 with windows from 0 to 2 and from 5 to 7, by the points (0, 1) and (1, 2): what meets the laws of closed cuts, and near misses.
-use Rattle.yds_model.proofs.Common.{rules, ◌≡◌, ℕ, zero, suc, ◌+◌, ◌-◌, ◌*◌, ◌<◌, ◌≤◌, List, [], ◌∷◌, refl, arith, inl, inr, cases_lt, pos, ints, All-nil, All-cons, ap, one-dvd, Job, job_at, Fraction, of_whole, WholeSlot, IsFeasible, IsInWindow, work_given, IsLeastAt, Piece, IsConfined, Point, IsTable, IsHullOf, IsLowest, point_at, horizon, interpolated_energy, one_scale_decides, Spends, Spent, TooSlowFor}
+use Rattle.yds_model.proofs.Common.{rules, ◌≡◌, ℕ, zero, suc, ◌+◌, ◌-◌, ◌*◌, ◌<◌, ◌≤◌, List, [], ◌∷◌, refl, arith, inl, inr, cases_lt, pos, ints, All-nil, All-cons, ap, one-dvd, Job, job_at, Fraction, of_whole, WholeSlot, IsFeasible, IsInWindow, work_given, IsLeastAt, Piece, IsConfined, Point, IsTable, IsHullOf, IsLowest, point_at, horizon, interpolated_energy, Spends, Spent, TooSlowFor}
+use Rattle.model_lemmas.proofs.Scale.{one_scale_decides}
 use Rattle.yds_laws.proofs.Bound.{confinement_bound}
 use Rattle.yds_energy.specs.RoundingLaws.{IsLeastEnergy}
 use Rattle.yds_energy.proofs.Differences.{at_most_in_turn}

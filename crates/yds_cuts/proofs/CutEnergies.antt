@@ -1,5 +1,6 @@
 -- Energies of parts add, with idle time over the horizon of all jobs, whatever windows are open at the cuts.
-use Rattle.yds_model.proofs.Common.{◌≡◌, ℕ, ◌+◌, ◌-◌, ◌*◌, List, [], ◌∷◌, length, map, refl, sym, ap, subst, ◌∙◌, arith, ℤ, pos, ◌+ℤ◌, ints, All, AllZip, sum, sum_by-cons, sum_by-append, All-head, All-tail, Fraction, numerator, WholeSlot, IsScale, slots_at, IsFeasible, IsFeasibleAt, Point, point_at, gaps_of, busy, idle, horizon, product, total, interpolated_energy, SpendsAtPoints, IsEnergyOnPoints, IsEnergyOf, busy_and_idle}
+use Rattle.yds_model.proofs.Common.{◌≡◌, ℕ, ◌+◌, ◌-◌, ◌*◌, List, [], ◌∷◌, length, map, refl, sym, ap, subst, ◌∙◌, arith, ℤ, pos, ◌+ℤ◌, ints, All, AllZip, sum, sum_by-cons, sum_by-append, All-head, All-tail, Fraction, numerator, WholeSlot, IsScale, slots_at, IsFeasible, IsFeasibleAt, Point, point_at, gaps_of, busy, idle, horizon, product, total, interpolated_energy, SpendsAtPoints, IsEnergyOnPoints, IsEnergyOf}
+use Rattle.model_lemmas.proofs.Horizon.{busy_and_idle}
 use Rattle.yds_energy.proofs.Differences.{total-cons}
 use Rattle.yds_energy.proofs.HullCosts.{power_of}
 use Rattle.yds_energy.proofs.RoundedEnergy.{total_joined, spends_joined}

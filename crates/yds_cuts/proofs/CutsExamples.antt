@@ -1,5 +1,6 @@
 -- Cuts at which windows are open, tried on two jobs of work 2 that may run from 0 to 4 and from 1 to 6: what meets the laws, and near misses.
-use Rattle.yds_model.proofs.Common.{rules, ◌≡◌, ℕ, ◌<◌, ◌≤◌, [], ◌∷◌, refl, arith, None, All, All-nil, All-cons, one-dvd, Job, of_whole, IsFeasible, Feasible, Late, WrongWork, IsVerdict, one_scale_decides, subst, Stands, GetsItsWork}
+use Rattle.yds_model.proofs.Common.{rules, ◌≡◌, ℕ, ◌<◌, ◌≤◌, [], ◌∷◌, refl, arith, None, All, All-nil, All-cons, one-dvd, Job, of_whole, IsFeasible, Feasible, Late, WrongWork, IsVerdict, subst, Stands, GetsItsWork}
+use Rattle.model_lemmas.proofs.Scale.{one_scale_decides}
 use Rattle.yds_model.specs.Audit.{Overlap}
 use Rattle.yds_parts.specs.Parts.{ArePartedAt}
 use Rattle.yds_cuts.specs.Cuts.{Part, HasOwnSlots, all_jobs, all_slots, FollowInTurn}

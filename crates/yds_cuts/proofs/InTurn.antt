@@ -1,7 +1,10 @@
 -- Slots of parts run one at a time exactly where each part's do and the parts follow one another, whatever windows are open.
-use Rattle.yds_model.proofs.Common.{◌≡◌, ℕ, ◌+◌, ◌*◌, ◌≤◌, List, [], ◌∷◌, ◌++◌, length, map, refl, sym, subst, arith, fold, All, ◌∣◌, one-dvd, All-nil, All-cons, All-head, All-tail, mul-zero, le_of_mul-le-mul_left, mul-le-mul_left, mul-lt-mul_of_pos_left, Fraction, of_whole, at_scale, WrittenSlot, WholeSlot, IsScale, IsSolid, IsDivided, slots_at, RunFrom, finer, finer_slots, IsKept, one_scale_of, scale_exists, at_most_of_values, run_earlier}
+use Rattle.yds_model.proofs.Common.{◌≡◌, ℕ, ◌+◌, ◌*◌, ◌≤◌, List, [], ◌∷◌, ◌++◌, length, map, refl, sym, subst, arith, fold, All, ◌∣◌, one-dvd, All-nil, All-cons, All-head, All-tail, mul-zero, le_of_mul-le-mul_left, mul-le-mul_left, mul-lt-mul_of_pos_left, Fraction, of_whole, at_scale, WrittenSlot, WholeSlot, IsScale, IsSolid, IsDivided, slots_at, RunFrom}
+use Rattle.model_lemmas.proofs.Scale.{finer, finer_slots, IsKept, one_scale_of, scale_exists}
+use Rattle.fraction_lemmas.proofs.Fractions.{at_most_of_values}
+use Rattle.model_lemmas.proofs.Runs.{run_earlier}
 use Rattle.std.proofs.Math.Nat.{lt_of_mul-lt-mul_left}
-use Rattle.yds_model.proofs.Scale.{run_finer, run_coarser}
+use Rattle.model_lemmas.proofs.Scale.{run_finer, run_coarser}
 use Rattle.yds_parts.specs.Parts.{moved}
 use Rattle.yds_parts.proofs.WrittenParts.{together_is, scale_of_first, scale_of_second, solid_of_both}
 use Rattle.yds_cuts.specs.Cuts.{Part, all_slots, end_of_last, BeginsAt, FollowFrom}

@@ -1,5 +1,7 @@
 -- Least energies of groups on the points are together a lower bound of all jobs' energy.
-use Rattle.yds_model.proofs.Common.{◌≡◌, ℕ, ◌+◌, ◌-◌, ◌*◌, ◌≤◌, List, [], ◌∷◌, refl, sym, ap, ◌∙◌, arith, Bool, not, inl, inr, cases_Bool, All, AllZip, flat_map, sum_by-cons, All-head, All-tail, All-contains, mul-le-mul_left, mul-le-mul_right, le_of_mul-le-mul_left, le_of_mul-le-mul_right, mul-pos, AreDifferent, Job, jobs_with, Fraction, numerator, WholeSlot, slots_at, IsFeasibleAt, Point, point_at, busy, idle, horizon, SpendsAtPoints, IsEnergyOnPoints, busy_and_idle, scale_exists}
+use Rattle.yds_model.proofs.Common.{◌≡◌, ℕ, ◌+◌, ◌-◌, ◌*◌, ◌≤◌, List, [], ◌∷◌, refl, sym, ap, ◌∙◌, arith, Bool, not, inl, inr, cases_Bool, All, AllZip, flat_map, sum_by-cons, All-head, All-tail, All-contains, mul-le-mul_left, mul-le-mul_right, le_of_mul-le-mul_left, le_of_mul-le-mul_right, mul-pos, AreDifferent, Job, jobs_with, Fraction, numerator, WholeSlot, slots_at, IsFeasibleAt, Point, point_at, busy, idle, horizon, SpendsAtPoints, IsEnergyOnPoints}
+use Rattle.model_lemmas.proofs.Horizon.{busy_and_idle}
+use Rattle.model_lemmas.proofs.Scale.{scale_exists}
 use Rattle.yds_energy.specs.RoundingLaws.{IsLeastEnergy}
 use Rattle.yds_cuts.specs.Groups.{IdleIsCheapest, horizons}
 use Rattle.yds_cuts.specs.Energies.{IsSumOf}

@@ -1,5 +1,7 @@
 -- The slots of some of the jobs, out of a schedule of all: they are a feasible schedule of those jobs.
-use Rattle.yds_model.proofs.Common.{◌≡◌, ℕ, zero, suc, ◌*◌, ◌<◌, ◌==◌, List, [], ◌∷◌, length, get_or, map, refl, sym, ap, subst, ◌∙◌, arith, Bool, true, not, cond, if◌then◌else◌, inl, inr, nat_le, le-leb, leb-true, false≢true, cases_Bool, cases_eq, eq-eqb, ne_eqb, All, Contains, filter, filter_passes, get_or-map, length-map, All-map, All-filter, All-contains, Contains-get_or, sum_by-cons, count, AreDifferent, count-cons, counted_contains, contained_counted, Job, no_job, job_at, jobs_with, WholeSlot, work_given, RunFrom, IsInWindow, IsFeasibleAt, run_earlier, part_other}
+use Rattle.yds_model.proofs.Common.{◌≡◌, ℕ, zero, suc, ◌*◌, ◌<◌, ◌==◌, List, [], ◌∷◌, length, get_or, map, refl, sym, ap, subst, ◌∙◌, arith, Bool, true, not, cond, if◌then◌else◌, inl, inr, nat_le, le-leb, leb-true, false≢true, cases_Bool, cases_eq, eq-eqb, ne_eqb, All, Contains, filter, filter_passes, get_or-map, length-map, All-map, All-filter, All-contains, Contains-get_or, sum_by-cons, count, AreDifferent, count-cons, counted_contains, Job, no_job, job_at, jobs_with, WholeSlot, work_given, RunFrom, IsInWindow, IsFeasibleAt, part_other}
+use Rattle.model_lemmas.proofs.Counted.{contained_counted}
+use Rattle.model_lemmas.proofs.Runs.{run_earlier}
 use Rattle.yds_cuts.proofs.Renamed.{renamed, run_renamed, window_renamed, given_renamed}
 
 -- # Places among different numbers

@@ -1,5 +1,7 @@
 -- Slots in windows, and works: what is asked of all slots is asked of each part's, whatever windows are open at the cuts.
-use Rattle.yds_model.proofs.Common.{◌≡◌, ℕ, ◌+◌, ◌-◌, ◌*◌, ◌<◌, List, [], ◌∷◌, ◌++◌, length, map, sym, ap, subst, ◌∙◌, arith, inl, inr, All, cases_lt, get_or_append_left, get_or-append-add, length-append, All-nil, All-cons, All-head, All-tail, All-append, All-map, Job, no_job, job_at, WholeSlot, slot_at_scale, slots_at, of_whole, one-dvd, work_given, IsInWindow, one_scale_decides, scale_exists, run_earlier, All-front, All-back}
+use Rattle.yds_model.proofs.Common.{◌≡◌, ℕ, ◌+◌, ◌-◌, ◌*◌, ◌<◌, List, [], ◌∷◌, ◌++◌, length, map, sym, ap, subst, ◌∙◌, arith, inl, inr, All, cases_lt, get_or_append_left, get_or-append-add, length-append, All-nil, All-cons, All-head, All-tail, All-append, All-map, Job, no_job, job_at, WholeSlot, slot_at_scale, slots_at, of_whole, one-dvd, work_given, IsInWindow, All-front, All-back}
+use Rattle.model_lemmas.proofs.Scale.{one_scale_decides, scale_exists}
+use Rattle.model_lemmas.proofs.Runs.{run_earlier}
 use Rattle.yds_energy.proofs.PlanParts.{given_joined}
 use Rattle.yds_parts.specs.Parts.{moved, together_at}
 use Rattle.yds_parts.proofs.TwoParts.{All-made}

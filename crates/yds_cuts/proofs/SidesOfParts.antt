@@ -1,5 +1,6 @@
 -- The sides of a comparison: the first stretch for which the top point is too slow is found part by part.
-use Rattle.yds_model.proofs.Common.{◌≡◌, ℕ, ◌+◌, ◌-◌, ◌*◌, ◌<◌, ◌≤◌, List, [], ◌∷◌, ◌++◌, length, get_or, sym, ap, subst, ◌∙◌, arith, inl, inr, All, AllZip, cases_lt, get_or_append_left, get_or-append-add, length-append, All-nil, All-head, All-tail, All-append, sum_by, sum_by-map, Each, Job, WrittenSlot, WholeSlot, IsScale, IsSolid, AtEachScale, slots_at, IsFeasible, Piece, stretches, slots_in, Point, HoldsStretch, IsSide, IsSpent, IsTooSlowFor, Side, Spends, Spent, stretch_at, TooSlowFor, work_in, scale_exists}
+use Rattle.yds_model.proofs.Common.{◌≡◌, ℕ, ◌+◌, ◌-◌, ◌*◌, ◌<◌, ◌≤◌, List, [], ◌∷◌, ◌++◌, length, get_or, sym, ap, subst, ◌∙◌, arith, inl, inr, All, AllZip, cases_lt, get_or_append_left, get_or-append-add, length-append, All-nil, All-head, All-tail, All-append, sum_by, sum_by-map, Each, Job, WrittenSlot, WholeSlot, IsScale, IsSolid, AtEachScale, slots_at, IsFeasible, Piece, stretches, slots_in, Point, HoldsStretch, IsSide, IsSpent, IsTooSlowFor, Side, Spends, Spent, stretch_at, TooSlowFor, work_in}
+use Rattle.model_lemmas.proofs.Scale.{scale_exists}
 use Rattle.yds_parts.specs.Parts.{ArePartedAt, WindowsAreForward, moved, slots_in_turn}
 use Rattle.yds_parts.proofs.EventsOfParts.{stretches_between, IsGap, EndsBy, BeginsFrom, stretches_joined, gaps_are, first_stretches, second_stretches}
 use Rattle.yds_parts.proofs.StretchesOfParts.{in_first, in_second, in_gap}

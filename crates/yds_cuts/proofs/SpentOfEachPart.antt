@@ -1,5 +1,6 @@
 -- What all slots spend, as fractions in lowest terms, from what each part's do.
-use Rattle.yds_model.proofs.Common.{◌≡◌, ℕ, ◌*◌, ◌<◌, ◌≤◌, List, [], ◌∷◌, length, get_or, map, sym, ap, subst, ◌∙◌, arith, All, AllZip, sum-map, All-head, All-tail, get_or-map, length-map, ext_get_or, mul-pos, Fraction, numerator, of_whole, IsScale, slots_at, horizon, Point, point_at, no_point, hull_multiple, in_lowest_terms, IsLowest, lowest_is, lowest_same, lowest_value, all_time_at, all_energy, in_parts, Spent, IsSpent, IsSpentAt}
+use Rattle.yds_model.proofs.Common.{◌≡◌, ℕ, ◌*◌, ◌<◌, ◌≤◌, List, [], ◌∷◌, length, get_or, map, sym, ap, subst, ◌∙◌, arith, All, AllZip, sum-map, All-head, All-tail, get_or-map, length-map, ext_get_or, mul-pos, Fraction, numerator, of_whole, IsScale, slots_at, horizon, Point, point_at, no_point, hull_multiple, in_lowest_terms, IsLowest, all_time_at, all_energy, in_parts, Spent, IsSpent, IsSpentAt}
+use Rattle.fraction_lemmas.proofs.LowestTerms.{lowest_is, lowest_same, lowest_value}
 use Rattle.yds_energy.proofs.Compared.{hull_some_multiple}
 use Rattle.yds_cuts.specs.Cuts.{Part, all_jobs, all_slots, part_horizons}
 use Rattle.yds_cuts.specs.ClosedCuts.{at_first, time_at_place, SpentOfEachPart}

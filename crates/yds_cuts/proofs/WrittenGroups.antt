@@ -1,5 +1,6 @@
 -- Written schedules of groups, as the program answers them: their energies bound the least energy of all jobs from above.
-use Rattle.yds_model.proofs.Common.{◌≡◌, ℕ, List, [], ◌∷◌, ◌++◌, map, refl, sym, ap, subst, All, AllZip, flat_map, All-nil, All-cons, All-head, All-tail, All-append, Job, jobs_with, WrittenSlot, IsScale, IsSolid, slots_at, IsFeasible, IsFeasibleAt, horizon, Point, IsEnergyOf, scale_exists}
+use Rattle.yds_model.proofs.Common.{◌≡◌, ℕ, List, [], ◌∷◌, ◌++◌, map, refl, sym, ap, subst, All, AllZip, flat_map, All-nil, All-cons, All-head, All-tail, All-append, Job, jobs_with, WrittenSlot, IsScale, IsSolid, slots_at, IsFeasible, IsFeasibleAt, horizon, Point, IsEnergyOf}
+use Rattle.model_lemmas.proofs.Scale.{scale_exists}
 use Rattle.yds_laws.proofs.Bound.{scale_left, scale_right}
 use Rattle.yds_cuts.specs.Energies.{IsEnergyOver}
 use Rattle.yds_cuts.specs.Groups.{Group, numbers_of_groups, AreApartIn, HaveAll, horizons}

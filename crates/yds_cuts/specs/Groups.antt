@@ -1,7 +1,7 @@
 -- Groups of jobs, each with a schedule of its own, and their energy together. Windows of one group may overlap those of another.
 use Rattle.std.specs.Prelude.{ℕ, ◌*◌, ◌<◌, ◌≤◌, List, length, map, sum_by, ℤ, pos, ◌+ℤ◌, ◌-ℤ◌}
 use Rattle.std.specs.List.{All, Contains, flat_map, slice_index_or}
-use Rattle.yds_model.specs.Numbers.{AreDifferent}
+use Rattle.base.specs.Numbers.{AreDifferent}
 use Rattle.yds_model.specs.Job.{Job}
 use Rattle.yds_model.specs.Slot.{WholeSlot}
 use Rattle.yds_model.specs.Table.{Point, point_at, gaps_of}

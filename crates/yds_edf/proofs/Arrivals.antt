@@ -4,10 +4,10 @@ use Rattle.yds_edf.specs.declared.due_order.Due.{Due}
 use Rattle.yds_edf.specs.declared.pending.PendingJobs.{PendingJobs}
 use Rattle.yds_edf.specs.DueOrder.{no_due, due_at}
 use Rattle.yds_edf.specs.Pending.{units_wanted, is_within}
-use Rattle.yds_model.specs.Numbers.{sum_below}
+use Rattle.base.specs.Numbers.{sum_below}
 use Rattle.yds_edf.specs.Queue.{units_left, IsNoEarlier}
 use Rattle.yds_edf.specs.Engine.{TiedQueue, IsTiedQueue, AreArrived, HaveArrived}
-use Rattle.yds_model.proofs.SumsBelow.{sum_below_bound}
+use Rattle.model_lemmas.proofs.SumsBelow.{sum_below_bound}
 use Rattle.yds_edf.proofs.JobPlaces.{all_placed, entry_at, apart, placed_at, places_apart, ranked_with}
 use Rattle.yds_edf.proofs.Steps.{changed_here, changed_elsewhere}
 

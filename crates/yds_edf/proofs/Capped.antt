@@ -4,12 +4,12 @@ use Rattle.yds_events.specs.Stretch.{no_stretch, IsOutside}
 use Rattle.yds_events.proofs.Neighbours.{stretches_run, release_outside, deadline_outside}
 use Rattle.yds_timetable.specs.Shares.{JobShare, units_given, total_units, shares_in}
 use Rattle.yds_edf.specs.Pending.{units_wanted}
-use Rattle.yds_model.specs.Numbers.{sum_below}
+use Rattle.base.specs.Numbers.{sum_below}
 use Rattle.yds_edf.specs.Serving.{IsServing}
 use Rattle.yds_edf.specs.Demand.{capacity_at, IsWithinCapacity, AreUncut}
 use Rattle.yds_edf.specs.Filled.{IsInTime}
 use Rattle.yds_edf.specs.PolicyRun.{by_number, pending_before, IsServed, IsLaidOut, IsPolicyRun}
-use Rattle.yds_model.proofs.SumsBelow.{sum_below_same, sum_numbers, sum_below-mul}
+use Rattle.model_lemmas.proofs.SumsBelow.{sum_below_same, sum_numbers, sum_below-mul}
 use Rattle.yds_edf.proofs.Demand.{in_window, in_full}
 use Rattle.yds_edf.proofs.Filled.{stands_in}
 use Rattle.yds_edf.proofs.Standing.{laid_solid}

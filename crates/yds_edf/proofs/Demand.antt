@@ -3,16 +3,17 @@
 --
 -- The argument: the units that are left of the jobs due by a deadline are at most the capacity of the stretches that are left
 -- before it. A stretch either serves its whole capacity to them, or leaves none of them pending.
-use Rattle.yds_model.proofs.Common.{◌≡◌, ◌≢◌, ℕ, zero, suc, ◌+◌, ◌-◌, ◌*◌, ◌<◌, ◌≤◌, List, length, get_or, ◌∙◌, refl, sym, subst, arith, inl, inr, ap, cond, ◌==◌, ◌&&◌, nat_le, nat_lt, All, mul_comm, cases_lt, cases_order, cases_Bool, ltb-true, ltb-false, lt-leb, le-leb, eq-eqb, ne_eqb, eqb-true, true≢false, Each, Job, IsJob, no_job, job_at, Piece, PiecesFrom, window_is_within, work_within, part_within, sum_by_zero, found_or_none}
+use Rattle.yds_model.proofs.Common.{◌≡◌, ◌≢◌, ℕ, zero, suc, ◌+◌, ◌-◌, ◌*◌, ◌<◌, ◌≤◌, List, length, get_or, ◌∙◌, refl, sym, subst, arith, inl, inr, ap, cond, ◌==◌, ◌&&◌, nat_le, nat_lt, All, mul_comm, cases_lt, cases_order, cases_Bool, ltb-true, ltb-false, lt-leb, le-leb, eq-eqb, ne_eqb, eqb-true, true≢false, Each, Job, IsJob, no_job, job_at, Piece, PiecesFrom, window_is_within, work_within, sum_by_zero, found_or_none}
+use Rattle.model_lemmas.proofs.Confined.{part_within}
 use Rattle.yds_timetable.specs.Shares.{JobShare, units_given, shares_in, shares_before}
 use Rattle.yds_edf.specs.Pending.{units_wanted}
-use Rattle.yds_model.specs.Numbers.{sum_below}
+use Rattle.base.specs.Numbers.{sum_below}
 use Rattle.yds_edf.specs.Serving.{IsServing}
 use Rattle.yds_events.specs.Stretch.{no_stretch, nth_stretch}
 use Rattle.yds_events.proofs.InOrder.{has_length, starts_rise}
 use Rattle.yds_edf.specs.Demand.{capacity_at, capacity_between, IsWithinCapacity, AreUncut}
 use Rattle.yds_edf.specs.Filled.{pending_at_start}
-use Rattle.yds_model.proofs.SumsBelow.{sum_below_same, sum_below_at_most, sum_below_zero, sum_below-add, sum_below_term, sum_below_change, sum_below_less, sum_by_grouped, sum_below-mul, sum_places}
+use Rattle.model_lemmas.proofs.SumsBelow.{sum_below_same, sum_below_at_most, sum_below_zero, sum_below-add, sum_below_term, sum_below_change, sum_below_less, sum_by_grouped, sum_below-mul, sum_places}
 use Rattle.yds_timetable.proofs.SharePlaces.{all_before, none_before}
 use Rattle.yds_edf.proofs.AddedShares.{given_next, share_given}
 

@@ -1,13 +1,13 @@
 -- The pending units of the jobs that are due by a time, summed job by job.
 use Rattle.yds_model.proofs.Common.{◌≡◌, ℕ, suc, ◌+◌, ◌-◌, ◌*◌, ◌<◌, ◌≤◌, length, slice_index_or, arith, cond, add-one, nat_le, le-leb, lt-leb, get_or_read, Job, job_at, mul-le-mul_right}
 use Rattle.yds_edf.specs.Pending.{is_within, units_wanted}
-use Rattle.yds_model.specs.Numbers.{sum_below}
+use Rattle.base.specs.Numbers.{sum_below}
 use Rattle.yds_edf.specs.Queue.{JobQueue, pending_in, all_pending}
 use Rattle.yds_edf.specs.Engine.{TiedQueue, IsTiedQueue}
-use Rattle.yds_model.proofs.SumsBelow.{sum_below_front, sum_below_at_most, sum_below_bound}
+use Rattle.model_lemmas.proofs.SumsBelow.{sum_below_front, sum_below_at_most, sum_below_bound}
 use Rattle.yds_edf.proofs.Arrivals.{wanted_bound}
 use Rattle.yds_edf.proofs.Serving.{pending_wanted}
-use Rattle.yds_model.specs.declared.limits.TheConstants.{MAX_JOBS, MAX_WORK}
+use Rattle.base.specs.declared.limits.TheConstants.{MAX_JOBS, MAX_WORK}
 
 -- the units of a job that count by a time
 abbrev pub due_of : JobQueue → ℕ → ℕ → ℕ

@@ -8,7 +8,7 @@ use Rattle.yds_edf.specs.Demand.{capacity_at, IsWithinCapacity, AreUncut}
 use Rattle.yds_edf.specs.Filled.{pending_at_start, IsFilled}
 use Rattle.yds_edf.specs.Queue.{JobQueue, new_queue, IsNoEarlier, pending_in, units_left, unfinished}
 use Rattle.yds_edf.specs.Engine.{TiedQueue, ServesTied}
-use Rattle.yds_model.proofs.SumsBelow.{sum_below_same, sum_below_bound}
+use Rattle.model_lemmas.proofs.SumsBelow.{sum_below_same, sum_below_bound}
 use Rattle.yds_edf.proofs.AddedShares.{in_added, before_added, in_kept, before_kept}
 use Rattle.yds_events.proofs.InOrder.{starts_rise}
 use Rattle.yds_edf.proofs.Demand.{in_window, in_full}

@@ -1,12 +1,12 @@
 -- The place of each job in an order of all jobs.
 use Rattle.yds_model.proofs.Common.{◌≡◌, ℕ, suc, ◌+◌, ◌<◌, List, length, set, get_or, map, slice_index, ◌∙◌, refl, sym, subst, ap, arith, cond, ◌==◌, All, Contains, range_with_len, IsPermutation, IsNonDecreasingBy, cases_lt, cases_eq, eq-eqb, get_or_default, get_or-set_same, get_or-set_other, sum_by-IsPermutation, Contains-permutation, All-permutation, length_permutation, length-range_with_len, get_or-range_with_len, length-map-range_with_len, get_or-map-range_with_len, Job, numbers_of, sum_by-map}
-use Rattle.yds_model.specs.Numbers.{sum_below}
+use Rattle.base.specs.Numbers.{sum_below}
 use Rattle.yds_edf.specs.Serving.{IsDueBefore, AreTies}
 use Rattle.yds_edf.specs.declared.due_order.Due.{Due}
 use Rattle.yds_edf.specs.declared.pending.PendingJobs.{PendingJobs}
 use Rattle.yds_edf.specs.DueOrder.{due_job, due_jobs, no_due, due_at, place_in_order, IsDueJob}
 use Rattle.yds_edf.specs.Ranked.{AreRanked}
-use Rattle.yds_model.proofs.SumsBelow.{sum_below_same, sum_below_term, sum_below_front, sum_below_one, sum_places}
+use Rattle.model_lemmas.proofs.SumsBelow.{sum_below_same, sum_below_term, sum_below_front, sum_below_one, sum_places}
 
 -- the places of the first entries are told
 abbrev pub ArePlacesTo : List Due → List ℕ → ℕ → Type 0

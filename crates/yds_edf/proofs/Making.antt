@@ -1,6 +1,6 @@
 -- How an engine is made: nobody has arrived, and nothing is served.
 use Rattle.yds_model.proofs.Common.{◌≡◌, ℕ, ◌≤◌, List, length, slice_index, replicate, arith, All, IsPermutation, IsNonDecreasingBy, le-ltb, length-replicate, Job, IsJob}
-use Rattle.yds_model.specs.declared.limits.TheConstants.{MAX_JOBS}
+use Rattle.base.specs.declared.limits.TheConstants.{MAX_JOBS}
 use Rattle.yds_edf.specs.declared.due_order.Due.{Due}
 use Rattle.yds_edf.specs.declared.pending.PendingJobs.{PendingJobs}
 use Rattle.yds_edf.specs.declared.limits.TheConstants.{MAX_GRAIN}

@@ -1,6 +1,6 @@
 -- Units at places, summed before a place and in blocks.
 use Rattle.yds_model.proofs.Common.{rules, ◌≡◌, ℕ, zero, suc, ◌+◌, ◌-◌, ◌*◌, ◌/◌, ◌%◌, ◌<◌, ◌≤◌, List, length, set, replicate, slice_index, slice_index_or, refl, ◌∙◌, ap, arith, inl, inr, add-one, min, All, cases_lt, cases_eq, get_or-replicate, length-replicate, get_or-set_same, get_or-set_other, length-set, All-set, get_or-eq_default, div-add-mod, div-div-eq-div-mul, get_or_default_zero}
-use Rattle.yds_model.proofs.SumsBelow.{sum_below_same, sum_below_zero, sum_below_change, sum_below_front}
+use Rattle.model_lemmas.proofs.SumsBelow.{sum_below_same, sum_below_zero, sum_below_change, sum_below_front}
 use Rattle.yds_edf.specs.Blocks.{units_before, HaveFewUnits, AreBlocks, AreSummed}
 
 -- # The units before a place

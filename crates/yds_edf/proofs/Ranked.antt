@@ -8,7 +8,7 @@ use Rattle.yds_edf.specs.Serving.{IsDueBefore}
 use Rattle.yds_edf.specs.Queue.{pending_in, all_pending, units_left}
 use Rattle.yds_edf.specs.Ranked.{IsFresh, ArePendingIn}
 use Rattle.yds_edf.specs.Engine.{TiedQueue, IsEngine}
-use Rattle.yds_model.proofs.SumsBelow.{sum_below_same, sum_below_term}
+use Rattle.model_lemmas.proofs.SumsBelow.{sum_below_same, sum_below_term}
 use Rattle.yds_edf.proofs.JobPlaces.{entry_at, stands_at, placed_at, sum_in_order}
 
 module _ {tied : TiedQueue} {arrivals : List Due} {arrived : ℕ} {pending : PendingJobs} (engine : IsEngine tied arrivals arrived pending) where

@@ -1,6 +1,6 @@
 -- The loop over the stretches: what a run has come to, and that in the end it is a run of the policy.
 use Rattle.yds_model.proofs.Common.{rules, ◌≡◌, ℕ, suc, take, get_or, ap₂, None, ◌/◌, ◌+◌, ◌-◌, ◌*◌, ◌<◌, ◌≤◌, min, List, [], ◌∷◌, ◌++◌, length, slice_index, ◌∙◌, refl, sym, subst, arith, inl, inr, ap, cond, true, false, add-one, Bool, ◌==◌, All, AllPairs, Some, Option, MatchOption, Contains, from_bool, cases_lt, cases_eq, get_or-replicate, get_or-map, get_or_append_left, get_or_at, length-append, length-map, length-take-le, append-nil, map-append, take_all, take_more, flat_map-append, get_or-eq_default, All-nil, All-cons, All-append, All-weaker, All-contains, Contains-get_or, le_refl, sum_by-append, sum_by-cons, Each, common_divisor, Job, Piece, stretches, HasSpeed, HasRunDenominators, stretch_at, AllPairs-append, All-flat}
-use Rattle.yds_model.specs.declared.limits.TheConstants.{MAX_GRID, MAX_JOBS, MAX_SLOT_WORK, MAX_WORK}
+use Rattle.base.specs.declared.limits.TheConstants.{MAX_GRID, MAX_JOBS, MAX_SLOT_WORK, MAX_WORK}
 use Rattle.yds_model.specs.Plan.{IsOver}
 use Rattle.yds_slots.proofs.WorkParts.{of_parts_over}
 use Rattle.yds_events.specs.Stretch.{IsStretch, no_stretch, length_of}
@@ -8,7 +8,7 @@ use Rattle.yds_events.proofs.Neighbours.{stretches_run, few_stretches}
 use Rattle.yds_events.proofs.InOrder.{starts_rise}
 use Rattle.yds_timetable.specs.Shares.{JobShare, units_given, total_units, shares_in}
 use Rattle.yds_edf.specs.Pending.{pending_of_job}
-use Rattle.yds_model.specs.Numbers.{sum_below}
+use Rattle.base.specs.Numbers.{sum_below}
 use Rattle.yds_edf.specs.Serving.{IsServing}
 use Rattle.yds_edf.specs.Queue.{JobQueue, new_queue, IsNoEarlier, pending_in, units_left, unfinished, Adds, Serves}
 use Rattle.yds_timetable.specs.declared.pace.Pace.{Pace}
@@ -19,7 +19,7 @@ use Rattle.yds_timetable.proofs.Paces.{lies_written, speed_written}
 use Rattle.yds_timetable.specs.Room.{CanLay}
 use Rattle.yds_timetable.proofs.Rows.{no_row, paced_all, rows_over}
 use Rattle.yds_edf.specs.PolicyRun.{by_number, IsServedBefore, pending_before, IsLowest, AreRowsOf, IsPolicyRun, PutsRow}
-use Rattle.yds_model.proofs.SumsBelow.{sum_below_same, sum_below_bound}
+use Rattle.model_lemmas.proofs.SumsBelow.{sum_below_same, sum_below_bound}
 use Rattle.yds_edf.proofs.Filled.{stands_in}
 use Rattle.yds_edf.proofs.AddedShares.{in_added, before_added, in_kept, before_kept}
 

@@ -1,13 +1,13 @@
 -- Serving a stretch job by job: what has been served so far, and that it is what the stretch serves in the end.
 use Rattle.yds_model.proofs.Common.{◌≡◌, ◌≢◌, ℕ, ◌+◌, ◌-◌, ◌<◌, ◌≤◌, ◌⊎◌, min, List, [], ◌∷◌, ◌++◌, length, get_or, slice_index, ◌∙◌, refl, sym, subst, arith, inl, inr, ap, length-set, ◌*◌, All, AllPairs, length-append, sum_by_push, All-push, All-nil, All-cons, All-get_or, cases_eq, cases_Bool, eq-eqb, ne_eqb, mul-le-mul_right, Job, AllPairs-append}
-use Rattle.yds_model.specs.declared.limits.TheConstants.{MAX_WORK}
+use Rattle.base.specs.declared.limits.TheConstants.{MAX_WORK}
 use Rattle.yds_timetable.specs.Shares.{JobShare, units_given, total_units}
 use Rattle.yds_edf.specs.Pending.{units_wanted}
-use Rattle.yds_model.specs.Numbers.{sum_below}
+use Rattle.base.specs.Numbers.{sum_below}
 use Rattle.yds_edf.specs.Serving.{IsDueBefore}
 use Rattle.yds_edf.specs.Queue.{JobQueue, pending_in, all_pending, units_left, unfinished, Adds, Serves}
 use Rattle.yds_edf.specs.Engine.{TiedQueue, IsTiedQueue, with_served, ServesFirst, ServesTied}
-use Rattle.yds_model.proofs.SumsBelow.{sum_below_same, sum_below-add, sum_below_bound, sum_below_change, sum_below_term, sum_by_grouped}
+use Rattle.model_lemmas.proofs.SumsBelow.{sum_below_same, sum_below-add, sum_below_bound, sum_below_change, sum_below_term, sum_by_grouped}
 use Rattle.yds_edf.proofs.AddedShares.{share_given}
 use Rattle.yds_edf.proofs.Steps.{changed_here, changed_elsewhere}
 

@@ -1,5 +1,6 @@
 -- The slots of a run at a scale, each beside its share.
-use Rattle.yds_model.proofs.Common.{◌≡◌, ℕ, ◌*◌, ◌<◌, ◌≤◌, List, [], ◌∷◌, length, get_or, ◌∙◌, sym, subst, arith, inl, inr, ap, cond, true, false, Bool, ◌==◌, nat_le, nat_lt, All, filter, AllZip, ◌∣◌, cases_lt, cases_eq, le-leb, lt-leb, lt-ltb, le-ltb, eq-eqb, ne_eqb, eqb-true, length-map, get_or-map, All-head, All-tail, All-contains, Contains-get_or, filter_passes, sum_by-cons, mul-le-mul_right, mul-add, Job, Fraction, at_scale, WrittenSlot, WholeSlot, IsDivided, IsScale, IsSolid, slot_at_scale, slots_at, work_given, Piece, PiecesFrom, RunFrom, stretches, stretch_at, run_forward}
+use Rattle.yds_model.proofs.Common.{◌≡◌, ℕ, ◌*◌, ◌<◌, ◌≤◌, List, [], ◌∷◌, length, get_or, ◌∙◌, sym, subst, arith, inl, inr, ap, cond, true, false, Bool, ◌==◌, nat_le, nat_lt, All, filter, AllZip, ◌∣◌, cases_lt, cases_eq, le-leb, lt-leb, lt-ltb, le-ltb, eq-eqb, ne_eqb, eqb-true, length-map, get_or-map, All-head, All-tail, All-contains, Contains-get_or, filter_passes, sum_by-cons, mul-le-mul_right, mul-add, Job, Fraction, at_scale, WrittenSlot, WholeSlot, IsDivided, IsScale, IsSolid, slot_at_scale, slots_at, work_given, Piece, PiecesFrom, RunFrom, stretches, stretch_at}
+use Rattle.model_lemmas.proofs.Runs.{run_forward}
 use Rattle.yds_slots.proofs.WorkParts.{of_parts_at}
 use Rattle.yds_events.specs.Stretch.{no_stretch}
 use Rattle.yds_events.proofs.Neighbours.{stretch_order, stretch_forward, stretches_run}

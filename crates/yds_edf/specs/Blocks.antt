@@ -1,8 +1,8 @@
 -- Units at places, and their sums in blocks of places.
 use Rattle.std.specs.Prelude.{◌≡◌, ℕ, ◌+◌, ◌*◌, ◌<◌, ◌≤◌, List, length, slice_index, All}
-use Rattle.yds_model.specs.declared.limits.TheConstants.{MAX_JOBS, MAX_WORK}
+use Rattle.base.specs.declared.limits.TheConstants.{MAX_JOBS, MAX_WORK}
 use Rattle.yds_edf.specs.declared.limits.TheConstants.{MAX_GRAIN}
-use Rattle.yds_model.specs.Numbers.{sum_below}
+use Rattle.base.specs.Numbers.{sum_below}
 use Rattle.yds_edf.specs.declared.blocks.TheConstants.{BLOCK}
 
 -- the units at the places before this one

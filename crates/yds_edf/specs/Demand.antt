@@ -5,7 +5,7 @@ use Rattle.yds_model.specs.Job.{Job, job_at}
 use Rattle.yds_model.specs.Piece.{Piece}
 use Rattle.yds_model.specs.Confined.{work_within}
 use Rattle.yds_events.specs.Stretch.{nth_stretch, IsOutside}
-use Rattle.yds_model.specs.Numbers.{sum_below}
+use Rattle.base.specs.Numbers.{sum_below}
 
 -- the stretch's capacity, by its number
 abbrev pub capacity_at : List ℕ → ℕ → ℕ

@@ -2,7 +2,7 @@
 use Rattle.std.specs.Prelude.{◌≡◌, ℕ, ◌+◌, ◌*◌, ◌<◌, ◌≤◌, List, length, map, slice_index}
 use Rattle.std.specs.List.{slice_index_or}
 use Rattle.std.specs.List.Sorted.{IsPermutation, IsNonDecreasingBy}
-use Rattle.yds_model.specs.declared.limits.TheConstants.{MAX_JOBS}
+use Rattle.base.specs.declared.limits.TheConstants.{MAX_JOBS}
 use Rattle.yds_model.specs.Job.{Job, job_at}
 use Rattle.yds_model.specs.Policy.{numbers_of}
 use Rattle.yds_edf.specs.declared.due_order.TheConstants.{TIES}

@@ -1,8 +1,8 @@
 -- What an engine keeps true: which jobs have arrived, and the units that are pending of each.
 use Rattle.std.specs.Prelude.{◌≡◌, ℕ, ◌+◌, ◌<◌, ◌≤◌, ◌⊎◌, min, true, false, nat_lt, if◌then◌else◌, List, length, slice_index, slice_set, All, Option}
 use Rattle.std.specs.List.Sorted.{IsPermutation, IsNonDecreasingBy}
-use Rattle.yds_model.specs.declared.limits.TheConstants.{MAX_JOBS}
-use Rattle.yds_model.specs.Numbers.{Each}
+use Rattle.base.specs.declared.limits.TheConstants.{MAX_JOBS}
+use Rattle.base.specs.Numbers.{Each}
 use Rattle.yds_model.specs.Job.{IsJob}
 use Rattle.yds_edf.specs.declared.limits.TheConstants.{MAX_GRAIN}
 use Rattle.yds_edf.specs.declared.due_order.Due.{Due}

@@ -1,6 +1,6 @@
 -- What it means that stretches, each of a capacity, are filled earliest deadline first and that every job is served in time.
 use Rattle.std.specs.Prelude.{◌≡◌, ℕ, ◌+◌, ◌<◌, ◌≤◌, List, length, slice_index, Some, All, AllPairs}
-use Rattle.yds_model.specs.Numbers.{Each}
+use Rattle.base.specs.Numbers.{Each}
 use Rattle.yds_model.specs.Job.{Job, job_at}
 use Rattle.yds_model.specs.Piece.{Piece}
 use Rattle.yds_timetable.specs.Shares.{JobShare, units_given, shares_in, shares_before}

@@ -1,7 +1,7 @@
 -- What a run of a policy on a grid is, of which only that is left open how many units a stretch serves and where it is
 -- rounded: stretch by stretch shares are served earliest deadline first, and fill the stretch at one pace.
 use Rattle.std.specs.Prelude.{◌≡◌, ℕ, ◌+◌, ◌/◌, ◌<◌, ◌≤◌, ◌⊎◌, Bool, Option, Some, None, if◌then◌else◌, List, [], ◌∷◌, ◌++◌, length, All, AllPairs}
-use Rattle.yds_model.specs.Numbers.{Each, sum_below}
+use Rattle.base.specs.Numbers.{Each, sum_below}
 use Rattle.yds_model.specs.Job.{Job}
 use Rattle.yds_model.specs.Slot.{WrittenSlot}
 use Rattle.yds_model.specs.Piece.{Piece}

@@ -1,6 +1,6 @@
 -- What a queue of jobs knows: the jobs, the grain, the last time of arrival, and the units of each job that were served.
 use Rattle.std.specs.Prelude.{◌≡◌, ℕ, ◌+◌, ◌-◌, ◌<◌, ◌≤◌, min, ⊤, List, length, slice_index, replicate, Option, Some, None, All, nat_le, if◌then◌else◌}
-use Rattle.yds_model.specs.Numbers.{Each, sum_below}
+use Rattle.base.specs.Numbers.{Each, sum_below}
 use Rattle.yds_model.specs.Job.{Job, job_at}
 use Rattle.yds_timetable.specs.Shares.{JobShare, units_given}
 use Rattle.yds_edf.specs.Pending.{units_wanted, pending_of_job}

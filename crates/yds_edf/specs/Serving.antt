@@ -2,7 +2,7 @@
 use Rattle.std.specs.Prelude.{◌≡◌, ℕ, ◌<◌, ◌≤◌, ◌⊎◌, min, List, length, slice_index, All, AllPairs}
 use Rattle.yds_model.specs.Job.{Job, job_at}
 use Rattle.yds_timetable.specs.Shares.{JobShare, units_given, total_units}
-use Rattle.yds_model.specs.Numbers.{sum_below}
+use Rattle.base.specs.Numbers.{sum_below}
 
 -- the first job has the earlier deadline, or they have the same and it has the lesser tie
 abbrev pub IsDueBefore : List Job → (ℕ → ℕ) → ℕ → ℕ → Type 0

@@ -1,6 +1,6 @@
 ghost use Rattle.std.specs.Prelude.{◌≡◌, ◌*◌, ◌/◌, ◌≤◌, IfOk};
 ghost use Rattle.std.specs.List.{All};
-ghost use Rattle.yds_model.specs.declared.limits.TheConstants.{MAX_DENOMINATOR, MAX_WORK};
+ghost use Rattle.base.specs.declared.limits.TheConstants.{MAX_DENOMINATOR, MAX_WORK};
 ghost use Rattle.yds_model.specs.Divisor.{common_divisor};
 ghost use Rattle.yds_events.specs.Stretch.{length_of};
 ghost use Rattle.yds_timetable.specs.Shares.{total_units};

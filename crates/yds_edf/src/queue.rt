@@ -23,7 +23,7 @@ pub struct Queue {
 
 impl Model for Queue {
     ghost use Rattle.std.specs.Prelude.{◌≡◌, length, slice_index};
-    ghost use Rattle.yds_model.specs.Numbers.{Each};
+    ghost use Rattle.base.specs.Numbers.{Each};
     ghost use Rattle.yds_edf.specs.Queue.{JobQueue};
 
     ghost Value = { JobQueue };

@@ -1,5 +1,12 @@
 -- What a plan spends on the points: the energy of its rounded slots, and no more than the run of any policy.
-use Rattle.yds_model.proofs.Common.{◌≡◌, ℕ, ◌-◌, ◌*◌, ◌/◌, ◌<◌, ◌≤◌, List, [], ◌∷◌, ◌++◌, get_or, sym, ap, ap₂, subst, ◌∙◌, arith, inl, inr, sum_by, All, All-append, All-weaker, mul-pos, mul-le-mul_right, div-mul_cancel, le_of_mul-le-mul_right, Job, IsJob, Fraction, numerator, of_parts, IsAtMost, WrittenSlot, WholeSlot, IsSolid, IsScale, slots_at, Piece, Level, excess, IsPlan, common_divisor, multiple_of_all, in_lowest_terms, Point, AreRising, IsTable, hull_of, hull_multiple, gaps_of, stretches, slots_in, IsRunAt, top_of, IsTooFast, all_energy, HoldsStretch, CanServe, divisor_is_greatest, lowest_terms_are_one, pieces_forward, hull_exists, run_forward, scale_exists, sum_by_zero, lowest_value, lowest_is, lowest_is_lowest, factors, HasValue, eq_of_mul-eq-mul_left, IsLowest, Spent, IsSpent, RoundsStretches, IsEnergyOf}
+use Rattle.yds_model.proofs.Common.{◌≡◌, ℕ, ◌-◌, ◌*◌, ◌/◌, ◌<◌, ◌≤◌, List, [], ◌∷◌, ◌++◌, get_or, sym, ap, ap₂, subst, ◌∙◌, arith, inl, inr, sum_by, All, All-append, All-weaker, mul-pos, mul-le-mul_right, div-mul_cancel, le_of_mul-le-mul_right, Job, IsJob, Fraction, numerator, of_parts, IsAtMost, WrittenSlot, WholeSlot, IsSolid, IsScale, slots_at, Piece, Level, excess, IsPlan, common_divisor, multiple_of_all, in_lowest_terms, Point, AreRising, IsTable, hull_of, hull_multiple, gaps_of, stretches, slots_in, IsRunAt, top_of, IsTooFast, all_energy, HoldsStretch, CanServe, sum_by_zero, eq_of_mul-eq-mul_left, IsLowest, Spent, IsSpent, RoundsStretches, IsEnergyOf}
+use Rattle.fraction_lemmas.proofs.Divisor.{divisor_is_greatest, lowest_terms_are_one}
+use Rattle.model_lemmas.proofs.Front.{pieces_forward}
+use Rattle.model_lemmas.proofs.HullExists.{hull_exists}
+use Rattle.model_lemmas.proofs.Runs.{run_forward}
+use Rattle.model_lemmas.proofs.Scale.{scale_exists}
+use Rattle.fraction_lemmas.proofs.LowestTerms.{lowest_value, lowest_is, lowest_is_lowest, HasValue}
+use Rattle.fraction_lemmas.proofs.Fractions.{factors}
 use Rattle.yds_events.proofs.Neighbours.{stretches_run}
 use Rattle.yds_energy.specs.ComparisonLaws.{PlanSpendsItsRounding, PlanSpendsLeast}
 use Rattle.yds_laws.proofs.Bound.{scale_left, scale_right}

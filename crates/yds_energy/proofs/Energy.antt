@@ -1,5 +1,6 @@
 -- The energy of feasible schedules by a convex table: what they share, and excesses above the points' speeds.
-use Rattle.yds_model.proofs.Common.{◌≡◌, ℕ, ◌+◌, ◌-◌, ◌*◌, ◌≤◌, List, [], ◌∷◌, refl, arith, ap, sum_by, mul-le-mul_left, ints, Job, WholeSlot, IsFeasibleAt, excess, IsLeastAt, Point, AreRising, IsConvex, gaps_of, horizon, busy, idle, product, interpolated_power, interpolated_energy, sum_by-add, sum_by-mul, sum_by_zero, same_work, busy_and_idle}
+use Rattle.yds_model.proofs.Common.{◌≡◌, ℕ, ◌+◌, ◌-◌, ◌*◌, ◌≤◌, List, [], ◌∷◌, refl, arith, ap, sum_by, mul-le-mul_left, ints, Job, WholeSlot, IsFeasibleAt, excess, IsLeastAt, Point, AreRising, IsConvex, gaps_of, horizon, busy, idle, product, interpolated_power, interpolated_energy, sum_by-add, sum_by-mul, sum_by_zero}
+use Rattle.model_lemmas.proofs.Horizon.{same_work, busy_and_idle}
 use Rattle.yds_energy.specs.EnergyLaws.{LeastIsCheapest}
 use Rattle.yds_energy.proofs.Differences.{IsDifference, difference_at_most, total_is}
 use Rattle.yds_energy.proofs.Hinges.{gains, losses, turn, hinges, lines_are, product-cons}

@@ -1,5 +1,6 @@
 -- The stretches of a plan are even, and so are those of each policy's run: empty, or full of slots of one speed.
-use Rattle.yds_model.proofs.Common.{◌≡◌, ℕ, zero, suc, ◌+◌, ◌-◌, ◌*◌, ◌<◌, ◌≤◌, ◌⊎◌, List, [], ◌∷◌, length, get_or, refl, sym, ap, subst, ◌∙◌, arith, inl, inr, true, All, Contains, cases_lt, get_or_default, All-nil, All-cons, All-tail, All-filter, All-contains, All-weaker, All-from_get_or, filter_passes, sum_by-cons, mul-pos, mul-sub, mul-le-mul_right, le_of_mul-le-mul_right, eq_of_mul-eq-mul_right, Job, WrittenSlot, WholeSlot, IsScale, slots_at, Piece, Level, IsPlan, Point, busy, stretches, LiesIn, IsUncut, slots_in, FillsAtSpeed, ServesCapacity, IsRunAt, top_of, IsTooFast, stretch_at, HoldsStretch, run_forward}
+use Rattle.yds_model.proofs.Common.{◌≡◌, ℕ, zero, suc, ◌+◌, ◌-◌, ◌*◌, ◌<◌, ◌≤◌, ◌⊎◌, List, [], ◌∷◌, length, get_or, refl, sym, ap, subst, ◌∙◌, arith, inl, inr, true, All, Contains, cases_lt, get_or_default, All-nil, All-cons, All-tail, All-filter, All-contains, All-weaker, All-from_get_or, filter_passes, sum_by-cons, mul-pos, mul-sub, mul-le-mul_right, le_of_mul-le-mul_right, eq_of_mul-eq-mul_right, Job, WrittenSlot, WholeSlot, IsScale, slots_at, Piece, Level, IsPlan, Point, busy, stretches, LiesIn, IsUncut, slots_in, FillsAtSpeed, ServesCapacity, IsRunAt, top_of, IsTooFast, stretch_at, HoldsStretch}
+use Rattle.model_lemmas.proofs.Runs.{run_forward}
 use Rattle.yds_events.specs.Stretch.{no_stretch}
 use Rattle.yds_events.proofs.Neighbours.{stretch_forward, stretch_order}
 use Rattle.yds_energy.proofs.FullStretches.{stretch_full}

@@ -1,5 +1,6 @@
 -- Numbers and slots in parts that are k times as fine, and the one law of scale for all that is said of slots.
-use Rattle.yds_model.proofs.Common.{◌≡◌, ◌⊎◌, ℕ, ◌-◌, ◌*◌, ◌<◌, ◌≤◌, List, [], ◌∷◌, map, min, refl, sym, arith, Bool, true, false, cond, if◌then◌else◌, nat_le, nat_lt, ◌==◌, ◌↔◌, filter, cases_order, nat_tests, one-mul, mul-sub, mul-lt-mul_of_pos_left, WrittenSlot, WholeSlot, IsScale, AtEachScale, slots_at, Piece, slots_in, finer, finer_slots, IsKept, one_scale_of}
+use Rattle.yds_model.proofs.Common.{◌≡◌, ◌⊎◌, ℕ, ◌-◌, ◌*◌, ◌<◌, ◌≤◌, List, [], ◌∷◌, map, min, refl, sym, arith, Bool, true, false, cond, if◌then◌else◌, nat_le, nat_lt, ◌==◌, ◌↔◌, filter, cases_order, nat_tests, one-mul, mul-sub, mul-lt-mul_of_pos_left, WrittenSlot, WholeSlot, IsScale, AtEachScale, slots_at, Piece, slots_in}
+use Rattle.model_lemmas.proofs.Scale.{finer, finer_slots, IsKept, one_scale_of}
 
 -- # Numbers
 

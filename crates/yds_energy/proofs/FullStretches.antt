@@ -1,12 +1,17 @@
 -- A stretch in which a plan has a slot is full, of slots of one level: the level's members have no time to spare.
-use Rattle.yds_model.proofs.Common.{◌≡◌, ℕ, zero, suc, ◌+◌, ◌-◌, ◌*◌, ◌<◌, ◌≤◌, List, [], ◌∷◌, ◌++◌, length, get_or, take, refl, sym, ap, subst, ◌∙◌, arith, inl, inr, add-one, eq-eqb, cond, All, Contains, cases_lt, nat_tests, get_or_append_left, get_or_push, length-append, length-map, take_all, All-cons, All-append, All-map, All-contains, All-weaker, Contains-get_or, sum_by-cons, sum_by-append, get_or-le-sum_by, mul-sub, mul-le-mul_right, mul-lt-mul_of_pos_right, count, AreDifferent, Job, no_job, job_at, WrittenSlot, WholeSlot, IsScale, no_slot, slot_at_scale, slots_at, work_given, RunFrom, IsInWindow, Piece, IsConfined, Covers, total_length, Level, no_level, level_at, all_members, all_pieces, busy, LiesIn, IsPlan, sum_by-add, sum_by_same, All-front, All-back, count-cons, counted_contains, flat_map-take, time_within, front_at, run_forward, run_later, run_joined, busy_within, count_joined}
+use Rattle.yds_model.proofs.Common.{◌≡◌, ℕ, zero, suc, ◌+◌, ◌-◌, ◌*◌, ◌<◌, ◌≤◌, List, [], ◌∷◌, ◌++◌, length, get_or, take, refl, sym, ap, subst, ◌∙◌, arith, inl, inr, add-one, eq-eqb, cond, All, Contains, cases_lt, nat_tests, get_or_append_left, get_or_push, length-append, length-map, take_all, All-cons, All-append, All-map, All-contains, All-weaker, Contains-get_or, sum_by-cons, sum_by-append, get_or-le-sum_by, mul-sub, mul-le-mul_right, mul-lt-mul_of_pos_right, count, AreDifferent, Job, no_job, job_at, WrittenSlot, WholeSlot, IsScale, no_slot, slot_at_scale, slots_at, work_given, RunFrom, IsInWindow, Piece, IsConfined, Covers, total_length, Level, no_level, level_at, all_members, all_pieces, busy, LiesIn, IsPlan, sum_by-add, sum_by_same, All-front, All-back, count-cons, counted_contains, flat_map-take}
+use Rattle.model_lemmas.proofs.Time.{time_within}
+use Rattle.model_lemmas.proofs.Front.{front_at}
+use Rattle.model_lemmas.proofs.Runs.{run_forward, run_later, run_joined}
+use Rattle.model_lemmas.proofs.Horizon.{busy_within}
+use Rattle.model_lemmas.proofs.Counted.{count_joined}
 use Rattle.yds_laws.proofs.Group.{group, group-nil, group-cons, group-append, group_at_most}
 use Rattle.yds_laws.proofs.Exact.{Fits, level_time}
 use Rattle.yds_laws.proofs.Plans.{plans_serve_work}
 use Rattle.yds_laws.proofs.Explained.{levels_fit, front_different}
 use Rattle.yds_energy.proofs.RoundedFeasible.{IsBetweenEvents, slot_open}
 use Rattle.yds_energy.proofs.PlanParts.{run_front, run_back}
-use Rattle.yds_model.proofs.Counted.{one_level}
+use Rattle.model_lemmas.proofs.Counted.{one_level}
 
 -- # Members
 

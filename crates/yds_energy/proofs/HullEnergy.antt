@@ -1,10 +1,11 @@
 -- The energy of schedules on a table's points, against that by the table's lower hull.
-use Rattle.yds_model.proofs.Common.{◌≡◌, ℕ, suc, ◌+◌, ◌-◌, ◌*◌, ◌<◌, ◌≤◌, List, [], ◌∷◌, length, refl, sym, subst, arith, ap, add-one, ℤ, pos, ◌*ℤ◌, ◌≤ℤ◌, map, Contains, mul-le-mul_left, int_max, ints, clamps, All-contains, All-cons, All-nil, WholeSlot, Point, point_at, AreRising, IsHullOf, gaps_of, idle, product, on_lines, greatest, total, interpolated_power, SpendsAtPoints, RisesFrom, rises_from, rising_again, hull_rises, hull_under}
+use Rattle.yds_model.proofs.Common.{◌≡◌, ℕ, suc, ◌+◌, ◌-◌, ◌*◌, ◌<◌, ◌≤◌, List, [], ◌∷◌, length, refl, sym, subst, arith, ap, add-one, ℤ, pos, ◌*ℤ◌, ◌≤ℤ◌, map, Contains, mul-le-mul_left, int_max, ints, clamps, All-contains, All-cons, All-nil, WholeSlot, Point, point_at, AreRising, IsHullOf, gaps_of, idle, product, on_lines, greatest, total, interpolated_power, SpendsAtPoints}
+use Rattle.model_lemmas.proofs.Hull.{RisesFrom, rises_from, rising_again, hull_rises, hull_under}
 use Rattle.yds_model.specs.Energy.{on_line}
 use Rattle.yds_energy.specs.EnergyLaws.{PointsCostAtLeastTheHull}
 use Rattle.yds_energy.proofs.Differences.{difference_times, difference_at_most, greatest-cons, total-cons}
 use Rattle.yds_energy.proofs.Hinges.{gains, losses, line_is, product-cons}
-use Rattle.yds_model.proofs.Hull.{IsOver}
+use Rattle.model_lemmas.proofs.Hull.{IsOver}
 
 -- # The hull is a table
 

@@ -1,5 +1,6 @@
 -- What a unit of a job's time costs, where each level of a plan has a cost: the levels' rates, times the product of their lengths.
-use Rattle.yds_model.proofs.Common.{◌≡◌, ℕ, zero, suc, ◌+◌, ◌-◌, ◌*◌, ◌<◌, ◌≤◌, List, [], ◌∷◌, length, get_or, refl, ap, arith, sum, sum_by, All, Contains, All-head, All-tail, sum_by-cons, mul-pos, count, WholeSlot, Level, level_at, all_members, busy, sum_by-add, sum_by-mul, sum_by_zero, member_counted, count_joined, contained_counted}
+use Rattle.yds_model.proofs.Common.{◌≡◌, ℕ, zero, suc, ◌+◌, ◌-◌, ◌*◌, ◌<◌, ◌≤◌, List, [], ◌∷◌, length, get_or, refl, ap, arith, sum, sum_by, All, Contains, All-head, All-tail, sum_by-cons, mul-pos, count, WholeSlot, Level, level_at, all_members, busy, sum_by-add, sum_by-mul, sum_by_zero}
+use Rattle.model_lemmas.proofs.Counted.{member_counted, count_joined, contained_counted}
 use Rattle.yds_energy.proofs.LevelTimes.{TakesLong}
 
 -- the product of the lengths

@@ -1,5 +1,7 @@
 -- How long a plan's slots run: those of a level as long as the level, and all together at most the horizon.
-use Rattle.yds_model.proofs.Common.{◌≡◌, ℕ, ◌-◌, ◌*◌, ◌≤◌, List, [], ◌∷◌, get_or, sym, ap, ◌∙◌, arith, sum_by, All, All-tail, sum_by-cons, le_of_mul-le-mul_left, Job, WrittenSlot, WholeSlot, IsScale, slots_at, Level, all_members, IsPlan, busy, horizon, busy_and_idle, scale_exists}
+use Rattle.yds_model.proofs.Common.{◌≡◌, ℕ, ◌-◌, ◌*◌, ◌≤◌, List, [], ◌∷◌, get_or, sym, ap, ◌∙◌, arith, sum_by, All, All-tail, sum_by-cons, le_of_mul-le-mul_left, Job, WrittenSlot, WholeSlot, IsScale, slots_at, Level, all_members, IsPlan, busy, horizon}
+use Rattle.model_lemmas.proofs.Horizon.{busy_and_idle}
+use Rattle.model_lemmas.proofs.Scale.{scale_exists}
 use Rattle.yds_energy.specs.RoundingLaws.{LevelsFitTheHorizon}
 use Rattle.yds_laws.proofs.Group.{group, group-nil, group-append}
 use Rattle.yds_laws.proofs.Exact.{level_time}

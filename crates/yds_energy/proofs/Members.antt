@@ -1,5 +1,6 @@
 -- The slots of the jobs that are counted in a list, and the work of all slots.
-use Rattle.yds_model.proofs.Common.{◌≡◌, ℕ, suc, ◌+◌, ◌*◌, ◌<◌, List, length, get_or, ap, arith, sum_by, All, get_or-le-sum_by, count, WholeSlot, work_given, sum_by_same, work_by_jobs}
+use Rattle.yds_model.proofs.Common.{◌≡◌, ℕ, suc, ◌+◌, ◌*◌, ◌<◌, List, length, get_or, ap, arith, sum_by, All, get_or-le-sum_by, count, WholeSlot, work_given, sum_by_same}
+use Rattle.model_lemmas.proofs.Horizon.{work_by_jobs}
 use Rattle.yds_laws.proofs.Group.{group}
 
 -- slots whose jobs are counted once are all of a group

@@ -1,5 +1,8 @@
 -- A feasible schedule has one energy on the points of a table, since each slot's speed is that of one point.
-use Rattle.yds_model.proofs.Common.{◌≡◌, ℕ, zero, suc, ◌-◌, ◌*◌, ◌<◌, List, [], ◌∷◌, length, sym, ap, ◌∙◌, arith, inl, inr, Contains, cases_lt, get_or_default, eq_of_mul-eq-mul_right, numerator, WholeSlot, slots_at, RunFrom, Point, no_point, point_at, AreRising, SpendsAtPoints, rises_from, later_rise, scale_exists}
+use Rattle.yds_model.proofs.Common.{◌≡◌, ℕ, zero, suc, ◌-◌, ◌*◌, ◌<◌, List, [], ◌∷◌, length, sym, ap, ◌∙◌, arith, inl, inr, Contains, cases_lt, get_or_default, eq_of_mul-eq-mul_right, numerator, WholeSlot, slots_at, RunFrom, Point, no_point, point_at, AreRising, SpendsAtPoints}
+use Rattle.model_lemmas.proofs.Hull.{rises_from}
+use Rattle.model_lemmas.proofs.HullOf.{later_rise}
+use Rattle.model_lemmas.proofs.Scale.{scale_exists}
 use Rattle.yds_energy.specs.RoundingLaws.{EnergyIsOne}
 
 -- # One point for a speed

@@ -1,5 +1,6 @@
 -- Parts of a plan's slots, at a scale: each has what the whole has.
-use Rattle.yds_model.proofs.Common.{◌≡◌, ℕ, ◌-◌, ◌*◌, ◌+◌, ◌≤◌, ◌==◌, List, [], ◌∷◌, ◌++◌, sym, subst, ◌∙◌, arith, if◌then◌else◌, All, Contains, map-append, get_or_default, length-map, All-append, All-weaker, All-from_get_or, sum_by-append, mul-pos, dvd-mul_right_of_dvd, Job, WrittenSlot, WholeSlot, IsDivided, IsScale, slot_at_scale, slots_at, slot_at, no_slot, work_given, RunFrom, IsInWindow, Level, level_at, no_level, IsPlan, All-front, All-back, run_earlier}
+use Rattle.yds_model.proofs.Common.{◌≡◌, ℕ, ◌-◌, ◌*◌, ◌+◌, ◌≤◌, ◌==◌, List, [], ◌∷◌, ◌++◌, sym, subst, ◌∙◌, arith, if◌then◌else◌, All, Contains, map-append, get_or_default, length-map, All-append, All-weaker, All-from_get_or, sum_by-append, mul-pos, dvd-mul_right_of_dvd, Job, WrittenSlot, WholeSlot, IsDivided, IsScale, slot_at_scale, slots_at, slot_at, no_slot, work_given, RunFrom, IsInWindow, Level, level_at, no_level, IsPlan, All-front, All-back}
+use Rattle.model_lemmas.proofs.Runs.{run_earlier}
 
 -- # Slots in order
 

@@ -1,5 +1,6 @@
 -- The energy of written schedules that are least, and so of plans: at most that of every feasible schedule.
-use Rattle.yds_model.proofs.Common.{List, ◌++◌, arith, All-append, IsSolid, slots_at, Point, IsTable, IsHullOf, scale_exists}
+use Rattle.yds_model.proofs.Common.{List, ◌++◌, arith, All-append, IsSolid, slots_at, Point, IsTable, IsHullOf}
+use Rattle.model_lemmas.proofs.Scale.{scale_exists}
 use Rattle.yds_energy.specs.EnergyLaws.{LeastIsCheapestAmongWritten, FeasibleHaveACommonScale, PlansCostLeast, PlansCostLeastOnPoints}
 use Rattle.yds_laws.proofs.Bound.{scale_left, scale_right}
 use Rattle.yds_laws.proofs.Plans.{plans_are_least}

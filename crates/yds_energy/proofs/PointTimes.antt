@@ -1,5 +1,7 @@
 -- How long a stretch runs at each point of a hull, and what it costs: the time is spent at the two points around its speed.
-use Rattle.yds_model.proofs.Common.{◌≡◌, ℕ, zero, suc, ◌+◌, ◌-◌, ◌*◌, ◌/◌, ◌<◌, ◌≤◌, ◌==◌, true, false, List, [], ◌∷◌, length, refl, sym, ap, subst, ◌∙◌, arith, inl, inr, add-one, Contains, sum_by, nat_le, if◌then◌else◌, ◌∣◌, cases_eq, cases_lt, eq-eqb, ne_eqb, le-leb, lt-leb, nat_tests, sum_by-cons, dvd_trans, mul-add, div-mul_cancel, mul-le-mul_right, multiple_of_all, Point, point_at, AreRising, IsHullOf, GoesOn, gaps_of, top_of, time_at, multiple_is_least, RisesFrom, rises_from, sum_by-add}
+use Rattle.yds_model.proofs.Common.{◌≡◌, ℕ, zero, suc, ◌+◌, ◌-◌, ◌*◌, ◌/◌, ◌<◌, ◌≤◌, ◌==◌, true, false, List, [], ◌∷◌, length, refl, sym, ap, subst, ◌∙◌, arith, inl, inr, add-one, Contains, sum_by, nat_le, if◌then◌else◌, ◌∣◌, cases_eq, cases_lt, eq-eqb, ne_eqb, le-leb, lt-leb, nat_tests, sum_by-cons, dvd_trans, mul-add, div-mul_cancel, mul-le-mul_right, multiple_of_all, Point, point_at, AreRising, IsHullOf, GoesOn, gaps_of, top_of, time_at, sum_by-add}
+use Rattle.fraction_lemmas.proofs.Divisor.{multiple_is_least}
+use Rattle.model_lemmas.proofs.Hull.{RisesFrom, rises_from}
 use Rattle.yds_energy.proofs.Hinges.{gains, losses}
 use Rattle.yds_energy.proofs.OneEnergy.{rising_tail, places_rise, one_point}
 

@@ -1,5 +1,7 @@
 -- The energy of the rounded slots of a plan is the least of all feasible schedules on the table's points.
-use Rattle.yds_model.proofs.Common.{◌≡◌, ℕ, zero, suc, ◌-◌, ◌*◌, ◌<◌, ◌≤◌, List, [], ◌∷◌, ◌++◌, map, ap, arith, refl, ℤ, pos, ◌≤ℤ◌, All-append, mul-pos, mul-le-mul_right, le_of_mul-le-mul_left, le_of_mul-le-mul_right, Job, Fraction, numerator, WrittenSlot, WholeSlot, IsSolid, slots_at, IsFeasibleAt, Level, IsPlan, Point, AreRising, IsTable, hull_of, gaps_of, product, IsEnergyOnPoints, IsRounding, hull_exists, scale_exists, finer, feasible_finer}
+use Rattle.yds_model.proofs.Common.{◌≡◌, ℕ, zero, suc, ◌-◌, ◌*◌, ◌<◌, ◌≤◌, List, [], ◌∷◌, ◌++◌, map, ap, arith, refl, ℤ, pos, ◌≤ℤ◌, All-append, mul-pos, mul-le-mul_right, le_of_mul-le-mul_left, le_of_mul-le-mul_right, Job, Fraction, numerator, WrittenSlot, WholeSlot, IsSolid, slots_at, IsFeasibleAt, Level, IsPlan, Point, AreRising, IsTable, hull_of, gaps_of, product, IsEnergyOnPoints, IsRounding}
+use Rattle.model_lemmas.proofs.HullExists.{hull_exists}
+use Rattle.model_lemmas.proofs.Scale.{scale_exists, finer, feasible_finer}
 use Rattle.yds_energy.specs.RoundingLaws.{RoundedIsCheapest}
 use Rattle.yds_laws.proofs.Bound.{scale_left, scale_right}
 use Rattle.yds_energy.proofs.Hinges.{product-cons}

@@ -1,5 +1,7 @@
 -- What the rounded slots of a plan spend on a table's points: the energy of the plan's schedule by the lower hull.
-use Rattle.yds_model.proofs.Common.{◌≡◌, ℕ, ◌+◌, ◌-◌, ◌*◌, ◌<◌, ◌≤◌, List, [], ◌∷◌, ◌++◌, length, get_or, map, refl, sym, ap, subst, ◌∙◌, arith, inl, inr, ℤ, pos, ◌+ℤ◌, ◌≤ℤ◌, All, Contains, ints, All-head, All-tail, All-contains, Contains-get_or, sum_by-cons, sum_by-append, mul-sub, mul-le-mul_right, lt_of_mul-lt-mul_right, eq_of_mul-eq-mul_left, eq_of_mul-eq-mul_right, Job, WrittenSlot, WholeSlot, IsScale, slots_at, Piece, Level, IsPlan, Point, no_point, point_at, AreRising, IsTable, IsHullOf, hull_of, gaps_of, busy, idle, horizon, product, total, interpolated_energy, SpendsAtPoints, IsEnergyOnPoints, stretches, AreNeighbours, IsSplitAt, RoundsStretches, busy_and_idle, hull_exists}
+use Rattle.yds_model.proofs.Common.{◌≡◌, ℕ, ◌+◌, ◌-◌, ◌*◌, ◌<◌, ◌≤◌, List, [], ◌∷◌, ◌++◌, length, get_or, map, refl, sym, ap, subst, ◌∙◌, arith, inl, inr, ℤ, pos, ◌+ℤ◌, ◌≤ℤ◌, All, Contains, ints, All-head, All-tail, All-contains, Contains-get_or, sum_by-cons, sum_by-append, mul-sub, mul-le-mul_right, lt_of_mul-lt-mul_right, eq_of_mul-eq-mul_left, eq_of_mul-eq-mul_right, Job, WrittenSlot, WholeSlot, IsScale, slots_at, Piece, Level, IsPlan, Point, no_point, point_at, AreRising, IsTable, IsHullOf, hull_of, gaps_of, busy, idle, horizon, product, total, interpolated_energy, SpendsAtPoints, IsEnergyOnPoints, stretches, AreNeighbours, IsSplitAt, RoundsStretches}
+use Rattle.model_lemmas.proofs.Horizon.{busy_and_idle}
+use Rattle.model_lemmas.proofs.HullExists.{hull_exists}
 use Rattle.yds_energy.specs.RoundingLaws.{RoundedAttainsTheHull}
 use Rattle.yds_laws.proofs.Bound.{scale_left, scale_right}
 use Rattle.yds_energy.proofs.Differences.{total-cons}

@@ -1,5 +1,7 @@
 -- The slots of a plan, rounded to a table's points, are a feasible schedule on them: stretch by stretch.
-use Rattle.yds_model.proofs.Common.{◌≡◌, ◌⊎◌, ℕ, ◌+◌, ◌-◌, ◌*◌, ◌<◌, ◌≤◌, ◌==◌, List, [], ◌∷◌, ◌++◌, length, get_or, refl, sym, ap, subst, ◌∙◌, arith, inl, inr, eqb-true, ◌↔◌, All, AllByRecursion, Any, Contains, cases_Bool, map-append, All-nil, All-head, All-tail, All-append, All-map, All-weaker, All-from_get_or, All-from_recursion, recursion_from_All, one-dvd, mul-sub, mul-le-mul_right, le_of_mul-le-mul_right, lt_of_mul-lt-mul_right, Job, job_at, of_whole, WrittenSlot, WholeSlot, IsDivided, IsScale, slot_at_scale, slots_at, work_given, RunFrom, IsInWindow, IsFeasibleAt, Piece, PiecesFrom, Level, IsPlan, Point, stretches, LiesIn, LiesWritten, HasPointSpeed, AreNeighbours, jobs_in_turn, IsSplitAt, RoundsStretch, RoundsStretches, at_most_of_values, run_forward, run_earlier, run_later, run_joined}
+use Rattle.yds_model.proofs.Common.{◌≡◌, ◌⊎◌, ℕ, ◌+◌, ◌-◌, ◌*◌, ◌<◌, ◌≤◌, ◌==◌, List, [], ◌∷◌, ◌++◌, length, get_or, refl, sym, ap, subst, ◌∙◌, arith, inl, inr, eqb-true, ◌↔◌, All, AllByRecursion, Any, Contains, cases_Bool, map-append, All-nil, All-head, All-tail, All-append, All-map, All-weaker, All-from_get_or, All-from_recursion, recursion_from_All, one-dvd, mul-sub, mul-le-mul_right, le_of_mul-le-mul_right, lt_of_mul-lt-mul_right, Job, job_at, of_whole, WrittenSlot, WholeSlot, IsDivided, IsScale, slot_at_scale, slots_at, work_given, RunFrom, IsInWindow, IsFeasibleAt, Piece, PiecesFrom, Level, IsPlan, Point, stretches, LiesIn, LiesWritten, HasPointSpeed, AreNeighbours, jobs_in_turn, IsSplitAt, RoundsStretch, RoundsStretches}
+use Rattle.fraction_lemmas.proofs.Fractions.{at_most_of_values}
+use Rattle.model_lemmas.proofs.Runs.{run_forward, run_earlier, run_later, run_joined}
 use Rattle.yds_events.specs.Stretch.{no_stretch, IsOutside}
 use Rattle.yds_events.proofs.Neighbours.{stretches_run, release_outside, deadline_outside}
 use Rattle.yds_laws.proofs.Bound.{scale_left, scale_right}

@@ -1,5 +1,6 @@
 -- Slots that spend at a table's points run at the points' speeds, as they are written, and nowhere faster than the top.
-use Rattle.yds_model.proofs.Common.{◌≡◌, ℕ, ◌-◌, ◌≤◌, List, [], ◌∷◌, ◌++◌, length, ap, arith, inl, inr, Some, All, Any, Contains, mul-le-mul_right, cases_lt, All-nil, All-cons, All-head, All-tail, All-append, All-weaker, Job, Fraction, WrittenSlot, WholeSlot, IsDivided, IsSolid, slot_at_scale, slots_at, Point, point_at, AreRising, hull_of, IsAtPoint, SpendsAtPoints, IsOnTable, top_of, IsEnergyOf, IsWithinTop, scale_exists, one_scale_decides}
+use Rattle.yds_model.proofs.Common.{◌≡◌, ℕ, ◌-◌, ◌≤◌, List, [], ◌∷◌, ◌++◌, length, ap, arith, inl, inr, Some, All, Any, Contains, mul-le-mul_right, cases_lt, All-nil, All-cons, All-head, All-tail, All-append, All-weaker, Job, Fraction, WrittenSlot, WholeSlot, IsDivided, IsSolid, slot_at_scale, slots_at, Point, point_at, AreRising, hull_of, IsAtPoint, SpendsAtPoints, IsOnTable, top_of, IsEnergyOf, IsWithinTop}
+use Rattle.model_lemmas.proofs.Scale.{scale_exists, one_scale_decides}
 use Rattle.yds_energy.specs.RoundingLaws.{RoundedIsFeasible}
 use Rattle.yds_laws.proofs.Bound.{scale_right}
 use Rattle.yds_energy.proofs.OneEnergy.{places_rise, read_point}

@@ -1,5 +1,6 @@
 -- What is said of schedules on points is free of scale: their energy, and the splits of a rounding.
-use Rattle.yds_model.proofs.Common.{◌≡◌, ℕ, zero, suc, ◌+◌, ◌-◌, ◌*◌, ◌≤◌, List, [], ◌∷◌, ◌++◌, map, refl, ap, arith, ◌↔◌, one-mul, map-append, Job, Fraction, numerator, WrittenSlot, WholeSlot, slots_at, Piece, Level, Point, point_at, busy, idle, SpendsAtPoints, IsEnergyOnPoints, jobs_in_turn, RunsAtPoint, RunsOn, IsSplitAt, finer, finer_sum, finer_slots, finer_work, IsKept, one_scale_of}
+use Rattle.yds_model.proofs.Common.{◌≡◌, ℕ, zero, suc, ◌+◌, ◌-◌, ◌*◌, ◌≤◌, List, [], ◌∷◌, ◌++◌, map, refl, ap, arith, ◌↔◌, one-mul, map-append, Job, Fraction, numerator, WrittenSlot, WholeSlot, slots_at, Piece, Level, Point, point_at, busy, idle, SpendsAtPoints, IsEnergyOnPoints, jobs_in_turn, RunsAtPoint, RunsOn, IsSplitAt}
+use Rattle.model_lemmas.proofs.Scale.{finer, finer_sum, finer_slots, finer_work, IsKept, one_scale_of}
 use Rattle.yds_energy.specs.RoundingLaws.{OneScaleDecidesEnergy}
 use Rattle.yds_energy.specs.SplitLaws.{OneScaleDecidesSplit}
 use Rattle.yds_laws.proofs.Bound.{scale_left, scale_right}

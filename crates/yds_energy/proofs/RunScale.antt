@@ -1,5 +1,7 @@
 -- The runs of the policies are free of scale, and so is what is served in stretches.
-use Rattle.yds_model.proofs.Common.{◌≡◌, ℕ, zero, suc, ◌-◌, ◌*◌, ◌<◌, ◌≤◌, List, [], ◌∷◌, ◌++◌, map, get_or, length, refl, ap, sym, ◌∙◌, arith, count_by, ◌↔◌, mul-zero, mul-pos, fun_ext, map-append, length-map, get_or-map, All-map, Job, job_at, WholeSlot, work_given, no_slot, slot_at, Piece, stretches, LiesIn, IsUncut, MayRun, EarliestAfter, IsServedInStretches, pending_at, slots_in, FillsAtSpeed, ServesCapacity, IsRunAt, average_rate, asked, optimal_available, optimal_available_rounds, top_capacity, sum_by-mul, finer, finer_work, feasible_finer, feasible_coarser, rounded_up_same}
+use Rattle.yds_model.proofs.Common.{◌≡◌, ℕ, zero, suc, ◌-◌, ◌*◌, ◌<◌, ◌≤◌, List, [], ◌∷◌, ◌++◌, map, get_or, length, refl, ap, sym, ◌∙◌, arith, count_by, ◌↔◌, mul-zero, mul-pos, fun_ext, map-append, length-map, get_or-map, All-map, Job, job_at, WholeSlot, work_given, no_slot, slot_at, Piece, stretches, LiesIn, IsUncut, MayRun, EarliestAfter, IsServedInStretches, pending_at, slots_in, FillsAtSpeed, ServesCapacity, IsRunAt, average_rate, asked, optimal_available, optimal_available_rounds, top_capacity, sum_by-mul}
+use Rattle.model_lemmas.proofs.Scale.{finer, finer_work, feasible_finer, feasible_coarser}
+use Rattle.model_lemmas.proofs.RoundedUp.{rounded_up_same}
 use Rattle.yds_energy.proofs.Finer.{order_of_multiples, factor_out, factor_grouped, factor_of_difference, same_both, at_most_test, some_test, same_test, factor_of_lesser, filter_finer, slots_in_finer, none_both, IsFreeOfScale}
 
 -- # What is served in stretches

@@ -1,6 +1,10 @@
 -- What a schedule spends on a table's points, stretch by stretch, is its energy by the table's lower hull, where each stretch is empty or
 -- full of slots of one speed.
-use Rattle.yds_model.proofs.Common.{◌≡◌, ℕ, suc, ◌+◌, ◌-◌, ◌*◌, ◌<◌, ◌≤◌, ◌⊎◌, List, [], ◌∷◌, length, get_or, map, refl, sym, ap, subst, ◌∙◌, arith, inl, inr, add-one, sum_by, ℤ, pos, ◌+ℤ◌, ◌≤ℤ◌, All, Contains, ints, All-tail, Contains-get_or, sum_by-cons, mul-add, mul-pos, mul-le-mul_left, le_of_mul-le-mul_left, le_of_mul-le-mul_right, eq_of_mul-eq-mul_left, Job, WholeSlot, Piece, IsFeasibleAt, multiple_of_all, Point, no_point, point_at, AreRising, IsTable, IsHullOf, hull_of, hull_multiple, gaps_of, busy, idle, horizon, product, total, interpolated_energy, stretches, IsUncut, slots_in, top_of, work_in, time_at, all_energy, HoldsStretch, pieces_forward, busy_and_idle, hull_exists, run_forward, sum_by-add, sum_by-mul, sum_by_zero}
+use Rattle.yds_model.proofs.Common.{◌≡◌, ℕ, suc, ◌+◌, ◌-◌, ◌*◌, ◌<◌, ◌≤◌, ◌⊎◌, List, [], ◌∷◌, length, get_or, map, refl, sym, ap, subst, ◌∙◌, arith, inl, inr, add-one, sum_by, ℤ, pos, ◌+ℤ◌, ◌≤ℤ◌, All, Contains, ints, All-tail, Contains-get_or, sum_by-cons, mul-add, mul-pos, mul-le-mul_left, le_of_mul-le-mul_left, le_of_mul-le-mul_right, eq_of_mul-eq-mul_left, Job, WholeSlot, Piece, IsFeasibleAt, multiple_of_all, Point, no_point, point_at, AreRising, IsTable, IsHullOf, hull_of, hull_multiple, gaps_of, busy, idle, horizon, product, total, interpolated_energy, stretches, IsUncut, slots_in, top_of, work_in, time_at, all_energy, HoldsStretch, sum_by-add, sum_by-mul, sum_by_zero}
+use Rattle.model_lemmas.proofs.Front.{pieces_forward}
+use Rattle.model_lemmas.proofs.Horizon.{busy_and_idle}
+use Rattle.model_lemmas.proofs.HullExists.{hull_exists}
+use Rattle.model_lemmas.proofs.Runs.{run_forward}
 use borrow.Author.Differences.{up, down}
 use Rattle.yds_events.specs.Stretch.{length_of}
 use Rattle.yds_events.proofs.Neighbours.{stretches_run}

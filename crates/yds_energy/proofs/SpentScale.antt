@@ -1,5 +1,7 @@
 -- What schedules spend on the operating points, stretch by stretch, is free of scale.
-use Rattle.yds_model.proofs.Common.{◌≡◌, ℕ, ◌-◌, ◌*◌, ◌≤◌, List, [], ◌∷◌, map, get_or, refl, ap, ap₂, ◌∙◌, arith, All, ◌↔◌, mul-pos, fun_ext, IsFirstFailure, Job, WholeSlot, of_parts, Piece, Point, hull_multiple, stretches, slots_in, top_of, work_in, time_at, all_time_at, all_energy, in_parts, Spent, IsSpentAt, HoldsStretch, stretch_at, lowest_terms_are_one, sum_by-mul, finer, finer_sum}
+use Rattle.yds_model.proofs.Common.{◌≡◌, ℕ, ◌-◌, ◌*◌, ◌≤◌, List, [], ◌∷◌, map, get_or, refl, ap, ap₂, ◌∙◌, arith, All, ◌↔◌, mul-pos, fun_ext, IsFirstFailure, Job, WholeSlot, of_parts, Piece, Point, hull_multiple, stretches, slots_in, top_of, work_in, time_at, all_time_at, all_energy, in_parts, Spent, IsSpentAt, HoldsStretch, stretch_at, sum_by-mul}
+use Rattle.fraction_lemmas.proofs.Divisor.{lowest_terms_are_one}
+use Rattle.model_lemmas.proofs.Scale.{finer, finer_sum}
 use Rattle.yds_energy.proofs.Finer.{order_of_multiples, factor_out, factor_grouped, factor_of_difference, factor_of_choice, factor_of_choice_or_none, at_most_test, slots_in_finer, IsFreeOfScale}
 
 -- the time at each point of a hull is k times as much for k times the time and the work

@@ -1,5 +1,6 @@
 -- The stretches of jobs are together as long as the horizon.
-use Rattle.yds_model.proofs.Common.{◌≡◌, ℕ, suc, ◌+◌, ◌-◌, ◌<◌, ◌≤◌, ◌⊎◌, min, max, List, [], ◌∷◌, length, get_or, refl, sym, ap, ◌∙◌, arith, inl, inr, sum_by, All, flat_map, fold, All-nil, All-cons, All-head, All-tail, All-from_get_or, sum_by-cons, Job, no_job, job_at, first_release, last_deadline, horizon, event_points, neighbours, stretches, deadlines_below, releases_above}
+use Rattle.yds_model.proofs.Common.{◌≡◌, ℕ, suc, ◌+◌, ◌-◌, ◌<◌, ◌≤◌, ◌⊎◌, min, max, List, [], ◌∷◌, length, get_or, refl, sym, ap, ◌∙◌, arith, inl, inr, sum_by, All, flat_map, fold, All-nil, All-cons, All-head, All-tail, All-from_get_or, sum_by-cons, Job, no_job, job_at, first_release, last_deadline, horizon, event_points, neighbours, stretches}
+use Rattle.model_lemmas.proofs.Horizon.{deadlines_below, releases_above}
 use Rattle.yds_events.specs.Stretch.{length_of}
 use Rattle.yds_events.proofs.Rising.{Rises, rises_times, rising_all}
 use Rattle.yds_events.proofs.Times.{not_later, release_at, deadline_at}

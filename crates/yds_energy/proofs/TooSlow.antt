@@ -1,5 +1,6 @@
 -- A table is too slow for a plan's first level exactly where no feasible schedule stays at or below its top speed.
-use Rattle.yds_model.proofs.Common.{◌≡◌, ℕ, ◌-◌, ◌*◌, ◌<◌, List, [], ◌∷◌, length, get_or, map, ap, arith, inl, inr, All, mul-pos, cases_lt, get_or-le-sum_by, Job, WrittenSlot, WholeSlot, slots_at, excess, Level, IsPlan, Point, top_of, IsTooFast, IsWithinTop, CanServe, sum_by_zero, scale_exists, finer, finer_excess, feasible_finer}
+use Rattle.yds_model.proofs.Common.{◌≡◌, ℕ, ◌-◌, ◌*◌, ◌<◌, List, [], ◌∷◌, length, get_or, map, ap, arith, inl, inr, All, mul-pos, cases_lt, get_or-le-sum_by, Job, WrittenSlot, WholeSlot, slots_at, excess, Level, IsPlan, Point, top_of, IsTooFast, IsWithinTop, CanServe, sum_by_zero}
+use Rattle.model_lemmas.proofs.Scale.{scale_exists, finer, finer_excess, feasible_finer}
 use Rattle.yds_energy.specs.RoundingLaws.{TooSlowIsExact}
 use Rattle.yds_energy.proofs.PlanParts.{scale_times}
 use Rattle.yds_laws.proofs.Curve.{curve, IsSlowFirst, curve_slow}

@@ -4,20 +4,20 @@ ghost use Rattle.yds_model.specs.HullLaws.{HullExists, HullIsComputed, HullIsLow
 ///
 /// So a processor that alternates between two operating points spends least on neighbours of the hull:
 /// the two-point theorem of Ishihara and Yasuura (ISLPED 1998), for a table of any powers.
-#[tactic(auto, using(yds_model::proofs::Hull::hull_is_lowest))]
+#[tactic(auto, using(model_lemmas::proofs::Hull::hull_is_lowest))]
 pub fn hull_is_lowest()
     ensures { HullIsLowest }
 {}
 
 /// The law that a table has one lower hull: the points that lie above no line between an earlier and a later
 /// point.
-#[tactic(auto, using(yds_model::proofs::HullOf::hull_is_computed))]
+#[tactic(auto, using(model_lemmas::proofs::HullOf::hull_is_computed))]
 pub fn hull_is_computed()
     ensures { HullIsComputed }
 {}
 
 /// The law that points of rising speed have a lower hull: what is computed for them is one.
-#[tactic(auto, using(yds_model::proofs::HullExists::hull_exists))]
+#[tactic(auto, using(model_lemmas::proofs::HullExists::hull_exists))]
 pub fn hull_exists()
     ensures { HullExists }
 {}

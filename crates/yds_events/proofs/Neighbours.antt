@@ -1,7 +1,7 @@
 -- The stretches of jobs: each is from an event point to the next, so they follow one another and no release or deadline lies
 -- inside one.
 use Rattle.yds_model.proofs.Common.{◌≡◌, ℕ, zero, suc, ◌+◌, ◌*◌, ◌<◌, ◌≤◌, List, [], ◌∷◌, length, get_or, refl, ap, inl, inr, arith, add-one, All, flat_map, get_or_read, cases_lt, Job, IsJob, job_at, Piece, PiecesFrom, event_points, neighbours, stretches, stretch_at}
-use Rattle.yds_model.specs.declared.limits.TheConstants.{MAX_TIME}
+use Rattle.base.specs.declared.limits.TheConstants.{MAX_TIME}
 use Rattle.yds_events.specs.Stretch.{no_stretch, IsOutside}
 use Rattle.yds_events.specs.Window.{length_at}
 use Rattle.yds_events.proofs.InOrder.{has_length, later_start, starts_rise}

@@ -1,6 +1,6 @@
 -- The event points of jobs: they rise, have each release and each deadline, and are at most two a job.
 use Rattle.yds_model.proofs.Common.{◌≡◌, ℕ, zero, suc, ◌+◌, ◌*◌, ◌<◌, ◌≤◌, List, [], ◌∷◌, length, get_or, ◌∙◌, refl, arith, All, get_or_default, cases_lt, cases_eq, All-nil, All-cons, All-head, All-tail, Job, IsJob, job_at, with_time, event_points}
-use Rattle.yds_model.specs.declared.limits.TheConstants.{MAX_TIME}
+use Rattle.base.specs.declared.limits.TheConstants.{MAX_TIME}
 use Rattle.yds_events.specs.Keys.{ends_of}
 use Rattle.yds_events.proofs.Rising.{rises_times, rises_at, stands_times, contains_from_Stands, stands_from_Contains, rising_all, with_time_length}
 

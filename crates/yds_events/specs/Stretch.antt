@@ -1,7 +1,7 @@
 -- Stretches of time: each has a length, and lies within the limit of times.
 use Rattle.std.specs.Prelude.{ℕ, ◌-◌, ◌<◌, ◌≤◌, ◌⊎◌, List}
 use Rattle.std.specs.List.{slice_index_or}
-use Rattle.yds_model.specs.declared.limits.TheConstants.{MAX_TIME}
+use Rattle.base.specs.declared.limits.TheConstants.{MAX_TIME}
 use Rattle.yds_model.specs.Piece.{Piece}
 
 pub record IsStretch (stretch : Piece) : Type 0 where

@@ -1,6 +1,6 @@
 ghost use Rattle.std.specs.Prelude.{◌≡◌, ℕ, ◌<◌, ◌≤◌, ◌/◌, ◌^◌, List, length, map, IfOk, OnOk};
 ghost use Rattle.std.specs.List.{filter, range_with_len};
-ghost use Rattle.yds_model.specs.declared.limits.TheConstants.{MAX_JOBS};
+ghost use Rattle.base.specs.declared.limits.TheConstants.{MAX_JOBS};
 ghost use Rattle.yds_model.specs.Event.{rising_times};
 ghost use Rattle.yds_events.specs.Keys.{AreKeys, ArePlaces, time_of_key, number_of_key, job_of_key, with_end, window_from, is_deadline};
 ghost use Rattle.yds_events.specs.Timeline.{IsTimeline};

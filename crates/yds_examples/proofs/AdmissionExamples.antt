@@ -1,7 +1,7 @@
 -- The definitions of admission, tried on the worked rows of `admit`, on intervals that are and aren't the first to be overfull, and on
 -- answers that take or refuse the wrong job.
 use Rattle.yds_model.proofs.Common.{◌≡◌, ℕ, ◌*◌, ◌-◌, List, [], ◌∷◌, map, refl, arith, inl, inr, codes, Contains, digits, All-from_recursion, Job, job_at, of_whole, WrittenSlot, WholeSlot, IsScale, slots_at, Piece, stretches, LiesWritten, HasSpeed, Document, no_document, IsTextOf, IsRunAt, HasRunDenominators, CanServe, jobs_with, IsOverfull, IsFirstOverfull, Refusal, IsRefusal, AdmitsAfter, IsAdmission, top_capacity, IsAdmittedRun, with_taken, Answers}
-use Rattle.yds_model.specs.declared.status.Status.TheVariants.{Done, Refused}
+use Rattle.base.specs.declared.status.Status.TheVariants.{Done, Refused}
 use Rattle.yds_examples.proofs.Tests.{proved, refuted, test_eq, test_any}
 use Rattle.yds_examples.proofs.TestedSchedules.{is_scale, run_at}
 use Rattle.yds_examples.proofs.TestedRounding.{can_serve, cant_serve, overfull, first_overfull}

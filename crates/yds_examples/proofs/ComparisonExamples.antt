@@ -1,7 +1,7 @@
 -- What schedules spend on the operating points, and the answer of `compare`, tried on its worked rows: a from 0 to 3 with work 2 and b from
 -- 1 to 2 with work 1, on the grid 6.
 use Rattle.yds_model.proofs.Common.{◌≡◌, ℕ, ◌+◌, ◌*◌, ◌<◌, ◌≤◌, List, [], ◌∷◌, length, map, refl, ap, arith, inl, inr, true, false, codes, digits, Job, Fraction, of_whole, of_parts, WrittenSlot, WholeSlot, IsScale, slots_at, Piece, Level, Point, hull_multiple, stretches, IsServedInStretches, IsPlan, IsRunAt, average_rate, IsAverageRateRun, work_in, all_time_at, all_energy, Spent, IsSpentAt, IsSpent, HoldsStretch, stretch_at, IsTooSlowFor, Spends, TooSlowFor, HoldsAll, IsSide, Answers}
-use Rattle.yds_model.specs.declared.status.Status.TheVariants.{Done, No, Refused}
+use Rattle.base.specs.declared.status.Status.TheVariants.{Done, No, Refused}
 use Rattle.yds_texts.specs.CompareText.{CostsNoLess}
 use Rattle.yds_examples.proofs.Tests.{Test, tests, proved, refuted, test_never, test_le, test_eq, test_implied, test_all, test_each}
 use Rattle.yds_examples.proofs.TestedSchedules.{is_scale, run_at}

@@ -1,7 +1,7 @@
 -- The least excess above a speed and the curve of it, tried on the plan of three nested jobs: a from 0 to 12 with work 4, b from 2 to 10
 -- with work 8, c from 4 to 6 with work 6.
 use Rattle.yds_model.proofs.Common.{◌≡◌, ℕ, ◌+◌, ◌*◌, ◌<◌, ◌≤◌, List, [], ◌∷◌, refl, arith, codes, true, All, digits, AreDifferent, job_at, work_of, Fraction, of_whole, WholeSlot, slots_at, IsFeasibleAt, excess, Piece, IsConfined, total_length, IsLeastExcess, least_above, breaks_of, Break, curve_text, Answers}
-use Rattle.yds_model.specs.declared.status.Status.TheVariants.{Done}
+use Rattle.base.specs.declared.status.Status.TheVariants.{Done}
 use Rattle.yds_examples.proofs.Tests.{Test, tests, proved}
 use Rattle.yds_examples.proofs.TestedPlans.{confined}
 use Rattle.yds_examples.proofs.TestedRounding.{different}

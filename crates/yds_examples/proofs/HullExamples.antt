@@ -1,6 +1,8 @@
 -- The lower hull, tried on the table of the speeds 0, 1, 2 and 4 whose powers are 0, 3, 4 and 10: the second point lies above the line from
 -- the first to the third.
-use Rattle.yds_model.proofs.Common.{◌≡◌, ℕ, List, [], ◌∷◌, refl, arith, Point, AreRising, IsConvex, IsHullOf, hull_multiple, hull_is_computed, hull_exists}
+use Rattle.yds_model.proofs.Common.{◌≡◌, ℕ, List, [], ◌∷◌, refl, arith, Point, AreRising, IsConvex, IsHullOf, hull_multiple}
+use Rattle.model_lemmas.proofs.HullOf.{hull_is_computed}
+use Rattle.model_lemmas.proofs.HullExists.{hull_exists}
 
 -- a point's speed and power
 abbrev point : ℕ → ℕ → Point

@@ -1,6 +1,6 @@
 -- The report as JSON, tried on the plan of three nested jobs.
 use Rattle.yds_model.proofs.Common.{◌≡◌, [], ◌∷◌, refl, ap, arith, codes, slice_index_or, digits, level_json, report_json, Answers}
-use Rattle.yds_model.specs.declared.status.Status.TheVariants.{Done}
+use Rattle.base.specs.declared.status.Status.TheVariants.{Done}
 use Rattle.yds_examples.proofs.PlanRowExamples.{possible}
 use Rattle.yds_examples.proofs.ThreeJobs.{jobs, slots, levels, level_b, plan}
 

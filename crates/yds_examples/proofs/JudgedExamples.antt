@@ -1,8 +1,8 @@
 -- What the answers of `audit` are worth, tried on a job from 0 to 4 of work 2 and a slot, with points and without. What those of `check`
 -- are worth is tried on the plan of three jobs.
 use Rattle.yds_model.proofs.Common.{◌≡◌, ℕ, List, Some, [], ◌∷◌, Ok, refl, subst, codes, Job, of_whole, WrittenSlot, Point, Document, no_document, reading}
-use Rattle.yds_model.specs.declared.status.Status.{Status}
-use Rattle.yds_model.specs.declared.status.Status.TheVariants.{Done, No}
+use Rattle.base.specs.declared.status.Status.{Status}
+use Rattle.base.specs.declared.status.Status.TheVariants.{Done, No}
 use Rattle.yds_texts.specs.JudgedText.{TellsWhether, IsServed, IsServedOnPoints, HoldsVerdict, HoldsVerdictOnPoints}
 use Rattle.yds_texts.proofs.JudgedText.{tells_yes, tells_no}
 use Rattle.yds_examples.proofs.Tests.{proved, refuted, test_numbers, test_all}

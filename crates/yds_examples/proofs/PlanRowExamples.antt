@@ -1,7 +1,7 @@
 -- The answer of `plan` to the document of three nested jobs, as a fact of the one relation; what follows of it; and a text that is none.
 use Rattle.yds_model.proofs.Common.{◌≡◌, ℕ, List, [], ◌∷◌, length, Ok, refl, sym, ap, subst, arith, inl, codes, digits, Document, no_document, Job, IsProper, IsPlan, canonical_text, reading, IsDocument, with_plan, Answers}
-use Rattle.yds_model.specs.declared.status.Status.{Status}
-use Rattle.yds_model.specs.declared.status.Status.TheVariants.{Done, No}
+use Rattle.base.specs.declared.status.Status.{Status}
+use Rattle.base.specs.declared.status.Status.TheVariants.{Done, No}
 use Rattle.yds_texts.specs.PlanText.{HoldsHeadline}
 use Rattle.yds_texts.specs.JudgedText.{IsCertified, HoldsJudgement}
 use Rattle.yds_texts.proofs.Within.{read_is_within_limits}

@@ -1,6 +1,6 @@
 -- The laws of rounding at the two nested jobs: what they say of the rounded plan and of the answer of `round`, and what they rule out.
 use Rattle.yds_model.proofs.Common.{◌≡◌, ℕ, List, [], ◌∷◌, Ok, refl, ap, subst, ◌∙◌, arith, inl, inr, codes, MatchOption, digits, Job, of_whole, WholeSlot, IsPlan, Point, IsTable, top_of, IsEnergyOf, CanServe, Document, no_document, canonical_text, reading, IsDocument, Answers}
-use Rattle.yds_model.specs.declared.status.Status.TheVariants.{Done, No}
+use Rattle.base.specs.declared.status.Status.TheVariants.{Done, No}
 use Rattle.yds_energy.specs.RoundingLaws.{IsFeasibleOnPoints, IsLeastEnergy}
 use Rattle.yds_texts.specs.RoundText.{with_energy, HoldsLeastEnergy, too_slow_line, HoldsTooSlow}
 use Rattle.yds_laws.proofs.Plans.{plans_have_the_same_levels}

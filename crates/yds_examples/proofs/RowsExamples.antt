@@ -1,7 +1,7 @@
 -- Whole answers by the one relation of words, input, text and status: the worked rows of `audit` and `check`, and refusals.
 use Rattle.yds_model.proofs.Common.{◌≡◌, ℕ, List, [], ◌∷◌, None, true, refl, codes, digits, of_whole, line, Document, Verdict, Feasible, Backward, Overlap, Early, Late, WrongWork, IsVerdict, Judgement, Accepted, Slots, Pieces, Members, Sums, Order, Window, Speed, IsJudgement, verdict_words, verdict_status, AuditAnswer, judgement_words, judgement_status, CheckAnswer, usage_line, Answers}
-use Rattle.yds_model.specs.declared.status.Status.{Status}
-use Rattle.yds_model.specs.declared.status.Status.TheVariants as statuses
+use Rattle.base.specs.declared.status.Status.{Status}
+use Rattle.base.specs.declared.status.Status.TheVariants as statuses
 use Rattle.yds_laws.proofs.AnsweredOnce.{audit_and_check_answer_once}
 use Rattle.yds_examples.proofs.Tests.{Test, tests, proved, refuted, test_numbers}
 use Rattle.yds_examples.proofs.TestedPlans.{is_verdict, is_judgement}

@@ -1,6 +1,6 @@
 -- What the texts of `avr` and `oa` are worth, tried on runs that never round, and on one that does and says that it doesn't.
 use Rattle.yds_model.proofs.Common.{◌≡◌, ℕ, zero, suc, ◌-◌, ◌*◌, ◌≤◌, List, [], ◌∷◌, length, Ok, refl, sym, subst, arith, inl, inr, codes, MatchOption, Any, digits, Job, WrittenSlot, slots_at, IsFeasible, canonical_text, Piece, Document, no_document, reading, IsAverageRateRun, due_units, IsOptimalAvailableRun}
-use Rattle.yds_model.specs.declared.limits.TheConstants.{MAX_INPUT}
+use Rattle.base.specs.declared.limits.TheConstants.{MAX_INPUT}
 use Rattle.yds_laws.specs.RunLaws.{IsExactAverageRate, IsExactOptimalAvailable}
 use Rattle.yds_laws.proofs.ExactRuns.{optimal_available_is_exact}
 use Rattle.yds_texts.specs.RunText.{with_run, ReadRun, HoldsAverageRate, HoldsOptimalAvailable}

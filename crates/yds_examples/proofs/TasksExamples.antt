@@ -3,7 +3,7 @@ use Rattle.yds_model.proofs.Common.{◌≡◌, ℕ, ◌++◌, List, [], ◌∷�
 use Rattle.yds_model.specs.declared.task_reason.TaskReason.{TaskReason}
 use Rattle.yds_model.specs.declared.task_reason.TaskReason.TheVariants.{UnknownKind, Misplaced, FieldCount, BadName, DuplicateName, BadNumber, OutOfRange, TooManyJobs}
 use Rattle.yds_model.specs.Tasks.{one_level}
-use Rattle.yds_model.specs.declared.status.Status.TheVariants.{Done, Refused}
+use Rattle.base.specs.declared.status.Status.TheVariants.{Done, Refused}
 
 abbrev task : List ℕ → ℕ → ℕ → ℕ → ℕ → Task
 task name offset period deadline work = record { name = name; offset = offset; period = period; deadline = deadline; work = work }

@@ -1,5 +1,6 @@
 -- Tests of what is said of schedules: scales, feasible, earliest deadline first, served in stretches, the run of a policy.
-use Rattle.yds_model.proofs.Common.{◌≡◌, ℕ, zero, suc, ◌-◌, ◌*◌, List, [], ◌∷◌, ◌++◌, true, false, All, Job, job_at, WrittenSlot, WholeSlot, IsDivided, IsScale, IsSolid, slots_at, work_given, slot_at, written_slot_at, AreAlike, RunFrom, IsInWindow, IsFeasibleAt, IsFeasible, Piece, stretches, LiesIn, IsUncut, ComesFirst, MayRun, IsFirstDue, EarliestAfter, IsEarliestFirst, IsServedInStretches, slots_in, FillsAtSpeed, ServesCapacity, IsRunAt, AreSlots, one_scale_decides}
+use Rattle.yds_model.proofs.Common.{◌≡◌, ℕ, zero, suc, ◌-◌, ◌*◌, List, [], ◌∷◌, ◌++◌, true, false, All, Job, job_at, WrittenSlot, WholeSlot, IsDivided, IsScale, IsSolid, slots_at, work_given, slot_at, written_slot_at, AreAlike, RunFrom, IsInWindow, IsFeasibleAt, IsFeasible, Piece, stretches, LiesIn, IsUncut, ComesFirst, MayRun, IsFirstDue, EarliestAfter, IsEarliestFirst, IsServedInStretches, slots_in, FillsAtSpeed, ServesCapacity, IsRunAt, AreSlots}
+use Rattle.model_lemmas.proofs.Scale.{one_scale_decides}
 use Rattle.yds_examples.proofs.Tests.{Test, tests, proved, refuted, test_never, test_eq, test_implied, test_each, test_grid, test_ordered}
 
 -- # Written slots

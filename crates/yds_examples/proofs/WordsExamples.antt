@@ -1,6 +1,6 @@
 -- The words of the command line, tried: each of the fourteen forms of command, and words that are near them and ask for nothing.
 use Rattle.yds_model.proofs.Common.{◌≡◌, List, ℕ, [], ◌∷◌, refl, codes, Some, None, AskPlan, AskRound, AskAverageRate, AskOptimalAvailable, AskCheck, AskAudit, AskAuditOnPoints, AskReport, AskReportAsJson, AskAdmit, AskCurve, AskCompare, OfDocument, OfTasks, OfTrial, request_of, usage_line, Answers}
-use Rattle.yds_model.specs.declared.status.Status.TheVariants.{Usage}
+use Rattle.base.specs.declared.status.Status.TheVariants.{Usage}
 
 -- The commands of one word: `plan`,
 plan : request_of (codes "plan" ∷ []) ≡ Some (OfDocument AskPlan)

@@ -1,5 +1,6 @@
 -- Halves: with an odd number, a number has the same greatest common divisor as its double has.
-use Rattle.yds_model.proofs.Common.{◌≡◌, ℕ, zero, suc, ◌+◌, ◌-◌, ◌*◌, ◌/◌, ◌%◌, ◌^◌, ◌<◌, ◌≤◌, ap, subst, sym, ◌∙◌, arith, inl, inr, min, max, ◌∣◌, IsGcd, bit_at, trailing_zeros, w64, cases_eq, cases_lt, IsGcd-swap, IsGcd-from_sub, dvd_trans, same_from_IsGcd, div-add-mod, div-mul_cancel, dvd-mul_left, mod-lt, div-div-eq-div-mul, pow-suc, div-one, pow-add, bit_at-trailing_zeros, common_divisor, divisor_is_greatest, divisor_times}
+use Rattle.yds_model.proofs.Common.{◌≡◌, ℕ, zero, suc, ◌+◌, ◌-◌, ◌*◌, ◌/◌, ◌%◌, ◌^◌, ◌<◌, ◌≤◌, ap, subst, sym, ◌∙◌, arith, inl, inr, min, max, ◌∣◌, IsGcd, bit_at, trailing_zeros, w64, cases_eq, cases_lt, IsGcd-swap, IsGcd-from_sub, dvd_trans, same_from_IsGcd, div-add-mod, div-mul_cancel, dvd-mul_left, mod-lt, div-div-eq-div-mul, pow-suc, div-one, pow-add, bit_at-trailing_zeros, common_divisor}
+use Rattle.fraction_lemmas.proofs.Divisor.{divisor_is_greatest, divisor_times}
 
 abbrev pub IsOdd : ℕ → Type 0
 IsOdd n = n % 2 ≡ 1

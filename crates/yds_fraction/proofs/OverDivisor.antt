@@ -1,5 +1,8 @@
 -- Two numbers over their greatest common divisor.
-use Rattle.yds_model.proofs.Common.{◌≡◌, ℕ, ◌+◌, ◌*◌, ◌/◌, ◌%◌, ◌<◌, ◌≤◌, ap, ap₂, subst, sym, ◌∙◌, refl, arith, Bool, true, false, eqb-true, ◌==◌, if◌then◌else◌, ◌∣◌, IsGcd, same_from_IsGcd, div-one, div-mul_cancel, div-le_self, one-dvd, mul-dvd-mul_left, dvd_of_mul-dvd-mul_left, dvd-mul_right, zero-mul, lt_of_mul-lt-mul_right, eq_of_mul-eq-mul_left, mul-add-div_right, mul-add-mod_self_right, common_divisor, in_lowest_terms, Fraction, Quotient, numerator, of_whole, of_parts, IsSame, divisor_is_greatest, lowest_terms_are_one, parts_value, lowest_is as in_lowest, lowest_same, factors, den_positive}
+use Rattle.yds_model.proofs.Common.{◌≡◌, ℕ, ◌+◌, ◌*◌, ◌/◌, ◌%◌, ◌<◌, ◌≤◌, ap, ap₂, subst, sym, ◌∙◌, refl, arith, Bool, true, false, eqb-true, ◌==◌, if◌then◌else◌, ◌∣◌, IsGcd, same_from_IsGcd, div-one, div-mul_cancel, div-le_self, one-dvd, mul-dvd-mul_left, dvd_of_mul-dvd-mul_left, dvd-mul_right, zero-mul, lt_of_mul-lt-mul_right, eq_of_mul-eq-mul_left, mul-add-div_right, mul-add-mod_self_right, common_divisor, in_lowest_terms, Fraction, Quotient, numerator, of_whole, of_parts, IsSame}
+use Rattle.fraction_lemmas.proofs.Divisor.{divisor_is_greatest, lowest_terms_are_one}
+use Rattle.fraction_lemmas.proofs.LowestTerms.{parts_value, lowest_is as in_lowest, lowest_same}
+use Rattle.fraction_lemmas.proofs.Fractions.{factors, den_positive}
 use Rattle.yds_fraction.specs.Ratio.{IsRatio}
 use Rattle.yds_fraction.proofs.WithinLimits.{some_parts}
 use Rattle.yds_fraction.specs.Mixed.{IsMixed, fraction_of}

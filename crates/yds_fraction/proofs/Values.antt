@@ -1,5 +1,6 @@
 -- The exact values that the operators of `Mixed` give, over a common denominator.
-use Rattle.yds_model.proofs.Common.{◌≡◌, ℕ, Bool, true, false, eqb-true, ◌+◌, ◌-◌, ◌*◌, ◌/◌, ◌%◌, ◌<◌, ◌≤◌, ◌⊎◌, inl, inr, max, ap, subst, sym, ◌∙◌, refl, arith, ◌==◌, if◌then◌else◌, ◌∣◌, cases_lt, equality_of_values, sum_of_values, multiple_of_values, dvd_trans, one-dvd, div-le_of_le-mul, mul_comm, mul-le-mul_left, eq_of_mul-eq-mul_right, div-add-mod, le_of_mul-le-mul_right, mul-le-mul_right, lt_of_mul-lt-mul_right, mul-pos, Fraction, at_scale, numerator, AreAlike, IsSame, IsSum, IsMultiple}
+use Rattle.yds_model.proofs.Common.{◌≡◌, ℕ, Bool, true, false, eqb-true, ◌+◌, ◌-◌, ◌*◌, ◌/◌, ◌%◌, ◌<◌, ◌≤◌, ◌⊎◌, inl, inr, max, ap, subst, sym, ◌∙◌, refl, arith, ◌==◌, if◌then◌else◌, ◌∣◌, cases_lt, dvd_trans, one-dvd, div-le_of_le-mul, mul_comm, mul-le-mul_left, eq_of_mul-eq-mul_right, div-add-mod, le_of_mul-le-mul_right, mul-le-mul_right, lt_of_mul-lt-mul_right, mul-pos, Fraction, at_scale, numerator, AreAlike, IsSame, IsSum, IsMultiple}
+use Rattle.fraction_lemmas.proofs.Fractions.{equality_of_values, sum_of_values, multiple_of_values}
 use Rattle.yds_fraction.proofs.WithinLimits.{some_parts}
 use Rattle.yds_fraction.specs.Mixed.{IsMixed, fraction_of, IsInParts, AtScalesWith, common_den, whole_of_sum, CanAdd, Adds, CanSubtract, Subtracts, whole_of_multiple, Multiplies, SumCarriesOne, MultipleCarriesFactor}
 

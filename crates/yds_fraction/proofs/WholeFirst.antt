@@ -1,5 +1,6 @@
 -- Whole parts first, and then the parts below one, is the order of the values.
-use Rattle.yds_model.proofs.Common.{◌≡◌, ℕ, ◌+◌, ◌*◌, ◌<◌, ◌≤◌, ap, sym, ◌∙◌, refl, arith, Ordering, Less, Equal, Greater, MatchOrdering, nat_cmp, ordering_then, ◌∣◌, order_of_values, equality_of_values, nat_cmp_is, ranked, mul-le-mul_right, mul-lt-mul_of_pos_right, Fraction, Quotient, at_scale, numerator, IsLess, IsSame, IsLessQuotient, IsSameQuotient}
+use Rattle.yds_model.proofs.Common.{◌≡◌, ℕ, ◌+◌, ◌*◌, ◌<◌, ◌≤◌, ap, sym, ◌∙◌, refl, arith, Ordering, Less, Equal, Greater, MatchOrdering, nat_cmp, ordering_then, ◌∣◌, nat_cmp_is, ranked, mul-le-mul_right, mul-lt-mul_of_pos_right, Fraction, Quotient, at_scale, numerator, IsLess, IsSame, IsLessQuotient, IsSameQuotient}
+use Rattle.fraction_lemmas.proofs.Fractions.{order_of_values, equality_of_values}
 use Rattle.yds_fraction.specs.ValueOrder.{parts, quotient_cmp, fraction_cmp, OrderOfQuotients, OrderOfFractions}
 use Rattle.yds_fraction.proofs.WithinLimits.{some_parts}
 use Rattle.yds_fraction.specs.Mixed.{IsMixed, AtScales}

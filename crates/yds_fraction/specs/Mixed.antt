@@ -1,7 +1,7 @@
 -- What a `Mixed` keeps, and what its operators give.
 use Rattle.std.specs.Prelude.{◌≡◌, ℕ, ◌+◌, ◌*◌, ◌/◌, ◌<◌, ◌≤◌, ◌==◌, if◌then◌else◌, max}
 use Rattle.std.specs.Int.{◌∣◌}
-use Rattle.yds_model.specs.declared.limits.TheConstants.{MAX_DENOMINATOR, MAX_WHOLE}
+use Rattle.base.specs.declared.limits.TheConstants.{MAX_DENOMINATOR, MAX_WHOLE}
 use Rattle.yds_model.specs.Scale.{Fraction, at_scale, AreAlike, IsAtMost, IsSum, IsMultiple}
 use Rattle.yds_model.specs.Within.{IsFraction}
 

@@ -1,6 +1,6 @@
 -- What a `Ratio` keeps, and its mediant.
 use Rattle.std.specs.Prelude.{ℕ, ◌+◌, ◌≤◌}
-use Rattle.yds_model.specs.declared.limits.TheConstants.{MAX_DENOMINATOR}
+use Rattle.base.specs.declared.limits.TheConstants.{MAX_DENOMINATOR}
 use Rattle.yds_model.specs.Scale.{Quotient}
 
 -- the greatest numerator and denominator that a type may have

@@ -1,7 +1,7 @@
 -- What runs of Average Rate of groups do above a speed is together at most what the run of all jobs does.
 use Rattle.yds_model.proofs.Common.{◌≡◌, ℕ, ◌+◌, ◌-◌, ◌*◌, ◌<◌, ◌≤◌, ◌∣◌, List, [], ◌∷◌, length, get_or, ap, subst, refl, arith, All, All-map, sum_by, sum_by-cons, mul-sub, mul-le-mul_left, le_of_mul-le-mul_left, get_or-le-sum_by, Job, job_at, jobs_with, WrittenSlot, WholeSlot, IsScale, slots_at, excess, Piece, stretches, average_rate, IsAverageRateRun, work_in, sum_by-mul, sum_by_same, sum_by_at_most, All-front, All-back, no_job, zero, suc}
-use Rattle.yds_model.specs.Numbers.{sum_below}
-use Rattle.yds_model.proofs.SumsBelow.{sum_below_same, sum_below_at_most, sum_below_zero, sum_below-add}
+use Rattle.base.specs.Numbers.{sum_below}
+use Rattle.model_lemmas.proofs.SumsBelow.{sum_below_same, sum_below_at_most, sum_below_zero, sum_below-add}
 use Rattle.yds_laws.proofs.ExactRates.{average_rate_is_exact}
 use Rattle.yds_energy.proofs.EvenStretches.{run_even}
 use Rattle.yds_ratios.proofs.ListProducts.{product_of, product_some, product_divided}

@@ -1,7 +1,8 @@
 -- Sums over the numbers of groups' jobs, against the sum over all jobs; and the work that is live for groups and for all.
-use Rattle.yds_model.proofs.Common.{◌≡◌, ℕ, ◌*◌, ◌/◌, ◌≤◌, List, [], ◌∷◌, length, get_or, ap, refl, ◌∙◌, arith, inl, inr, cond, ◌==◌, sum_by, sum_by-cons, sum_by-append, sum_by-map, cases_eq, eq-eqb, ne_eqb, mul-le-mul_left, mul-le-mul_right, count, count-cons, contained_counted, Job, no_job, job_at, jobs_with, Piece, is_live, sum_by_same}
-use Rattle.yds_model.specs.Numbers.{sum_below}
-use Rattle.yds_model.proofs.SumsBelow.{sum_below_at_most, sum_by_grouped, sum_places, sum_below_same}
+use Rattle.yds_model.proofs.Common.{◌≡◌, ℕ, ◌*◌, ◌/◌, ◌≤◌, List, [], ◌∷◌, length, get_or, ap, refl, ◌∙◌, arith, inl, inr, cond, ◌==◌, sum_by, sum_by-cons, sum_by-append, sum_by-map, cases_eq, eq-eqb, ne_eqb, mul-le-mul_left, mul-le-mul_right, count, count-cons, Job, no_job, job_at, jobs_with, Piece, is_live, sum_by_same}
+use Rattle.model_lemmas.proofs.Counted.{contained_counted}
+use Rattle.base.specs.Numbers.{sum_below}
+use Rattle.model_lemmas.proofs.SumsBelow.{sum_below_at_most, sum_by_grouped, sum_places, sum_below_same}
 use Rattle.yds_laws.proofs.JobNumbers.{sum_by_number}
 use Rattle.yds_ratios.proofs.AverageSpeeds.{window, live_work}
 use Rattle.yds_cuts.specs.Groups.{AreApartIn, HaveAll}

@@ -1,6 +1,9 @@
 -- What runs of Average Rate of groups spend is together at most what the run of all jobs spends.
-use Rattle.yds_model.proofs.Common.{◌≡◌, ℕ, ◌+◌, ◌-◌, ◌*◌, ◌<◌, ◌≤◌, ◌⊎◌, List, [], ◌∷◌, ◌++◌, length, get_or, map, sym, ap, subst, refl, ◌∙◌, arith, inl, inr, All, AllZip, sum, flat_map, sum_by, sum_by-cons, sum-map, sum_by-map, All-nil, All-cons, All-head, All-tail, All-map, All-flat, All-append, All-contains, mul-pos, Job, no_job, job_at, jobs_with, Fraction, numerator, WrittenSlot, WholeSlot, IsSolid, IsScale, slots_at, work_given, IsFeasibleAt, excess, Point, point_at, IsTable, hull_of, hull_multiple, gaps_of, busy, horizon, product, stretches, average_rate, IsAverageRateRun, all_energy, Spent, HoldsAll, scale_exists, lowest_value, hull_exists, sum_by_same, sum_by-mul, sum_by_zero, mul-le-mul_left, Contains, IsConvex}
-use Rattle.yds_model.proofs.SumsBelow.{sum_by_grouped, sum_below_same, sum_places}
+use Rattle.yds_model.proofs.Common.{◌≡◌, ℕ, ◌+◌, ◌-◌, ◌*◌, ◌<◌, ◌≤◌, ◌⊎◌, List, [], ◌∷◌, ◌++◌, length, get_or, map, sym, ap, subst, refl, ◌∙◌, arith, inl, inr, All, AllZip, sum, flat_map, sum_by, sum_by-cons, sum-map, sum_by-map, All-nil, All-cons, All-head, All-tail, All-map, All-flat, All-append, All-contains, mul-pos, Job, no_job, job_at, jobs_with, Fraction, numerator, WrittenSlot, WholeSlot, IsSolid, IsScale, slots_at, work_given, IsFeasibleAt, excess, Point, point_at, IsTable, hull_of, hull_multiple, gaps_of, busy, horizon, product, stretches, average_rate, IsAverageRateRun, all_energy, Spent, HoldsAll, sum_by_same, sum_by-mul, sum_by_zero, mul-le-mul_left, Contains, IsConvex}
+use Rattle.model_lemmas.proofs.Scale.{scale_exists}
+use Rattle.fraction_lemmas.proofs.LowestTerms.{lowest_value}
+use Rattle.model_lemmas.proofs.HullExists.{hull_exists}
+use Rattle.model_lemmas.proofs.SumsBelow.{sum_by_grouped, sum_below_same, sum_places}
 use borrow.Author.Differences.{down}
 use Rattle.yds_events.specs.Stretch.{length_of}
 use Rattle.yds_laws.proofs.Bound.{scale_left, scale_right}

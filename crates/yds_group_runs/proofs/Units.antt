@@ -1,8 +1,9 @@
 -- What a run of Average Rate does above a speed, one unit of time after another.
-use Rattle.yds_model.proofs.Common.{◌≡◌, ℕ, suc, ◌-◌, ◌*◌, ◌<◌, ◌≤◌, ◌⊎◌, List, [], ◌∷◌, length, get_or, ap, refl, ◌∙◌, arith, inl, inr, Bool, false, cond, ◌&&◌, nat_le, nat_lt, nat_tests, All, sum_by, sum_by-cons, cases_lt, and_parts, leb-true, ltb-true, get_or-le-sum_by, mul-le-mul_right, found_or_none, get_or_default, Job, job_at, Piece, PiecesFrom, stretches, stretch_at, numbers_of, is_live, sum_by_same, sum_by_at_most, sum_by_zero, pieces_forward}
-use Rattle.yds_model.specs.Numbers.{sum_below}
-use Rattle.yds_model.proofs.SumsBelow.{sum_below_at_most}
-use Rattle.yds_model.proofs.Time.{before, here}
+use Rattle.yds_model.proofs.Common.{◌≡◌, ℕ, suc, ◌-◌, ◌*◌, ◌<◌, ◌≤◌, ◌⊎◌, List, [], ◌∷◌, length, get_or, ap, refl, ◌∙◌, arith, inl, inr, Bool, false, cond, ◌&&◌, nat_le, nat_lt, nat_tests, All, sum_by, sum_by-cons, cases_lt, and_parts, leb-true, ltb-true, get_or-le-sum_by, mul-le-mul_right, found_or_none, get_or_default, Job, job_at, Piece, PiecesFrom, stretches, stretch_at, numbers_of, is_live, sum_by_same, sum_by_at_most, sum_by_zero}
+use Rattle.model_lemmas.proofs.Front.{pieces_forward}
+use Rattle.base.specs.Numbers.{sum_below}
+use Rattle.model_lemmas.proofs.SumsBelow.{sum_below_at_most}
+use Rattle.model_lemmas.proofs.Time.{before, here}
 use Rattle.yds_events.specs.Stretch.{no_stretch}
 use Rattle.yds_events.proofs.Neighbours.{stretches_run, release_outside, deadline_outside, HasTime, stretch_with}
 use Rattle.yds_laws.proofs.Served.{all_numbers}

@@ -1,5 +1,7 @@
 -- The end of a hull that grows by one point at a time: points that come off it, and the point that is pushed.
-use Rattle.yds_model.proofs.Common.{◌≡◌, ℕ, ◌-◌, ◌<◌, ◌≤◌, List, [], ◌∷◌, ◌++◌, length, zero, suc, refl, sym, ap, ◌∙◌, subst, inl, inr, arith, Option, Some, None, option_to_list, slice_index_or, All, get_or_push, get_or_read, append-nil, get_or_append_left, length-append, All-pop, Point, no_point, point_at, AreRising, IsOnOrBelow, IsAbove, IsConvex, GoesOn, IsPoint, RisesFrom, rises_from, rising_again, rises_below, over_last}
+use Rattle.yds_model.proofs.Common.{◌≡◌, ℕ, ◌-◌, ◌<◌, ◌≤◌, List, [], ◌∷◌, ◌++◌, length, zero, suc, refl, sym, ap, ◌∙◌, subst, inl, inr, arith, Option, Some, None, option_to_list, slice_index_or, All, get_or_push, get_or_read, append-nil, get_or_append_left, length-append, All-pop, Point, no_point, point_at, AreRising, IsOnOrBelow, IsAbove, IsConvex, GoesOn, IsPoint}
+use Rattle.model_lemmas.proofs.Hull.{RisesFrom, rises_from, rising_again, rises_below}
+use Rattle.model_lemmas.proofs.HullExists.{over_last}
 use Rattle.yds_hull.specs.Ends.{EndsAbove, StaysPart}
 
 -- # Order

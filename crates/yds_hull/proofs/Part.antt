@@ -1,5 +1,6 @@
 -- The hull of the first points, as one more of them comes, and what a hull has from the points that it is a part of.
-use Rattle.yds_model.proofs.Common.{◌≡◌, ℕ, ◌+◌, ◌-◌, ◌<◌, ◌≤◌, List, [], ◌∷◌, ◌++◌, length, zero, suc, refl, sym, ap, ◌∙◌, subst, inl, inr, arith, take, slice_index_or, All, take_more, take_all, All-push, Point, point_at, AreRising, IsConvex, GoesOn, IsPartOf, IsHullOf, RisesFrom, rises_from, rising_again, hull_rises, IsPoint}
+use Rattle.yds_model.proofs.Common.{◌≡◌, ℕ, ◌+◌, ◌-◌, ◌<◌, ◌≤◌, List, [], ◌∷◌, ◌++◌, length, zero, suc, refl, sym, ap, ◌∙◌, subst, inl, inr, arith, take, slice_index_or, All, take_more, take_all, All-push, Point, point_at, AreRising, IsConvex, GoesOn, IsPartOf, IsHullOf, IsPoint}
+use Rattle.model_lemmas.proofs.Hull.{RisesFrom, rises_from, rising_again, hull_rises}
 use Rattle.yds_hull.specs.Ends.{StaysPart}
 
 goes_pushed : (low next : Point) (points hull : List Point) → GoesOn low points hull → GoesOn low (points ++ next ∷ []) (hull ++ next ∷ [])

@@ -1,6 +1,6 @@
 -- The number of a name, and what an instance keeps as a job with a new name comes.
 use Rattle.yds_model.proofs.Common.{Bor, ⊎_elim, ◌≡◌, ℕ, ◌+◌, ◌<◌, ◌≤◌, Bool, true, false, cond, not, List, [], ◌∷◌, ◌++◌, Option, Some, None, length, ltb, refl, sym, ap, ◌∙◌, inl, inr, arith, subst, map, Contains, list_any, slice_index_or, prefix_len, position_or_len, position, MatchOption, bytes_eq, common_steps, cases_Bool, false≢true, ltb-false, bytes_eq-Decides, length-map, get_or-map, length_push, get_or_push, get_or_append_left, fails_before_first, position-Some, All-push, Job, IsJob, AreDifferentNames, AreNamedJobs, name_at, is_name, place_cases}
-use Rattle.yds_model.specs.declared.limits.TheConstants.{MAX_JOBS}
+use Rattle.base.specs.declared.limits.TheConstants.{MAX_JOBS}
 use Rattle.yds_instance.specs.Named.{Named, number_of}
 
 -- # The number of a name

@@ -1,7 +1,7 @@
 ghost use Rattle.std.specs.Prelude.{◌≡◌, ℕ, ◌<◌, ◌≤◌, ◌↔◌, List, [], ◌∷◌, ◌++◌, Some, None, length, MatchOption, OnOk, IfOk, IfSome, OnErr, IsErrOf, IsTrue};
 ghost use Rattle.std.specs.List.{Contains};
 ghost use Rattle.yds_model.specs.Document.{name_at};
-ghost use Rattle.yds_model.specs.Spelling.{is_name};
+ghost use Rattle.base.specs.Spelling.{is_name};
 ghost use Rattle.yds_model.specs.Within.{AreNamedJobs};
 ghost use Rattle.yds_instance.specs.Named.{Named, number_of};
 

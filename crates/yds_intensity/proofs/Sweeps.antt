@@ -1,6 +1,7 @@
 -- A walk over jobs in order of their deadlines: the sums of those seen so far.
-use Rattle.yds_model.proofs.Common.{◌≡◌, ℕ, ◌+◌, ◌-◌, ◌*◌, ◌<◌, ◌≤◌, ◌≢◌, ◌⊎◌, List, [], ◌∷◌, ◌++◌, ◌∙◌, length, get_or, take, map, refl, sym, ap, subst, inl, inr, arith, All, Contains, IsPermutation, map-append, get_or_append_left, get_or_push, length_push, length-map, get_or-map, same_lists, get_or_default, get_or-take, length-take-le, map_more, length-range_with_len, get_or-range_with_len, length-map-range_with_len, get_or-map-range_with_len, Contains-append_left, Contains-append_right, Contains-append_cases, All-push, All-map, IsPermutation-map, IsPermutation-sym, Contains-permutation, sum_by-IsPermutation, All-permutation, length_permutation, cases_lt, Job, IsJob, job_at, no_job, numbers_of, All-front, work_within, released_work, part_within, part_early, part_late, released_more, released_due, within_push}
-use Rattle.yds_model.specs.declared.limits.TheConstants.{MAX_WORK}
+use Rattle.yds_model.proofs.Common.{◌≡◌, ℕ, ◌+◌, ◌-◌, ◌*◌, ◌<◌, ◌≤◌, ◌≢◌, ◌⊎◌, List, [], ◌∷◌, ◌++◌, ◌∙◌, length, get_or, take, map, refl, sym, ap, subst, inl, inr, arith, All, Contains, IsPermutation, map-append, get_or_append_left, get_or_push, length_push, length-map, get_or-map, same_lists, get_or_default, get_or-take, length-take-le, map_more, length-range_with_len, get_or-range_with_len, length-map-range_with_len, get_or-map-range_with_len, Contains-append_left, Contains-append_right, Contains-append_cases, All-push, All-map, IsPermutation-map, IsPermutation-sym, Contains-permutation, sum_by-IsPermutation, All-permutation, length_permutation, cases_lt, Job, IsJob, job_at, no_job, numbers_of, All-front, work_within, released_work}
+use Rattle.model_lemmas.proofs.Confined.{part_within, part_early, part_late, released_more, released_due, within_push}
+use Rattle.base.specs.declared.limits.TheConstants.{MAX_WORK}
 use Rattle.yds_intensity.specs.declared.sweeping.Sum.{Sum}
 use Rattle.yds_intensity.specs.Sums.{no_sum, sum_at, HaveRisingEnds, AreSums}
 use Rattle.yds_intensity.specs.Put.{IsPut}

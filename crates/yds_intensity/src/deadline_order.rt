@@ -1,7 +1,7 @@
 ghost use Rattle.std.specs.Prelude.{◌≡◌, ◌≤◌, length, map, IfOk};
 ghost use Rattle.std.specs.List.{range_with_len};
 ghost use Rattle.std.specs.List.Sorted.{IsPermutation, IsNonDecreasingBy};
-ghost use Rattle.yds_model.specs.declared.limits.TheConstants.{MAX_JOBS};
+ghost use Rattle.base.specs.declared.limits.TheConstants.{MAX_JOBS};
 ghost use Rattle.yds_intensity.specs.DeadlineOrder.{IsDeadlineOrder};
 ghost use Rattle.yds_intensity.specs.Due.{due_of, AreByDeadline};
 

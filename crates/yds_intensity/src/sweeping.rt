@@ -1,5 +1,5 @@
 ghost use Rattle.std.specs.Prelude.{◌≡◌, ◌≤◌, length, IfOk, OnOk};
-ghost use Rattle.yds_model.specs.declared.limits.TheConstants.{MAX_JOBS};
+ghost use Rattle.base.specs.declared.limits.TheConstants.{MAX_JOBS};
 ghost use Rattle.yds_intensity.specs.DeadlineOrder.{IsDeadlineOrder};
 ghost use Rattle.yds_intensity.specs.Sums.{AreSums};
 ghost use Rattle.yds_intensity.specs.Put.{IsPut};

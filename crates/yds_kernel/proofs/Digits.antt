@@ -1,5 +1,5 @@
 -- The number that digits spell.
-use Rattle.yds_model.proofs.Common.{◌≡◌, ℕ, ◌+◌, ◌*◌, ◌^◌, ◌<◌, ◌≤◌, nat_le, arith, leb-true, le-leb, digit_value, ◌-◌, refl, common_steps}
+use Rattle.base.proofs.Common.{◌≡◌, ℕ, ◌+◌, ◌*◌, ◌^◌, ◌<◌, ◌≤◌, nat_le, arith, leb-true, le-leb, digit_value, ◌-◌, refl, common_steps}
 use Rattle.std.proofs.Common.{lit<}
 use Rattle.std.proofs.Math.Nat.{pow-le-pow_right}
 use Rattle.yds_kernel.specs.declared.limits.TheConstants.{MAX_U64}

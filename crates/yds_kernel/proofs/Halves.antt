@@ -1,5 +1,5 @@
 -- Texts that are compared by two halves, which may overlap.
-use Rattle.yds_model.proofs.Common.{◌≡◌, ℕ, ◌+◌, ◌-◌, ◌≤◌, ◌++◌, List, length, take, drop, true, sym, ap, ap₂, ◌∙◌, arith, take-append-drop, drop-drop}
+use Rattle.base.proofs.Common.{◌≡◌, ℕ, ◌+◌, ◌-◌, ◌≤◌, ◌++◌, List, length, take, drop, true, sym, ap, ap₂, ◌∙◌, arith, take-append-drop, drop-drop}
 use Rattle.std.specs.Str.{bytes_eq}
 use Rattle.std.proofs.lemmas.Slice.Eq.{bytes_eq-Decides}
 use Rattle.std.proofs.lemmas.Bool.Decides.{same_from_decides}

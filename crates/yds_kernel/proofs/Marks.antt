@@ -8,7 +8,7 @@ use Rattle.std.specs.List.{position_or_len}
 use Rattle.std.proofs.Math.Bool.{or-true}
 use Rattle.std.proofs.lemmas.List.Sums.{position_or_len_is}
 use Rattle.std.proofs.lemmas.Nat.Bits.{bit_at-trailing_zeros, bit_at_or, bit_at-lt}
-use Rattle.yds_model.specs.Lines.{is_blank}
+use Rattle.base.specs.Lines.{is_blank}
 use Rattle.yds_kernel.proofs.Places.{first_in_front, not_true}
 use Rattle.std.proofs.lemmas.Simd.{length-zip2, get_or-zip2, bit_mask_l, tops_compared, mask_l-mod}
 use Rattle.memchr.specs.Find.{NoneBefore, Passes, is_byte}

@@ -1,5 +1,5 @@
 -- Names that stand at the front of bytes.
-use Rattle.yds_model.proofs.Common.{◌≡◌, ◌≤◌, ℕ, ◌++◌, ◌&&◌, nat_le, leb-true, List, length, codes, take, drop, true, Some, sym, ap, subst, ◌∙◌, refl, take_all, take-append-drop, le_refl}
+use Rattle.base.proofs.Common.{◌≡◌, ◌≤◌, ℕ, ◌++◌, ◌&&◌, nat_le, leb-true, List, length, codes, take, drop, true, Some, sym, ap, subst, ◌∙◌, refl, take_all, take-append-drop, le_refl}
 use Rattle.std.specs.Str.{bytes_eq}
 use Rattle.std.proofs.lemmas.Bool.{and_parts}
 use Rattle.std.proofs.lemmas.Slice.Eq.{bytes_eq-Decides}

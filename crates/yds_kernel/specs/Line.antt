@@ -2,8 +2,8 @@
 use Rattle.std.specs.Prelude.{ℕ, ◌+◌, ◌-◌, List, [], ◌∷◌, length, codes, take, drop, Bool, true, false, ◌==◌, ◌&&◌, ◌||◌, nat_le, if◌then◌else◌, Option, Some, None, Result, Ok, Err}
 use Rattle.std.specs.List.{prefix_len}
 use Rattle.std.specs.Str.{bytes_eq}
-use Rattle.yds_model.specs.Spelling.{is_digit}
-use Rattle.yds_model.specs.Fields.{Spot, refuse}
+use Rattle.base.specs.Spelling.{is_digit}
+use Rattle.base.specs.Fields.{Spot, refuse}
 use Rattle.yds_kernel.specs.declared.limits.TheConstants.{MAX_NUMBER, MAX_LINE}
 use Rattle.yds_kernel.specs.declared.kind.Kind.{Kind}
 use Rattle.yds_kernel.specs.declared.kind.Kind.TheVariants as kinds

@@ -3,8 +3,8 @@ use Rattle.std.specs.Prelude.{ℕ, List, [], ◌∷◌, length, take, drop, ◌=
 use Rattle.std.specs.List.{prefix_len, position_or_len}
 use Rattle.std.specs.Str.{bytes_eq}
 use Rattle.std.specs.Str.Parse.{digits_value}
-use Rattle.yds_model.specs.Lines.{is_blank}
-use Rattle.yds_model.specs.Spelling.{is_digit}
+use Rattle.base.specs.Lines.{is_blank}
+use Rattle.base.specs.Spelling.{is_digit}
 use Rattle.yds_kernel.specs.declared.limits.TheConstants.{MAX_U64, MAX_NUMBER}
 
 -- goes on only where something was read

@@ -6,7 +6,7 @@ use Rattle.std.specs.Prelude.{ℕ, ◌+◌, ◌-◌, ◌*◌, ◌^◌, List, [],
 use Rattle.std.specs.List.{list_all}
 use Rattle.std.specs.Str.{bytes_eq}
 use Rattle.std.specs.Str.Parse.{digits_value}
-use Rattle.yds_model.specs.Spelling.{is_digit}
+use Rattle.base.specs.Spelling.{is_digit}
 use Rattle.yds_kernel.specs.declared.limits.TheConstants.{MAX_U64}
 use Rattle.yds_kernel.specs.Parts.{◌>>=◌, or_else, after, digits, field, after_blanks, number}
 

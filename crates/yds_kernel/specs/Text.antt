@@ -1,7 +1,7 @@
 -- What the lines of a trace say, up to its first fault.
 use Rattle.std.specs.Prelude.{ℕ, List, [], ◌∷◌, map, Bool, ◌==◌, if◌then◌else◌, Option, Some, None, Result, Ok, Err}
-use Rattle.yds_model.specs.Lines.{Line, lines_from, trimmed}
-use Rattle.yds_model.specs.Fields.{Spot, Fault}
+use Rattle.base.specs.Lines.{Line, lines_from, trimmed}
+use Rattle.base.specs.Fields.{Spot, Fault}
 use Rattle.yds_kernel.specs.declared.fault.Reason.{Reason}
 use Rattle.yds_kernel.specs.Event.{Said}
 use Rattle.yds_kernel.specs.Line.{line_of, last_line_of}

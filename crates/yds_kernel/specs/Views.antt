@@ -1,6 +1,6 @@
 -- What contracts see of the values that the code lends from a line, and what the code read, against the definition.
 use Rattle.std.specs.Prelude.{◌≡◌, Option, Some, None, Result, Ok, Err}
-use Rattle.yds_model.specs.Fields.{Spot}
+use Rattle.base.specs.Fields.{Spot}
 use Rattle.yds_kernel.specs.declared.stamp.Stamp.{Stamp as StampRead}
 use Rattle.yds_kernel.specs.declared.mark.Marked.{Marked as MarkedRead}
 use Rattle.yds_kernel.specs.declared.form.Named.{Named as NamedRead}

@@ -1,6 +1,6 @@
 //! Lines of a kernel's trace, as events.
 //!
-//! It stands on `yds_model` for what a fault, a digit and a blank are, and on `memchr`. It keeps the promise that what
+//! It stands on `base` for what a fault, a digit and a blank are, and on `memchr`. It keeps the promise that what
 //! a line of a trace says is what the definitions in `specs/` say of it, for every line of bytes: only what stands at a
 //! line's first stamp counts, each number is exact, and a line that says something else than it seems is refused at its
 //! column. No call takes memory, and each name is a slice of the line.

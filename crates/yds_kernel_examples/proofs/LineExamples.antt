@@ -1,6 +1,6 @@
 -- Lines of a trace and what they say. Each is as the kernel's `trace` file, `trace-cmd report`, `perf script` or Perfetto's export has it.
-use Rattle.yds_model.proofs.Common.{◌≡◌, ℕ, List, [], ◌∷◌, ◌++◌, codes, Bool, true, false, Option, Some, None, Result, Ok, Err, refl}
-use Rattle.yds_model.specs.Fields.{Spot, refuse}
+use Rattle.base.proofs.Common.{◌≡◌, ℕ, List, [], ◌∷◌, ◌++◌, codes, Bool, true, false, Option, Some, None, Result, Ok, Err, refl}
+use Rattle.base.specs.Fields.{Spot, refuse}
 use Rattle.yds_kernel.specs.declared.state.State.TheVariants as states
 use Rattle.yds_kernel.specs.declared.loss.Since.TheVariants as since
 use Rattle.yds_kernel.specs.declared.fault.Reason.{Reason}

@@ -1,5 +1,5 @@
 -- Lines out of order, and where they are put: things that meet the definition, and near misses.
-use Rattle.yds_model.proofs.Common.{◌≡◌, ℕ, zero, suc, List, [], ◌∷◌, ◌++◌, true, false, None, if◌then◌else◌, refl}
+use Rattle.base.proofs.Common.{◌≡◌, ℕ, zero, suc, List, [], ◌∷◌, ◌++◌, true, false, None, if◌then◌else◌, refl}
 use Rattle.yds_kernel.specs.declared.loss.Since.TheVariants as since
 use Rattle.yds_kernel.specs.Event.{Said, Stamped, Lost, Nothing, Other}
 use Rattle.yds_kernel.specs.Text.{Trace}

@@ -1,5 +1,5 @@
 -- What a ring holds after a line was put into it.
-use Rattle.yds_model.proofs.Common.{◌≡◌, ℕ, zero, suc, ◌+◌, ◌-◌, ◌<◌, ◌≤◌, List, [], ◌∷◌, ◌++◌, length, set, get_or, Bool, true, false, not, or-true, Option, Some, None, option_map, unwrap_or, is_none, is_some, false≢true, true≢false, refl, sym, ap, ◌∙◌, arith, subst, append-nil, append_assoc, take, drop, drop_all, take_all, get_or-set_same, get_or-set_other, ◌⊎◌, inl, inr}
+use Rattle.base.proofs.Common.{◌≡◌, ℕ, zero, suc, ◌+◌, ◌-◌, ◌<◌, ◌≤◌, List, [], ◌∷◌, ◌++◌, length, set, get_or, Bool, true, false, not, or-true, Option, Some, None, option_map, unwrap_or, is_none, is_some, false≢true, true≢false, refl, sym, ap, ◌∙◌, arith, subst, append-nil, append_assoc, take, drop, drop_all, take_all, get_or-set_same, get_or-set_other, ◌⊎◌, inl, inr}
 use Rattle.std.proofs.lemmas.Option.{none-some, same_Some}
 use Rattle.yds_kernel.specs.declared.loss.Since.{Since}
 use Rattle.yds_kernel.specs.Event.{Event, Said, Stamped, Lost}

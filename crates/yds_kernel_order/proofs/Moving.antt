@@ -1,5 +1,5 @@
 -- A line that changes places with those before it, one after another.
-use Rattle.yds_model.proofs.Common.{◌≡◌, ℕ, ◌+◌, ◌-◌, ◌<◌, List, length, get_or, sym, ◌∙◌, arith, inl, inr, cases_lt}
+use Rattle.base.proofs.Common.{◌≡◌, ℕ, ◌+◌, ◌-◌, ◌<◌, List, length, get_or, sym, ◌∙◌, arith, inl, inr, cases_lt}
 use Rattle.std.specs.List.{swap}
 use Rattle.std.proofs.lemmas.List.Edits.{Swapped, swapped_from_swap}
 use Rattle.yds_kernel_order.specs.declared.ring.TheConstants.{SLOTS}

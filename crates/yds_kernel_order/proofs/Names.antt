@@ -1,5 +1,5 @@
 -- A name at the front of the room for it.
-use Rattle.yds_model.proofs.Common.{◌≡◌, ℕ, ◌≤◌, List, ◌++◌, length, take, ◌∙◌, take-take, take-append-le}
+use Rattle.base.proofs.Common.{◌≡◌, ℕ, ◌≤◌, List, ◌++◌, length, take, ◌∙◌, take-take, take-append-le}
 
 -- what was copied to the front stands there
 pub front_kept : (len : ℕ) (name new rest : List ℕ) → take (length name) new ≡ name → length name ≤ length new → length name ≤ len →

@@ -1,5 +1,5 @@
 -- What the next line shows of the whole trace, before any line is given.
-use Rattle.yds_model.proofs.Common.{◌≡◌, List, [], ◌∷◌, reverse, false, Option, Some, None, refl, sym, ap, ◌∙◌, subst, ℕ, length, true≢false}
+use Rattle.base.proofs.Common.{◌≡◌, List, [], ◌∷◌, reverse, false, Option, Some, None, refl, sym, ap, ◌∙◌, subst, ℕ, length, true≢false}
 use Rattle.std.proofs.lemmas.List.{reverse-append}
 use Rattle.std.proofs.lemmas.Option.{same_Some}
 use Rattle.yds_kernel.specs.Event.{Said}

@@ -1,5 +1,5 @@
 -- How many lines an event is put before, counted one after another.
-use Rattle.yds_model.proofs.Common.{◌≡◌, ℕ, zero, suc, ◌+◌, ◌-◌, ◌<◌, List, ◌∷◌, length, true, false, Option, Some, None, option_map, get_or, get_or_read, refl, sym, ap, ◌∙◌, arith}
+use Rattle.base.proofs.Common.{◌≡◌, ℕ, zero, suc, ◌+◌, ◌-◌, ◌<◌, List, ◌∷◌, length, true, false, Option, Some, None, option_map, get_or, get_or_read, refl, sym, ap, ◌∙◌, arith}
 use Rattle.yds_kernel_order.specs.declared.ring.TheConstants.{SLOTS}
 use Rattle.yds_kernel_order.specs.declared.limits.TheConstants.{MAX_PASSED, MAX_STEP_BACK}
 use Rattle.yds_kernel_order.specs.Order.{Placed}

@@ -1,5 +1,5 @@
 -- The places of a ring: what stands in them, from a place on.
-use Rattle.yds_model.proofs.Common.{◌≡◌, ◌≢◌, ℕ, zero, suc, ◌+◌, ◌-◌, ◌<◌, ◌≤◌, List, [], ◌∷◌, ◌++◌, length, get_or, refl, sym, ap, ◌∙◌, arith, add-zero, inl, inr, cases_lt, lt-ltb, le-ltb, set, get_or-set_other}
+use Rattle.base.proofs.Common.{◌≡◌, ◌≢◌, ℕ, zero, suc, ◌+◌, ◌-◌, ◌<◌, ◌≤◌, List, [], ◌∷◌, ◌++◌, length, get_or, refl, sym, ap, ◌∙◌, arith, add-zero, inl, inr, cases_lt, lt-ltb, le-ltb, set, get_or-set_other}
 use Rattle.yds_kernel_order.specs.declared.ring.TheConstants.{SLOTS}
 use Rattle.yds_kernel_order.specs.Order.{Placed}
 use Rattle.yds_kernel_order.specs.Ring.{no_line, wrapped, slot_at, held_from, IsMovedDown}

@@ -1,5 +1,5 @@
 -- Where a line is put, by how many lines it is put before.
-use Rattle.yds_model.proofs.Common.{◌≡◌, ℕ, zero, suc, ◌<◌, ◌≤◌, List, [], ◌∷◌, ◌++◌, length, Bool, true, false, not, ◌||◌, if◌then◌else◌, Option, Some, None, option_map, refl, ap, ◌∙◌, arith, subst}
+use Rattle.base.proofs.Common.{◌≡◌, ℕ, zero, suc, ◌<◌, ◌≤◌, List, [], ◌∷◌, ◌++◌, length, Bool, true, false, not, ◌||◌, if◌then◌else◌, Option, Some, None, option_map, refl, ap, ◌∙◌, arith, subst}
 use Rattle.yds_kernel.specs.Event.{Event, Said, Stamped, Lost, Nothing}
 use Rattle.yds_kernel_order.specs.declared.limits.TheConstants.{MAX_STEP_BACK}
 use Rattle.yds_kernel_order.specs.Order.{Placed, is_before_by, is_behind, put, with_last}

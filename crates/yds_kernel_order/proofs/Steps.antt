@@ -1,5 +1,5 @@
 -- What the steps of a reader make of the order for which it stands.
-use Rattle.yds_model.proofs.Common.{◌≡◌, ℕ, ◌+◌, ◌-◌, ◌^◌, ◌<◌, ◌≤◌, List, [], ◌∷◌, ◌++◌, length, true, false, nat_le, Option, Some, None, Result, Ok, Err, refl, sym, ap, ◌∙◌, arith, subst, append_assoc, length-append, eq-eqb, leb-false, leb-true, false≢true, true≢false, OnOk, Fault, Spot}
+use Rattle.base.proofs.Common.{◌≡◌, ℕ, ◌+◌, ◌-◌, ◌^◌, ◌<◌, ◌≤◌, List, [], ◌∷◌, ◌++◌, length, true, false, nat_le, Option, Some, None, Result, Ok, Err, refl, sym, ap, ◌∙◌, arith, subst, append_assoc, length-append, eq-eqb, leb-false, leb-true, false≢true, true≢false, OnOk, Fault, Spot}
 use Rattle.std.specs.Result.{is_err}
 use Rattle.yds_port.specs.Count.{Rose}
 use Rattle.yds_kernel.specs.declared.fault.Reason.{Reason}

@@ -1,6 +1,6 @@
 -- What a reader of lines in order of time holds, and which order it stands for.
 use Rattle.std.specs.Prelude.{◌≡◌, ℕ, ◌+◌, ◌≤◌, List, [], ◌∷◌, ◌++◌, length, Option, Some, None}
-use Rattle.yds_model.specs.Fields.{Fault}
+use Rattle.base.specs.Fields.{Fault}
 use Rattle.yds_kernel.specs.declared.fault.Reason.{Reason}
 use Rattle.yds_kernel.specs.Event.{Said, Nothing}
 use Rattle.yds_kernel.specs.Text.{Trace, trace_of, trace_from}

@@ -1,6 +1,6 @@
 -- What the steps within a reader of lines in order of time do.
 use Rattle.std.specs.Prelude.{◌≡◌, ℕ, ◌+◌, ◌-◌, ◌^◌, ◌<◌, List, [], ◌∷◌, ◌++◌, length, Bool, false, nat_le, Option, Some, None, Result, Ok, Err}
-use Rattle.yds_model.specs.Fields.{Spot}
+use Rattle.base.specs.Fields.{Spot}
 use Rattle.yds_port.specs.Count.{Rose}
 use Rattle.yds_kernel.specs.declared.fault.Reason.{Reason}
 use Rattle.yds_kernel.specs.Event.{Said}

@@ -1,5 +1,5 @@
 -- A range of a buffer, its front and what is left of it.
-use Rattle.yds_model.proofs.Common.{◌≡◌, ℕ, ◌+◌, ◌-◌, ◌≤◌, List, length, take, drop, sym, ap, ◌∙◌, arith, inl, inr, length-drop, length-take-le, take-take, drop-drop, take_all, drop_all, cases_lt, le_refl}
+use Rattle.base.proofs.Common.{◌≡◌, ℕ, ◌+◌, ◌-◌, ◌≤◌, List, length, take, drop, sym, ap, ◌∙◌, arith, inl, inr, length-drop, length-take-le, take-take, drop-drop, take_all, drop_all, cases_lt, le_refl}
 use Rattle.std.proofs.lemmas.List.{drop-take}
 
 pub range_len : (bytes : List ℕ) (start end : ℕ) → start ≤ end → end ≤ length bytes → length (take (end - start) (drop start bytes)) ≡ end - start

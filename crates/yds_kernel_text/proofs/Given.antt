@@ -1,5 +1,5 @@
 -- That a line is given as the definitions say, whatever the source has left.
-use Rattle.yds_model.proofs.Common.{◌≡◌, ◌≢◌, ℕ, ◌+◌, ◌<◌, ◌≤◌, List, [], ◌∷◌, ◌++◌, length, take, drop, true, false, Option, Some, None, Result, All, refl, sym, ap, ap₂, ◌∙◌, arith, append_assoc, append-nil, take-append-drop, length-append, length-drop, subst, without_return, Spot, Consumes}
+use Rattle.base.proofs.Common.{◌≡◌, ◌≢◌, ℕ, ◌+◌, ◌<◌, ◌≤◌, List, [], ◌∷◌, ◌++◌, length, take, drop, true, false, Option, Some, None, Result, All, refl, sym, ap, ap₂, ◌∙◌, arith, append_assoc, append-nil, take-append-drop, length-append, length-drop, subst, without_return, Spot, Consumes}
 use Rattle.std.specs.Io.KnownBytes.{Keeps, IsAtEnd, prepend_known}
 use Rattle.memchr.specs.Find.{Nowhere, Passes, is_byte}
 use Rattle.yds_port.specs.Count.{Rose}

@@ -1,5 +1,5 @@
 -- What the first line of bytes says, before what the others say.
-use Rattle.yds_model.proofs.Common.{◌≡◌, ◌≢◌, ℕ, ◌+◌, ◌-◌, ◌<◌, ◌≤◌, List, [], ◌∷◌, ◌++◌, length, get_or, take, drop, map, Bool, true, ◌==◌, All, refl, sym, ap, ◌∙◌, arith, inl, inr, if◌then◌else◌, eq-eqb, eqb-true, ne_eqb, cases_Bool, append_assoc, take-append-drop, length-append, length-take-le, get_or-take, le_refl, drop_more, All-from_get_or, All-get_or, get_or-append_right, Line, in_front, lines_from, trimmed, without_return, lines_from-front, lines_from-last}
+use Rattle.base.proofs.Common.{◌≡◌, ◌≢◌, ℕ, ◌+◌, ◌-◌, ◌<◌, ◌≤◌, List, [], ◌∷◌, ◌++◌, length, get_or, take, drop, map, Bool, true, ◌==◌, All, refl, sym, ap, ◌∙◌, arith, inl, inr, if◌then◌else◌, eq-eqb, eqb-true, ne_eqb, cases_Bool, append_assoc, take-append-drop, length-append, length-take-le, get_or-take, le_refl, drop_more, All-from_get_or, All-get_or, get_or-append_right, Line, in_front, lines_from, trimmed, without_return, lines_from-front, lines_from-last}
 use Rattle.memchr.specs.Find.{Nowhere, Passes, is_byte}
 use Rattle.yds_kernel.specs.Stamp.{last_byte}
 use Rattle.yds_kernel.specs.Line.{line_of, last_line_of}

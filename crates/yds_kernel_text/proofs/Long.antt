@@ -1,5 +1,5 @@
 -- A line that is too long says what its front says.
-use Rattle.yds_model.proofs.Common.{◌≡◌, ℕ, zero, suc, ◌+◌, ◌<◌, ◌≤◌, List, [], ◌∷◌, length, take, nat_le, false, Bool, ◌&&◌, if◌then◌else◌, refl, sym, ap, ◌∙◌, arith, take-take, length-take-le, without_return, lt-leb}
+use Rattle.base.proofs.Common.{◌≡◌, ℕ, zero, suc, ◌+◌, ◌<◌, ◌≤◌, List, [], ◌∷◌, length, take, nat_le, false, Bool, ◌&&◌, if◌then◌else◌, refl, sym, ap, ◌∙◌, arith, take-take, length-take-le, without_return, lt-leb}
 use Rattle.yds_kernel.specs.declared.limits.TheConstants.{MAX_LINE}
 use Rattle.yds_kernel.specs.Stamp.{first_stamp}
 use Rattle.yds_kernel.specs.Line.{line_of, last_line_of, long_line, short_line, ends_in_stamp}

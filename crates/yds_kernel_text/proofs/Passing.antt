@@ -1,5 +1,5 @@
 -- A line that is too long is given by its front, and the rest of it is passed over.
-use Rattle.yds_model.proofs.Common.{◌≡◌, ◌≢◌, ℕ, ◌+◌, ◌<◌, ◌≤◌, List, [], ◌∷◌, ◌++◌, length, take, drop, true, Option, Some, None, Result, All, refl, sym, ap, ap₂, ◌∙◌, arith, append_assoc, append-nil, length-append, length-take-le, take-append-le, All-append, take_all, le_refl, without_return, Spot, Consumes, subst}
+use Rattle.base.proofs.Common.{◌≡◌, ◌≢◌, ℕ, ◌+◌, ◌<◌, ◌≤◌, List, [], ◌∷◌, ◌++◌, length, take, drop, true, Option, Some, None, Result, All, refl, sym, ap, ap₂, ◌∙◌, arith, append_assoc, append-nil, length-append, length-take-le, take-append-le, All-append, take_all, le_refl, without_return, Spot, Consumes, subst}
 use Rattle.std.specs.Io.KnownBytes.{Keeps, IsAtEnd, prepend_known}
 use Rattle.std.proofs.KnownBytes.{Consumes-trans, Consumes-kept}
 use Rattle.memchr.specs.Find.{Nowhere, Passes, is_byte}

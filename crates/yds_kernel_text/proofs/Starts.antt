@@ -1,5 +1,5 @@
 -- What lines say doesn't depend on the place of their first byte in the input.
-use Rattle.yds_model.proofs.Common.{◌≡◌, ℕ, ◌+◌, List, [], ◌∷◌, Bool, ◌==◌, map, refl, sym, ap, ap₂, ◌∙◌, cases_Bool, inl, inr, if◌then◌else◌, Line, in_front, lines_from, trimmed, without_return}
+use Rattle.base.proofs.Common.{◌≡◌, ℕ, ◌+◌, List, [], ◌∷◌, Bool, ◌==◌, map, refl, sym, ap, ap₂, ◌∙◌, cases_Bool, inl, inr, if◌then◌else◌, Line, in_front, lines_from, trimmed, without_return}
 use Rattle.yds_kernel.specs.Line.{line_of, last_line_of}
 use Rattle.yds_kernel.specs.Text.{Trace, no_line, then_says, said_of}
 

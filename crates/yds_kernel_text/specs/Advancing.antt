@@ -1,7 +1,7 @@
 -- What one step of a reader gives: the next line, the end, or that it can't go on.
 use Rattle.std.specs.Prelude.{◌≡◌, ℕ, ◌+◌, ◌^◌, ◌≤◌, ⊤, List, length, Option, Some, None, Result}
 use Rattle.std.specs.Io.KnownBytes.{IsAtEnd}
-use Rattle.yds_model.specs.Fields.{Spot}
+use Rattle.base.specs.Fields.{Spot}
 use Rattle.yds_port.specs.Count.{Rose}
 use Rattle.yds_kernel.specs.declared.fault.Reason.{Reason}
 use Rattle.yds_kernel.specs.Event.{Said}

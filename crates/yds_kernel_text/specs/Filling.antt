@@ -1,7 +1,7 @@
 -- What the steps within a reader do.
 use Rattle.std.specs.Prelude.{◌≡◌, ℕ, ◌+◌, ◌≤◌, List, [], ◌++◌, length, take, drop, true, false, Option}
 use Rattle.std.specs.Io.KnownBytes.{Consumes, Keeps, IsAtEnd}
-use Rattle.yds_model.specs.Lines.{without_return}
+use Rattle.base.specs.Lines.{without_return}
 use Rattle.yds_port.specs.Count.{Rose}
 use Rattle.yds_port.specs.declared.source.Taken.{Taken}
 use Rattle.yds_port.specs.declared.source.Taken.TheVariants.{Bytes, End, Failed}

@@ -1,7 +1,7 @@
 -- What a reader of a trace holds.
 use Rattle.std.specs.Prelude.{ℕ, List, Bool, if◌then◌else◌, Option, Result}
 use Rattle.std.specs.Io.KnownBytes.{prepend_known}
-use Rattle.yds_model.specs.Fields.{Spot}
+use Rattle.base.specs.Fields.{Spot}
 use Rattle.yds_kernel.specs.declared.fault.Reason.{Reason}
 use Rattle.yds_kernel.specs.Event.{Said}
 use Rattle.yds_kernel.specs.Line.{line_of, last_line_of}

@@ -1,7 +1,7 @@
 //! A reader of a trace.
 ghost use Rattle.std.specs.Prelude.{◌≡◌, ◌+◌, ◌-◌, ◌^◌, ◌<◌, ◌≤◌, [], length, take, drop, vec_len, nat_lt, true, IfOk};
 ghost use Rattle.memchr.specs.Find.{IsFirstByte, Nowhere, Passes, is_byte};
-ghost use Rattle.yds_model.specs.Lines.{without_return};
+ghost use Rattle.base.specs.Lines.{without_return};
 ghost use Rattle.yds_kernel.specs.declared.limits.TheConstants.{MAX_LINE};
 ghost use Rattle.yds_kernel.specs.Views.{Says};
 ghost use Rattle.yds_kernel_text.specs.declared.limits.TheConstants.{ROOM};

@@ -1,6 +1,7 @@
 -- No slot of the admitted jobs' schedule is faster than the top speed: a stretch that serves something is filled at one speed, by which
 -- it serves at most what the top speed does there.
-use Rattle.yds_model.proofs.Common.{◌≡◌, ℕ, zero, suc, ◌-◌, ◌*◌, ◌<◌, ◌≤◌, List, [], ◌∷◌, length, get_or, subst, arith, ap, true, ◌&&◌, nat_le, All, Contains, le-leb, and_from, All-nil, All-cons, All-contains, Contains-get_or, mul-le-mul_right, le_of_mul-le-mul_right, mul-pos, WholeSlot, slots_at, Piece, LiesIn, slots_in, FillsAtSpeed, ServesCapacity, IsWithinTop, top_capacity, run_forward, contains_filter}
+use Rattle.yds_model.proofs.Common.{◌≡◌, ℕ, zero, suc, ◌-◌, ◌*◌, ◌<◌, ◌≤◌, List, [], ◌∷◌, length, get_or, subst, arith, ap, true, ◌&&◌, nat_le, All, Contains, le-leb, and_from, All-nil, All-cons, All-contains, Contains-get_or, mul-le-mul_right, le_of_mul-le-mul_right, mul-pos, WholeSlot, slots_at, Piece, LiesIn, slots_in, FillsAtSpeed, ServesCapacity, IsWithinTop, top_capacity, contains_filter}
+use Rattle.model_lemmas.proofs.Runs.{run_forward}
 use Rattle.yds_laws.specs.AdmissionLaws.{AdmittedRunsAreWithinTop}
 
 -- a slot that lies in a stretch takes some of its time, and is one of those that do

@@ -1,7 +1,8 @@
 -- The answers of `audit` and of `check` are the only ones, since verdicts and judgements are.
-use Rattle.yds_model.proofs.Common.{◌≡◌, ℕ, List, [], ◌∷◌, Some, None, Option, Result, Ok, Err, Bool, true, false, sym, ap, ◌∙◌, Point, line, Document, Fault, reading, AuditAnswer, CheckAnswer, verdict_words, verdict_status, judgement_words, judgement_status, Question, AskAudit, AskAuditOnPoints, AskCheck, OnPoints, AnswersQuestion, AnswersReading, UnlessTooLong, is_too_long, verdict_is_unique}
+use Rattle.yds_model.proofs.Common.{◌≡◌, ℕ, List, [], ◌∷◌, Some, None, Option, Result, Ok, Err, Bool, true, false, sym, ap, ◌∙◌, Point, line, Document, Fault, reading, AuditAnswer, CheckAnswer, verdict_words, verdict_status, judgement_words, judgement_status, Question, AskAudit, AskAuditOnPoints, AskCheck, OnPoints, AnswersQuestion, AnswersReading, UnlessTooLong, is_too_long}
+use Rattle.model_lemmas.proofs.OneVerdict.{verdict_is_unique}
 use Rattle.yds_model.specs.declared.reason.Reason.{Reason}
-use Rattle.yds_model.specs.declared.status.Status.{Status}
+use Rattle.base.specs.declared.status.Status.{Status}
 use Rattle.yds_model.specs.Answer.{Says}
 use Rattle.yds_laws.specs.AnswerLaws.{AuditAndCheckAnswerOnce}
 use Rattle.yds_laws.proofs.OneJudgement.{judgement_is_unique}

@@ -1,5 +1,6 @@
 -- The confinement bound, and what follows for a schedule that is explained, against each other schedule.
-use Rattle.yds_model.proofs.Common.{ℕ, ◌+◌, ◌-◌, ◌*◌, ◌≤◌, List, [], ◌∷◌, ◌++◌, length, get_or, refl, arith, ap, take_at, drop_at, All-take, All-drop, mul-le-mul_left, le_of_mul-le-mul_left, count, WholeSlot, WrittenSlot, IsDivided, IsScale, slots_at, Piece, sum_by-add, sum_by-mul, sum_by_at_most, sum_by_zero, time_within}
+use Rattle.yds_model.proofs.Common.{ℕ, ◌+◌, ◌-◌, ◌*◌, ◌≤◌, List, [], ◌∷◌, ◌++◌, length, get_or, refl, arith, ap, take_at, drop_at, All-take, All-drop, mul-le-mul_left, le_of_mul-le-mul_left, count, WholeSlot, WrittenSlot, IsDivided, IsScale, slots_at, Piece, sum_by-add, sum_by-mul, sum_by_at_most, sum_by_zero}
+use Rattle.model_lemmas.proofs.Time.{time_within}
 use Rattle.yds_laws.specs.Laws.{ConfinementBound, ExplainedIsLeast, LeastAmongWritten, ServedAtSpeed}
 use Rattle.yds_laws.proofs.Group.{work_served}
 

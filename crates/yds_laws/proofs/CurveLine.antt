@@ -1,5 +1,8 @@
 -- The curve of a plan's levels goes in a straight line between two speeds with no break between them.
-use Rattle.yds_model.proofs.Common.{◌≡◌, ℕ, ◌+◌, ◌-◌, ◌*◌, ◌/◌, ◌≤◌, ◌⊎◌, List, [], ◌∷◌, length, get_or, map, reverse, ap, subst, ◌∙◌, arith, inl, inr, All, get_or-map, get_or-reverse, length-map, length-reverse, sum_by-cons, All-tail, mul-le-mul_right, le_of_mul-le-mul_right, Job, Fraction, Quotient, numerator, of_whole, of_parts, WrittenSlot, Level, in_lowest_terms, common_divisor, lowest_terms_are_one, IsPlan, least_above, Break, break_at, breaks_of, sum_by_zero, HasValue, lowest_value, at_most_still}
+use Rattle.yds_model.proofs.Common.{◌≡◌, ℕ, ◌+◌, ◌-◌, ◌*◌, ◌/◌, ◌≤◌, ◌⊎◌, List, [], ◌∷◌, length, get_or, map, reverse, ap, subst, ◌∙◌, arith, inl, inr, All, get_or-map, get_or-reverse, length-map, length-reverse, sum_by-cons, All-tail, mul-le-mul_right, le_of_mul-le-mul_right, Job, Fraction, Quotient, numerator, of_whole, of_parts, WrittenSlot, Level, in_lowest_terms, common_divisor, IsPlan, least_above, Break, break_at, breaks_of, sum_by_zero}
+use Rattle.fraction_lemmas.proofs.Divisor.{lowest_terms_are_one}
+use Rattle.fraction_lemmas.proofs.LowestTerms.{HasValue, lowest_value}
+use Rattle.fraction_lemmas.proofs.Fractions.{at_most_still}
 use Rattle.yds_laws.specs.CurveLaws.{IsNotAbove, IsNotBelow, IsBetween, excess_of, way, IsOnLine, CurveIsStraight}
 use Rattle.yds_laws.proofs.Curve.{curve}
 use Rattle.yds_laws.proofs.Plans.{plan_falls}

@@ -1,5 +1,7 @@
 -- The excess of slots that have their levels' speeds: just what the levels above the speed force.
-use Rattle.yds_model.proofs.Common.{◌≡◌, ℕ, suc, ◌+◌, ◌-◌, ◌*◌, ◌<◌, ◌≤◌, List, [], ◌∷◌, ◌∙◌, length, get_or, arith, inl, inr, ap, cond, nat_lt, All, sum_by-append, take_while-cons, All-tail, cases_lt, lt-ltb, le-ltb, mul-add, mul-le-mul_right, le_of_mul-le-mul_right, eq_of_mul-eq-mul_left, count, Each, Job, job_at, work_of, WholeSlot, work_given, Piece, total_length, Level, all_members, all_pieces, levels_above, IsNotFaster, sum_by-add, sum_by-mul, sum_by_same, sum_by_zero, none_times, at_most_still}
+use Rattle.yds_model.proofs.Common.{◌≡◌, ℕ, suc, ◌+◌, ◌-◌, ◌*◌, ◌<◌, ◌≤◌, List, [], ◌∷◌, ◌∙◌, length, get_or, arith, inl, inr, ap, cond, nat_lt, All, sum_by-append, take_while-cons, All-tail, cases_lt, lt-ltb, le-ltb, mul-add, mul-le-mul_right, le_of_mul-le-mul_right, eq_of_mul-eq-mul_left, count, Each, Job, job_at, work_of, WholeSlot, work_given, Piece, total_length, Level, all_members, all_pieces, levels_above, IsNotFaster, sum_by-add, sum_by-mul, sum_by_same, sum_by_zero}
+use Rattle.model_lemmas.proofs.Time.{none_times}
+use Rattle.fraction_lemmas.proofs.Fractions.{at_most_still}
 use Rattle.yds_laws.proofs.Group.{group, group-nil, group-append, work_served}
 
 -- the slot has the level's speed, if its job is a member

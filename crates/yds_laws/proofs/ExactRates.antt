@@ -3,7 +3,8 @@
 -- A job's whole parts up to a time are its units for so much of its window. So with its part of a stretch they are at most all its units, and
 -- nothing before its release. What is served before a stretch is at most the parts of the stretches before it. So what is pending there is
 -- at least the parts of the stretch.
-use Rattle.yds_model.proofs.Common.{◌≡◌, ℕ, zero, suc, ◌+◌, ◌-◌, ◌*◌, ◌<◌, ◌≤◌, min, List, length, get_or, ◌∙◌, refl, sym, subst, ap, arith, inl, inr, cond, Bool, true, false, ◌&&◌, nat_le, nat_lt, add-one, All, filter, sum_by, cases_lt, cases_order, cases_Bool, cond-true, cond-false, le-leb, lt-leb, leb-true, ltb-true, and_parts, and_from, get_or_default, All-from_get_or, mul-le-mul_left, mul-le-mul_right, le_of_mul-le-mul_right, Job, no_job, job_at, WholeSlot, slots_at, work_given, stretches, LiesIn, IsUncut, pending_at, numbers_of, pending_units, is_live, term_of, terms_of, average_rate, average_rate_rounds, work_in, stretch_at, sum_by-add, sum_by-mul, sum_by_at_most, sum_by_zero, run_forward, sum_by-filter}
+use Rattle.yds_model.proofs.Common.{◌≡◌, ℕ, zero, suc, ◌+◌, ◌-◌, ◌*◌, ◌<◌, ◌≤◌, min, List, length, get_or, ◌∙◌, refl, sym, subst, ap, arith, inl, inr, cond, Bool, true, false, ◌&&◌, nat_le, nat_lt, add-one, All, filter, sum_by, cases_lt, cases_order, cases_Bool, cond-true, cond-false, le-leb, lt-leb, leb-true, ltb-true, and_parts, and_from, get_or_default, All-from_get_or, mul-le-mul_left, mul-le-mul_right, le_of_mul-le-mul_right, Job, no_job, job_at, WholeSlot, slots_at, work_given, stretches, LiesIn, IsUncut, pending_at, numbers_of, pending_units, is_live, term_of, terms_of, average_rate, average_rate_rounds, work_in, stretch_at, sum_by-add, sum_by-mul, sum_by_at_most, sum_by_zero, sum_by-filter}
+use Rattle.model_lemmas.proofs.Runs.{run_forward}
 use Rattle.yds_events.specs.Stretch.{no_stretch}
 use Rattle.yds_events.proofs.Neighbours.{stretch_begins, stretch_ends, stretch_forward, stretch_order, release_outside, deadline_outside}
 use Rattle.yds_laws.specs.RunLaws.{HasWholeTerms, DoesItsTerms, AverageRateIsExact}

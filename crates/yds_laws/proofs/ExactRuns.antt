@@ -1,5 +1,6 @@
 -- Runs that never rounded: Average Rate does whole parts of jobs, and Optimal Available has the greatest quotient's speed.
-use Rattle.yds_model.proofs.Common.{◌≡◌, ℕ, zero, suc, ◌+◌, ◌-◌, ◌*◌, ◌%◌, ◌<◌, ◌≤◌, ◌⊎◌, max, List, [], ◌∷◌, length, map, ◌∙◌, refl, sym, ap, subst, arith, inl, inr, cond, Bool, true, false, count_by, sum_by, nat_le, ◌==◌, ◌&&◌, ◌||◌, not, fold, All, Any, filter, list_any, list_all, cases_lt, cases_Bool, lt-ltb, eqb-true, true≢false, get_or_default, All-nil, All-cons, All-head, All-tail, All-filter, All-weaker, All-from_get_or, sum_by-cons, mul-pos, mul-sub, mul-le-mul_right, eq_of_mul-eq-mul_right, div-lt_iff_lt-mul, Job, WholeSlot, slots_at, Piece, stretches, div_up, slots_in, FillsAtSpeed, ServesCapacity, IsRunAt, is_live, term_numerator, term_of, rounds_term, average_rate_rounds, due_units, pending_deadlines, asked, units_asked, optimal_available, optimal_available_rounds, work_in, stretch_at, run_forward}
+use Rattle.yds_model.proofs.Common.{◌≡◌, ℕ, zero, suc, ◌+◌, ◌-◌, ◌*◌, ◌%◌, ◌<◌, ◌≤◌, ◌⊎◌, max, List, [], ◌∷◌, length, map, ◌∙◌, refl, sym, ap, subst, arith, inl, inr, cond, Bool, true, false, count_by, sum_by, nat_le, ◌==◌, ◌&&◌, ◌||◌, not, fold, All, Any, filter, list_any, list_all, cases_lt, cases_Bool, lt-ltb, eqb-true, true≢false, get_or_default, All-nil, All-cons, All-head, All-tail, All-filter, All-weaker, All-from_get_or, sum_by-cons, mul-pos, mul-sub, mul-le-mul_right, eq_of_mul-eq-mul_right, div-lt_iff_lt-mul, Job, WholeSlot, slots_at, Piece, stretches, div_up, slots_in, FillsAtSpeed, ServesCapacity, IsRunAt, is_live, term_numerator, term_of, rounds_term, average_rate_rounds, due_units, pending_deadlines, asked, units_asked, optimal_available, optimal_available_rounds, work_in, stretch_at}
+use Rattle.model_lemmas.proofs.Runs.{run_forward}
 use Rattle.yds_events.specs.Stretch.{no_stretch}
 use Rattle.yds_events.proofs.Neighbours.{stretch_forward}
 use Rattle.yds_laws.specs.RunLaws.{HasWholeTerms, HasGreatestSpeed, OptimalAvailableIsExact}

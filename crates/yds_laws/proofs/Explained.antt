@@ -1,5 +1,6 @@
 -- A proper certificate explains its schedule.
-use Rattle.yds_model.proofs.Common.{◌≡◌, ℕ, ◌-◌, ◌*◌, ◌<◌, ◌≤◌, ◌==◌, List, length, get_or, take, drop, arith, inl, inr, ap, eq-eqb, cond, nat_lt, All, prefix_len, take-append-drop, length-map, flat_map-append, sum_by-append, get_or-le-sum_by, prefix_len-le-length, All-contains, All-from_get_or, cases_lt, count, AreDifferent, Each, Job, job_at, WholeSlot, no_slot, slots_at, slot_at, slot_at_scale, work_given, IsFeasibleAt, excess, Level, no_level, level_at, all_members, ExplainsAt, PiecesStand, StandsOnce, SumsAgree, IsNotFaster, IsWindowCovered, HasLevelSpeed, AreLevels, sum_by_same, counted_contains, front_at}
+use Rattle.yds_model.proofs.Common.{◌≡◌, ℕ, ◌-◌, ◌*◌, ◌<◌, ◌≤◌, ◌==◌, List, length, get_or, take, drop, arith, inl, inr, ap, eq-eqb, cond, nat_lt, All, prefix_len, take-append-drop, length-map, flat_map-append, sum_by-append, get_or-le-sum_by, prefix_len-le-length, All-contains, All-from_get_or, cases_lt, count, AreDifferent, Each, Job, job_at, WholeSlot, no_slot, slots_at, slot_at, slot_at_scale, work_given, IsFeasibleAt, excess, Level, no_level, level_at, all_members, ExplainsAt, PiecesStand, StandsOnce, SumsAgree, IsNotFaster, IsWindowCovered, HasLevelSpeed, AreLevels, sum_by_same, counted_contains}
+use Rattle.model_lemmas.proofs.Front.{front_at}
 use Rattle.yds_laws.specs.Laws.{ProperExplains}
 use Rattle.yds_laws.proofs.Group.{group}
 use Rattle.yds_laws.proofs.Exact.{Fits, FitsSlot, term, exact_levels}

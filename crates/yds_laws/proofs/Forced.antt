@@ -3,7 +3,7 @@ use Rattle.yds_model.proofs.Common.{◌≡◌, ℕ, ◌-◌, ◌*◌, ◌<◌, �
 use Rattle.yds_laws.proofs.Bound.{served_at_speed}
 use Rattle.yds_laws.proofs.JobNumbers.{sum_by_number}
 use Rattle.yds_laws.proofs.Served.{all_numbers, counted_once, cond_less, kept_different, lies}
-use Rattle.yds_model.proofs.Filters.{contains_filter, filter_all}
+use Rattle.base.proofs.Filters.{contains_filter, filter_all}
 use Rattle.yds_laws.specs.AdmissionLaws.{IsForced, RefusalsAreForced}
 
 -- # Different numbers

@@ -1,5 +1,9 @@
 -- What the judgement 'accepted' says: that the certificate is proper.
-use Rattle.yds_model.proofs.Common.{◌≡◌, ℕ, ◌-◌, ◌*◌, ◌<◌, ◌≤◌, List, length, ap, subst, sym, arith, ◌↔◌, Contains, mul-sub, mul-pos, at_scale, numerator, WrittenSlot, WholeSlot, IsDivided, IsScale, slots_at, no_written_slot, written_slot_at, Level, level_at, HasLevelSpeed, crossed_length, HasWrittenSpeed, den_positive, value-den, multiple_over, tied_equality, scale_exists, slot_read, verdict_is_exact}
+use Rattle.yds_model.proofs.Common.{◌≡◌, ℕ, ◌-◌, ◌*◌, ◌<◌, ◌≤◌, List, length, ap, subst, sym, arith, ◌↔◌, Contains, mul-sub, mul-pos, at_scale, numerator, WrittenSlot, WholeSlot, IsDivided, IsScale, slots_at, no_written_slot, written_slot_at, Level, level_at, HasLevelSpeed, crossed_length, HasWrittenSpeed}
+use Rattle.fraction_lemmas.proofs.Fractions.{den_positive, value-den, multiple_over, tied_equality}
+use Rattle.model_lemmas.proofs.Scale.{scale_exists}
+use Rattle.model_lemmas.proofs.Runs.{slot_read}
+use Rattle.model_lemmas.proofs.Verdicts.{verdict_is_exact}
 use Rattle.yds_laws.specs.Laws.{JudgementIsExact}
 
 -- a slot's length at a scale, over the denominators `d` and `e` of its ends `u` and `v`

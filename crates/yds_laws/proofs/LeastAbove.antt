@@ -1,5 +1,7 @@
 -- What a plan's levels do above a speed is the least excess above it, and goes in a straight line between speeds that no level lies between.
-use Rattle.yds_model.proofs.Common.{◌≡◌, ℕ, zero, suc, ◌+◌, ◌-◌, ◌*◌, ◌<◌, ◌≤◌, List, [], ◌∷◌, length, take, ap, sym, subst, ◌∙◌, refl, arith, inl, inr, sum_by, sum_by-cons, cases_lt, le_refl, mul-le-mul_right, mul-lt-mul_of_pos_right, lt_of_mul-lt-mul_right, Job, WrittenSlot, WholeSlot, slots_at, IsFeasibleAt, excess, Level, level_at, levels_above, all_members, all_pieces, in_lowest_terms, IsPlan, least_above, sum_by_same, scale_exists, HasValue, lowest_value}
+use Rattle.yds_model.proofs.Common.{◌≡◌, ℕ, zero, suc, ◌+◌, ◌-◌, ◌*◌, ◌<◌, ◌≤◌, List, [], ◌∷◌, length, take, ap, sym, subst, ◌∙◌, refl, arith, inl, inr, sum_by, sum_by-cons, cases_lt, le_refl, mul-le-mul_right, mul-lt-mul_of_pos_right, lt_of_mul-lt-mul_right, Job, WrittenSlot, WholeSlot, slots_at, IsFeasibleAt, excess, Level, level_at, levels_above, all_members, all_pieces, in_lowest_terms, IsPlan, least_above, sum_by_same}
+use Rattle.model_lemmas.proofs.Scale.{scale_exists}
+use Rattle.fraction_lemmas.proofs.LowestTerms.{HasValue, lowest_value}
 use Rattle.yds_laws.specs.CurveLaws.{LevelsTellLeastExcess}
 use Rattle.yds_laws.proofs.Bound.{confinement_bound}
 use Rattle.yds_laws.proofs.Explained.{proper_explains}

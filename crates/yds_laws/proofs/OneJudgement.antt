@@ -1,5 +1,7 @@
 -- Of jobs, slots and levels just one judgement is so.
-use Rattle.yds_model.proofs.Common.{◌≡◌, ℕ, zero, suc, List, length, refl, arith, None, Each, Job, WrittenSlot, Level, PiecesStand, StandsOnce, SumsAgree, IsNotFaster, IsWindowCovered, Verdict, Feasible, IsVerdict, Judgement, Accepted, Slots, Pieces, Members, Sums, Order, Window, Speed, HasWrittenSpeed, SlotsHold, PiecesHold, MembersHold, SumsHold, OrderHolds, WindowsHold, IsJudgement, IsFirstFailure, IsFirst, each_none, each_more, one_stage, one_place, verdict_is_unique}
+use Rattle.yds_model.proofs.Common.{◌≡◌, ℕ, zero, suc, List, length, refl, arith, None, Each, Job, WrittenSlot, Level, PiecesStand, StandsOnce, SumsAgree, IsNotFaster, IsWindowCovered, Verdict, Feasible, IsVerdict, Judgement, Accepted, Slots, Pieces, Members, Sums, Order, Window, Speed, HasWrittenSpeed, SlotsHold, PiecesHold, MembersHold, SumsHold, OrderHolds, WindowsHold, IsJudgement, IsFirstFailure}
+use Rattle.model_lemmas.proofs.FirstFailure.{IsFirst, each_none, each_more, one_stage, one_place}
+use Rattle.model_lemmas.proofs.OneVerdict.{verdict_is_unique}
 use Rattle.yds_laws.specs.Laws.{JudgementIsUnique}
 
 module _ (jobs : List Job) (slots : List WrittenSlot) (levels : List Level) where

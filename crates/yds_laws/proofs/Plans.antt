@@ -1,5 +1,7 @@
 -- What plans are: least, and of the same levels as each other plan of the jobs.
-use Rattle.yds_model.proofs.Common.{◌≡◌, ℕ, ◌*◌, ◌≤◌, List, [], ◌∷◌, ◌++◌, refl, ap, arith, All, All-nil, All-cons, All-append, All-from_get_or, eq_of_mul-eq-mul_left, Job, job_at, WrittenSlot, WholeSlot, IsScale, IsSolid, slot_at_scale, slots_at, excess, Level, no_level, EarliestAfter, IsPlan, scale_exists, factors}
+use Rattle.yds_model.proofs.Common.{◌≡◌, ℕ, ◌*◌, ◌≤◌, List, [], ◌∷◌, ◌++◌, refl, ap, arith, All, All-nil, All-cons, All-append, All-from_get_or, eq_of_mul-eq-mul_left, Job, job_at, WrittenSlot, WholeSlot, IsScale, IsSolid, slot_at_scale, slots_at, excess, Level, no_level, EarliestAfter, IsPlan}
+use Rattle.model_lemmas.proofs.Scale.{scale_exists}
+use Rattle.fraction_lemmas.proofs.Fractions.{factors}
 use Rattle.yds_laws.specs.Laws.{PlansAreLeast, PlansHaveTheSameLevels, PlansServeWork}
 use Rattle.yds_laws.proofs.Bound.{explained_is_least, scale_left, scale_right}
 use Rattle.yds_laws.proofs.Explained.{proper_explains}

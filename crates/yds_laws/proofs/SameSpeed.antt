@@ -1,5 +1,6 @@
 -- What is done above a speed is the same however the speed is written: p/q and r/s, where p * s ≡ r * q.
-use Rattle.yds_model.proofs.Common.{◌≡◌, ℕ, ◌-◌, ◌*◌, ◌≤◌, List, ap, sym, ◌∙◌, arith, sum_by, mul-sub, mul-le-mul_right, le_of_mul-le-mul_right, eq_of_mul-eq-mul_right, Job, Fraction, numerator, WholeSlot, excess, Level, in_lowest_terms, IsLeastExcess, least_above, sum_by-mul, sum_by_same, lowest_same}
+use Rattle.yds_model.proofs.Common.{◌≡◌, ℕ, ◌-◌, ◌*◌, ◌≤◌, List, ap, sym, ◌∙◌, arith, sum_by, mul-sub, mul-le-mul_right, le_of_mul-le-mul_right, eq_of_mul-eq-mul_right, Job, Fraction, numerator, WholeSlot, excess, Level, in_lowest_terms, IsLeastExcess, least_above, sum_by-mul, sum_by_same}
+use Rattle.fraction_lemmas.proofs.LowestTerms.{lowest_same}
 use Rattle.yds_laws.proofs.Curve.{curve, AreFalling}
 use Rattle.yds_laws.proofs.LeastAbove.{above_curve}
 

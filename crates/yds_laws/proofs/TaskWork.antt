@@ -1,5 +1,6 @@
 -- How much work of periodic tasks is confined to pieces of time, where the jobs of each task follow one another without a gap.
-use Rattle.yds_model.proofs.Common.{◌≡◌, ℕ, zero, suc, ◌+◌, ◌-◌, ◌*◌, ◌/◌, ◌%◌, ◌<◌, ◌≤◌, ◌==◌, true, List, [], ◌∷◌, ◌++◌, length, get_or, map, refl, ap, ◌∙◌, subst, append_assoc, arith, if◌then◌else◌, All, sum_by, flat_map, list_all, range_with_len, div-add-mod, mul-div_cancel, mul-le-mul_left, get_or-append_seam, and_parts, le-ltb, length-append, length_push, length-flat_map, All-nil, All-cons, All-head, All-tail, sum_by-cons, sum_by-append, length-range_with_len, length-map-range_with_len, count as count_in, AreDifferent, Job, no_job, job_at, work_of, WholeSlot, work_given, RunFrom, IsInWindow, Piece, IsConfined, total_length, Task, TaskSet, nth_job, count_of_jobs, numbers_of_jobs, fills_horizon, jobs_of_tasks, count_of_all, sum_by_same, sum_by-mul, part_own, part_other, time_within}
+use Rattle.yds_model.proofs.Common.{◌≡◌, ℕ, zero, suc, ◌+◌, ◌-◌, ◌*◌, ◌/◌, ◌%◌, ◌<◌, ◌≤◌, ◌==◌, true, List, [], ◌∷◌, ◌++◌, length, get_or, map, refl, ap, ◌∙◌, subst, append_assoc, arith, if◌then◌else◌, All, sum_by, flat_map, list_all, range_with_len, div-add-mod, mul-div_cancel, mul-le-mul_left, get_or-append_seam, and_parts, le-ltb, length-append, length_push, length-flat_map, All-nil, All-cons, All-head, All-tail, sum_by-cons, sum_by-append, length-range_with_len, length-map-range_with_len, count as count_in, AreDifferent, Job, no_job, job_at, work_of, WholeSlot, work_given, RunFrom, IsInWindow, Piece, IsConfined, total_length, Task, TaskSet, nth_job, count_of_jobs, numbers_of_jobs, fills_horizon, jobs_of_tasks, count_of_all, sum_by_same, sum_by-mul, part_own, part_other}
+use Rattle.model_lemmas.proofs.Time.{time_within}
 use Rattle.yds_laws.proofs.Group.{group, work_served}
 
 -- # The jobs of one task

@@ -1,5 +1,6 @@
 -- What the lines of tasks said together, as one more line says something.
-use Rattle.yds_model.proofs.Common.{◌≡◌, ℕ, List, [], ◌∷◌, ◌++◌, Some, None, ap, ◌∙◌, filter_map, append-nil, filter_map-append, first_of_them, Task, TaskSet, none_first, TaskEntry, HorizonEntry, TaskEntryOf, horizon_said, task_said, tasks_said}
+use Rattle.yds_model.proofs.Common.{◌≡◌, ℕ, List, [], ◌∷◌, ◌++◌, Some, None, ap, ◌∙◌, filter_map, append-nil, filter_map-append, first_of_them, Task, TaskSet, TaskEntry, HorizonEntry, TaskEntryOf, horizon_said, task_said, tasks_said}
+use Rattle.model_lemmas.proofs.Said.{none_first}
 
 -- the first line of a horizon
 pub horizon_more : (earlier : List TaskEntry) (set : TaskSet) (horizon : ℕ) → tasks_said earlier ≡ set → set.horizon ≡ None →

@@ -1,7 +1,7 @@
 -- The laws of admission: which jobs a processor of a top speed can serve, and how fast admitted jobs run.
 use Rattle.std.specs.Prelude.{◌≡◌, ℕ, ◌-◌, ◌*◌, ◌<◌, ◌≤◌, ◌⊎◌, ◌↔◌, List}
 use Rattle.std.specs.List.{All, Contains}
-use Rattle.yds_model.specs.Numbers.{AreDifferent}
+use Rattle.base.specs.Numbers.{AreDifferent}
 use Rattle.yds_model.specs.Job.{Job, IsJob, job_at, work_of}
 use Rattle.yds_model.specs.Policy.{numbers_of}
 use Rattle.yds_model.specs.Slot.{WrittenSlot, AtEachScale}

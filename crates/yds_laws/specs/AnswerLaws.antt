@@ -1,6 +1,6 @@
 -- The law of answers. It is the contract of a public function of this crate.
 use Rattle.std.specs.Prelude.{◌≡◌, ℕ, List, [], ◌∷◌, codes}
-use Rattle.yds_model.specs.declared.status.Status.{Status}
+use Rattle.base.specs.declared.status.Status.{Status}
 use Rattle.yds_model.specs.Answer.{Answers}
 
 -- to each input these words have at most one text and status

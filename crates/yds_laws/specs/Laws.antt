@@ -1,7 +1,7 @@
 -- The laws of schedules, certificates and plans. Each is the contract of a public function of this crate.
 use Rattle.std.specs.Prelude.{◌≡◌, ℕ, ◌+◌, ◌-◌, ◌*◌, ◌<◌, ◌≤◌, ◌↔◌, List, ◌++◌, length}
 use Rattle.std.specs.List.{All}
-use Rattle.yds_model.specs.Numbers.{AreDifferent}
+use Rattle.base.specs.Numbers.{AreDifferent}
 use Rattle.yds_model.specs.Job.{Job, job_at, work_of}
 use Rattle.yds_model.specs.Slot.{WrittenSlot, WholeSlot, IsScale, slots_at}
 use Rattle.yds_model.specs.Feasible.{IsFeasibleAt, IsFeasible}

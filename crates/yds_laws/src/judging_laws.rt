@@ -20,7 +20,7 @@ pub fn judgement_is_exact()
 {}
 
 /// Two verdicts of the same jobs, table and slots are one.
-#[tactic(auto, using(yds_model::proofs::OneVerdict::verdict_is_unique))]
+#[tactic(auto, using(model_lemmas::proofs::OneVerdict::verdict_is_unique))]
 pub fn verdict_is_unique()
     ensures { VerdictIsUnique }
 {}

@@ -3,19 +3,19 @@
 ghost use Rattle.yds_model.specs.ScaleLaws.{OrderIsOfValues, EqualityIsOfValues, SumIsOfValues, MultipleIsOfValues, OrderIsTransitive, EqualityIsTransitive, OrderAgreesWithEquality, ScaleExists, ScaleKeepsFeasible, ScaleMultipliesExcess, OneScaleDecides};
 
 /// One fraction is less than another, by cross products, where its value is less at each common scale.
-#[tactic(auto, using(yds_model::proofs::Fractions::order_of_values))]
+#[tactic(auto, using(fraction_lemmas::proofs::Fractions::order_of_values))]
 pub fn order_is_of_values()
     ensures { OrderIsOfValues }
 {}
 
 /// Two fractions are the same, by cross products, where their values are equal at each common scale.
-#[tactic(auto, using(yds_model::proofs::Fractions::equality_of_values))]
+#[tactic(auto, using(fraction_lemmas::proofs::Fractions::equality_of_values))]
 pub fn equality_is_of_values()
     ensures { EqualityIsOfValues }
 {}
 
 /// A fraction is the sum of two others where its value is the sum of theirs at each common scale.
-#[tactic(auto, using(yds_model::proofs::Fractions::sum_of_values))]
+#[tactic(auto, using(fraction_lemmas::proofs::Fractions::sum_of_values))]
 pub fn sum_is_of_values()
     ensures { SumIsOfValues }
 {}
@@ -26,25 +26,25 @@ pub fn multiple_is_of_values()
 {}
 
 /// What is less than a fraction that is less than a third is less than the third.
-#[tactic(auto, using(yds_model::proofs::Fractions::order_transitive))]
+#[tactic(auto, using(fraction_lemmas::proofs::Fractions::order_transitive))]
 pub fn order_is_transitive()
     ensures { OrderIsTransitive }
 {}
 
 /// Fractions that are the same as one fraction are the same.
-#[tactic(auto, using(yds_model::proofs::Fractions::equality_transitive))]
+#[tactic(auto, using(fraction_lemmas::proofs::Fractions::equality_transitive))]
 pub fn equality_is_transitive()
     ensures { EqualityIsTransitive }
 {}
 
 /// Fractions that are the same stand in the same order to each other fraction.
-#[tactic(auto, using(yds_model::proofs::Fractions::order_agrees))]
+#[tactic(auto, using(fraction_lemmas::proofs::Fractions::order_agrees))]
 pub fn order_agrees_with_equality()
     ensures { OrderAgreesWithEquality }
 {}
 
 /// A written schedule whose denominators are at least 1 has a scale.
-#[tactic(auto, using(yds_model::proofs::Scale::scale_exists))]
+#[tactic(auto, using(model_lemmas::proofs::Scale::scale_exists))]
 pub fn scale_exists()
     ensures { ScaleExists }
 {}
@@ -55,7 +55,7 @@ pub fn scale_keeps_feasible()
 {}
 
 /// At k times a scale each excess is k times as great.
-#[tactic(auto, using(yds_model::proofs::Scale::excess_scaled))]
+#[tactic(auto, using(model_lemmas::proofs::Scale::excess_scaled))]
 pub fn scale_multiplies_excess()
     ensures { ScaleMultipliesExcess }
 {}

@@ -1,91 +1,6 @@
--- The names that most proofs cite, passed on from one place: of std, and the definitions of this crate. Declares nothing.
-pub use Rattle.std.proofs.Common.{◌%◌, ◌&&◌, ◌*ℤ◌, ◌*◌, ◌++◌, ◌+ℤ◌, ◌+◌, ◌-ℤ◌, ◌-◌, ◌/◌, ◌<◌, ◌==◌, ◌^◌, ◌||◌, ◌↔◌, ◌∙◌, ◌∷◌, ◌≡◌, ◌≢◌, ◌≤ℤ◌, ◌≤◌, ◌⊎◌, [], add-one, add-zero, All, Any, ap, append-nil, append_assoc, ap₂, arith, below_more, Bool, Bor, bytes_eq, codes, cond, Contains, count_by, Decides, decimal, drop, drop-cons, drop-drop, drop_at, eq-eqb, eqb-true, Err, false, filter, flat_map, fold, get_or, get_or-set_other, get_or-set_same, get_or-take, IfNone, if◌then◌else◌, inl, inr, insert, is_none, IsErr, le-div_iff_mul-le, le-leb, le-ltb, le_refl, leb-true, length, length-append, length-drop, length-set, length-take, length-take-le, List, lt-ltb, ltb, map, MatchOption, MatchResult, max, min, mul-le-mul_left, mul-le-mul_right, mul-pos, mul-zero, mul_assoc, mul_comm, mul_left_comm, mul_right_comm, nat_cmp, nat_le, nat_lt, ne_eqb, negsuc, None, not, Ok, one-mul, Option, option_and_then, option_copied, pos, position, refl, replicate, Result, reverse, rules, set, set-set, slice_index, slice_index_or, slice_set, Some, subst, suc, sum, sum_by, sym, take, take-append-drop, take-take, take_all, take_at, true, vec_capacity, vec_len, zero, zero-add, ℕ, ℤ, ⊎_elim}
-pub use Rattle.std.proofs.Math.Bool.{and-false, and_comm, false-and, or-true}
-pub use Rattle.std.proofs.Math.ListN.{get_or-eq_default}
-pub use Rattle.std.proofs.Math.Nat.{add-mul, add-mul-div_right, div-add-mod, div-div-eq-div-mul, div-le_of_le-mul, div-le_self, div-lt_iff_lt-mul, div-mul-le_self, div-mul_cancel, div-one, dvd-mul_left, dvd-mul_right, dvd-mul_right_of_dvd, dvd_of_mul-dvd-mul_left, eq-zero_of_zero-dvd, eq_of_mul-eq-mul_left, eq_of_mul-eq-mul_right, le_of_mul-le-mul_left, le_of_mul-le-mul_right, lt-div-mul-add, lt_of_mul-lt-mul_right, mod-eq_of_lt, mod-le, mod-lt, mul-add, mul-add-div_right, mul-add-mod_self_right, mul-div_cancel, mul-dvd-mul_left, mul-le-mul, mul-lt-mul_of_pos_left, mul-lt-mul_of_pos_right, mul-sub, mul-suc, one-dvd, pow-le-pow_right, pow-suc, zero-mul}
-pub use Rattle.std.proofs.Math.Path.{fun_ext}
-pub use Rattle.std.proofs.Math.Seq.{drop-append-add, get_or-append_seam, map-set_same, take-add, take-append-add, take-append_seam, take-length}
-pub use Rattle.std.proofs.lemmas.Bool.{and_from, and_left, and_parts, and_right, both_ways, cases_Bool, cases_eq, cases_lt, cases_order, cond-false, cond-true, cond_both, eqb-false, false_from_ne_true, false≢true, leb-false, lt-leb, ltb-false, ltb-true, not-false, not-true, not_from_false, not_from_true, or_from, or_parts, true≢false}
-pub use Rattle.std.proofs.lemmas.Bool.Decides.{Decides-and, Decides-below_and, Decides-by_and, Decides-eqb, Decides-like, Decides-ltb, Decides-or, leb_tells, nat_tests, not_from_Decides}
-pub use Rattle.std.proofs.lemmas.Cmp.{nat_eq_equiv, ranked}
-pub use Rattle.std.proofs.lemmas.Fmt.{decimal_digit, decimal_nonempty, length-decimal-le}
-pub use Rattle.std.proofs.lemmas.Fn.{always_returns_same}
-pub use Rattle.std.proofs.lemmas.Grind.{common_steps, get_or_default_zero, reverse_onto}
-pub use Rattle.std.proofs.lemmas.Int.{clamps, ints}
-pub use Rattle.std.proofs.lemmas.Int.Digits.{digits_value_more}
-pub use Rattle.std.proofs.lemmas.Iterator.{items_from_collect, YieldsList-from_range}
-pub use Rattle.std.proofs.lemmas.List.{at_drop_all, at_drop_more, drop-append-le, drop-set-add, drop-set-lt, drop_all, drop_more, ext_get_or, flat_map_more, get_or-append-add, get_or-append_right, get_or-drop, get_or-map, get_or-replicate, get_or-reverse, get_or_append_left, get_or_at, get_or_default, get_or_past, get_or_push, get_or_read, length-map, length-replicate, length-reverse, length_push, map-append, map-id, map-set, map_more, map_push, nil_from_length, reverse-append, same_from_push, same_lists, set-get_or, take-append-le, take-set-le, take_more, take_more_set}
-pub use Rattle.std.proofs.lemmas.List.Concat.{flat_map-append, flat_map-cons, length-flat_map}
-pub use Rattle.std.proofs.lemmas.List.Edits.{get_or-insert_above, get_or-insert_at, get_or-insert_below, length-insert}
-pub use Rattle.std.proofs.lemmas.List.Elements.{All-append, All-cons, All-contains, All-contains_itself, All-drop, All-filter, All-from_get_or, All-from_recursion, All-get_or, All-head, All-map, All-more, All-nil, All-pop, All-push, All-rest, All-same, All-set, All-tail, All-take, All-weaker, Contains-append_cases, Contains-append_left, Contains-append_right, Contains-get_or, Contains-push, filter-append, filter_agree, filter_map-append, filter_more, filter_passes, recursion_from_All}
-pub use Rattle.std.proofs.lemmas.List.Filters.{dedup_is, length-filter_both, sum_by-filter_both}
-pub use Rattle.std.proofs.lemmas.List.Folds.{Any-from_list_any, flat_map-map, length-flat_map-take, list_all-append, list_all-map, list_all_at, list_any_at, list_any_more, list_any_none}
-pub use Rattle.std.proofs.lemmas.List.FromFn.{fill_by_all, get_or-enumerate_from, get_or-map-range_with_len, get_or-range_with_len, length-enumerate_from, length-map-range_with_len, length-range_with_len, map-range_with_len_more, take-map-range_with_len}
-pub use Rattle.std.proofs.lemmas.List.Kept.{AllPairs-cons, AllPairs-filter, AllPairs-from_increasing, Contains-dedup_nat, Contains-from_dedup, IsStrictlyIncreasing-filter}
-pub use Rattle.std.proofs.lemmas.List.Quantifiers.{all_pairs_push, position-Some}
-pub use Rattle.std.proofs.lemmas.List.Sorted.{All-permutation, answers_always, Contains-permutation, IsNonDecreasingBy-from_sort, IsNonDecreasingBy-from_sort_by_key, IsNonDecreasingBy-insert, IsPartitionedBy-leb, IsPartitionedBy-ltb, IsPartitionPoint-from_clause, IsPermutation-append_comm, IsPermutation-append_left, IsPermutation-insert, IsPermutation-map, IsPermutation-middle, IsPermutation-push_more, IsPermutation-refl, IsPermutation-sym, IsPermutation-to_front, IsPermutation-trans, length_permutation, list_any-IsPermutation, sum_by-IsPermutation, sum_by_pushed, ties_still_rise}
-pub use Rattle.std.proofs.lemmas.List.Sums.{count_by-le-length, fails_before_first, fold_push, get_or-le-sum_by, length-filter, list_all-from_AllPass, passes_at_first, position_or_len_is, prefix_len-drop_yes, prefix_len-le-length, prefix_len_is, prefix_len_passes, prefix_len_stops, sum-map, sum_by-append, sum_by-cons, sum_by-insert, sum_by-le, sum_by-le-sum_by, sum_by-set, sum_by-take-drop, sum_by-take-le, sum_by_more, sum_by_more_le, sum_by_push, take_while-cons}
-pub use Rattle.std.proofs.lemmas.Map.Keys.{IsDistinct-from_apart, IsDistinct-IsPermutation, IsStrictlyIncreasing-dedup, IsStrictlyIncreasing-from_distinct}
-pub use Rattle.std.proofs.lemmas.Map.Made.{IsDistinct-from_AllPairs}
-pub use Rattle.std.proofs.lemmas.Map.Steps.{length-le_from_distinct_below}
-pub use Rattle.std.proofs.lemmas.Map.Views.{Contains-from_any}
-pub use Rattle.std.proofs.lemmas.Nat.{div-add-mod', div-mul-add, mod-mul-add, mul-le, pow-add}
-pub use Rattle.std.proofs.lemmas.Nat.Bits.{bit_at-trailing_zeros}
-pub use Rattle.std.proofs.lemmas.Nat.Gcd.{dvd_of_mod-eq-zero, dvd_refl, dvd_trans, IsGcd-from_sub, IsGcd-from_zero, IsGcd-swap, le_of_dvd, mod-eq-zero_of_dvd, same_from_IsGcd}
-pub use Rattle.std.proofs.lemmas.Option.{slice_get-get_or, slice_get-map, slice_get_past, slice_get_read}
-pub use Rattle.std.proofs.lemmas.Result.{err_from_is_err_and, on_ok_weaker}
-pub use Rattle.std.proofs.lemmas.Simd.{chunk-drop, map-map}
-pub use Rattle.std.proofs.lemmas.Slice.{between_is, between_to_end}
-pub use Rattle.std.proofs.lemmas.Slice.Eq.{bytes_eq-Decides}
-pub use Rattle.std.proofs.lemmas.Slice.Zip.{firsts-zip, get_or-zip, length-zip, seconds-zip}
-pub use Rattle.std.proofs.lemmas.Str.Parse.{digits_value-take-le}
-pub use Rattle.std.specs.Bool.{then_some}
-pub use Rattle.std.specs.Char.{digit_value}
-pub use Rattle.std.specs.Cmp.{nat_cmp_is}
-pub use Rattle.std.specs.Cmp.Derive.{both_true}
-pub use Rattle.std.specs.Fmt.{digit_glyph, digits_onto}
-unfoldable pub use Rattle.std.specs.Fmt.{digits}
-pub use Rattle.std.specs.Int.{◌∣◌, bit_at, from_bool, int_max, IsGcd, trailing_zeros, w64}
-pub use Rattle.std.specs.Io.KnownBytes.{Appends, Consumes}
-pub use Rattle.std.specs.List.{after_first, AllByRecursion, AllPairs, AllZip, before_first, dedup, dedup_from, enumerate_from, filter_map, join_with_byte, list_all, list_any, position_or_len, prefix_len, range_with_len, slice_range, zip}
-unfoldable pub use Rattle.std.specs.List.{IsDistinct}
-pub use Rattle.std.specs.List.Sorted.{IsNonDecreasing, IsNonDecreasingBy, IsPartitionedBy, IsPartitionPoint, IsPermutation, IsSorted, IsSortedByKey, IsStableByKey, IsStrictlyIncreasing}
-pub use Rattle.std.specs.Option.{option_to_list, unwrap_or}
-pub use Rattle.std.specs.Ordering.{is_lt, MatchOrdering, ord_max, ordering_then}
-pub use Rattle.std.specs.Prelude.{eqb, IfErr, IfOk, IfSome, is_some, IsTrue, MatchBool, OnErr, OnOk, option_map, slice_get, String}
-pub use Rattle.std.specs.Result.{IsErrOf, result_ok}
-pub use Rattle.std.specs.Slice.{IsItemAt}
-pub use Rattle.std.specs.Str.{IsUtf8}
-pub use Rattle.std.specs.Str.Parse.{digits_value}
-pub use Rattle.std.specs.declared.alloc.Global.{Global}
-pub use Rattle.std.specs.declared.cmp.Ordering.{Ordering}
-pub use Rattle.std.specs.declared.cmp.Ordering.TheVariants.{Equal, Greater, Less}
-pub use Rattle.std.specs.declared.random_state.RandomState.{RandomState}
-pub use Rattle.yds_model.proofs.Alike.{alike_test}
-pub use Rattle.yds_model.proofs.Confined.{is_released, not_released, part_early, part_inside, part_late, part_released, part_within, released_due, released_more, within_push}
-pub use Rattle.yds_model.proofs.Counted.{contained_counted, count_joined, level_count, member_counted}
-pub use Rattle.yds_model.proofs.Divisor.{divisor_is_greatest, divisor_positive, divisor_times, lowest_terms_are_one, multiple_is_least}
-pub use Rattle.yds_model.proofs.Filters.{contains_filter, filter-range_with_len_more, filter_all, filter_none, filter_step, found_or_none, sum_by-filter}
-pub use Rattle.yds_model.proofs.FirstFailure.{each_more, each_none, IsFirst, one_place, one_stage}
-pub use Rattle.yds_model.proofs.Fractions.{at_most_of_values, at_most_still, den_positive, equality_of_values, factors, multiple_of_values, multiple_over, order_of_values, parts_alike, parts_den, same_through, sum_of_values, tied_equality, tied_order, value-den}
-pub use Rattle.yds_model.proofs.Front.{apart_turned, front_at, pieces_forward}
-pub use Rattle.yds_model.proofs.Grain.{grain_positive, grain_reached, grain_takes}
-pub use Rattle.yds_model.proofs.Horizon.{busy_and_idle, busy_within, deadlines_below, deadlines_within, last_within, part_other, part_own, releases_above, releases_from, same_work, work_by_jobs, works_few}
-pub use Rattle.yds_model.proofs.Hull.{hull_rises, hull_under, rises_below, rises_from, RisesFrom, rising_again}
-pub use Rattle.yds_model.proofs.HullExists.{hull_exists, over_last}
-pub use Rattle.yds_model.proofs.HullOf.{hull_is_computed, later_rise}
-pub use Rattle.yds_model.proofs.Lines.{All-join, drop_blanks-none, EndsField, fields_from-blanks, fields_from-first, fields_from-join, fields_from-run, IsFull, length-fields_from-le, length-lines_from-le, lines_from-front, lines_from-last, lines_from-written, spaced, without_return-end, without_return-none, without_return-other}
-pub use Rattle.yds_model.proofs.Lists.{All-back, All-flat, All-front, All-last, AllPairs-append, Any-append_left, Any-append_right, count-cons, counted_contains, flat_map-take, place_cases}
-pub use Rattle.yds_model.proofs.LowestTerms.{HasValue, lowest_is, lowest_is_lowest, lowest_same, lowest_value, parts_value}
-pub use Rattle.yds_model.proofs.OneVerdict.{verdict_is_unique}
-pub use Rattle.yds_model.proofs.RoundedUp.{rounded_up_same}
-pub use Rattle.yds_model.proofs.Runs.{run_earlier, run_forward, run_joined, run_later, slot_read}
-pub use Rattle.yds_model.proofs.Said.{empty_level, IsOfLevels, last_longer, levels_counted, more_said, none_first, none_said, of_member, of_piece, said-ticks, says-energy, says-grid, says-job, says-last, says-level, says-point, says-slot, says_other, with_energy, with_entry, with_grid, with_job, with_levels, with_point, with_slot}
-pub use Rattle.yds_model.proofs.Scale.{excess_scaled, feasible_coarser, feasible_finer, feasible_scaled, finer, finer_excess, finer_slots, finer_sum, finer_work, given_split, IsKept, one_scale_decides, one_scale_of, scale_exists}
-pub use Rattle.yds_model.proofs.Spelling.{decimal_digits, decimal_none, decimal_without, digit_range, digits_value-decimal, is_number-decimal, number_at-decimal, number_digits}
-pub use Rattle.yds_model.proofs.Sums.{sum_by-add, sum_by-map, sum_by-mul, sum_by_at_most, sum_by_same, sum_by_zero}
-pub use Rattle.yds_model.proofs.Time.{none_times, time_within}
-pub use Rattle.yds_model.proofs.Verdicts.{stand_is_feasible, table_verdict_is_exact, verdict_is_exact}
+-- The names that most proofs cite, passed on from one place: those that `base` passes on, and the definitions of this crate. Declares nothing.
+pub use Rattle.base.proofs.Common.{◌%◌, ◌&&◌, ◌*ℤ◌, ◌*◌, ◌++◌, ◌+ℤ◌, ◌+◌, ◌-ℤ◌, ◌-◌, ◌/◌, ◌<◌, ◌==◌, ◌>>=◌, [], ◌^◌, add-mul, add-mul-div_right, add-one, add-zero, after_first, All, All-append, All-back, All-cons, All-contains, All-contains_itself, All-drop, All-filter, All-flat, All-from_get_or, All-from_recursion, All-front, All-get_or, All-head, All-join, All-last, All-map, All-more, All-nil, All-permutation, All-pop, All-push, All-rest, All-same, All-set, All-tail, All-take, All-weaker, all_pairs_push, AllByRecursion, AllPairs, AllPairs-append, AllPairs-cons, AllPairs-filter, AllPairs-from_increasing, AllZip, always_returns_same, and-false, and_comm, and_from, and_left, and_parts, and_right, answers_always, Any, Any-append_left, Any-append_right, Any-from_list_any, ap, append-nil, append_assoc, Appends, ap₂, AreDifferent, arith, at_drop_all, at_drop_more, before_first, below_more, between_is, between_to_end, bit_at, bit_at-trailing_zeros, Bool, Bor, both_true, both_ways, bytes_eq, bytes_eq-Decides, cases_Bool, cases_eq, cases_lt, cases_order, chunk-drop, clamps, codes, common_steps, cond, cond-false, cond-true, cond_both, Consumes, Contains, Contains-append_cases, Contains-append_left, Contains-append_right, Contains-dedup_nat, Contains-from_any, Contains-from_dedup, Contains-get_or, Contains-permutation, Contains-push, contains_filter, count, count-cons, count_by, count_by-le-length, count_fields, counted_contains, Decides, Decides-and, Decides-below_and, Decides-by_and, Decides-eqb, Decides-like, Decides-ltb, Decides-or, decimal, decimal_digit, decimal_digits, decimal_none, decimal_nonempty, decimal_without, dedup, dedup_from, dedup_is, demand, digit_glyph, digit_range, digit_value, digits_onto, digits_value, digits_value-decimal, digits_value-take-le, digits_value_more, div-add-mod, div-add-mod', div-div-eq-div-mul, div-le_of_le-mul, div-le_self, div-lt_iff_lt-mul, div-mul-add, div-mul-le_self, div-mul_cancel, div-one, drop, drop-append-add, drop-append-le, drop-cons, drop-drop, drop-set-add, drop-set-lt, drop_all, drop_at, drop_blanks-none, drop_more, dvd-mul_left, dvd-mul_right, dvd-mul_right_of_dvd, dvd_of_mod-eq-zero, dvd_of_mul-dvd-mul_left, dvd_refl, dvd_trans, Each, EndsField, enumerate_from, eq-eqb, eq-zero_of_zero-dvd, eq_of_mul-eq-mul_left, eq_of_mul-eq-mul_right, eqb, eqb-false, eqb-true, Equal, Err, err_from_is_err_and, ext_get_or, fails_before_first, false, false-and, false_from_ne_true, false≢true, Fault, Field, field_at, fields_from, fields_from-blanks, fields_from-first, fields_from-join, fields_from-run, fields_of, fill_by_all, filter, filter-append, filter-range_with_len_more, filter_agree, filter_all, filter_map, filter_map-append, filter_more, filter_none, filter_passes, filter_step, firsts-zip, flat_map, flat_map-append, flat_map-cons, flat_map-map, flat_map-take, flat_map_more, fold, fold_push, found_or_none, from_bool, fun_ext, get_or, get_or-append-add, get_or-append_right, get_or-append_seam, get_or-drop, get_or-enumerate_from, get_or-eq_default, get_or-insert_above, get_or-insert_at, get_or-insert_below, get_or-le-sum_by, get_or-map, get_or-map-range_with_len, get_or-range_with_len, get_or-replicate, get_or-reverse, get_or-set_other, get_or-set_same, get_or-take, get_or-zip, get_or_append_left, get_or_at, get_or_default, get_or_default_zero, get_or_past, get_or_push, get_or_read, Global, Greater, IfErr, IfNone, IfOk, IfSome, if◌then◌else◌, in_field, in_front, inl, inr, insert, int_max, ints, is_blank, is_digit, is_lt, is_name, is_none, is_number, is_number-decimal, is_some, is_visible, IsDistinct-from_AllPairs, IsDistinct-from_apart, IsDistinct-IsPermutation, IsErr, IsErrOf, IsFirstFailure, IsFull, IsGcd, IsGcd-from_sub, IsGcd-from_zero, IsGcd-swap, IsItemAt, IsNonDecreasing, IsNonDecreasingBy, IsNonDecreasingBy-from_sort, IsNonDecreasingBy-from_sort_by_key, IsNonDecreasingBy-insert, IsPartitionedBy, IsPartitionedBy-leb, IsPartitionedBy-ltb, IsPartitionPoint, IsPartitionPoint-from_clause, IsPermutation, IsPermutation-append_comm, IsPermutation-append_left, IsPermutation-insert, IsPermutation-map, IsPermutation-middle, IsPermutation-push_more, IsPermutation-refl, IsPermutation-sym, IsPermutation-to_front, IsPermutation-trans, IsSorted, IsSortedByKey, IsStableByKey, IsStrictlyIncreasing, IsStrictlyIncreasing-dedup, IsStrictlyIncreasing-filter, IsStrictlyIncreasing-from_distinct, IsTrue, IsUtf8, items_from_collect, join_with_byte, joined, le-div_iff_mul-le, le-leb, le-ltb, le_of_dvd, le_of_mul-le-mul_left, le_of_mul-le-mul_right, le_refl, leb-false, leb-true, leb_tells, length, length-append, length-decimal-le, length-drop, length-enumerate_from, length-fields_from-le, length-filter, length-filter_both, length-flat_map, length-flat_map-take, length-insert, length-le_from_distinct_below, length-lines_from-le, length-map, length-map-range_with_len, length-range_with_len, length-replicate, length-reverse, length-set, length-take, length-take-le, length-zip, length_permutation, length_push, Less, line, Line, lines_from, lines_from-front, lines_from-last, lines_from-written, lines_of, List, list_all, list_all-append, list_all-from_AllPass, list_all-map, list_all_at, list_any, list_any-IsPermutation, list_any_at, list_any_more, list_any_none, lt-div-mul-add, lt-leb, lt-ltb, lt_of_mul-lt-mul_right, ltb, ltb-false, ltb-true, map, map-append, map-id, map-map, map-range_with_len_more, map-set, map-set_same, map_more, map_push, MatchBool, MatchOption, MatchOrdering, MatchResult, max, min, mod-eq-zero_of_dvd, mod-eq_of_lt, mod-le, mod-lt, mod-mul-add, mul-add, mul-add-div_right, mul-add-mod_self_right, mul-div_cancel, mul-dvd-mul_left, mul-le, mul-le-mul, mul-le-mul_left, mul-le-mul_right, mul-lt-mul_of_pos_left, mul-lt-mul_of_pos_right, mul-pos, mul-sub, mul-suc, mul-zero, mul_assoc, mul_comm, mul_left_comm, mul_right_comm, nat_cmp, nat_cmp_is, nat_eq_equiv, nat_le, nat_lt, nat_tests, ne_eqb, negsuc, nil_from_length, None, not, not-false, not-true, not_from_Decides, not_from_false, not_from_true, number_at, number_at-decimal, number_digits, Ok, on_ok_weaker, one-dvd, one-mul, OnErr, OnOk, Option, option_and_then, option_copied, option_map, option_to_list, or-true, or_from, or_parts, ord_max, Ordering, ordering_then, part_other, part_own, passes_at_first, past_end, place_cases, pos, position, position-Some, position_or_len, position_or_len_is, pow-add, pow-le-pow_right, pow-suc, prefix_len, prefix_len-drop_yes, prefix_len-le-length, prefix_len_is, prefix_len_passes, prefix_len_stops, RandomState, range_with_len, ranked, recursion_from_All, refl, refuse, replicate, Result, result_ok, reverse, reverse-append, reverse_onto, rules, same_from_IsGcd, same_from_push, same_lists, seconds-zip, set, set-get_or, set-set, slice_get, slice_get-get_or, slice_get-map, slice_get_past, slice_get_read, slice_index, slice_index_or, slice_range, slice_set, Some, spaced, Spot, String, subst, suc, sum, sum-map, sum_by, sum_by-add, sum_by-append, sum_by-cons, sum_by-filter, sum_by-filter_both, sum_by-insert, sum_by-IsPermutation, sum_by-le, sum_by-le-sum_by, sum_by-map, sum_by-mul, sum_by-set, sum_by-take-drop, sum_by-take-le, sum_by_at_most, sum_by_more, sum_by_more_le, sum_by_push, sum_by_pushed, sum_by_same, sum_by_zero, sym, take, take-add, take-append-add, take-append-drop, take-append-le, take-append_seam, take-length, take-map-range_with_len, take-set-le, take-take, take_all, take_at, take_more, take_more_set, take_while-cons, then_some, ties_still_rise, trailing_zeros, trimmed, true, true≢false, unwrap_or, vec_capacity, vec_len, w64, without_return, without_return-end, without_return-none, without_return-other, YieldsList-from_range, zero, zero-add, zero-mul, zip, ◌||◌, ℕ, ℤ, ◌↔◌, ◌∙◌, ◌∣◌, ◌∷◌, ◌≡◌, ◌≢◌, ◌≤ℤ◌, ◌≤◌, ⊎_elim, ◌⊎◌}
+unfoldable pub use Rattle.base.proofs.Common.{digits, IsDistinct}
 pub use Rattle.yds_model.specs.Admission.{AdmitsAfter, CanServe, confined_work, IsAdmission, IsAdmittedRun, IsFirstOverfull, IsOverfull, IsRefusal, IsWithinTop, jobs_with, lies_within, Refusal, top_capacity}
 pub use Rattle.yds_model.specs.AdmitAnswer.{AdmitAnswer, refusal_comment, with_taken}
 pub use Rattle.yds_model.specs.Answer.{Answers, AnswersQuestion, AnswersReading, AnswersRequest, AnswersTasks, is_too_long, OnPoints, UnlessTooLong}
@@ -107,13 +22,10 @@ pub use Rattle.yds_model.specs.Excess.{excess, IsLeast, IsLeastAt}
 pub use Rattle.yds_model.specs.ExpandAnswer.{expansion_text, level_comment}
 pub use Rattle.yds_model.specs.Explains.{Explains, ExplainsAt, Forces}
 pub use Rattle.yds_model.specs.Feasible.{IsFeasible, IsFeasibleAt, IsInWindow, RunFrom}
-pub use Rattle.yds_model.specs.Fields.{◌>>=◌, count_fields, demand, Fault, field_at, in_field, past_end, refuse, Spot}
 pub use Rattle.yds_model.specs.Job.{IsJob, Job, job_at, no_job, work_of}
 pub use Rattle.yds_model.specs.JsonAnswer.{level_json, report_json}
 pub use Rattle.yds_model.specs.Judgement.{Accepted, HasWrittenSpeed, IsJudgement, Judgement, Members, MembersHold, Order, OrderHolds, Pieces, PiecesHold, Slots, SlotsHold, Speed, Sums, SumsHold, Window, WindowsHold}
 pub use Rattle.yds_model.specs.Level.{all_members, all_pieces, Level, level_at, levels_above, no_level}
-pub use Rattle.yds_model.specs.Lines.{Field, fields_from, fields_of, in_front, is_blank, joined, Line, lines_from, lines_of, trimmed, without_return}
-pub use Rattle.yds_model.specs.Numbers.{AreDifferent, count, Each, IsFirstFailure}
 pub use Rattle.yds_model.specs.OptimalAvailable.{asked, due_units, IsOptimalAvailableRun, optimal_available, optimal_available_rounds, pending_deadlines, pending_jobs, units_asked}
 pub use Rattle.yds_model.specs.Piece.{AreApart, Covers, IsConfined, IsForward, Piece, PiecesFrom, total_length}
 pub use Rattle.yds_model.specs.Plan.{DontTouch, HasLevelDenominators, IsPlan, IsServedInStretches, IsSlower, Rise, speed_den, speed_num}
@@ -127,10 +39,10 @@ pub use Rattle.yds_model.specs.RoundAnswer.{RoundAnswer, RoundedAnswer, TooSlowA
 pub use Rattle.yds_model.specs.Rounding.{AreNeighbours, HasPointSpeed, HasSplitDenominators, IsEnergyOf, IsRounding, IsSplitAt, IsTooFast, jobs_in_turn, RoundsStretch, RoundsStretches, RunsAtPoint, RunsOn, SplitsStretch, top_of}
 pub use Rattle.yds_model.specs.Scale.{AreAlike, at_scale, Fraction, IsAtMost, IsLess, IsLessQuotient, IsMultiple, IsSame, IsSameQuotient, IsSum, numerator, of_parts, of_whole, Quotient}
 pub use Rattle.yds_model.specs.Slot.{AtEachScale, IsDivided, IsScale, IsSolid, no_slot, no_written_slot, slot_at, slot_at_scale, slots_at, WholeSlot, work_given, written_slot_at, WrittenSlot}
-pub use Rattle.yds_model.specs.Spelling.{fraction_at, is_digit, is_mixed, is_name, is_number, is_plus, is_slash, is_visible, kept, mixed_of, number_at}
+pub use Rattle.yds_model.specs.Spelling.{fraction_at, is_mixed, is_plus, is_slash, kept, mixed_of}
 pub use Rattle.yds_model.specs.Table.{AreRising, gaps_of, GoesOn, hull_multiple, hull_of, IsAbove, IsConvex, IsHullOf, IsOnOrBelow, IsPartOf, IsTable, no_point, Point, point_at}
 pub use Rattle.yds_model.specs.TaskReading.{count_of_all, has_task_named, horizon_said, HorizonEntry, is_task_name, new_task_name, read_horizon, read_task, read_task_fields, read_task_line, read_tasks_after, task_number_in, task_reading, task_reason_of, task_said, TaskEntry, TaskEntryOf, tasks_said}
 pub use Rattle.yds_model.specs.Tasks.{count_of_jobs, fills_horizon, has_work, horizon_of, jobs_of_tasks, level_until, names_of_tasks, nth_job, nth_name, numbers_of_jobs, Task, TaskSet}
-pub use Rattle.yds_model.specs.Text.{canonical_text, energy_lines, fraction_text, grid_lines, job_line, job_lines, level_lines, line, member_line, piece_line, point_line, slot_line}
+pub use Rattle.yds_model.specs.Text.{canonical_text, energy_lines, fraction_text, grid_lines, job_line, job_lines, level_lines, member_line, piece_line, point_line, slot_line}
 pub use Rattle.yds_model.specs.TrialAnswer.{drawn_job, drawn_jobs, next_state, peak_words, TrialAnswer}
 pub use Rattle.yds_model.specs.Within.{AreDifferentNames, AreLevelsOf, AreNamedJobs, ArePoints, AreSlotsOf, IsDocument, IsFraction, IsGrid, IsLevel, IsPiece, IsPoint, IsSlot, IsTextOf}

@@ -1,11 +1,11 @@
 -- The answer of `admit`: a document of the admitted jobs with their slots, and after it a comment for each refused job.
 use Rattle.std.specs.Prelude.{◌≡◌, ℕ, List, [], ◌∷◌, ◌++◌, codes, decimal, map}
 use Rattle.std.specs.List.{flat_map}
-use Rattle.yds_model.specs.declared.status.Status.{Status}
-use Rattle.yds_model.specs.declared.status.Status.TheVariants as statuses
+use Rattle.base.specs.declared.status.Status.{Status}
+use Rattle.base.specs.declared.status.Status.TheVariants as statuses
 use Rattle.yds_model.specs.Slot.{WrittenSlot}
 use Rattle.yds_model.specs.Document.{Document, no_document, name_at}
-use Rattle.yds_model.specs.Text.{line}
+use Rattle.base.specs.Lines.{line}
 use Rattle.yds_model.specs.Within.{IsTextOf}
 use Rattle.yds_model.specs.Admission.{Refusal, jobs_with, IsAdmission, IsAdmittedRun}
 

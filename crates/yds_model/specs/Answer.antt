@@ -1,15 +1,15 @@
 -- The one relation of the words, the input, the text and the status: each case is a relation in a file of its own.
 use Rattle.std.specs.Prelude.{◌≡◌, ℕ, List, [], ◌∷◌, length, codes, decimal, Option, Some, None, Result, Ok, Err, Bool, true, false, nat_lt}
-use Rattle.yds_model.specs.declared.limits.TheConstants.{MAX_INPUT}
+use Rattle.base.specs.declared.limits.TheConstants.{MAX_INPUT}
 use Rattle.yds_model.specs.declared.reason.Reason.{Reason}
 use Rattle.yds_model.specs.declared.task_reason.TaskReason.{TaskReason}
-use Rattle.yds_model.specs.declared.status.Status.{Status}
-use Rattle.yds_model.specs.declared.status.Status.TheVariants as statuses
+use Rattle.base.specs.declared.status.Status.{Status}
+use Rattle.base.specs.declared.status.Status.TheVariants as statuses
 use Rattle.yds_model.specs.Reason.{reason_text, task_reason_text}
 use Rattle.yds_model.specs.Table.{Point}
 use Rattle.yds_model.specs.Document.{Document}
-use Rattle.yds_model.specs.Text.{line}
-use Rattle.yds_model.specs.Fields.{Fault}
+use Rattle.base.specs.Lines.{line}
+use Rattle.base.specs.Fields.{Fault}
 use Rattle.yds_model.specs.Reading.{reading}
 use Rattle.yds_model.specs.Tasks.{TaskSet}
 use Rattle.yds_model.specs.TaskReading.{task_reading}

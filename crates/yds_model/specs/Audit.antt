@@ -2,7 +2,7 @@
 -- of each five causes are tried in order, and then the jobs are gone through.
 use Rattle.std.specs.Prelude.{◌≡◌, ◌≢◌, ℕ, ◌+◌, ◌-◌, ◌*◌, ◌/◌, ◌<◌, List, length, sum_by, fold, max, Option, Some, None, ◌==◌, if◌then◌else◌}
 use Rattle.std.specs.List.{All, Any}
-use Rattle.yds_model.specs.Numbers.{Each}
+use Rattle.base.specs.Numbers.{Each}
 use Rattle.yds_model.specs.Job.{Job, job_at}
 use Rattle.yds_model.specs.Scale.{Fraction, of_whole, of_parts, numerator, AreAlike, IsLess, IsAtMost}
 use Rattle.yds_model.specs.Slot.{WrittenSlot, written_slot_at, IsSolid}

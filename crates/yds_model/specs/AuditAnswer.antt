@@ -1,12 +1,13 @@
 -- The answers of `audit` and `check`: the line of the verdict, and of the judgement. Numbers of slots and levels count from 1.
 use Rattle.std.specs.Prelude.{◌≡◌, ℕ, ◌+◌, ◌-◌, List, [], ◌∷◌, codes, decimal, Option}
-use Rattle.yds_model.specs.declared.status.Status.{Status}
-use Rattle.yds_model.specs.declared.status.Status.TheVariants as statuses
+use Rattle.base.specs.declared.status.Status.{Status}
+use Rattle.base.specs.declared.status.Status.TheVariants as statuses
 use Rattle.yds_model.specs.Job.{job_at}
 use Rattle.yds_model.specs.Slot.{WrittenSlot, written_slot_at}
 use Rattle.yds_model.specs.Table.{Point}
 use Rattle.yds_model.specs.Document.{Document, name_at}
-use Rattle.yds_model.specs.Text.{line, fraction_text}
+use Rattle.base.specs.Lines.{line}
+use Rattle.yds_model.specs.Text.{fraction_text}
 use Rattle.yds_model.specs.Audit.{Verdict, Feasible, Backward, Overlap, Early, Late, OffPoint, WrongWork, IsVerdict}
 use Rattle.yds_model.specs.Judgement.{Judgement, Accepted, Slots, Pieces, Members, Sums, Order, Window, Speed, IsJudgement}
 

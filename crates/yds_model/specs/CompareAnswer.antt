@@ -1,14 +1,15 @@
 -- The answer of `compare`: what a plan and the runs of both policies spend, at each operating point and together.
 use Rattle.std.specs.Prelude.{◌≡◌, ℕ, List, [], ◌∷◌, ◌++◌, codes, decimal, ◌⊎◌}
 use Rattle.std.specs.List.{All, flat_map, zip}
-use Rattle.yds_model.specs.declared.status.Status.{Status}
-use Rattle.yds_model.specs.declared.status.Status.TheVariants as statuses
+use Rattle.base.specs.declared.status.Status.{Status}
+use Rattle.base.specs.declared.status.Status.TheVariants as statuses
 use Rattle.yds_model.specs.Slot.{WrittenSlot}
 use Rattle.yds_model.specs.Level.{Level}
 use Rattle.yds_model.specs.Plan.{IsPlan}
 use Rattle.yds_model.specs.Table.{Point}
 use Rattle.yds_model.specs.Document.{Document}
-use Rattle.yds_model.specs.Text.{line, fraction_text}
+use Rattle.base.specs.Lines.{line}
+use Rattle.yds_model.specs.Text.{fraction_text}
 use Rattle.yds_model.specs.AverageRate.{IsAverageRateRun}
 use Rattle.yds_model.specs.OptimalAvailable.{IsOptimalAvailableRun}
 use Rattle.yds_model.specs.Rounding.{top_of, IsTooFast}

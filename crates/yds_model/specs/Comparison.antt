@@ -2,7 +2,7 @@
 -- around its speed, as long at each as gives that speed.
 use Rattle.std.specs.Prelude.{◌≡◌, ℕ, ◌-◌, ◌*◌, ◌/◌, ◌≤◌, List, [], ◌∷◌, length, map, sum_by, nat_le, ◌==◌, if◌then◌else◌}
 use Rattle.std.specs.List.{All}
-use Rattle.yds_model.specs.Numbers.{IsFirstFailure}
+use Rattle.base.specs.Numbers.{IsFirstFailure}
 use Rattle.yds_model.specs.Job.{Job}
 use Rattle.yds_model.specs.Scale.{Fraction}
 use Rattle.yds_model.specs.Slot.{WrittenSlot, WholeSlot, AtEachScale}

@@ -1,13 +1,14 @@
 -- The answer of `curve`: a line for each speed at which the least excess of the jobs bends.
 use Rattle.std.specs.Prelude.{◌≡◌, ℕ, List, [], ◌∷◌, codes}
 use Rattle.std.specs.List.{flat_map}
-use Rattle.yds_model.specs.declared.status.Status.{Status}
-use Rattle.yds_model.specs.declared.status.Status.TheVariants as statuses
+use Rattle.base.specs.declared.status.Status.{Status}
+use Rattle.base.specs.declared.status.Status.TheVariants as statuses
 use Rattle.yds_model.specs.Slot.{WrittenSlot}
 use Rattle.yds_model.specs.Level.{Level}
 use Rattle.yds_model.specs.Plan.{IsPlan}
 use Rattle.yds_model.specs.Document.{Document}
-use Rattle.yds_model.specs.Text.{line, fraction_text}
+use Rattle.base.specs.Lines.{line}
+use Rattle.yds_model.specs.Text.{fraction_text}
 use Rattle.yds_model.specs.Curve.{Break, breaks_of}
 
 abbrev pub break_line : Break → List ℕ

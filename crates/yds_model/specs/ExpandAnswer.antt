@@ -1,8 +1,9 @@
 -- The answer of `expand`: the jobs of the tasks, line by line, and their one level where they have one.
 use Rattle.std.specs.Prelude.{◌≡◌, ℕ, List, [], ◌∷◌, ◌++◌, codes, decimal, Option, Some, None}
-use Rattle.yds_model.specs.declared.status.Status.{Status}
-use Rattle.yds_model.specs.declared.status.Status.TheVariants as statuses
-use Rattle.yds_model.specs.Text.{line, job_lines}
+use Rattle.base.specs.declared.status.Status.{Status}
+use Rattle.base.specs.declared.status.Status.TheVariants as statuses
+use Rattle.base.specs.Lines.{line}
+use Rattle.yds_model.specs.Text.{job_lines}
 use Rattle.yds_model.specs.Tasks.{TaskSet, names_of_tasks, jobs_of_tasks, one_level}
 
 -- a comment: `# one level WORK LENGTH`

@@ -1,7 +1,7 @@
 -- Jobs and pieces that force a schedule's excess, and a certificate that explains a schedule.
 use Rattle.std.specs.Prelude.{◌≡◌, ℕ, ◌+◌, ◌*◌, ◌<◌, ◌≤◌, List, length}
 use Rattle.std.specs.List.{All}
-use Rattle.yds_model.specs.Numbers.{AreDifferent}
+use Rattle.base.specs.Numbers.{AreDifferent}
 use Rattle.yds_model.specs.Job.{Job, job_at, work_of}
 use Rattle.yds_model.specs.Slot.{WrittenSlot, WholeSlot, AtEachScale}
 use Rattle.yds_model.specs.Feasible.{IsFeasibleAt}

@@ -2,7 +2,7 @@
 -- The model of Yao, Demers and Shenker (FOCS 1995).
 use Rattle.std.specs.Prelude.{ℕ, ◌<◌, ◌≤◌, List, sum_by}
 use Rattle.std.specs.List.{slice_index_or}
-use Rattle.yds_model.specs.declared.limits.TheConstants.{MAX_TIME, MAX_WORK}
+use Rattle.base.specs.declared.limits.TheConstants.{MAX_TIME, MAX_WORK}
 
 pub record Job : Type 0 where
   pub release : ℕ

@@ -2,7 +2,7 @@
 -- tried over all its levels, jobs or slots in order before the next.
 use Rattle.std.specs.Prelude.{◌≢◌, ℕ, ◌<◌, List, length, None}
 use Rattle.std.specs.List.{Contains}
-use Rattle.yds_model.specs.Numbers.{Each, IsFirstFailure}
+use Rattle.base.specs.Numbers.{Each, IsFirstFailure}
 use Rattle.yds_model.specs.Job.{Job}
 use Rattle.yds_model.specs.Slot.{WrittenSlot, written_slot_at}
 use Rattle.yds_model.specs.Level.{Level, level_at}

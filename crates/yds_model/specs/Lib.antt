@@ -1,4 +1,3 @@
-pub mod Numbers
 pub mod Job
 pub mod Confined
 pub mod Scale
@@ -11,11 +10,8 @@ pub mod Explains
 pub mod Proper
 pub mod Divisor
 pub mod Table
-pub mod Lines
 pub mod Spelling
 pub mod Reason
-pub mod Status
-pub mod Fields
 pub mod Document
 pub mod Text
 pub mod Entry

@@ -2,7 +2,7 @@
 -- The offline plan of Yao, Demers and Shenker (FOCS 1995).
 use Rattle.std.specs.Prelude.{◌≡◌, ℕ, ◌+◌, ◌*◌, ◌/◌, ◌<◌, ◌≤◌, ◌⊎◌, List, [], ◌∷◌, length}
 use Rattle.std.specs.List.{All, Contains}
-use Rattle.yds_model.specs.Numbers.{Each}
+use Rattle.base.specs.Numbers.{Each}
 use Rattle.yds_model.specs.Job.{Job, job_at}
 use Rattle.yds_model.specs.Scale.{Fraction, of_whole}
 use Rattle.yds_model.specs.Slot.{WrittenSlot, WholeSlot, IsScale, slots_at, slot_at, written_slot_at}

@@ -1,7 +1,7 @@
 -- The answer of `plan`: the document's jobs and points, with the slots and the levels of a plan of its jobs.
 use Rattle.std.specs.Prelude.{◌≡◌, ℕ, List, None}
-use Rattle.yds_model.specs.declared.status.Status.{Status}
-use Rattle.yds_model.specs.declared.status.Status.TheVariants as statuses
+use Rattle.base.specs.declared.status.Status.{Status}
+use Rattle.base.specs.declared.status.Status.TheVariants as statuses
 use Rattle.yds_model.specs.Slot.{WrittenSlot}
 use Rattle.yds_model.specs.Level.{Level}
 use Rattle.yds_model.specs.Plan.{IsPlan}

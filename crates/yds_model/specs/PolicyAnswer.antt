@@ -1,8 +1,8 @@
 -- The answers of `avr` and `oa`: the document's jobs and points, with the slots of a policy's run and its grid.
 use Rattle.std.specs.Prelude.{[], ◌≡◌, ℕ, List, Some, None}
 use Rattle.std.specs.List.{All}
-use Rattle.yds_model.specs.declared.status.Status.{Status}
-use Rattle.yds_model.specs.declared.status.Status.TheVariants as statuses
+use Rattle.base.specs.declared.status.Status.{Status}
+use Rattle.base.specs.declared.status.Status.TheVariants as statuses
 use Rattle.yds_model.specs.Slot.{WrittenSlot}
 use Rattle.yds_model.specs.Document.{Document, with_answer}
 use Rattle.yds_model.specs.Within.{IsTextOf}

@@ -2,7 +2,7 @@
 -- checker can try the places in order and tell the first that fails.
 use Rattle.std.specs.Prelude.{◌≡◌, ℕ, ◌+◌, ◌-◌, ◌*◌, ◌<◌, ◌≤◌, List, length, take}
 use Rattle.std.specs.List.{All, Contains}
-use Rattle.yds_model.specs.Numbers.{count, Each}
+use Rattle.base.specs.Numbers.{count, Each}
 use Rattle.yds_model.specs.Job.{Job, job_at, work_of}
 use Rattle.yds_model.specs.Slot.{WrittenSlot, WholeSlot, IsScale, slots_at, slot_at}
 use Rattle.yds_model.specs.Feasible.{IsFeasible}

@@ -3,17 +3,18 @@
 use Rattle.std.specs.Prelude.{ℕ, ◌-◌, ◌*◌, ◌/◌, List, [], ◌∷◌, ◌++◌, length, codes, Option, Some, None, is_none, Result, Ok, Err, Bool, true, nat_lt, nat_le, ◌==◌, ◌||◌, if◌then◌else◌}
 use Rattle.std.specs.List.{slice_index_or, filter_map, list_all}
 use Rattle.std.specs.Str.{bytes_eq}
-use Rattle.yds_model.specs.declared.limits.TheConstants.{MAX_JOBS, MAX_TIME, MAX_WORK, MAX_RUN_SPEED, MAX_POINTS, MAX_POINT_SPEED, MAX_POINT_POWER, MAX_GAPS, MAX_SLOT_WORK, MAX_ENERGY, MAX_LEVEL_WORK, MAX_LEVEL_LENGTH, MAX_SLOTS, MAX_LEVELS, MAX_PIECES, MAX_MEMBERS, MAX_TICKS, MAX_GRID, MAX_ROUNDED}
-use Rattle.yds_model.specs.declared.number_fault.NumberFault.{NumberFault}
-use Rattle.yds_model.specs.declared.number_fault.NumberFault.TheVariants as faults
+use Rattle.base.specs.declared.limits.TheConstants.{MAX_JOBS, MAX_TIME, MAX_WORK, MAX_RUN_SPEED, MAX_POINTS, MAX_POINT_SPEED, MAX_POINT_POWER, MAX_GAPS, MAX_SLOT_WORK, MAX_ENERGY, MAX_LEVEL_WORK, MAX_LEVEL_LENGTH, MAX_SLOTS, MAX_LEVELS, MAX_PIECES, MAX_MEMBERS, MAX_TICKS, MAX_GRID, MAX_ROUNDED}
+use Rattle.base.specs.declared.number_fault.NumberFault.{NumberFault}
+use Rattle.base.specs.declared.number_fault.NumberFault.TheVariants as faults
 use Rattle.yds_model.specs.declared.reason.Reason.{Reason}
 use Rattle.yds_model.specs.declared.reason.Reason.TheVariants as reasons
 use Rattle.yds_model.specs.Scale.{Fraction, of_parts}
 use Rattle.yds_model.specs.Table.{Point, point_at, hull_multiple}
 use Rattle.yds_model.specs.Document.{Document}
-use Rattle.yds_model.specs.Lines.{Line, Field, lines_of, fields_of}
-use Rattle.yds_model.specs.Fields.{Fault, Spot, ◌>>=◌, refuse, demand, field_at, count_fields, in_field, on_line}
-use Rattle.yds_model.specs.Spelling.{number_at, fraction_at, is_name}
+use Rattle.base.specs.Lines.{Line, Field, lines_of, fields_of}
+use Rattle.base.specs.Fields.{Fault, Spot, ◌>>=◌, refuse, demand, field_at, count_fields, in_field, on_line}
+use Rattle.base.specs.Spelling.{number_at, is_name}
+use Rattle.yds_model.specs.Spelling.{fraction_at}
 use Rattle.yds_model.specs.Entry.{Entry, JobEntry, PointEntry, SlotEntry, LevelEntry, PieceEntry, MemberEntry, TicksEntry, GridEntry, EnergyEntry, name_said, point_said, slot_said, piece_said, member_said, is_level, ticks_said, grid_said, energy_said, job_named, works_of_job, document_said}
 
 -- the kinds of line, and the word that each begins with

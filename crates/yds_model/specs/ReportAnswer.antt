@@ -1,14 +1,15 @@
 -- The answer of `report`: a plan's levels as a table.
 use Rattle.std.specs.Prelude.{◌≡◌, ℕ, ◌-◌, List, [], ◌∷◌, ◌++◌, length, codes, decimal, sum_by, replicate}
 use Rattle.std.specs.List.{flat_map, enumerate_from}
-use Rattle.yds_model.specs.declared.status.Status.{Status}
-use Rattle.yds_model.specs.declared.status.Status.TheVariants as statuses
+use Rattle.base.specs.declared.status.Status.{Status}
+use Rattle.base.specs.declared.status.Status.TheVariants as statuses
 use Rattle.yds_model.specs.Job.{Job}
 use Rattle.yds_model.specs.Slot.{WrittenSlot}
 use Rattle.yds_model.specs.Level.{Level}
 use Rattle.yds_model.specs.Divisor.{in_lowest_terms}
 use Rattle.yds_model.specs.Document.{Document}
-use Rattle.yds_model.specs.Text.{line, fraction_text}
+use Rattle.base.specs.Lines.{line}
+use Rattle.yds_model.specs.Text.{fraction_text}
 use Rattle.yds_model.specs.Energy.{first_release, last_deadline, horizon}
 use Rattle.yds_model.specs.Plan.{IsPlan}
 

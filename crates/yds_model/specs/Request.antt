@@ -2,9 +2,9 @@
 -- document.
 use Rattle.std.specs.Prelude.{ℕ, List, [], ◌∷◌, codes, Option, Some, None, Result, Ok, Err, if◌then◌else◌}
 use Rattle.std.specs.Str.{bytes_eq}
-use Rattle.yds_model.specs.declared.limits.TheConstants.{MAX_GRID, MAX_SEED, MAX_TRIAL_JOBS, MAX_TOP}
-use Rattle.yds_model.specs.declared.number_fault.NumberFault.{NumberFault}
-use Rattle.yds_model.specs.Spelling.{number_at}
+use Rattle.base.specs.declared.limits.TheConstants.{MAX_GRID, MAX_SEED, MAX_TRIAL_JOBS, MAX_TOP}
+use Rattle.base.specs.declared.number_fault.NumberFault.{NumberFault}
+use Rattle.base.specs.Spelling.{number_at}
 
 -- what is asked of a document
 pub data Question : Type 0 where

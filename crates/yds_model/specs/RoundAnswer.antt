@@ -1,12 +1,12 @@
 -- The answer of `round`: the document's jobs and points, with a plan's slots on the points and their energy.
 use Rattle.std.specs.Prelude.{◌≡◌, ℕ, ◌⊎◌, List, [], ◌∷◌, codes, decimal, Some, None}
-use Rattle.yds_model.specs.declared.status.Status.{Status}
-use Rattle.yds_model.specs.declared.status.Status.TheVariants as statuses
+use Rattle.base.specs.declared.status.Status.{Status}
+use Rattle.base.specs.declared.status.Status.TheVariants as statuses
 use Rattle.yds_model.specs.Scale.{Fraction}
 use Rattle.yds_model.specs.Slot.{WrittenSlot}
 use Rattle.yds_model.specs.Level.{Level}
 use Rattle.yds_model.specs.Document.{Document, with_answer}
-use Rattle.yds_model.specs.Text.{line}
+use Rattle.base.specs.Lines.{line}
 use Rattle.yds_model.specs.Within.{IsTextOf}
 use Rattle.yds_model.specs.Plan.{IsPlan}
 use Rattle.yds_model.specs.Rounding.{top_of, IsTooFast, IsRounding}

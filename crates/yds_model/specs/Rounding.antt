@@ -3,7 +3,7 @@
 -- Two points are enough: Ishihara and Yasuura (ISLPED 1998).
 use Rattle.std.specs.Prelude.{◌≡◌, ℕ, zero, suc, ◌+◌, ◌-◌, ◌*◌, ◌<◌, ◌≤◌, ◌⊎◌, List, [], ◌∷◌, ◌++◌, length, map, ◌==◌, if◌then◌else◌}
 use Rattle.std.specs.List.{All, Contains, Any}
-use Rattle.yds_model.specs.Numbers.{AreDifferent}
+use Rattle.base.specs.Numbers.{AreDifferent}
 use Rattle.yds_model.specs.Job.{Job}
 use Rattle.yds_model.specs.Scale.{Fraction, numerator}
 use Rattle.yds_model.specs.Slot.{WrittenSlot, WholeSlot, AtEachScale, slots_at, work_given}

@@ -1,26 +1,12 @@
--- How numbers, fractions and names are spelled.
-use Rattle.std.specs.Prelude.{ℕ, List, [], ◌∷◌, length, Bool, false, ◌==◌, ◌&&◌, nat_lt, nat_le, if◌then◌else◌, Result, Ok, Err}
-use Rattle.std.specs.List.{list_all, list_any, before_first, after_first}
+-- How fractions are spelled.
+use Rattle.std.specs.Prelude.{ℕ, List, Bool, ◌==◌, ◌&&◌, nat_lt, nat_le, if◌then◌else◌, Result, Ok, Err}
+use Rattle.std.specs.List.{list_any, before_first, after_first}
 use Rattle.std.specs.Str.Parse.{digits_value}
-use Rattle.yds_model.specs.declared.limits.TheConstants.{MAX_DENOMINATOR, MAX_NAME}
-use Rattle.yds_model.specs.declared.number_fault.NumberFault.{NumberFault}
-use Rattle.yds_model.specs.declared.number_fault.NumberFault.TheVariants.{BadNumber, OutOfRange}
+use Rattle.base.specs.declared.limits.TheConstants.{MAX_DENOMINATOR}
+use Rattle.base.specs.declared.number_fault.NumberFault.{NumberFault}
+use Rattle.base.specs.declared.number_fault.NumberFault.TheVariants.{BadNumber, OutOfRange}
+use Rattle.base.specs.Spelling.{is_number}
 use Rattle.yds_model.specs.Scale.{Fraction, of_whole}
-
-abbrev pub is_digit : ℕ → Bool
-is_digit byte = nat_le 48 byte && nat_le byte 57
-
--- `0`, or a digit from 1 to 9 and any digits after it
-abbrev pub is_number : List ℕ → Bool
-is_number [] = false
-is_number (first ∷ rest) = if first == 48 then length rest == 0 else list_all is_digit (first ∷ rest)
-
--- the number that a field spells, which is to be at least `least` and at most `most`
-abbrev pub number_at : ℕ → ℕ → List ℕ → Result ℕ NumberFault
-number_at least most text =
-    if is_number text
-    then (if nat_le least (digits_value 10 text) && nat_le (digits_value 10 text) most then Ok (digits_value 10 text) else Err OutOfRange)
-    else Err BadNumber
 
 -- Three numbers with a plus (43) and a slash (47) between them: `WHOLE+NUM/DEN`.
 abbrev pub is_plus : ℕ → Bool
@@ -54,11 +40,3 @@ abbrev pub fraction_at : ℕ → List ℕ → Result Fraction NumberFault
 fraction_at most text =
     if is_number text then kept most (of_whole (digits_value 10 text))
     else (if is_mixed text then kept most (mixed_of text) else Err BadNumber)
-
--- a visible ASCII character
-abbrev pub is_visible : ℕ → Bool
-is_visible byte = nat_le 33 byte && nat_le byte 126
-
--- 1 to 64 bytes, each a visible ASCII character
-abbrev pub is_name : List ℕ → Bool
-is_name text = nat_le 1 (length text) && nat_le (length text) MAX_NAME && list_all is_visible text

@@ -3,14 +3,14 @@
 use Rattle.std.specs.Prelude.{ℕ, List, [], ◌∷◌, ◌++◌, length, codes, sum_by, Option, Some, None, Result, Ok, Err, Bool, nat_lt, nat_le, ◌==◌, ◌&&◌, not, if◌then◌else◌}
 use Rattle.std.specs.List.{filter_map, list_any}
 use Rattle.std.specs.Str.{bytes_eq}
-use Rattle.yds_model.specs.declared.limits.TheConstants.{MAX_JOBS, MAX_TIME, MAX_WORK, MAX_TASKS, MAX_TASK_NAME}
-use Rattle.yds_model.specs.declared.number_fault.NumberFault.{NumberFault}
-use Rattle.yds_model.specs.declared.number_fault.NumberFault.TheVariants as faults
+use Rattle.base.specs.declared.limits.TheConstants.{MAX_JOBS, MAX_TIME, MAX_WORK, MAX_TASKS, MAX_TASK_NAME}
+use Rattle.base.specs.declared.number_fault.NumberFault.{NumberFault}
+use Rattle.base.specs.declared.number_fault.NumberFault.TheVariants as faults
 use Rattle.yds_model.specs.declared.task_reason.TaskReason.{TaskReason}
 use Rattle.yds_model.specs.declared.task_reason.TaskReason.TheVariants as reasons
-use Rattle.yds_model.specs.Lines.{Line, Field, lines_of, fields_of}
-use Rattle.yds_model.specs.Fields.{Fault, Spot, ◌>>=◌, refuse, demand, field_at, count_fields, in_field, on_line}
-use Rattle.yds_model.specs.Spelling.{number_at, is_name}
+use Rattle.base.specs.Lines.{Line, Field, lines_of, fields_of}
+use Rattle.base.specs.Fields.{Fault, Spot, ◌>>=◌, refuse, demand, field_at, count_fields, in_field, on_line}
+use Rattle.base.specs.Spelling.{number_at, is_name}
 use Rattle.yds_model.specs.Entry.{first_of_them}
 use Rattle.yds_model.specs.Reading.{live_lines}
 use Rattle.yds_model.specs.Tasks.{Task, TaskSet, count_of_jobs, horizon_of}

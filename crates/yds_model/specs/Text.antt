@@ -1,6 +1,7 @@
 -- The canonical text of a document: each line's fields with one space between them, and a line feed at its end.
 use Rattle.std.specs.Prelude.{ℕ, List, [], ◌∷◌, ◌++◌, codes, decimal, Option, Some, None, ◌==◌, if◌then◌else◌}
-use Rattle.std.specs.List.{flat_map, join_with_byte, zip}
+use Rattle.std.specs.List.{flat_map, zip}
+use Rattle.base.specs.Lines.{line}
 use Rattle.yds_model.specs.Job.{Job}
 use Rattle.yds_model.specs.Scale.{Fraction}
 use Rattle.yds_model.specs.Slot.{WrittenSlot}
@@ -8,10 +9,6 @@ use Rattle.yds_model.specs.Piece.{Piece}
 use Rattle.yds_model.specs.Level.{Level}
 use Rattle.yds_model.specs.Table.{Point}
 use Rattle.yds_model.specs.Document.{Document, Grid, name_at}
-
--- these fields as one line
-abbrev pub line : List (List ℕ) → List ℕ
-line fields = join_with_byte 32 fields ++ 10 ∷ []
 
 -- a fraction, not reduced: `W`, or `W+N/D` where the numerator isn't 0
 abbrev pub fraction_text : Fraction → List ℕ

@@ -1,11 +1,11 @@
 -- The answer of `trial`: the numbers of a plan of drawn jobs.
 use Rattle.std.specs.Prelude.{◌≡◌, ℕ, zero, suc, ◌+◌, ◌*◌, ◌/◌, ◌%◌, List, [], ◌∷◌, ◌++◌, length, codes, decimal}
-use Rattle.yds_model.specs.declared.status.Status.{Status}
-use Rattle.yds_model.specs.declared.status.Status.TheVariants as statuses
+use Rattle.base.specs.declared.status.Status.{Status}
+use Rattle.base.specs.declared.status.Status.TheVariants as statuses
 use Rattle.yds_model.specs.Job.{Job}
 use Rattle.yds_model.specs.Slot.{WrittenSlot}
 use Rattle.yds_model.specs.Level.{Level}
-use Rattle.yds_model.specs.Text.{line}
+use Rattle.base.specs.Lines.{line}
 use Rattle.yds_model.specs.Plan.{IsPlan}
 
 -- The generator: each draw replaces the state, a number below 2^32, and gives its upper half.

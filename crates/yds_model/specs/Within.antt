@@ -1,7 +1,7 @@
 -- What the program keeps of each part of a document, and a document within the limits.
 use Rattle.std.specs.Prelude.{◌≡◌, ℕ, ◌<◌, ◌≤◌, ◌⊎◌, List, [], length, take, MatchOption, IsTrue}
 use Rattle.std.specs.List.{All}
-use Rattle.yds_model.specs.declared.limits.TheConstants.{MAX_JOBS, MAX_TIME, MAX_POINTS, MAX_POINT_SPEED, MAX_POINT_POWER, MAX_GAPS, MAX_DENOMINATOR, MAX_SLOT_WORK, MAX_ENERGY, MAX_LEVEL_WORK, MAX_LEVEL_LENGTH, MAX_SLOTS, MAX_LEVELS, MAX_PIECES, MAX_MEMBERS, MAX_GRID, MAX_ROUNDED}
+use Rattle.base.specs.declared.limits.TheConstants.{MAX_JOBS, MAX_TIME, MAX_POINTS, MAX_POINT_SPEED, MAX_POINT_POWER, MAX_GAPS, MAX_DENOMINATOR, MAX_SLOT_WORK, MAX_ENERGY, MAX_LEVEL_WORK, MAX_LEVEL_LENGTH, MAX_SLOTS, MAX_LEVELS, MAX_PIECES, MAX_MEMBERS, MAX_GRID, MAX_ROUNDED}
 use Rattle.yds_model.specs.Job.{Job, IsJob}
 use Rattle.yds_model.specs.Scale.{Fraction, AreAlike}
 use Rattle.yds_model.specs.Slot.{WrittenSlot}
@@ -10,7 +10,7 @@ use Rattle.yds_model.specs.Level.{Level, all_members, all_pieces}
 use Rattle.yds_model.specs.Table.{Point, IsTable, hull_multiple}
 use Rattle.yds_model.specs.Audit.{AreInGrain}
 use Rattle.yds_model.specs.Document.{Document, Grid, name_at}
-use Rattle.yds_model.specs.Spelling.{is_name}
+use Rattle.base.specs.Spelling.{is_name}
 use Rattle.yds_model.specs.Text.{canonical_text}
 
 -- a fraction as the program keeps it: below one beside its whole part, and with the denominator 1 where that is all

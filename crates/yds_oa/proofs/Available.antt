@@ -1,15 +1,16 @@
 -- A run of Optimal Available: by each event point every job that is due by then is served in full, and what the code asks of a
 -- stretch is what the definition asks.
-use Rattle.yds_model.proofs.Common.{◌≡◌, ℕ, zero, suc, ◌-◌, ◌*◌, ◌<◌, ◌≤◌, max, List, length, get_or, map, ◌∙◌, refl, sym, subst, ap, arith, inl, inr, cond, true, false, add-one, mul_assoc, Bool, nat_le, nat_lt, ◌==◌, ◌&&◌, not, All, sum_by, filter, Result, Ok, Err, IfOk, OnOk, list_all, cases_lt, cases_eq, cases_Bool, le-leb, lt-leb, lt-ltb, le-ltb, eq-eqb, ne_eqb, and_left, and_right, and_from, All-filter, All-weaker, Contains-get_or, filter_agree, get_or-eq_default, mul-le-mul_left, mul-pos, eq_of_mul-eq-mul_left, Each, Job, IsJob, no_job, job_at, WrittenSlot, IsScale, slots_at, Piece, event_points, stretches, pending_at, numbers_of, pending_jobs, due_units, pending_deadlines, asked, units_asked, optimal_available, optimal_available_rounds, IsOptimalAvailableRun, stretch_at, sum_by-mul, sum_by_same, sum_by-filter, rounded_up_same}
+use Rattle.yds_model.proofs.Common.{◌≡◌, ℕ, zero, suc, ◌-◌, ◌*◌, ◌<◌, ◌≤◌, max, List, length, get_or, map, ◌∙◌, refl, sym, subst, ap, arith, inl, inr, cond, true, false, add-one, mul_assoc, Bool, nat_le, nat_lt, ◌==◌, ◌&&◌, not, All, sum_by, filter, Result, Ok, Err, IfOk, OnOk, list_all, cases_lt, cases_eq, cases_Bool, le-leb, lt-leb, lt-ltb, le-ltb, eq-eqb, ne_eqb, and_left, and_right, and_from, All-filter, All-weaker, Contains-get_or, filter_agree, get_or-eq_default, mul-le-mul_left, mul-pos, eq_of_mul-eq-mul_left, Each, Job, IsJob, no_job, job_at, WrittenSlot, IsScale, slots_at, Piece, event_points, stretches, pending_at, numbers_of, pending_jobs, due_units, pending_deadlines, asked, units_asked, optimal_available, optimal_available_rounds, IsOptimalAvailableRun, stretch_at, sum_by-mul, sum_by_same, sum_by-filter}
+use Rattle.model_lemmas.proofs.RoundedUp.{rounded_up_same}
 use Rattle.yds_events.specs.Stretch.{no_stretch}
 use Rattle.yds_events.proofs.Times.{not_later, release_at, deadline_at}
 use Rattle.yds_events.proofs.Neighbours.{count_stretches, stretch_begins, stretch_ends, stretch_forward, release_outside, deadline_outside}
 use Rattle.yds_timetable.specs.Shares.{JobShare, units_given, total_units, shares_in, shares_before}
 use Rattle.yds_edf.specs.Pending.{units_wanted}
-use Rattle.yds_model.specs.Numbers.{sum_below}
+use Rattle.base.specs.Numbers.{sum_below}
 use Rattle.yds_edf.specs.Filled.{IsInTime}
 use Rattle.yds_edf.specs.PolicyRun.{pending_before, IsServed, IsLaidOut, IsPolicyRun}
-use Rattle.yds_model.proofs.SumsBelow.{sum_below_same, sum_below_at_most, sum_below_less, sum_by_grouped, sum_numbers, sum_places}
+use Rattle.model_lemmas.proofs.SumsBelow.{sum_below_same, sum_below_at_most, sum_below_less, sum_by_grouped, sum_numbers, sum_places}
 use Rattle.yds_timetable.proofs.SharePlaces.{all_before, none_before}
 use Rattle.yds_edf.proofs.AddedShares.{given_next, share_given}
 use Rattle.yds_edf.proofs.Demand.{none_given}

@@ -1,7 +1,7 @@
 -- The greatest quotient by places is the greatest of all that deadlines ask.
 use Rattle.yds_model.proofs.Common.{◌≡◌, ℕ, zero, suc, ◌+◌, ◌-◌, ◌*◌, ◌<◌, ◌≤◌, List, length, slice_index, ◌∙◌, refl, sym, subst, ap, arith, inl, inr, add-one, IsNonDecreasingBy, cases_lt, cases_eq, lt-leb, mul-le-mul_left, le_of_mul-le-mul_left, Each, Job, Piece}
-use Rattle.yds_model.specs.Numbers.{sum_below}
-use Rattle.yds_model.proofs.SumsBelow.{sum_below_zero, sum_places}
+use Rattle.base.specs.Numbers.{sum_below}
+use Rattle.model_lemmas.proofs.SumsBelow.{sum_below_zero, sum_places}
 use Rattle.yds_edf.specs.declared.due_order.Due.{Due}
 use Rattle.yds_edf.specs.declared.pending.PendingJobs.{PendingJobs}
 use Rattle.yds_oa.specs.declared.quotient.Quotient.{Quotient}

@@ -1,12 +1,13 @@
 -- A walk over places in order of deadlines, which keeps the greatest quotient, and passes over some places together.
-use Rattle.yds_model.proofs.Common.{◌≡◌, ℕ, ◌+◌, ◌-◌, ◌*◌, ◌<◌, ◌≤◌, ◌⊎◌, List, length, slice_index, ◌∙◌, sym, subst, ap, arith, inl, inr, cases_lt, cases_eq, mul-le-mul_right, mul-le-mul_left, at_most_still}
+use Rattle.yds_model.proofs.Common.{◌≡◌, ℕ, ◌+◌, ◌-◌, ◌*◌, ◌<◌, ◌≤◌, ◌⊎◌, List, length, slice_index, ◌∙◌, sym, subst, ap, arith, inl, inr, cases_lt, cases_eq, mul-le-mul_right, mul-le-mul_left}
+use Rattle.fraction_lemmas.proofs.Fractions.{at_most_still}
 use Rattle.yds_edf.specs.declared.pending.PendingJobs.{PendingJobs}
 use Rattle.yds_oa.specs.declared.quotient.Quotient.{Quotient}
 use Rattle.yds_edf.specs.Blocks.{units_before}
 use Rattle.yds_edf.specs.DueOrder.{no_due, due_at}
 use Rattle.yds_oa.specs.declared.walk.Walk.{Walk}
 use Rattle.yds_oa.specs.Greatest.{AreInOrder, AreDueAfter, IsQuotientAmong, IsNotGreater, IsGreatestWithin, IsWalk}
-use Rattle.yds_model.proofs.SumsBelow.{sum_below_term}
+use Rattle.model_lemmas.proofs.SumsBelow.{sum_below_term}
 use Rattle.yds_edf.proofs.PlacedSums.{before_rises, none_left}
 
 -- before a place with no units before it there are none

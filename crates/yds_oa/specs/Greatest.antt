@@ -1,7 +1,7 @@
 -- The greatest quotient of units that are due by a deadline and the time until then.
 use Rattle.std.specs.Prelude.{◌≡◌, ℕ, ◌+◌, ◌-◌, ◌*◌, ◌<◌, ◌≤◌, ◌⊎◌, List, length, slice_index, true}
 use Rattle.std.specs.List.Sorted.{IsNonDecreasingBy}
-use Rattle.yds_model.specs.declared.limits.TheConstants.{MAX_JOBS}
+use Rattle.base.specs.declared.limits.TheConstants.{MAX_JOBS}
 use Rattle.yds_model.specs.Job.{Job, job_at}
 use Rattle.yds_model.specs.Piece.{Piece}
 use Rattle.yds_oa.specs.declared.quotient.Quotient.{Quotient}

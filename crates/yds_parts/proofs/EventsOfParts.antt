@@ -1,5 +1,6 @@
 -- The event points of both parts are those of each, and the stretches are those of each and at most one between them.
-use Rattle.yds_model.proofs.Common.{rules, ◌≡◌, ℕ, suc, ◌<◌, ◌≤◌, ◌==◌, List, [], ◌∷◌, ◌++◌, length, get_or, refl, sym, ap, subst, ◌∙◌, inl, inr, arith, if◌then◌else◌, All, flat_map, cases_eq, cases_lt, cases_order, lt-ltb, le-ltb, eq-eqb, ne_eqb, All-nil, All-cons, All-head, All-tail, Job, job_at, Piece, with_time, event_points, neighbours, stretches, pieces_forward}
+use Rattle.yds_model.proofs.Common.{rules, ◌≡◌, ℕ, suc, ◌<◌, ◌≤◌, ◌==◌, List, [], ◌∷◌, ◌++◌, length, get_or, refl, sym, ap, subst, ◌∙◌, inl, inr, arith, if◌then◌else◌, All, flat_map, cases_eq, cases_lt, cases_order, lt-ltb, le-ltb, eq-eqb, ne_eqb, All-nil, All-cons, All-head, All-tail, Job, job_at, Piece, with_time, event_points, neighbours, stretches}
+use Rattle.model_lemmas.proofs.Front.{pieces_forward}
 use Rattle.yds_events.proofs.Rising.{Rises, rises_times, rising_all}
 use Rattle.yds_events.proofs.Times.{release_at, deadline_at}
 use Rattle.yds_events.proofs.Neighbours.{stretches_run}

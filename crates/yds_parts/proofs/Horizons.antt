@@ -1,5 +1,6 @@
 -- The horizon of all jobs is that of each part and the gap between them.
-use Rattle.yds_model.proofs.Common.{◌≡◌, ℕ, ◌+◌, ◌-◌, ◌*◌, ◌<◌, ◌≤◌, min, max, List, [], ◌∷◌, ◌++◌, length, map, refl, sym, ap, ◌∙◌, arith, All, fold, All-head, All-tail, sum_by-cons, sum_by-append, Job, WholeSlot, IsFeasibleAt, last_deadline, first_release, horizon, busy, idle, releases_from, busy_and_idle}
+use Rattle.yds_model.proofs.Common.{◌≡◌, ℕ, ◌+◌, ◌-◌, ◌*◌, ◌<◌, ◌≤◌, min, max, List, [], ◌∷◌, ◌++◌, length, map, refl, sym, ap, ◌∙◌, arith, All, fold, All-head, All-tail, sum_by-cons, sum_by-append, Job, WholeSlot, IsFeasibleAt, last_deadline, first_release, horizon, busy, idle}
+use Rattle.model_lemmas.proofs.Horizon.{releases_from, busy_and_idle}
 use Rattle.yds_parts.specs.Parts.{ArePartedAt, moved, together_at, gap_between, WindowsAreForward}
 use Rattle.yds_parts.proofs.TwoParts.{feasible_together}
 

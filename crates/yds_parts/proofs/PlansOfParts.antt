@@ -1,5 +1,6 @@
 -- The plans of both parts are least for all jobs, and cost least.
-use Rattle.yds_model.proofs.Common.{◌+◌, ◌≤◌, List, ◌++◌, length, arith, Job, WrittenSlot, slot_at_scale, IsFeasible, IsLeast, scale_exists}
+use Rattle.yds_model.proofs.Common.{◌+◌, ◌≤◌, List, ◌++◌, length, arith, Job, WrittenSlot, slot_at_scale, IsFeasible, IsLeast}
+use Rattle.model_lemmas.proofs.Scale.{scale_exists}
 use Rattle.yds_laws.proofs.Plans.{plans_are_least}
 use Rattle.yds_energy.proofs.PlansEnergy.{least_is_cheapest_among_written}
 use Rattle.yds_parts.specs.Parts.{slots_in_turn, AreOf}

@@ -1,6 +1,7 @@
 -- Runs of both parts, one after another: in order of the earliest deadline, each slot in a stretch, once for a job and stretch, and in
 -- each stretch what the part's run serves there.
-use Rattle.yds_model.proofs.Common.{◌≡◌, ℕ, zero, suc, ◌+◌, ◌-◌, ◌*◌, ◌<◌, ◌≤◌, List, [], ◌∷◌, ◌++◌, length, map, get_or, sym, ap, subst, ◌∙◌, arith, inl, inr, append_assoc, All, Any, mul-le-mul_right, cases_lt, append-nil, map-append, length-append, length-map, get_or-map, get_or_append_left, get_or-append-add, All-head, All-tail, All-append, All-map, Job, no_job, job_at, WholeSlot, work_given, slot_at, no_slot, Piece, IsInWindow, IsFeasibleAt, stretches, LiesIn, IsUncut, ComesFirst, MayRun, IsFirstDue, EarliestAfter, IsServedInStretches, slots_in, FillsAtSpeed, ServesCapacity, IsRunAt, run_forward, Any-append_left, Any-append_right}
+use Rattle.yds_model.proofs.Common.{◌≡◌, ℕ, zero, suc, ◌+◌, ◌-◌, ◌*◌, ◌<◌, ◌≤◌, List, [], ◌∷◌, ◌++◌, length, map, get_or, sym, ap, subst, ◌∙◌, arith, inl, inr, append_assoc, All, Any, mul-le-mul_right, cases_lt, append-nil, map-append, length-append, length-map, get_or-map, get_or_append_left, get_or-append-add, All-head, All-tail, All-append, All-map, Job, no_job, job_at, WholeSlot, work_given, slot_at, no_slot, Piece, IsInWindow, IsFeasibleAt, stretches, LiesIn, IsUncut, ComesFirst, MayRun, IsFirstDue, EarliestAfter, IsServedInStretches, slots_in, FillsAtSpeed, ServesCapacity, IsRunAt, Any-append_left, Any-append_right}
+use Rattle.model_lemmas.proofs.Runs.{run_forward}
 use Rattle.yds_parts.specs.Parts.{ArePartedAt, moved, together_at, WindowsAreForward}
 use Rattle.yds_parts.proofs.TwoParts.{first_job, second_job, ends_by, only_first, only_second, feasible_together}
 use Rattle.yds_parts.proofs.EventsOfParts.{IsGap, EndsBy, BeginsFrom, stretches_between, stretches_joined, gaps_are, first_stretches, second_stretches}

@@ -1,5 +1,6 @@
 -- What both parts spend on the points, where each stretch runs at one speed: what each does, and the first point in the time between.
-use Rattle.yds_model.proofs.Common.{◌≡◌, ℕ, ◌+◌, ◌-◌, ◌*◌, ◌<◌, ◌==◌, Bool, true, false, List, [], ◌∷◌, ◌++◌, length, get_or, refl, sym, ap, ◌∙◌, arith, sum_by, if◌then◌else◌, All-append, sum_by-append, Job, WholeSlot, Piece, Point, point_at, IsTable, IsHullOf, hull_of, hull_multiple, stretches, slots_in, work_in, time_at, all_time_at, in_parts, hull_exists, sum_by-add, sum_by-mul, sum_by_same, sum_by_zero, sum_by-map}
+use Rattle.yds_model.proofs.Common.{◌≡◌, ℕ, ◌+◌, ◌-◌, ◌*◌, ◌<◌, ◌==◌, Bool, true, false, List, [], ◌∷◌, ◌++◌, length, get_or, refl, sym, ap, ◌∙◌, arith, sum_by, if◌then◌else◌, All-append, sum_by-append, Job, WholeSlot, Piece, Point, point_at, IsTable, IsHullOf, hull_of, hull_multiple, stretches, slots_in, work_in, time_at, all_time_at, in_parts, sum_by-add, sum_by-mul, sum_by_same, sum_by_zero, sum_by-map}
+use Rattle.model_lemmas.proofs.HullExists.{hull_exists}
 use Rattle.yds_events.specs.Stretch.{length_of}
 use Rattle.yds_energy.proofs.HullEnergy.{hull_first}
 use Rattle.yds_energy.proofs.PlansEnergy.{hull_table}

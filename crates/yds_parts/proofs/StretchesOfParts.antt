@@ -1,5 +1,6 @@
 -- The slots in a stretch of one part are that part's, and in the stretch between the parts there are none.
-use Rattle.yds_model.proofs.Common.{rules, ◌≡◌, ℕ, ◌*◌, ◌<◌, ◌≤◌, ◌⊎◌, Bool, List, [], ◌∷◌, ◌++◌, length, map, refl, ap, ◌∙◌, arith, inl, inr, All, filter, append-nil, mul-le-mul_right, cases_Bool, All-head, All-tail, All-append, filter-append, All-map, Job, WholeSlot, Piece, IsFeasibleAt, LiesIn, slots_in, run_forward, filter_none}
+use Rattle.yds_model.proofs.Common.{rules, ◌≡◌, ℕ, ◌*◌, ◌<◌, ◌≤◌, ◌⊎◌, Bool, List, [], ◌∷◌, ◌++◌, length, map, refl, ap, ◌∙◌, arith, inl, inr, All, filter, append-nil, mul-le-mul_right, cases_Bool, All-head, All-tail, All-append, filter-append, All-map, Job, WholeSlot, Piece, IsFeasibleAt, LiesIn, slots_in, filter_none}
+use Rattle.model_lemmas.proofs.Runs.{run_forward}
 use Rattle.yds_energy.proofs.StretchSlots.{lies, lies_told}
 use Rattle.yds_parts.specs.Parts.{ArePartedAt, moved, together_at}
 use Rattle.yds_parts.proofs.TwoParts.{ends_by, begins_from}

@@ -1,5 +1,6 @@
 -- Schedules of jobs that are cut at a time at which no window is open, at a scale: what is asked of both parts together is asked of each.
-use Rattle.yds_model.proofs.Common.{◌≡◌, ℕ, ◌+◌, ◌-◌, ◌*◌, ◌<◌, ◌≤◌, ◌==◌, List, [], ◌∷◌, ◌++◌, length, map, refl, sym, ap, subst, ◌∙◌, arith, inl, inr, if◌then◌else◌, All, mul-le-mul_right, cases_lt, nat_tests, get_or-map, get_or_append_left, get_or-append-add, length-append, length-map, All-nil, All-cons, All-head, All-tail, All-append, All-map, sum_by-cons, sum_by-append, Job, no_job, job_at, WholeSlot, work_given, RunFrom, IsInWindow, IsFeasibleAt, excess, IsLeastAt, part_other, All-front, All-back, run_later, run_joined}
+use Rattle.yds_model.proofs.Common.{◌≡◌, ℕ, ◌+◌, ◌-◌, ◌*◌, ◌<◌, ◌≤◌, ◌==◌, List, [], ◌∷◌, ◌++◌, length, map, refl, sym, ap, subst, ◌∙◌, arith, inl, inr, if◌then◌else◌, All, mul-le-mul_right, cases_lt, nat_tests, get_or-map, get_or_append_left, get_or-append-add, length-append, length-map, All-nil, All-cons, All-head, All-tail, All-append, All-map, sum_by-cons, sum_by-append, Job, no_job, job_at, WholeSlot, work_given, RunFrom, IsInWindow, IsFeasibleAt, excess, IsLeastAt, part_other, All-front, All-back}
+use Rattle.model_lemmas.proofs.Runs.{run_later, run_joined}
 use Rattle.yds_energy.proofs.PlanParts.{run_front, run_back, given_joined}
 use Rattle.yds_parts.specs.Parts.{ArePartedAt, moved, together_at}
 

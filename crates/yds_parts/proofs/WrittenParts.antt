@@ -1,5 +1,6 @@
 -- Written schedules of both parts: feasible and least exactly where each part is.
-use Rattle.yds_model.proofs.Common.{◌≡◌, ℕ, ◌*◌, ◌<◌, ◌≤◌, List, [], ◌∷◌, ◌++◌, length, map, refl, sym, ap, subst, ◌∙◌, arith, mul_comm, All, map-append, All-append, All-map, le_of_mul-le-mul_left, Job, WrittenSlot, WholeSlot, IsDivided, IsScale, IsSolid, slot_at_scale, slots_at, IsFeasibleAt, IsLeastAt, All-front, All-back, finer, finer_excess, excess_scaled, feasible_scaled, feasible_finer, one_scale_decides, scale_exists}
+use Rattle.yds_model.proofs.Common.{◌≡◌, ℕ, ◌*◌, ◌<◌, ◌≤◌, List, [], ◌∷◌, ◌++◌, length, map, refl, sym, ap, subst, ◌∙◌, arith, mul_comm, All, map-append, All-append, All-map, le_of_mul-le-mul_left, Job, WrittenSlot, WholeSlot, IsDivided, IsScale, IsSolid, slot_at_scale, slots_at, IsFeasibleAt, IsLeastAt, All-front, All-back}
+use Rattle.model_lemmas.proofs.Scale.{finer, finer_excess, excess_scaled, feasible_scaled, feasible_finer, one_scale_decides, scale_exists}
 use Rattle.yds_laws.proofs.Bound.{scale_left, scale_right}
 use Rattle.yds_energy.proofs.PlanParts.{scale_joined, scale_times}
 use Rattle.yds_parts.specs.Parts.{moved, moved_written, slots_in_turn, together_at, AreOf}

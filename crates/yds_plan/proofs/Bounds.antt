@@ -1,6 +1,6 @@
 -- What the groups have together is within the limits of levels.
 use Rattle.yds_model.proofs.Common.{ℕ, ◌+◌, ◌-◌, ◌*◌, ◌<◌, ◌≤◌, ◌==◌, List, [], ◌∷◌, length, get_or, ap, arith, Bool, true, false, cond, All, sum_by, filter, range_with_len, sum_by-cons, sum_by-le, All-head, All-tail, All-from_get_or, length-range_with_len, mul-le-mul_right, Job, IsJob, job_at, Piece, PiecesFrom, total_length, stretches, sum_by-mul, sum_by_same, sum_by_at_most, sum_by-filter}
-use Rattle.yds_model.specs.declared.limits.TheConstants.{MAX_JOBS, MAX_TIME, MAX_WORK}
+use Rattle.base.specs.declared.limits.TheConstants.{MAX_JOBS, MAX_TIME, MAX_WORK}
 use Rattle.yds_search.specs.Found.{Group, Found, IsFound, no_group, group_of, group_at, work_of_group, length_of_group}
 use Rattle.yds_events.specs.Stretch.{no_stretch}
 use Rattle.yds_events.specs.Window.{length_at}

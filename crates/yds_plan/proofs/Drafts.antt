@@ -1,5 +1,6 @@
 -- Levels on the way: each group joins the last level or makes a new one.
-use Rattle.yds_model.proofs.Common.{◌≡◌, ℕ, zero, suc, ◌+◌, ◌*◌, ◌<◌, ◌≤◌, ◌==◌, List, length, sym, refl, ap, arith, inl, inr, Bool, true, false, add-one, ◌-◌, [], ◌∷◌, ◌++◌, ◌∙◌, map, get_or, set, not, cond, nat_lt, range_with_len, sum_by, cases_lt, cases_eq, ltb-true, ltb-false, eqb-true, eq-eqb, not-true, not-false, true≢false, get_or-le-sum_by, sum_by_push, sum_by_more_le, length-range_with_len, get_or-map-range_with_len, length-map-range_with_len, map-range_with_len_more, mul-pos, mul-lt-mul_of_pos_right, lt_of_mul-lt-mul_right, sum_by-mul, sum_by_same, sum_by_at_most, sum_by_zero, same_through, ext_get_or, length-set, get_or-set_same, get_or-set_other, get_or-map, get_or_past, Level, no_level, level_at}
+use Rattle.yds_model.proofs.Common.{◌≡◌, ℕ, zero, suc, ◌+◌, ◌*◌, ◌<◌, ◌≤◌, ◌==◌, List, length, sym, refl, ap, arith, inl, inr, Bool, true, false, add-one, ◌-◌, [], ◌∷◌, ◌++◌, ◌∙◌, map, get_or, set, not, cond, nat_lt, range_with_len, sum_by, cases_lt, cases_eq, ltb-true, ltb-false, eqb-true, eq-eqb, not-true, not-false, true≢false, get_or-le-sum_by, sum_by_push, sum_by_more_le, length-range_with_len, get_or-map-range_with_len, length-map-range_with_len, map-range_with_len_more, mul-pos, mul-lt-mul_of_pos_right, lt_of_mul-lt-mul_right, sum_by-mul, sum_by_same, sum_by_at_most, sum_by_zero, ext_get_or, length-set, get_or-set_same, get_or-set_other, get_or-map, get_or_past, Level, no_level, level_at}
+use Rattle.fraction_lemmas.proofs.Fractions.{same_through}
 use Rattle.yds_search.specs.Found.{Group, group_at, no_group}
 use Rattle.yds_plan.specs.Laid.{slows_after, level_of, levels_among, together}
 use Rattle.yds_timetable.proofs.Lists.{map_range_same}

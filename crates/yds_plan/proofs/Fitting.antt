@@ -1,6 +1,6 @@
 -- The levels of what is found are all its drafts, and within the limits of a certificate.
 use Rattle.yds_model.proofs.Common.{◌≡◌, ◌≤◌, List, length, ap, arith, All, Job, IsJob, Piece, Level, all_members, all_pieces, stretches}
-use Rattle.yds_model.specs.declared.limits.TheConstants.{MAX_JOBS, MAX_LEVELS, MAX_MEMBERS, MAX_PIECES}
+use Rattle.base.specs.declared.limits.TheConstants.{MAX_JOBS, MAX_LEVELS, MAX_MEMBERS, MAX_PIECES}
 use Rattle.yds_search.specs.Found.{Found, IsFound}
 use Rattle.yds_plan.specs.Drafts.{drafts}
 use Rattle.yds_plan.specs.Laid.{levels_of}

@@ -1,6 +1,8 @@
 -- What the search finds makes a plan.
-use Rattle.yds_model.proofs.Common.{◌≡◌, ℕ, ◌+◌, ◌*◌, ◌<◌, ◌≤◌, List, Some, None, ◌∙◌, length, map, get_or, refl, sym, ap, ap₂, arith, inl, inr, Option, Result, IfOk, slice_get, All, Contains, sum_by, range_with_len, cases_lt, length-map, get_or-map, length-map-range_with_len, get_or-map-range_with_len, slice_get-get_or, slice_get_past, All-contains, Each, Job, IsJob, job_at, work_of, WrittenSlot, no_slot, no_written_slot, IsSolid, IsScale, slots_at, written_slot_at, Level, level_at, all_members, PiecesStand, StandsOnce, SumsAgree, IsWindowCovered, HasLevelSpeed, AreLevels, stretches, IsSlower, DontTouch, Rise, HasLevelDenominators, IsPlan, speed_num, speed_den, same_through, lowest_terms_are_one, stretch_at}
-use Rattle.yds_model.specs.declared.limits.TheConstants.{MAX_JOBS}
+use Rattle.yds_model.proofs.Common.{◌≡◌, ℕ, ◌+◌, ◌*◌, ◌<◌, ◌≤◌, List, Some, None, ◌∙◌, length, map, get_or, refl, sym, ap, ap₂, arith, inl, inr, Option, Result, IfOk, slice_get, All, Contains, sum_by, range_with_len, cases_lt, length-map, get_or-map, length-map-range_with_len, get_or-map-range_with_len, slice_get-get_or, slice_get_past, All-contains, Each, Job, IsJob, job_at, work_of, WrittenSlot, no_slot, no_written_slot, IsSolid, IsScale, slots_at, written_slot_at, Level, level_at, all_members, PiecesStand, StandsOnce, SumsAgree, IsWindowCovered, HasLevelSpeed, AreLevels, stretches, IsSlower, DontTouch, Rise, HasLevelDenominators, IsPlan, speed_num, speed_den, stretch_at}
+use Rattle.fraction_lemmas.proofs.Fractions.{same_through}
+use Rattle.fraction_lemmas.proofs.Divisor.{lowest_terms_are_one}
+use Rattle.base.specs.declared.limits.TheConstants.{MAX_JOBS}
 use Rattle.yds_slots.specs.Schedule.{WrittenSchedule}
 use Rattle.yds_timetable.specs.Shares.{JobShare, no_share}
 use Rattle.yds_timetable.specs.Timetable.{Row, slots_of}

@@ -1,5 +1,6 @@
 -- The levels of what was found: their members, their sums, and their pieces.
-use Rattle.yds_model.proofs.Common.{◌≡◌, ℕ, zero, suc, ◌+◌, ◌<◌, ◌≤◌, ◌==◌, List, [], ◌∷◌, ◌∙◌, length, get_or, sym, refl, ap, arith, inl, inr, Bool, true, false, ◌-◌, map, take, cond, nat_lt, All, sum_by, filter, flat_map, range_with_len, cases_lt, cases_eq, lt-ltb, le-ltb, eqb-true, cases_order, eq-eqb, sum_by-le-sum_by, All-map, All-filter, All-head, filter_passes, get_or-map-range_with_len, length-map-range_with_len, length-range_with_len, take-map-range_with_len, length-flat_map, count, Job, Level, no_level, level_at, all_members, all_pieces, Rise, DontTouch, sum_by_same, sum_by_at_most, sum_by_zero, sum_by-map, flat_map-map, length-map, Piece, AreApart, PiecesFrom, Covers, total_length, stretches, pieces_forward, apart_turned, sum_by-filter, stretch_at}
+use Rattle.yds_model.proofs.Common.{◌≡◌, ℕ, zero, suc, ◌+◌, ◌<◌, ◌≤◌, ◌==◌, List, [], ◌∷◌, ◌∙◌, length, get_or, sym, refl, ap, arith, inl, inr, Bool, true, false, ◌-◌, map, take, cond, nat_lt, All, sum_by, filter, flat_map, range_with_len, cases_lt, cases_eq, lt-ltb, le-ltb, eqb-true, cases_order, eq-eqb, sum_by-le-sum_by, All-map, All-filter, All-head, filter_passes, get_or-map-range_with_len, length-map-range_with_len, length-range_with_len, take-map-range_with_len, length-flat_map, count, Job, Level, no_level, level_at, all_members, all_pieces, Rise, DontTouch, sum_by_same, sum_by_at_most, sum_by_zero, sum_by-map, flat_map-map, length-map, Piece, AreApart, PiecesFrom, Covers, total_length, stretches, sum_by-filter, stretch_at}
+use Rattle.model_lemmas.proofs.Front.{pieces_forward, apart_turned}
 use Rattle.yds_search.specs.Found.{Group, Found, group_of, group_at}
 use Rattle.yds_plan.specs.Laid.{level_of, levels_among, level_of_place, together, members_of, level_numbered, levels_of, stretches_of_level, merged}
 use Rattle.yds_search.proofs.KeySums.{All-range, in_range, sums_swap, not_here, is_here, one_of_range, split_sum, split_at_most, cond_at_most, count_all, sum_by-flat_map}

@@ -1,6 +1,6 @@
 -- The timetable of what is found: each stretch is filled at its group's pace, or idle, and each slot stands beside its share.
 use Rattle.yds_model.proofs.Common.{◌≡◌, ℕ, ◌+◌, ◌*◌, ◌<◌, ◌≤◌, ◌==◌, ◌⊎◌, List, [], Some, None, ◌∙◌, length, map, get_or, sym, refl, ap, ap₂, subst, arith, inl, inr, Option, slice_get, option_map, All, AllPairs, AllZip, Contains, filter, flat_map, sum_by, range_with_len, cases_eq, cases_lt, eq-eqb, eqb-true, ne_eqb, get_or_default, length-map, nil_from_length, slice_get-map, slice_get-get_or, slice_get_past, All-contains, All-contains_itself, All-filter, All-from_get_or, All-map, filter_agree, filter_passes, flat_map-map, AllPairs-filter, get_or-le-sum_by, div-le_self, mul-le-mul_left, mul-le-mul_right, Job, IsJob, job_at, WrittenSlot, Piece, common_divisor, stretches, ComesFirst, stretch_at, sum_by_same, sum_by-filter}
-use Rattle.yds_model.specs.declared.limits.TheConstants.{MAX_JOBS, MAX_SLOT_WORK, MAX_WORK}
+use Rattle.base.specs.declared.limits.TheConstants.{MAX_JOBS, MAX_SLOT_WORK, MAX_WORK}
 use Rattle.yds_model.specs.Plan.{IsOver}
 use Rattle.yds_slots.proofs.WorkParts.{of_parts_over}
 use Rattle.yds_events.specs.Stretch.{IsStretch}

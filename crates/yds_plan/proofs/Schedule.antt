@@ -1,6 +1,6 @@
 -- The slots of what was found, at a scale: each lies in a stretch of its job's window, each follows those before it, and each job gets its work.
 use Rattle.yds_model.proofs.Common.{◌≡◌, ℕ, zero, suc, ◌-◌, ◌*◌, ◌<◌, ◌≤◌, ◌==◌, List, [], ◌∷◌, ◌∙◌, length, sym, refl, ap, subst, arith, inl, inr, cond, All, AllPairs, AllZip, mul-pos, mul-le-mul_right, eq_of_mul-eq-mul_left, cases_lt, get_or_default, All-from_get_or, All-head, All-tail, All-weaker, Job, IsJob, job_at, ComesFirst, WrittenSlot, WholeSlot, no_slot, IsDivided, IsScale, slot_at_scale, slots_at, work_given, IsInWindow as IsSlotInWindow, IsFeasibleAt, RunFrom, Piece, PiecesFrom, LiesIn, IsUncut, stretches, IsServedInStretches, stretch_at, sum_by_zero}
-use Rattle.yds_model.specs.declared.limits.TheConstants.{MAX_JOBS}
+use Rattle.base.specs.declared.limits.TheConstants.{MAX_JOBS}
 use Rattle.yds_slots.proofs.WorkParts.{of_parts_at}
 use Rattle.yds_events.specs.Stretch.{no_stretch}
 use Rattle.yds_events.specs.Window.{length_at}

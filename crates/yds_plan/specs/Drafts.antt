@@ -3,7 +3,7 @@ use Rattle.std.specs.Prelude.{ℕ, zero, suc, ◌+◌, ◌-◌, ◌≤◌, ◌<�
 use Rattle.std.specs.List.{slice_index_or, filter, range_with_len}
 use Rattle.yds_model.specs.Piece.{Piece}
 use Rattle.yds_model.specs.Level.{Level, level_at}
-use Rattle.yds_model.specs.declared.limits.TheConstants.{MAX_JOBS, MAX_LEVEL_LENGTH, MAX_LEVEL_WORK}
+use Rattle.base.specs.declared.limits.TheConstants.{MAX_JOBS, MAX_LEVEL_LENGTH, MAX_LEVEL_WORK}
 use Rattle.yds_search.specs.Found.{Group, Found, group_at, group_of}
 use Rattle.yds_events.specs.Stretch.{no_stretch, nth_stretch}
 use Rattle.yds_plan.specs.Laid.{slows_after, level_of, levels_among, level_of_place, merged, together}

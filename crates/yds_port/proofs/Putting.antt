@@ -1,5 +1,5 @@
 -- Texts that are put into a sink one after another.
-use Rattle.yds_model.proofs.Common.{◌≡◌, ℕ, suc, ◌+◌, ◌<◌, ◌≤◌, List, [], ◌∷◌, ◌++◌, ◌∙◌, ap, subst, sym, append_assoc, Option, Result, Ok, Err, IsErr, length, take, drop, get_or, take_all, take-append-drop, drop-cons, flat_map, flat_map-append, take_more, append-nil, Appends}
+use Rattle.base.proofs.Common.{◌≡◌, ℕ, suc, ◌+◌, ◌<◌, ◌≤◌, List, [], ◌∷◌, ◌++◌, ◌∙◌, ap, subst, sym, append_assoc, Option, Result, Ok, Err, IsErr, length, take, drop, get_or, take_all, take-append-drop, drop-cons, flat_map, flat_map-append, take_more, append-nil, Appends}
 use Rattle.std.proofs.KnownBytes.{Appends-trans}
 use Rattle.yds_port.specs.Count.{Rose}
 use Rattle.yds_port.specs.Sink.{AppendsFront, Puts}

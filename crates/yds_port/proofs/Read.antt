@@ -1,5 +1,5 @@
 -- What a read into the tail of a buffer adds to what was taken before.
-use Rattle.yds_model.proofs.Common.{◌≡◌, ℕ, ◌+◌, List, ◌++◌, ◌∙◌, ap, sym, subst, take, drop, Some, take-add, chunk-drop, Consumes, Option}
+use Rattle.base.proofs.Common.{◌≡◌, ℕ, ◌+◌, List, ◌++◌, ◌∙◌, ap, sym, subst, take, drop, Some, take-add, chunk-drop, Consumes, Option}
 use Rattle.std.proofs.KnownBytes.{Consumes-trans}
 
 -- the front of the buffer stayed, and the next n bytes of it are the next that were consumed

@@ -1,7 +1,7 @@
 //! The outside of the program: where its input comes from and its output goes to, as two traits whose
 //! clauses say which bytes moved, how often was flushed and when a fault was counted.
 //!
-//! It stands on `yds_model`. It carries the promise that reading to the end gives all that was left,
+//! It stands on `base`. It carries the promise that reading to the end gives all that was left,
 //! and that writing a piece appends it whole or, after a counted fault, a front of it. The sources and
 //! sinks in memory make chosen calls fail, for tests; the two over std's readers and writers are the
 //! trusted edge: what they make of an answer is a function of it, and only the call is left to a test.

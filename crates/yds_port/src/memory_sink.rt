@@ -4,9 +4,9 @@ ghost use Rattle.yds_port.specs.Sink.{Writes, Flushes};
 
 use crate::shared::is_failing;
 use crate::sink::{Flushed, Given, Sink};
+use base::Memory;
 use std::alloc::Global;
 use std::marker::Model;
-use yds_model::Memory;
 
 /// Room in memory for bytes, of which chosen writes and flushes fail.
 #[derive(Debug, Drop)]

@@ -3,9 +3,9 @@ ghost use Rattle.yds_port.specs.declared.reading.ReadAllFault.TheVariants.{Memor
 ghost use Rattle.yds_port.specs.Source.{Reads, ReadsAll};
 
 use crate::source::{Source, Taken};
+use base::limits::MAX_BYTES;
 use std::alloc::{AllocError, Global};
 use thiserror::Error;
-use yds_model::limits::MAX_BYTES;
 
 /// How many bytes one read of `read_all` asks for at most.
 const READ_PIECE: usize = 65_536;

@@ -1,9 +1,10 @@
 -- What a run of Optimal Available that never rounded does above a speed p/q is at most the work of the jobs in all of whose window it is
 -- faster. From the last stretch to the first: from each on that follows none, or one that isn't fast, what is above the speed is at most the
 -- work of such jobs that are released from there on.
-use Rattle.yds_model.proofs.Common.{◌≡◌, ℕ, zero, suc, ◌+◌, ◌-◌, ◌*◌, ◌<◌, ◌≤◌, List, [], length, get_or, cond, Bool, true, ◌&&◌, nat_le, nat_lt, sym, ap, subst, ◌∙◌, arith, inl, inr, All, filter, sum_by, cases_lt, cases_Bool, lt-ltb, leb-true, ltb-true, and_parts, All-from_get_or, mul-pos, mul-le-mul_left, mul-le-mul_right, le_of_mul-le-mul_right, Job, job_at, work_of, numbers_of, WholeSlot, slots_at, stretches, is_live, slots_in, busy, work_in, stretch_at, excess, sum_by-filter, sum_by-add, sum_by-mul, sum_by_same, sum_by_at_most, sum_by_zero, run_forward, IsFeasibleAt, IsUncut}
-use Rattle.yds_model.specs.Numbers.{sum_below}
-use Rattle.yds_model.proofs.SumsBelow.{sum_places}
+use Rattle.yds_model.proofs.Common.{◌≡◌, ℕ, zero, suc, ◌+◌, ◌-◌, ◌*◌, ◌<◌, ◌≤◌, List, [], length, get_or, cond, Bool, true, ◌&&◌, nat_le, nat_lt, sym, ap, subst, ◌∙◌, arith, inl, inr, All, filter, sum_by, cases_lt, cases_Bool, lt-ltb, leb-true, ltb-true, and_parts, All-from_get_or, mul-pos, mul-le-mul_left, mul-le-mul_right, le_of_mul-le-mul_right, Job, job_at, work_of, numbers_of, WholeSlot, slots_at, stretches, is_live, slots_in, busy, work_in, stretch_at, excess, sum_by-filter, sum_by-add, sum_by-mul, sum_by_same, sum_by_at_most, sum_by_zero, IsFeasibleAt, IsUncut}
+use Rattle.model_lemmas.proofs.Runs.{run_forward}
+use Rattle.base.specs.Numbers.{sum_below}
+use Rattle.model_lemmas.proofs.SumsBelow.{sum_places}
 use Rattle.yds_events.specs.Stretch.{no_stretch}
 use Rattle.yds_events.specs.Window.{length_at}
 use Rattle.yds_events.proofs.Neighbours.{stretch_begins, stretch_forward, stretches_run}

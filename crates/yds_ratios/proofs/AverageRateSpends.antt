@@ -1,7 +1,8 @@
 -- A run of Average Rate that never rounded spends at most 2 ^ (exponent - 1) times exponent ^ exponent times what any feasible schedule does.
-use Rattle.yds_model.proofs.Common.{◌≡◌, ℕ, zero, suc, ◌+◌, ◌-◌, ◌*◌, ◌^◌, ◌<◌, ◌≤◌, ◌∣◌, ◌∙◌, List, length, get_or, subst, ap, arith, add-one, sum_by, All, All-append, get_or-le-sum_by, mul-pos, mul-sub, mul-le-mul_left, mul-le-mul_right, lt_of_mul-lt-mul_right, eq_of_mul-eq-mul_right, div-mul_cancel, Job, no_job, job_at, WholeSlot, IsSolid, slots_at, IsFeasibleAt, IsRunAt, stretches, average_rate, run_forward, sum_by-mul, sum_by_same}
-use Rattle.yds_model.specs.Numbers.{sum_below}
-use Rattle.yds_model.proofs.SumsBelow.{sum_below_at_most, sum_below-mul}
+use Rattle.yds_model.proofs.Common.{◌≡◌, ℕ, zero, suc, ◌+◌, ◌-◌, ◌*◌, ◌^◌, ◌<◌, ◌≤◌, ◌∣◌, ◌∙◌, List, length, get_or, subst, ap, arith, add-one, sum_by, All, All-append, get_or-le-sum_by, mul-pos, mul-sub, mul-le-mul_left, mul-le-mul_right, lt_of_mul-lt-mul_right, eq_of_mul-eq-mul_right, div-mul_cancel, Job, no_job, job_at, WholeSlot, IsSolid, slots_at, IsFeasibleAt, IsRunAt, stretches, average_rate, sum_by-mul, sum_by_same}
+use Rattle.model_lemmas.proofs.Runs.{run_forward}
+use Rattle.base.specs.Numbers.{sum_below}
+use Rattle.model_lemmas.proofs.SumsBelow.{sum_below_at_most, sum_below-mul}
 use Rattle.std.proofs.lemmas.Nat.{mul-pow}
 use Rattle.yds_laws.specs.RunLaws.{DoesItsTerms}
 use Rattle.yds_laws.proofs.Bound.{scale_left, scale_right}

@@ -1,8 +1,9 @@
 -- The speed of Average Rate, where it never rounded: in each unit it is what stands there of another schedule's work, each job's work
 -- spread evenly over its window.
-use Rattle.yds_model.proofs.Common.{◌≡◌, ℕ, suc, ◌+◌, ◌-◌, ◌*◌, ◌/◌, ◌^◌, ◌<◌, ◌≤◌, ◌∣◌, ◌∙◌, ◌==◌, if◌then◌else◌, max, List, [], ◌∷◌, length, get_or, sym, subst, ap, arith, inl, inr, cond, true, nat_le, nat_lt, sum_by, sum_by-cons, All, All-contains, Contains, Contains-get_or, contains_filter, IsRunAt, slots_in, run_forward, mul_comm, cases_eq, cases_Bool, eq-eqb, ne_eqb, and_parts, cond-true, cond-false, le-leb, lt-ltb, leb-true, ltb-true, mul-pos, mul-le-mul_left, mul-le-mul_right, eq_of_mul-eq-mul_left, eq_of_mul-eq-mul_right, div-mul_cancel, Job, no_job, job_at, WholeSlot, work_given, Piece, stretches, stretch_at, LiesIn, IsFeasibleAt, numbers_of, is_live, term_of, terms_of, work_in, sum_by-add, sum_by-mul, sum_by_same, sum_by_at_most, sum_by-filter}
-use Rattle.yds_model.specs.Numbers.{sum_below}
-use Rattle.yds_model.proofs.SumsBelow.{sum_below_at_most}
+use Rattle.yds_model.proofs.Common.{◌≡◌, ℕ, suc, ◌+◌, ◌-◌, ◌*◌, ◌/◌, ◌^◌, ◌<◌, ◌≤◌, ◌∣◌, ◌∙◌, ◌==◌, if◌then◌else◌, max, List, [], ◌∷◌, length, get_or, sym, subst, ap, arith, inl, inr, cond, true, nat_le, nat_lt, sum_by, sum_by-cons, All, All-contains, Contains, Contains-get_or, contains_filter, IsRunAt, slots_in, mul_comm, cases_eq, cases_Bool, eq-eqb, ne_eqb, and_parts, cond-true, cond-false, le-leb, lt-ltb, leb-true, ltb-true, mul-pos, mul-le-mul_left, mul-le-mul_right, eq_of_mul-eq-mul_left, eq_of_mul-eq-mul_right, div-mul_cancel, Job, no_job, job_at, WholeSlot, work_given, Piece, stretches, stretch_at, LiesIn, IsFeasibleAt, numbers_of, is_live, term_of, terms_of, work_in, sum_by-add, sum_by-mul, sum_by_same, sum_by_at_most, sum_by-filter}
+use Rattle.model_lemmas.proofs.Runs.{run_forward}
+use Rattle.base.specs.Numbers.{sum_below}
+use Rattle.model_lemmas.proofs.SumsBelow.{sum_below_at_most}
 use Rattle.yds_events.specs.Stretch.{no_stretch}
 use Rattle.yds_events.proofs.Neighbours.{stretch_forward, deadline_outside}
 use Rattle.yds_laws.specs.RunLaws.{HasWholeTerms, DoesItsTerms}
@@ -11,7 +12,7 @@ use Rattle.yds_laws.proofs.Served.{all_numbers, counted_once}
 use Rattle.yds_laws.proofs.JobNumbers.{sum_by_number}
 use Rattle.yds_laws.proofs.ExactRates.{stretch_of_slot}
 use Rattle.std.proofs.Math.Nat.{pow-le-pow_left}
-use Rattle.yds_model.proofs.Time.{before, here, one_running}
+use Rattle.model_lemmas.proofs.Time.{before, here, one_running}
 use Rattle.yds_energy.proofs.SpentEnergy.{IsEven}
 use Rattle.yds_energy.proofs.EvenStretches.{run_even}
 use Rattle.yds_energy.proofs.StretchSlots.{lies, lies_passes}

@@ -1,8 +1,8 @@
 -- What is to come and what has come, together: their powers, over all units, are at most those of the slots' own speeds.
 use Rattle.yds_model.proofs.Common.{◌≡◌, ℕ, zero, suc, ◌+◌, ◌-◌, ◌*◌, ◌^◌, ◌<◌, ◌≤◌, ◌∙◌, List, get_or, ap, ap₂, arith, sum_by, All, All-weaker, nat_tests, mul-le-mul_left, mul-le-mul_right, le_of_mul-le-mul_left, WholeSlot, RunFrom, sum_by-add, sum_by-mul, sum_by_at_most, sum_by_zero}
-use Rattle.yds_model.specs.Numbers.{sum_below}
-use Rattle.yds_model.proofs.SumsBelow.{sum_below_at_most, sum_below-add, sum_below-mul}
-use Rattle.yds_model.proofs.Time.{before, here, one_running}
+use Rattle.base.specs.Numbers.{sum_below}
+use Rattle.model_lemmas.proofs.SumsBelow.{sum_below_at_most, sum_below-add, sum_below-mul}
+use Rattle.model_lemmas.proofs.Time.{before, here, one_running}
 use Rattle.yds_ratios.proofs.Powers.{no_power, power_means}
 use Rattle.yds_ratios.proofs.Below.{sum_below_list, sum_below_next, count_here}
 use Rattle.yds_ratios.proofs.Telescoped.{left, right, back, ahead, is_until, left_powers, right_powers}

@@ -1,8 +1,8 @@
 -- More sums over the numbers below n: of lists' sums, of units that lie in an interval, and of what changes from one number to the next.
 use Rattle.yds_model.proofs.Common.{◌≡◌, ℕ, zero, suc, ◌+◌, ◌-◌, ◌*◌, ◌<◌, ◌≤◌, min, List, refl, sym, arith, cond, nat_le, nat_lt, sum_by, nat_tests, add-mul, sum_by-add, sum_by_same, sum_by_zero}
-use Rattle.yds_model.specs.Numbers.{sum_below}
-use Rattle.yds_model.proofs.SumsBelow.{sum_below_at_most, sum_below-add}
-use Rattle.yds_model.proofs.Time.{before, here}
+use Rattle.base.specs.Numbers.{sum_below}
+use Rattle.model_lemmas.proofs.SumsBelow.{sum_below_at_most, sum_below-add}
+use Rattle.model_lemmas.proofs.Time.{before, here}
 
 -- a sum of multiples, with the factor behind
 pub sum_below_times : (factor : ℕ) (f : ℕ → ℕ) (n : ℕ) → sum_below n (λ k. f k * factor) ≡ sum_below n f * factor

@@ -5,8 +5,8 @@
 -- that is due after the block, nothing is carried: earliest deadline first. Else all that is done there was due by the block's end too, and
 -- no time asks more than that stretch's speed. So what is carried is at most what the speed p/q does in the block's time.
 use Rattle.yds_model.proofs.Common.{◌≡◌, ℕ, zero, suc, ◌+◌, ◌-◌, ◌*◌, ◌<◌, ◌≤◌, List, length, get_or, cond, Bool, ◌&&◌, nat_le, nat_lt, refl, sym, ap, ◌∙◌, arith, inl, inr, filter, sum_by, cases_lt, cases_Bool, cond-true, cond-false, le-leb, lt-ltb, leb-true, ltb-true, true≢false, and_parts, and_from, All-from_get_or, All-filter, mul-sub, mul-le-mul_left, mul-le-mul_right, lt_of_mul-lt-mul_right, le_of_mul-le-mul_right, Job, job_at, work_of, numbers_of, WholeSlot, no_slot, slot_at, stretches, LiesIn, stretch_at, found_or_none, sum_by-add, sum_by_same, sum_by_at_most, sum_by_zero}
-use Rattle.yds_model.specs.Numbers.{sum_below}
-use Rattle.yds_model.specs.Numbers.{count as count_of}
+use Rattle.base.specs.Numbers.{sum_below}
+use Rattle.base.specs.Numbers.{count as count_of}
 use Rattle.yds_events.specs.Window.{length_at}
 use Rattle.yds_events.proofs.Times.{not_later, release_at}
 use Rattle.yds_events.proofs.Neighbours.{stretch_begins, stretch_forward, release_outside}

@@ -1,6 +1,7 @@
 -- Earliest deadline first, told of two slots: where the later slot's job was released when the earlier slot began, it isn't due before
 -- the earlier slot's job.
-use Rattle.yds_model.proofs.Common.{ℕ, zero, suc, ◌*◌, ◌<◌, ◌≤◌, List, [], ◌∷◌, ◌++◌, length, ap, subst, arith, inl, inr, append_assoc, All, sum_by-append, All-nil, All-cons, All-tail, cases_order, if◌then◌else◌, ◌==◌, Job, job_at, WholeSlot, slot_at, no_slot, work_given, RunFrom, MayRun, ComesFirst, EarliestAfter, IsEarliestFirst, IsFeasibleAt, run_forward}
+use Rattle.yds_model.proofs.Common.{ℕ, zero, suc, ◌*◌, ◌<◌, ◌≤◌, List, [], ◌∷◌, ◌++◌, length, ap, subst, arith, inl, inr, append_assoc, All, sum_by-append, All-nil, All-cons, All-tail, cases_order, if◌then◌else◌, ◌==◌, Job, job_at, WholeSlot, slot_at, no_slot, work_given, RunFrom, MayRun, ComesFirst, EarliestAfter, IsEarliestFirst, IsFeasibleAt}
+use Rattle.model_lemmas.proofs.Runs.{run_forward}
 
 -- the slot's job, if it is released by this time, isn't due before
 abbrev IsDueLater : List Job → ℕ → ℕ → ℕ → WholeSlot → Type 0

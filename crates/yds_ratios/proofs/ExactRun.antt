@@ -1,5 +1,6 @@
 -- A run of Optimal Available that never rounded, as the laws of its spending use it, and its slots by stretches.
-use Rattle.yds_model.proofs.Common.{◌≡◌, ℕ, ◌-◌, ◌*◌, ◌<◌, ◌≤◌, ◌⊎◌, List, length, cond, arith, inl, inr, All, sum_by, cond-true, mul-le-mul_right, Job, job_at, WrittenSlot, WholeSlot, no_slot, slot_at, IsScale, slots_at, IsFeasibleAt, stretches, LiesIn, IsUncut, IsEarliestFirst, IsOptimalAvailableRun, optimal_available, work_in, stretch_at, sum_by-filter, run_forward}
+use Rattle.yds_model.proofs.Common.{◌≡◌, ℕ, ◌-◌, ◌*◌, ◌<◌, ◌≤◌, ◌⊎◌, List, length, cond, arith, inl, inr, All, sum_by, cond-true, mul-le-mul_right, Job, job_at, WrittenSlot, WholeSlot, no_slot, slot_at, IsScale, slots_at, IsFeasibleAt, stretches, LiesIn, IsUncut, IsEarliestFirst, IsOptimalAvailableRun, optimal_available, work_in, stretch_at, sum_by-filter}
+use Rattle.model_lemmas.proofs.Runs.{run_forward}
 use Rattle.yds_events.specs.Stretch.{no_stretch}
 use Rattle.yds_events.specs.Window.{length_at}
 use Rattle.yds_events.proofs.Neighbours.{release_outside}

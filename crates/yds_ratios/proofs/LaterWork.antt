@@ -1,7 +1,8 @@
 -- What is pending at a stretch's start and due by a time is the work of the slots from there on, of jobs released by then and due by
 -- that time. In a run of Optimal Available that never rounded, no such quotient is above the stretch's speed, whatever the time, and
 -- where something is done one attains it.
-use Rattle.yds_model.proofs.Common.{◌≡◌, ℕ, zero, suc, ◌+◌, ◌-◌, ◌*◌, ◌<◌, ◌≤◌, ◌⊎◌, List, length, get_or, cond, Bool, true, false, ◌==◌, ◌&&◌, nat_le, nat_lt, if◌then◌else◌, refl, sym, ap, subst, ◌∙◌, arith, inl, inr, All, filter, sum_by, cases_lt, cases_eq, cases_Bool, le-leb, lt-leb, lt-ltb, leb-true, ltb-true, eqb-true, eq-eqb, true≢false, and_parts, and_from, All-contains, All-filter, filter_passes, get_or-map, length-map, mul-le-mul_right, le_of_mul-le-mul_left, eq_of_mul-eq-mul_left, count, Job, job_at, WholeSlot, work_given, Piece, IsInWindow, IsFeasibleAt, stretches, IsUncut, pending_at, numbers_of, pending_jobs, due_units, pending_deadlines, units_asked, work_in, stretch_at, contains_filter, sum_by-filter, found_or_none, sum_by-add, sum_by_same, sum_by_zero, run_forward}
+use Rattle.yds_model.proofs.Common.{◌≡◌, ℕ, zero, suc, ◌+◌, ◌-◌, ◌*◌, ◌<◌, ◌≤◌, ◌⊎◌, List, length, get_or, cond, Bool, true, false, ◌==◌, ◌&&◌, nat_le, nat_lt, if◌then◌else◌, refl, sym, ap, subst, ◌∙◌, arith, inl, inr, All, filter, sum_by, cases_lt, cases_eq, cases_Bool, le-leb, lt-leb, lt-ltb, leb-true, ltb-true, eqb-true, eq-eqb, true≢false, and_parts, and_from, All-contains, All-filter, filter_passes, get_or-map, length-map, mul-le-mul_right, le_of_mul-le-mul_left, eq_of_mul-eq-mul_left, count, Job, job_at, WholeSlot, work_given, Piece, IsInWindow, IsFeasibleAt, stretches, IsUncut, pending_at, numbers_of, pending_jobs, due_units, pending_deadlines, units_asked, work_in, stretch_at, contains_filter, sum_by-filter, found_or_none, sum_by-add, sum_by_same, sum_by_zero}
+use Rattle.model_lemmas.proofs.Runs.{run_forward}
 use Rattle.yds_events.proofs.Neighbours.{stretch_order, stretch_starts_rise, deadline_outside}
 use Rattle.yds_laws.specs.RunLaws.{HasGreatestSpeed}
 use Rattle.yds_laws.proofs.Group.{given_together}

@@ -1,7 +1,7 @@
 -- A power as a sum of layers: a power of a whole speed S is the sum, over the whole speeds y below S, of a weight of y times S - y.
 -- So what runs spend is the sum of the weights times what they do above each whole speed.
 use Rattle.yds_model.proofs.Common.{◌≡◌, ℕ, zero, suc, ◌+◌, ◌-◌, ◌*◌, ◌^◌, ◌≤◌, min, cond, nat_lt, refl, ap, arith, inl, inr, cases_lt, cond-true, cond-false, lt-ltb, le-ltb, pow-suc, mul-le-mul_left}
-use Rattle.yds_model.specs.Numbers.{sum_below}
+use Rattle.base.specs.Numbers.{sum_below}
 use Rattle.std.proofs.Math.Nat.{pow-zero}
 use Rattle.yds_ratios.proofs.Powers.{first_power, no_power}
 

@@ -1,6 +1,7 @@
 -- The law of two speeds: the jobs in all of whose window a run of Optimal Available is faster than p/q are confined to the stretches in
 -- which it is, so every feasible schedule does much above each other speed. By layers, the run spends at most so many times as much.
-use Rattle.yds_model.proofs.Common.{◌≡◌, ℕ, zero, suc, ◌+◌, ◌-◌, ◌*◌, ◌^◌, ◌<◌, ◌≤◌, List, length, get_or, cond, true, nat_le, nat_lt, ap, ◌∙◌, arith, inl, inr, All, Contains, filter, sum_by, cases_Bool, cond-true, cond-false, le-leb, lt-ltb, ltb-true, and_from, All-append, All-contains, All-filter, All-from_get_or, get_or_default, mul-pos, mul-le-mul_left, mul-le-mul_right, lt_of_mul-lt-mul_right, le_of_mul-le-mul_left, Job, job_at, numbers_of, WholeSlot, IsSolid, slots_at, Piece, IsConfined, total_length, IsFeasibleAt, stretches, is_live, slots_in, busy, work_in, stretch_at, excess, contains_filter, sum_by-filter, sum_by-mul, sum_by_same, sum_by_at_most, run_forward}
+use Rattle.yds_model.proofs.Common.{◌≡◌, ℕ, zero, suc, ◌+◌, ◌-◌, ◌*◌, ◌^◌, ◌<◌, ◌≤◌, List, length, get_or, cond, true, nat_le, nat_lt, ap, ◌∙◌, arith, inl, inr, All, Contains, filter, sum_by, cases_Bool, cond-true, cond-false, le-leb, lt-ltb, ltb-true, and_from, All-append, All-contains, All-filter, All-from_get_or, get_or_default, mul-pos, mul-le-mul_left, mul-le-mul_right, lt_of_mul-lt-mul_right, le_of_mul-le-mul_left, Job, job_at, numbers_of, WholeSlot, IsSolid, slots_at, Piece, IsConfined, total_length, IsFeasibleAt, stretches, is_live, slots_in, busy, work_in, stretch_at, excess, contains_filter, sum_by-filter, sum_by-mul, sum_by_same, sum_by_at_most}
+use Rattle.model_lemmas.proofs.Runs.{run_forward}
 use Rattle.yds_events.specs.Stretch.{no_stretch}
 use Rattle.yds_events.proofs.Neighbours.{stretches_run, release_outside, stretch_with}
 use Rattle.yds_laws.proofs.Bound.{confinement_bound, scale_left, scale_right}

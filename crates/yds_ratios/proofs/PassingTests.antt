@@ -1,5 +1,6 @@
 -- Numbers that count where tests pass, and lists of what passes a test.
-use Rattle.yds_model.proofs.Common.{◌≡◌, ℕ, zero, suc, ◌+◌, ◌*◌, ◌<◌, ◌≤◌, List, [], ◌∷◌, length, map, get_or, cond, Bool, true, false, ◌==◌, ◌&&◌, refl, sym, ap, ◌∙◌, arith, inl, inr, All, Contains, filter, list_all, sum_by, cases_Bool, ne_eqb, true≢false, and_parts, and_from, All-nil, All-cons, All-tail, All-filter, filter_passes, get_or-map, length-map, sum_by-cons, count, Job, numbers_of, contains_filter, sum_by_at_most, sum_by_zero, contained_counted}
+use Rattle.yds_model.proofs.Common.{◌≡◌, ℕ, zero, suc, ◌+◌, ◌*◌, ◌<◌, ◌≤◌, List, [], ◌∷◌, length, map, get_or, cond, Bool, true, false, ◌==◌, ◌&&◌, refl, sym, ap, ◌∙◌, arith, inl, inr, All, Contains, filter, list_all, sum_by, cases_Bool, ne_eqb, true≢false, and_parts, and_from, All-nil, All-cons, All-tail, All-filter, filter_passes, get_or-map, length-map, sum_by-cons, count, Job, numbers_of, contains_filter, sum_by_at_most, sum_by_zero}
+use Rattle.model_lemmas.proofs.Counted.{contained_counted}
 use Rattle.yds_laws.proofs.Served.{is_number, kept_different}
 
 -- # Numbers

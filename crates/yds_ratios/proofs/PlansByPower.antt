@@ -1,5 +1,6 @@
 -- Plans spend least by each whole exponent, since they do the least above each speed.
-use Rattle.yds_model.proofs.Common.{ℕ, zero, suc, ◌*◌, List, arith, mul-pos, Job, WrittenSlot, WholeSlot, IsSolid, slots_at, All-append, IsFeasible, IsLeast, run_forward}
+use Rattle.yds_model.proofs.Common.{ℕ, zero, suc, ◌*◌, List, arith, mul-pos, Job, WrittenSlot, WholeSlot, IsSolid, slots_at, All-append, IsFeasible, IsLeast}
+use Rattle.model_lemmas.proofs.Runs.{run_forward}
 use Rattle.yds_laws.proofs.Bound.{scale_left, scale_right, least_among_written}
 use Rattle.yds_laws.proofs.Plans.{plans_are_least}
 use Rattle.yds_ratios.specs.SpendingByPower.{SpendsAtMost}

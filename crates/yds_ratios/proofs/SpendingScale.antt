@@ -1,5 +1,6 @@
 -- What slots spend at a multiple of a scale, and that one common scale decides.
-use Rattle.yds_model.proofs.Common.{◌≡◌, ℕ, ◌+◌, ◌-◌, ◌*◌, ◌^◌, ◌≤◌, List, [], ◌∷◌, map, sym, ap, subst, ◌∙◌, arith, mul-pos, mul-sub, mul-le-mul_right, le_of_mul-le-mul_right, WrittenSlot, WholeSlot, IsScale, slots_at, Quotient, finer, finer_slots}
+use Rattle.yds_model.proofs.Common.{◌≡◌, ℕ, ◌+◌, ◌-◌, ◌*◌, ◌^◌, ◌≤◌, List, [], ◌∷◌, map, sym, ap, subst, ◌∙◌, arith, mul-pos, mul-sub, mul-le-mul_right, le_of_mul-le-mul_right, WrittenSlot, WholeSlot, IsScale, slots_at, Quotient}
+use Rattle.model_lemmas.proofs.Scale.{finer, finer_slots}
 use Rattle.std.proofs.Math.Nat.{one-le-pow}
 use Rattle.std.proofs.lemmas.Nat.{mul-pow}
 use Rattle.yds_laws.proofs.Bound.{scale_left, scale_right}

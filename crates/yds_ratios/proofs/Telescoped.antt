@@ -1,10 +1,10 @@
 -- Two potentials by units of time. Each slot's rate stands in a window around it: in each of the window's units stands what of the slot
 -- comes at that unit or later, and what comes before. The powers of what stands fall, or rise, in steps as time goes on.
 use Rattle.yds_model.proofs.Common.{◌≡◌, ℕ, suc, ◌+◌, ◌-◌, ◌*◌, ◌^◌, ◌≤◌, ◌∙◌, min, max, List, get_or, sym, ap, arith, inl, inr, cond, nat_le, nat_lt, sum_by, All, nat_tests, cases_lt, mul-le-mul_left, mul-le-mul_right, mul_assoc, mul-add, WholeSlot, sum_by-add, sum_by_same, sum_by_at_most, sum_by_zero}
-use Rattle.yds_model.specs.Numbers.{sum_below}
-use Rattle.yds_model.proofs.SumsBelow.{sum_below_at_most, sum_below-mul, sum_below_zero}
+use Rattle.base.specs.Numbers.{sum_below}
+use Rattle.model_lemmas.proofs.SumsBelow.{sum_below_at_most, sum_below-mul, sum_below_zero}
 use Rattle.std.proofs.Math.Nat.{pow-le-pow_left}
-use Rattle.yds_model.proofs.Time.{before, here}
+use Rattle.model_lemmas.proofs.Time.{before, here}
 use Rattle.yds_ratios.proofs.Powers.{no_power, power_step}
 use Rattle.yds_ratios.proofs.Below.{sum_below_times, sum_below_list, is_between, count_between, all_steps, all_rises}
 

@@ -1,8 +1,8 @@
 -- Speeds made whole. At a common multiple of the slots' lengths each slot has a whole speed, its excess above a whole speed is its length
 -- times what its speed is more, and its spending is its length times a power of its speed.
 use Rattle.yds_model.proofs.Common.{◌≡◌, ℕ, suc, ◌+◌, ◌-◌, ◌*◌, ◌/◌, ◌^◌, ◌<◌, ◌≤◌, ◌∣◌, List, [], ◌∷◌, cond, nat_lt, get_or, sym, ap, subst, ◌∙◌, arith, inl, inr, All, sum_by, sum_by-cons, cases_lt, cond-true, cond-false, lt-ltb, le-ltb, pow-suc, mul-pos, mul-sub, mul-le-mul_left, mul-le-mul_right, le_of_mul-le-mul_left, div-mul_cancel, All-tail, All-weaker, get_or-le-sum_by, excess, WholeSlot, sum_by_same}
-use Rattle.yds_model.specs.Numbers.{sum_below}
-use Rattle.yds_model.proofs.SumsBelow.{sum_below_at_most, sum_below_same, sum_below-add, sum_below-mul, sum_below_zero}
+use Rattle.base.specs.Numbers.{sum_below}
+use Rattle.model_lemmas.proofs.SumsBelow.{sum_below_at_most, sum_below_same, sum_below-add, sum_below-mul, sum_below_zero}
 use Rattle.std.proofs.Math.Nat.{one-le-pow}
 use Rattle.std.proofs.lemmas.Nat.{mul-pow}
 use Rattle.yds_ratios.specs.SpendingByPower.{spending, IsAtMostTimes, is_faster, time_above}

@@ -1,5 +1,6 @@
 -- The text of a report is read with its line feed as it is without: after the last token a line feed is no token.
-use Rattle.yds_model.proofs.Common.{◌≡◌, ℕ, ◌-◌, ◌^◌, ◌<◌, length, ◌≤◌, Bool, true, false, cond, ◌&&◌, List, [], ◌∷◌, ◌++◌, refl, sym, ap, ap₂, subst, ◌∙◌, append_assoc, append-nil, arith, map, Some, option_and_then, Job, IsJob, Level, sum_by, All, All-tail, IsLevel, first_release, last_deadline, horizon, report_json, last_within, releases_from, works_few}
+use Rattle.yds_model.proofs.Common.{◌≡◌, ℕ, ◌-◌, ◌^◌, ◌<◌, length, ◌≤◌, Bool, true, false, cond, ◌&&◌, List, [], ◌∷◌, ◌++◌, refl, sym, ap, ap₂, subst, ◌∙◌, append_assoc, append-nil, arith, map, Some, option_and_then, Job, IsJob, Level, sum_by, All, All-tail, IsLevel, first_release, last_deadline, horizon, report_json}
+use Rattle.model_lemmas.proofs.Horizon.{last_within, releases_from, works_few}
 use Rattle.json.specs.Token.{Token, begin_object, end_object, begin_array, end_array, key, string, number, boolean, null, bad}
 use Rattle.json.specs.Word.{ends_word, word}
 use Rattle.json.specs.Lex.{token, comma, string_token, lex, between, fresh, punctuate, tokens}
@@ -18,7 +19,7 @@ use Rattle.serde_json.specs.Read.{read, of_json, of_items, max_depth}
 use Rattle.serde_json.specs.View.{items_of}
 use Rattle.serde_json.specs.Written.{compact_text, outline, items_outline}
 use Rattle.serde_json.proofs.Texts.{print-outline}
-use Rattle.yds_model.specs.declared.limits.TheConstants.{MAX_JOBS}
+use Rattle.base.specs.declared.limits.TheConstants.{MAX_JOBS}
 use Rattle.yds_report.proofs.JsonText.{report_text}
 use Rattle.yds_report.specs.JsonValue.{level_value, report_value, ReportsAreRead}
 

@@ -2,7 +2,7 @@
 use Rattle.std.specs.Prelude.{◌≡◌, ℕ, ◌-◌, ◌≤◌, List, length, codes, map, sum_by, Some}
 use Rattle.std.specs.List.{All}
 use Rattle.serde_json.specs.Read.{read}
-use Rattle.yds_model.specs.declared.limits.TheConstants.{MAX_JOBS}
+use Rattle.base.specs.declared.limits.TheConstants.{MAX_JOBS}
 use Rattle.yds_model.specs.Job.{IsJob}
 use Rattle.yds_model.specs.JsonAnswer.{report_json}
 use Rattle.yds_model.specs.Within.{IsLevel}

@@ -2,7 +2,7 @@
 
 ghost use Rattle.std.specs.Prelude.{◌≡◌, ◌≤◌, length};
 ghost use Rattle.std.specs.List.{All};
-ghost use Rattle.yds_model.specs.declared.limits.TheConstants.{MAX_JOBS, MAX_LEVELS};
+ghost use Rattle.base.specs.declared.limits.TheConstants.{MAX_JOBS, MAX_LEVELS};
 ghost use Rattle.yds_model.specs.Job.{IsJob};
 ghost use Rattle.yds_model.specs.ReportAnswer.{jobs_row, level_row, idle_row};
 ghost use Rattle.yds_model.specs.Within.{IsLevel};

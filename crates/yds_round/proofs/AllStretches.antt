@@ -1,6 +1,7 @@
 -- A plan's timetable, rounded stretch by stretch.
-use Rattle.yds_model.proofs.Common.{◌≡◌, ℕ, zero, suc, ◌+◌, ◌*◌, ◌<◌, ◌≤◌, ◌⊎◌, List, [], ◌∷◌, ◌++◌, length, get_or, take, drop, refl, sym, ap, ◌∙◌, subst, arith, inl, inr, append_assoc, add-one, Some, None, Option, All, AllZip, Contains, append-nil, length-append, length-map, get_or-map, take_all, take_at, drop_at, take_more, take-append-drop, flat_map-append, All-nil, All-append, All-map, drop-cons, Job, WrittenSlot, IsScale, Piece, Level, no_level, level_at, Point, hull_of, stretches, LiesWritten, IsPlan, RoundsStretch, RoundsStretches, flat_map-take, scale_exists}
-use Rattle.yds_model.specs.declared.limits.TheConstants.{MAX_JOBS}
+use Rattle.yds_model.proofs.Common.{◌≡◌, ℕ, zero, suc, ◌+◌, ◌*◌, ◌<◌, ◌≤◌, ◌⊎◌, List, [], ◌∷◌, ◌++◌, length, get_or, take, drop, refl, sym, ap, ◌∙◌, subst, arith, inl, inr, append_assoc, add-one, Some, None, Option, All, AllZip, Contains, append-nil, length-append, length-map, get_or-map, take_all, take_at, drop_at, take_more, take-append-drop, flat_map-append, All-nil, All-append, All-map, drop-cons, Job, WrittenSlot, IsScale, Piece, Level, no_level, level_at, Point, hull_of, stretches, LiesWritten, IsPlan, RoundsStretch, RoundsStretches, flat_map-take}
+use Rattle.model_lemmas.proofs.Scale.{scale_exists}
+use Rattle.base.specs.declared.limits.TheConstants.{MAX_JOBS}
 use Rattle.yds_events.specs.Stretch.{no_stretch}
 use Rattle.yds_events.proofs.Neighbours.{few_stretches}
 use Rattle.yds_timetable.specs.declared.pace.Pace.{Pace as Speed}
@@ -19,7 +20,7 @@ use Rattle.yds_round.proofs.Cuts.{WorksOver}
 use Rattle.yds_round.proofs.InTurn.{share_jobs, jobs_of}
 use Rattle.yds_round.proofs.Held.{IsHeld, known, held, held_slots, row_lies, same_jobs}
 use Rattle.yds_round.proofs.Rounds.{level_slots, pace_grain, rounds_by, over_by, jobs_by, more_by, can_round_by}
-use Rattle.yds_model.proofs.Counted.{one_level}
+use Rattle.model_lemmas.proofs.Counted.{one_level}
 
 -- # A timetable's slots, stretch by stretch
 

@@ -1,6 +1,6 @@
 -- Slots of the plan that stay as they are.
 use Rattle.yds_model.proofs.Common.{◌≡◌, ℕ, ◌+◌, ◌<◌, List, [], ◌∷◌, ◌++◌, length, get_or, take, sym, ap, subst, arith, append_assoc, take_more, length-append, length-take, All-take, WrittenSlot}
-use Rattle.yds_model.specs.declared.limits.TheConstants.{MAX_SLOTS}
+use Rattle.base.specs.declared.limits.TheConstants.{MAX_SLOTS}
 use Rattle.yds_slots.specs.Schedule.{FitsGrain}
 use Rattle.yds_round.specs.Cut.{CanKeep}
 use Rattle.yds_round.specs.Written.{FitsJob}

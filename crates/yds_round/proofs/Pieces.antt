@@ -1,6 +1,7 @@
 -- One slot of a stretch that is cut: within the limits.
-use Rattle.yds_model.proofs.Common.{◌≡◌, ℕ, ◌+◌, ◌-◌, ◌*◌, ◌≤◌, min, max, arith, mul-le-mul_right, Fraction, Piece, IsFraction, IsSlot, parts_alike}
-use Rattle.yds_model.specs.declared.limits.TheConstants.{MAX_DENOMINATOR, MAX_SLOT_WORK, MAX_TIME}
+use Rattle.yds_model.proofs.Common.{◌≡◌, ℕ, ◌+◌, ◌-◌, ◌*◌, ◌≤◌, min, max, arith, mul-le-mul_right, Fraction, Piece, IsFraction, IsSlot}
+use Rattle.fraction_lemmas.proofs.Fractions.{parts_alike}
+use Rattle.base.specs.declared.limits.TheConstants.{MAX_DENOMINATOR, MAX_SLOT_WORK, MAX_TIME}
 use Rattle.yds_fraction.specs.Mixed.{IsMixed}
 use Rattle.yds_fraction.proofs.WithinLimits.{IsFraction-within}
 use Rattle.yds_round.specs.Written.{moment}

@@ -1,6 +1,6 @@
 -- The times at which so many units of a stretch are done.
 use Rattle.yds_model.proofs.Common.{◌≡◌, ℕ, ◌-◌, ◌*◌, ◌<◌, ◌≤◌, min, max, arith, Fraction, IsFraction}
-use Rattle.yds_model.specs.declared.limits.TheConstants.{MAX_DENOMINATOR, MAX_TIME, MAX_WHOLE}
+use Rattle.base.specs.declared.limits.TheConstants.{MAX_DENOMINATOR, MAX_TIME, MAX_WHOLE}
 use Rattle.yds_fraction.specs.Mixed.{IsMixed}
 use Rattle.yds_fraction.proofs.WithinLimits.{IsFraction-within}
 use Rattle.yds_round.specs.declared.cut.Cut.{Cut}

@@ -1,6 +1,8 @@
 -- The energy of a plan that is rounded fits.
-use Rattle.yds_model.proofs.Common.{◌≡◌, ℕ, ◌+◌, ◌-◌, ◌*◌, ◌≤◌, List, [], ◌∷◌, ap, arith, All, All-contains, All-weaker, sum_by-cons, mul-le-mul_right, mul-pos, le_of_mul-le-mul_right, Job, Fraction, WrittenSlot, WholeSlot, IsSolid, IsFeasible, slots_at, Point, no_point, point_at, busy, horizon, idle, SpendsAtPoints, busy_and_idle, IsEnergyOf, IsSlot, scale_exists, IsTable, IsJob, IsFraction, IsPlan, IsRounding, Level, last_within}
-use Rattle.yds_model.specs.declared.limits.TheConstants.{MAX_ENERGY, MAX_POINT_POWER, MAX_WHOLE}
+use Rattle.yds_model.proofs.Common.{◌≡◌, ℕ, ◌+◌, ◌-◌, ◌*◌, ◌≤◌, List, [], ◌∷◌, ap, arith, All, All-contains, All-weaker, sum_by-cons, mul-le-mul_right, mul-pos, le_of_mul-le-mul_right, Job, Fraction, WrittenSlot, WholeSlot, IsSolid, IsFeasible, slots_at, Point, no_point, point_at, busy, horizon, idle, SpendsAtPoints, IsEnergyOf, IsSlot, IsTable, IsJob, IsFraction, IsPlan, IsRounding, Level}
+use Rattle.model_lemmas.proofs.Horizon.{busy_and_idle, last_within}
+use Rattle.model_lemmas.proofs.Scale.{scale_exists}
+use Rattle.base.specs.declared.limits.TheConstants.{MAX_ENERGY, MAX_POINT_POWER, MAX_WHOLE}
 use Rattle.yds_fraction.proofs.WithinLimits.{some_parts, IsFraction-within}
 use Rattle.yds_energy.proofs.RoundedOnPoints.{rounded_is_feasible}
 use Rattle.yds_table.specs.Table.{IsPointTable}

@@ -1,6 +1,7 @@
 -- What is written for each stretch rounds what the plan has there, and can be put after what is written before.
-use Rattle.yds_model.proofs.Common.{◌≡◌, ℕ, zero, suc, ◌+◌, ◌-◌, ◌*◌, ◌<◌, ◌≤◌, max, List, ◌++◌, length, refl, sym, ap, ◌∙◌, subst, arith, inl, inr, Option, Some, None, All, Contains, length-append, All-nil, All-append, mul-pos, of_parts, WrittenSlot, IsSolid, Piece, Level, common_multiple, Point, hull_of, speed_num, speed_den, HasSplitDenominators, SplitsStretch, RoundsStretch, parts_den}
-use Rattle.yds_model.specs.declared.limits.TheConstants.{MAX_SLOTS, MAX_SLOT_WORK}
+use Rattle.yds_model.proofs.Common.{◌≡◌, ℕ, zero, suc, ◌+◌, ◌-◌, ◌*◌, ◌<◌, ◌≤◌, max, List, ◌++◌, length, refl, sym, ap, ◌∙◌, subst, arith, inl, inr, Option, Some, None, All, Contains, length-append, All-nil, All-append, mul-pos, of_parts, WrittenSlot, IsSolid, Piece, Level, common_multiple, Point, hull_of, speed_num, speed_den, HasSplitDenominators, SplitsStretch, RoundsStretch}
+use Rattle.fraction_lemmas.proofs.Fractions.{parts_den}
+use Rattle.base.specs.declared.limits.TheConstants.{MAX_SLOTS, MAX_SLOT_WORK}
 use Rattle.yds_model.specs.Plan.{IsOver}
 use Rattle.yds_events.specs.Stretch.{length_of}
 use Rattle.yds_laws.proofs.Bound.{scale_left, scale_right}

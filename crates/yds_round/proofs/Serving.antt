@@ -1,6 +1,6 @@
 -- How far a stretch is served.
 use Rattle.yds_model.proofs.Common.{◌≡◌, ℕ, ◌+◌, ◌*◌, ◌<◌, ◌≤◌, List, [], ◌∷◌, ◌++◌, length, get_or, take, refl, sym, ap, ap₂, ◌∙◌, arith, subst, append_assoc, ◌^◌, All, take_more, length-append, length-take, sum_by_push, sum_by_more_le, mul-le-mul, WrittenSlot, Piece}
-use Rattle.yds_model.specs.declared.limits.TheConstants.{MAX_SLOTS, MAX_SLOT_WORK}
+use Rattle.base.specs.declared.limits.TheConstants.{MAX_SLOTS, MAX_SLOT_WORK}
 use Rattle.yds_slots.specs.Schedule.{WrittenSchedule}
 use Rattle.yds_events.specs.Stretch.{IsStretch}
 use Rattle.yds_timetable.specs.Shares.{JobShare, total_units}

@@ -1,6 +1,8 @@
 -- The numbers of a part: its speed and the gap over their greatest common divisor.
-use Rattle.yds_model.proofs.Common.{◌≡◌, ℕ, ◌*◌, ◌/◌, ◌≤◌, ap, arith, mul-le-mul, mul-pos, div-mul_cancel, div-le_self, common_divisor, divisor_is_greatest, divisor_positive, factors}
-use Rattle.yds_model.specs.declared.limits.TheConstants.{MAX_LEVEL_LENGTH, MAX_POINT_SPEED}
+use Rattle.yds_model.proofs.Common.{◌≡◌, ℕ, ◌*◌, ◌/◌, ◌≤◌, ap, arith, mul-le-mul, mul-pos, div-mul_cancel, div-le_self, common_divisor}
+use Rattle.fraction_lemmas.proofs.Divisor.{divisor_is_greatest, divisor_positive}
+use Rattle.fraction_lemmas.proofs.Fractions.{factors}
+use Rattle.base.specs.declared.limits.TheConstants.{MAX_LEVEL_LENGTH, MAX_POINT_SPEED}
 use Rattle.yds_round.specs.Part.{IsPart}
 
 -- the numbers over the definition's divisor

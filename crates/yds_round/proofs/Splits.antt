@@ -1,6 +1,8 @@
 -- The numbers of a level whose speed lies between those of two points.
-use Rattle.yds_model.proofs.Common.{◌≡◌, ℕ, ◌+◌, ◌-◌, ◌*◌, ◌/◌, ◌<◌, ◌≤◌, max, ap, arith, div-mul_cancel, div-le_self, lt_of_mul-lt-mul_right, common_divisor, Level, Point, divisor_is_greatest, factors}
-use Rattle.yds_model.specs.declared.limits.TheConstants.{MAX_LEVEL_LENGTH, MAX_LEVEL_WORK, MAX_POINT_SPEED}
+use Rattle.yds_model.proofs.Common.{◌≡◌, ℕ, ◌+◌, ◌-◌, ◌*◌, ◌/◌, ◌<◌, ◌≤◌, max, ap, arith, div-mul_cancel, div-le_self, lt_of_mul-lt-mul_right, common_divisor, Level, Point}
+use Rattle.fraction_lemmas.proofs.Divisor.{divisor_is_greatest}
+use Rattle.fraction_lemmas.proofs.Fractions.{factors}
+use Rattle.base.specs.declared.limits.TheConstants.{MAX_LEVEL_LENGTH, MAX_LEVEL_WORK, MAX_POINT_SPEED}
 use Rattle.yds_round.specs.declared.part.Part.{Part}
 use Rattle.yds_round.specs.Part.{IsPart}
 use Rattle.yds_round.specs.Split.{IsSplitOf}

@@ -1,7 +1,7 @@
 -- A stretch that is cut between two points, and how far its work is done.
 use Rattle.std.specs.Prelude.{◌≡◌, ℕ, ◌+◌, ◌*◌, ◌<◌, ◌≤◌, List, length, Option, Some, None}
 use Rattle.std.specs.List.{All}
-use Rattle.yds_model.specs.declared.limits.TheConstants.{MAX_SLOTS, MAX_SLOT_WORK, MAX_TIME}
+use Rattle.base.specs.declared.limits.TheConstants.{MAX_SLOTS, MAX_SLOT_WORK, MAX_TIME}
 use Rattle.yds_model.specs.Slot.{WrittenSlot}
 use Rattle.yds_model.specs.Piece.{Piece}
 use Rattle.yds_model.specs.Plan.{IsOver}

@@ -1,6 +1,6 @@
 -- The numbers in which one part of a split is written.
 use Rattle.std.specs.Prelude.{◌≡◌, ℕ, ◌*◌, ◌≤◌}
-use Rattle.yds_model.specs.declared.limits.TheConstants.{MAX_DENOMINATOR, MAX_POINT_SPEED}
+use Rattle.base.specs.declared.limits.TheConstants.{MAX_DENOMINATOR, MAX_POINT_SPEED}
 use Rattle.yds_model.specs.Divisor.{common_multiple}
 use Rattle.yds_round.specs.declared.part.Part.{Part}
 

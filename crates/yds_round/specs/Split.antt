@@ -1,6 +1,6 @@
 -- The numbers of a level whose speed lies between those of two points.
 use Rattle.std.specs.Prelude.{◌≡◌, ◌+◌, ◌*◌, ◌<◌, ◌≤◌, max}
-use Rattle.yds_model.specs.declared.limits.TheConstants.{MAX_LEVEL_LENGTH, MAX_LEVEL_WORK, MAX_POINT_SPEED}
+use Rattle.base.specs.declared.limits.TheConstants.{MAX_LEVEL_LENGTH, MAX_LEVEL_WORK, MAX_POINT_SPEED}
 use Rattle.yds_model.specs.Level.{Level}
 use Rattle.yds_model.specs.Table.{Point}
 use Rattle.yds_model.specs.Plan.{speed_num, speed_den}

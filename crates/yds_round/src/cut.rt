@@ -1,5 +1,5 @@
 ghost use Rattle.std.specs.Prelude.{◌≡◌, ◌+◌, ◌-◌, ◌*◌, ◌/◌, ◌^◌, ◌<◌, ◌≤◌, ◌++◌, length, OnOk, IfSome};
-ghost use Rattle.yds_model.specs.declared.limits.TheConstants.{MAX_DENOMINATOR, MAX_SLOTS, MAX_SLOT_WORK, MAX_TIME, MAX_WHOLE};
+ghost use Rattle.base.specs.declared.limits.TheConstants.{MAX_DENOMINATOR, MAX_SLOTS, MAX_SLOT_WORK, MAX_TIME, MAX_WHOLE};
 ghost use Rattle.yds_model.specs.Scale.{of_parts};
 ghost use Rattle.yds_events.specs.Stretch.{length_of};
 ghost use Rattle.yds_fraction.specs.Mixed.{IsMixed};

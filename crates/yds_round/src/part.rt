@@ -1,5 +1,5 @@
 ghost use Rattle.std.specs.Prelude.{◌≤◌};
-ghost use Rattle.yds_model.specs.declared.limits.TheConstants.{MAX_LEVEL_LENGTH, MAX_POINT_SPEED};
+ghost use Rattle.base.specs.declared.limits.TheConstants.{MAX_LEVEL_LENGTH, MAX_POINT_SPEED};
 ghost use Rattle.yds_round.specs.Part.{IsPart};
 
 use yds_fraction::gcd;

@@ -1,6 +1,6 @@
 ghost use Rattle.std.specs.Prelude.{◌≡◌, ◌<◌, ◌≤◌, ◌++◌, length, IfOk, OnOk, IfErr, Err, MatchOption};
 ghost use Rattle.std.specs.List.{All, AllZip};
-ghost use Rattle.yds_model.specs.declared.limits.TheConstants.{MAX_ENERGY, MAX_JOBS};
+ghost use Rattle.base.specs.declared.limits.TheConstants.{MAX_ENERGY, MAX_JOBS};
 ghost use Rattle.yds_model.specs.Plan.{IsPlan};
 ghost use Rattle.yds_model.specs.Rounding.{IsTooFast, IsRounding};
 ghost use Rattle.yds_model.specs.Within.{IsFraction, AreSlotsOf};

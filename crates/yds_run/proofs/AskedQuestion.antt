@@ -1,6 +1,6 @@
 -- The answer to a question that is known by another name.
 use Rattle.yds_model.proofs.Common.{◌≡◌, ℕ, List, Option, subst, sym, Document, AnswersQuestion}
-use Rattle.yds_model.specs.declared.status.Status.{Status}
+use Rattle.base.specs.declared.status.Status.{Status}
 use Rattle.yds_words.specs.declared.command.Question.{Question}
 use Rattle.yds_words.specs.Words.{question_view}
 use Rattle.yds_answer.specs.Endings.{Replies}

@@ -1,8 +1,8 @@
 -- How a question about a document within the limits ends.
 use Rattle.yds_model.proofs.Common.{◌≡◌, ℕ, ◌≤◌, List, [], ◌∷◌, length, Option, Some, Ok, refl, subst, sym, ◌∙◌, arith, inl, inr, le-ltb, Verdict, Feasible, Backward, Overlap, Early, Late, OffPoint, WrongWork, Judgement, Accepted, Slots, Pieces, Members, Sums, Order, Window, Speed, verdict_status, judgement_status, AuditAnswer, CheckAnswer, Point, top_of, CanServe, Document, reading, WrittenSlot, Level, RoundAnswer, CompareAnswer, Question, OfDocument, OnPoints, AnswersQuestion, AnswersReading, UnlessTooLong, AnswersRequest, TaskSet, task_reading, AnswersTasks, OfTasks}
-use Rattle.yds_model.specs.declared.limits.TheConstants.{MAX_INPUT}
-use Rattle.yds_model.specs.declared.status.Status.{Status}
-use Rattle.yds_model.specs.declared.status.Status.TheVariants.{Done, No}
+use Rattle.base.specs.declared.limits.TheConstants.{MAX_INPUT}
+use Rattle.base.specs.declared.status.Status.{Status}
+use Rattle.base.specs.declared.status.Status.TheVariants.{Done, No}
 use Rattle.yds_model.specs.ExpandAnswer.{ExpandAnswer}
 use Rattle.yds_texts.specs.JudgedText.{IsJudged}
 use Rattle.yds_texts.specs.RoundText.{TooSlow, HoldsTooSlow}

@@ -1,6 +1,6 @@
 -- What `report` writes is the table of a plan's levels, and what `report --json` writes is read as their report.
 use Rattle.yds_model.proofs.Common.{ℕ, List, Some, AskReport, AskReportAsJson, OfDocument, AnswersRequest}
-use Rattle.yds_model.specs.declared.status.Status.TheVariants.{Done}
+use Rattle.base.specs.declared.status.Status.TheVariants.{Done}
 use Rattle.yds_texts.proofs.Answered.{answered, done_not_refused}
 use Rattle.yds_texts.proofs.Within.{read_is_within_limits}
 use Rattle.yds_report.specs.JsonText.{HoldsReport}

@@ -1,7 +1,7 @@
 -- How a run of a trial ends.
 use Rattle.yds_model.proofs.Common.{◌≡◌, ◌⊎◌, ℕ, List, Option, inl, inr, refl, sym, ◌∙◌, TrialAnswer}
-use Rattle.yds_model.specs.declared.status.Status.{Status}
-use Rattle.yds_model.specs.declared.status.Status.TheVariants as statuses
+use Rattle.base.specs.declared.status.Status.{Status}
+use Rattle.base.specs.declared.status.Status.TheVariants as statuses
 use Rattle.yds_answer.specs.Endings.{Replies}
 
 -- done, or by a fault of the sink, or for want of memory

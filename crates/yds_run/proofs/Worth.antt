@@ -1,7 +1,7 @@
 -- Each answer of the definitions is worth what is said of it.
 use Rattle.yds_model.proofs.Common.{◌≡◌, ◌≢◌, ℕ, List, Option, Some, None, [], ◌∷◌, codes, ap, subst, IfSome, Appends, ◌≤◌, length, Document, AuditAnswer, RoundAnswer, CompareAnswer, Question, AskPlan, AskRound, AskAverageRate, AskOptimalAvailable, AskCheck, AskAudit, AskAuditOnPoints, AskReport, AskReportAsJson, AskAdmit, AskCurve, AskCompare, OfDocument, AnswersQuestion, AnswersRequest, Request}
-use Rattle.yds_model.specs.declared.status.Status.{Status}
-use Rattle.yds_model.specs.declared.status.Status.TheVariants as statuses
+use Rattle.base.specs.declared.status.Status.{Status}
+use Rattle.base.specs.declared.status.Status.TheVariants as statuses
 use Rattle.yds_report.specs.JsonText.{HoldsReport}
 use Rattle.yds_texts.specs.AdmitText.{HoldsAdmission}
 use Rattle.yds_texts.specs.CompareText.{HoldsComparison}

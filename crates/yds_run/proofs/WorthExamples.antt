@@ -1,7 +1,7 @@
 -- What `run` says of an answer's worth, as a caller gets it, and a near miss.
 use Rattle.yds_model.proofs.Common.{◌≡◌, ℕ, List, [], ◌∷◌, Option, Some, None, codes, digits, refl, arith, sym, subst, IfSome, Appends, Document, no_document}
-use Rattle.yds_model.specs.declared.status.Status.{Status}
-use Rattle.yds_model.specs.declared.status.Status.TheVariants as statuses
+use Rattle.base.specs.declared.status.Status.{Status}
+use Rattle.base.specs.declared.status.Status.TheVariants as statuses
 use Rattle.yds_texts.specs.PlanText.{HoldsHeadline}
 use Rattle.yds_answer.specs.Endings.{IsWhole}
 use Rattle.yds_run.specs.Worth.{IsInputOf, IsWorth}

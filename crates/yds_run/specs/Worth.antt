@@ -1,9 +1,9 @@
 -- What an answer with its status is worth to whoever asked for it with these words, over this input. It is what `run` ensures over
 -- a source and a sink that tell their bytes.
 use Rattle.std.specs.Prelude.{◌≡◌, ℕ, ◌≤◌, ◌⊎◌, List, [], ◌∷◌, length, codes, Some, Ok}
-use Rattle.yds_model.specs.declared.limits.TheConstants.{MAX_INPUT}
-use Rattle.yds_model.specs.declared.status.Status.{Status}
-use Rattle.yds_model.specs.declared.status.Status.TheVariants as statuses
+use Rattle.base.specs.declared.limits.TheConstants.{MAX_INPUT}
+use Rattle.base.specs.declared.status.Status.{Status}
+use Rattle.base.specs.declared.status.Status.TheVariants as statuses
 use Rattle.yds_model.specs.Request.{OfDocument, AskAverageRate, AskOptimalAvailable, AskAdmit, AskCompare}
 use Rattle.yds_model.specs.Admission.{CanServe}
 use Rattle.yds_model.specs.Rounding.{top_of}

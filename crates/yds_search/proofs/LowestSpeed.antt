@@ -1,5 +1,7 @@
 -- Two numbers in lowest terms.
-use Rattle.yds_model.proofs.Common.{◌≡◌, ℕ, ◌*◌, ◌/◌, ◌≤◌, div-mul_cancel, common_divisor, divisor_is_greatest, factors}
+use Rattle.yds_model.proofs.Common.{◌≡◌, ℕ, ◌*◌, ◌/◌, ◌≤◌, div-mul_cancel, common_divisor}
+use Rattle.fraction_lemmas.proofs.Divisor.{divisor_is_greatest}
+use Rattle.fraction_lemmas.proofs.Fractions.{factors}
 
 -- the terms of a / b, where neither is 0
 pub record Lowest (a b : ℕ) : Type 0 where

@@ -2,7 +2,7 @@
 use Rattle.std.specs.Prelude.{ℕ, ◌*◌, ◌<◌, ◌≤◌, List, length}
 use Rattle.yds_model.specs.Job.{Job, job_at}
 use Rattle.yds_model.specs.Event.{stretches}
-use Rattle.yds_model.specs.declared.limits.TheConstants.{MAX_JOBS, MAX_TIME, MAX_WORK}
+use Rattle.base.specs.declared.limits.TheConstants.{MAX_JOBS, MAX_TIME, MAX_WORK}
 use Rattle.yds_events.specs.declared.window.Window.{Window}
 use Rattle.yds_events.specs.Window.{length_at, AreWindows}
 

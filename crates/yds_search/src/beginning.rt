@@ -1,6 +1,6 @@
 ghost use Rattle.std.specs.Prelude.{◌≡◌, ◌+◌, ◌*◌, ◌<◌, ◌≤◌, ◌++◌, [], length, map, IfOk, OnOk};
 ghost use Rattle.std.specs.List.{All, range_with_len};
-ghost use Rattle.yds_model.specs.declared.limits.TheConstants.{MAX_JOBS};
+ghost use Rattle.base.specs.declared.limits.TheConstants.{MAX_JOBS};
 ghost use Rattle.yds_model.specs.Job.{IsJob};
 ghost use Rattle.yds_model.specs.Event.{stretches};
 ghost use Rattle.yds_events.specs.Timeline.{IsTimeline};

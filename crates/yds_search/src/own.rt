@@ -1,5 +1,5 @@
 ghost use Rattle.std.specs.Prelude.{◌≡◌, ◌*◌, ◌≤◌, length, sum_by};
-ghost use Rattle.yds_model.specs.declared.limits.TheConstants.{MAX_JOBS};
+ghost use Rattle.base.specs.declared.limits.TheConstants.{MAX_JOBS};
 
 use crate::found::Group;
 

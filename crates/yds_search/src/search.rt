@@ -1,7 +1,7 @@
 ghost use Rattle.std.specs.Prelude.{◌≡◌, ◌*◌, ◌<◌, ◌≤◌, ◌++◌, ◌∷◌, [], List, ℕ, length, map, replicate, IfOk, OnOk};
 ghost use Rattle.std.specs.List.{All};
 ghost use Rattle.yds_model.specs.Job.{Job, IsJob};
-ghost use Rattle.yds_model.specs.declared.limits.TheConstants.{MAX_JOBS};
+ghost use Rattle.base.specs.declared.limits.TheConstants.{MAX_JOBS};
 ghost use Rattle.yds_events.specs.Timeline.{IsTimeline};
 ghost use Rattle.yds_search.specs.Found.{IsFound, per_time, per_work};
 ghost use Rattle.yds_search.specs.Views.{found_view, group_view};

@@ -1,5 +1,6 @@
 -- The grain of a job: the denominator of its works that aren't whole.
-use Rattle.yds_model.proofs.Common.{◌≡◌, ℕ, ◌<◌, ◌≤◌, ◌⊎◌, inl, inr, List, [], ◌∷◌, ◌++◌, length, take, max, refl, sym, ◌∙◌, arith, ◌==◌, if◌then◌else◌, All, fold, slice_index_or, IsPermutation, All-permutation, ne_eqb, eq-eqb, fold_push, All-tail, All-weaker, get_or_default, get_or-take, length-take, WrittenSlot, written_slot_at, no_written_slot, AreSlots, grain_of, AreAlike, grain_reached}
+use Rattle.yds_model.proofs.Common.{◌≡◌, ℕ, ◌<◌, ◌≤◌, ◌⊎◌, inl, inr, List, [], ◌∷◌, ◌++◌, length, take, max, refl, sym, ◌∙◌, arith, ◌==◌, if◌then◌else◌, All, fold, slice_index_or, IsPermutation, All-permutation, ne_eqb, eq-eqb, fold_push, All-tail, All-weaker, get_or_default, get_or-take, length-take, WrittenSlot, written_slot_at, no_written_slot, AreSlots, grain_of, AreAlike}
+use Rattle.model_lemmas.proofs.Grain.{grain_reached}
 use Rattle.yds_slots.specs.Schedule.{FitsGrain}
 
 -- the grain after one more slot

@@ -1,6 +1,8 @@
 -- What a schedule keeps, through each of its calls.
-use Rattle.yds_model.proofs.Common.{◌≡◌, ℕ, ◌+◌, ◌-◌, ◌*◌, ◌/◌, ◌<◌, ◌≤◌, ◌⊎◌, inl, inr, List, [], ◌∷◌, ◌++◌, length, max, refl, sym, ap, ◌∙◌, subst, arith, Bool, ◌==◌, if◌then◌else◌, All, slice_index_or, slice_set, cases_eq, ne_eqb, eq-eqb, length-append, get_or-set_same, get_or-set_other, length-set, map-append, sum_by_push, sum_by-cons, All-push, All-tail, one-dvd, div-mul_cancel, div-one, dvd_refl, Fraction, of_whole, at_scale, numerator, WrittenSlot, IsDivided, IsScale, slots_at, work_given, grain_of, IsSlot, sum_by_zero, grain_positive, parts_den, All-front, All-last}
-use Rattle.yds_model.specs.declared.limits.TheConstants.{MAX_DENOMINATOR, MAX_SLOTS, MAX_SLOT_WORK}
+use Rattle.yds_model.proofs.Common.{◌≡◌, ℕ, ◌+◌, ◌-◌, ◌*◌, ◌/◌, ◌<◌, ◌≤◌, ◌⊎◌, inl, inr, List, [], ◌∷◌, ◌++◌, length, max, refl, sym, ap, ◌∙◌, subst, arith, Bool, ◌==◌, if◌then◌else◌, All, slice_index_or, slice_set, cases_eq, ne_eqb, eq-eqb, length-append, get_or-set_same, get_or-set_other, length-set, map-append, sum_by_push, sum_by-cons, All-push, All-tail, one-dvd, div-mul_cancel, div-one, dvd_refl, Fraction, of_whole, at_scale, numerator, WrittenSlot, IsDivided, IsScale, slots_at, work_given, grain_of, IsSlot, sum_by_zero, All-front, All-last}
+use Rattle.model_lemmas.proofs.Grain.{grain_positive}
+use Rattle.fraction_lemmas.proofs.Fractions.{parts_den}
+use Rattle.base.specs.declared.limits.TheConstants.{MAX_DENOMINATOR, MAX_SLOTS, MAX_SLOT_WORK}
 use Rattle.yds_fraction.specs.Mixed.{IsMixed, Adds, common_den}
 use Rattle.yds_fraction.proofs.WithinLimits.{some_parts}
 use Rattle.yds_slots.specs.Received.{Receipt}

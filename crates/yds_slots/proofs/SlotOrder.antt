@@ -1,5 +1,7 @@
 -- Slots that run in order, and those of them that lie between two times.
-use Rattle.yds_model.proofs.Common.{◌≡◌, ℕ, suc, zero, ◌+◌, ◌-◌, ◌*◌, ◌<◌, ◌≤◌, List, [], ◌∷◌, length, take, drop, Bool, true, false, ◌⊎◌, inl, inr, max, refl, sym, ap, ◌∙◌, arith, mul_right_comm, nat_lt, nat_le, ◌↔◌, cond, ◌∣◌, All, slice_index_or, filter, IsPartitionedBy, IsPartitionPoint, lt-ltb, le-ltb, ltb-true, ltb-false, leb-true, le-leb, cases_lt, and_left, and_right, and_from, All-nil, All-cons, All-weaker, leb_tells, le_refl, mul-le-mul_right, Fraction, at_scale, numerator, WrittenSlot, IsScale, IsSolid, slots_at, scale_exists, IsSlot, RunFrom, value-den, tied_order, den_positive}
+use Rattle.yds_model.proofs.Common.{◌≡◌, ℕ, suc, zero, ◌+◌, ◌-◌, ◌*◌, ◌<◌, ◌≤◌, List, [], ◌∷◌, length, take, drop, Bool, true, false, ◌⊎◌, inl, inr, max, refl, sym, ap, ◌∙◌, arith, mul_right_comm, nat_lt, nat_le, ◌↔◌, cond, ◌∣◌, All, slice_index_or, filter, IsPartitionedBy, IsPartitionPoint, lt-ltb, le-ltb, ltb-true, ltb-false, leb-true, le-leb, cases_lt, and_left, and_right, and_from, All-nil, All-cons, All-weaker, leb_tells, le_refl, mul-le-mul_right, Fraction, at_scale, numerator, WrittenSlot, IsScale, IsSolid, slots_at, IsSlot, RunFrom}
+use Rattle.model_lemmas.proofs.Scale.{scale_exists}
+use Rattle.fraction_lemmas.proofs.Fractions.{value-den, tied_order, den_positive}
 use Rattle.yds_fraction.proofs.WithinLimits.{some_parts}
 use Rattle.yds_slots.specs.Between.{lies_between, begins_before, ends_by}
 

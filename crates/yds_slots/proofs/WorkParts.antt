@@ -1,5 +1,6 @@
 -- The works of a job together, in parts of its grain, and as one fraction.
-use Rattle.yds_model.proofs.Common.{◌≡◌, ℕ, ◌+◌, ◌*◌, ◌/◌, ◌%◌, ◌<◌, ◌≤◌, ◌⊎◌, inl, inr, List, [], ◌∷◌, ◌++◌, refl, sym, ap, ◌∙◌, arith, Bool, true, false, eqb-true, ◌==◌, if◌then◌else◌, sum_by, All, ◌∣◌, cases_eq, cond_both, ne_eqb, eq-eqb, div-mul-add, mod-mul-add, div-one, div-add-mod, eq_of_mul-eq-mul_right, mul-pos, sum_by_push, sum_by-cons, All-tail, Fraction, of_whole, of_parts, at_scale, numerator, value-den, WrittenSlot}
+use Rattle.yds_model.proofs.Common.{◌≡◌, ℕ, ◌+◌, ◌*◌, ◌/◌, ◌%◌, ◌<◌, ◌≤◌, ◌⊎◌, inl, inr, List, [], ◌∷◌, ◌++◌, refl, sym, ap, ◌∙◌, arith, Bool, true, false, eqb-true, ◌==◌, if◌then◌else◌, sum_by, All, ◌∣◌, cases_eq, cond_both, ne_eqb, eq-eqb, div-mul-add, mod-mul-add, div-one, div-add-mod, eq_of_mul-eq-mul_right, mul-pos, sum_by_push, sum_by-cons, All-tail, Fraction, of_whole, of_parts, at_scale, numerator, WrittenSlot}
+use Rattle.fraction_lemmas.proofs.Fractions.{value-den}
 use Rattle.yds_model.specs.Plan.{IsOver}
 
 -- the works of the job together, in parts of one g-th

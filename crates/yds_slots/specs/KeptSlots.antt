@@ -2,7 +2,7 @@
 use Rattle.std.specs.Prelude.{◌≡◌, ℕ, ◌+◌, ◌*◌, ◌<◌, ◌≤◌, ◌⊎◌, List, length}
 use Rattle.std.specs.List.{All, slice_index_or}
 use Rattle.std.specs.Int.{◌∣◌}
-use Rattle.yds_model.specs.declared.limits.TheConstants.{MAX_DENOMINATOR, MAX_SLOTS, MAX_SLOT_WORK}
+use Rattle.base.specs.declared.limits.TheConstants.{MAX_DENOMINATOR, MAX_SLOTS, MAX_SLOT_WORK}
 use Rattle.yds_model.specs.Scale.{of_whole, at_scale}
 use Rattle.yds_model.specs.Slot.{WrittenSlot, IsScale, slots_at, work_given}
 use Rattle.yds_model.specs.Audit.{grain_of, given_of}

@@ -1,5 +1,5 @@
 ghost use Rattle.std.specs.Prelude.{◌≡◌, max};
-ghost use Rattle.yds_model.specs.declared.limits.TheConstants.{MAX_DENOMINATOR};
+ghost use Rattle.base.specs.declared.limits.TheConstants.{MAX_DENOMINATOR};
 ghost use Rattle.yds_model.specs.Scale.{of_whole};
 ghost use Rattle.yds_fraction.specs.Mixed.{CanAdd, Adds};
 

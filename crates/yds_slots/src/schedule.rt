@@ -2,7 +2,7 @@ ghost use Rattle.std.specs.Prelude.{◌≡◌, ℕ, ◌<◌, ◌≤◌, List, []
 ghost use Rattle.std.specs.List.Sorted.{IsPermutation, IsSortedByKey, IsStableByKey};
 ghost use Rattle.yds_fraction.specs.ValueOrder.{fraction_cmp};
 ghost use Rattle.std.specs.Int.{◌∣◌};
-ghost use Rattle.yds_model.specs.declared.limits.TheConstants.{MAX_DENOMINATOR, MAX_SLOTS};
+ghost use Rattle.base.specs.declared.limits.TheConstants.{MAX_DENOMINATOR, MAX_SLOTS};
 ghost use Rattle.yds_model.specs.Scale.{at_scale};
 ghost use Rattle.yds_model.specs.Slot.{IsScale, slots_at, work_given};
 ghost use Rattle.yds_model.specs.Audit.{AreSlots, grain_of, given_of};

@@ -1,6 +1,7 @@
 -- How long the stretches of jobs are together.
-use Rattle.yds_model.proofs.Common.{◌≡◌, ℕ, ◌≤◌, List, ◌∙◌, sym, arith, sum_by, All, Job, IsJob, stretches, horizon, last_within}
-use Rattle.yds_model.specs.declared.limits.TheConstants.{MAX_TIME}
+use Rattle.yds_model.proofs.Common.{◌≡◌, ℕ, ◌≤◌, List, ◌∙◌, sym, arith, sum_by, All, Job, IsJob, stretches, horizon}
+use Rattle.model_lemmas.proofs.Horizon.{last_within}
+use Rattle.base.specs.declared.limits.TheConstants.{MAX_TIME}
 use Rattle.yds_events.specs.Stretch.{length_of}
 use Rattle.yds_energy.proofs.StretchTimes.{stretches_long}
 

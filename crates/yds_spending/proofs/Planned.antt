@@ -1,5 +1,7 @@
 -- What a plan's slots take at each point, stretch by stretch, is what its levels take, and the time outside them.
-use Rattle.yds_model.proofs.Common.{IsJob, ◌≡◌, ℕ, ◌+◌, ◌-◌, ◌*◌, ◌<◌, ◌≤◌, ◌==◌, List, [], ◌∷◌, length, map, get_or, sym, ap, ap₂, subst, ◌∙◌, arith, inl, inr, sum_by, if◌then◌else◌, All, Contains, length-map, get_or-map, All-nil, All-cons, All-append, All-tail, All-filter, All-map, All-from_get_or, sum_by-cons, sum_by-append, sum-map, cases_lt, mul-pos, eq_of_mul-eq-mul_left, eq_of_mul-eq-mul_right, Job, WrittenSlot, WholeSlot, IsScale, slots_at, Piece, Level, no_level, level_at, IsPlan, Point, point_at, AreRising, hull_of, hull_multiple, top_of, IsTooFast, busy, stretches, slots_in, time_at, all_time_at, stretch_at, run_forward, sum_by-map, given_split}
+use Rattle.yds_model.proofs.Common.{IsJob, ◌≡◌, ℕ, ◌+◌, ◌-◌, ◌*◌, ◌<◌, ◌≤◌, ◌==◌, List, [], ◌∷◌, length, map, get_or, sym, ap, ap₂, subst, ◌∙◌, arith, inl, inr, sum_by, if◌then◌else◌, All, Contains, length-map, get_or-map, All-nil, All-cons, All-append, All-tail, All-filter, All-map, All-from_get_or, sum_by-cons, sum_by-append, sum-map, cases_lt, mul-pos, eq_of_mul-eq-mul_left, eq_of_mul-eq-mul_right, Job, WrittenSlot, WholeSlot, IsScale, slots_at, Piece, Level, no_level, level_at, IsPlan, Point, point_at, AreRising, hull_of, hull_multiple, top_of, IsTooFast, busy, stretches, slots_in, time_at, all_time_at, stretch_at, sum_by-map}
+use Rattle.model_lemmas.proofs.Runs.{run_forward}
+use Rattle.model_lemmas.proofs.Scale.{given_split}
 use Rattle.yds_events.specs.Stretch.{length_of}
 use Rattle.yds_events.proofs.Neighbours.{stretches_run, stretch_forward}
 use Rattle.yds_energy.proofs.LevelTimes.{levels_long, plan_busy, levels_fit_the_horizon}

@@ -1,6 +1,6 @@
 -- What loads spend, by the shares of each.
 use Rattle.yds_model.proofs.Common.{◌≡◌, ℕ, ◌+◌, ◌*◌, ◌/◌, ◌<◌, ◌≤◌, List, [], ◌∷◌, ◌++◌, length, get_or, take, refl, sym, ap, ap₂, ◌∙◌, arith, sum_by, All, AllZip, take_more, sum_by-cons, sum_by-le, sum_by_more_le, mul-le-mul, mul-le-mul_right, le_of_mul-le-mul_right, Point, hull_of, hull_multiple, ArePoints, time_at}
-use Rattle.yds_model.specs.declared.limits.TheConstants.{MAX_GRID, MAX_TIME, MAX_POINTS, MAX_POINT_POWER, MAX_GAPS}
+use Rattle.base.specs.declared.limits.TheConstants.{MAX_GRID, MAX_TIME, MAX_POINTS, MAX_POINT_POWER, MAX_GAPS}
 use Rattle.yds_timetable.proofs.Lists.{all_zip_push}
 use Rattle.yds_spending.specs.declared.load.Load.{Load}
 use Rattle.yds_spending.specs.declared.time_share.TimeShare.{TimeShare}

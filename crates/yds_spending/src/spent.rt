@@ -1,6 +1,6 @@
 ghost use Rattle.std.specs.Prelude.{◌≡◌, ◌*◌, ◌^◌, ◌<◌, ◌≤◌, sum_by, IfOk};
 ghost use Rattle.std.specs.List.{All, AllZip};
-ghost use Rattle.yds_model.specs.declared.limits.TheConstants.{MAX_GRID, MAX_TIME};
+ghost use Rattle.base.specs.declared.limits.TheConstants.{MAX_GRID, MAX_TIME};
 ghost use Rattle.yds_model.specs.Table.{hull_of, hull_multiple};
 ghost use Rattle.yds_model.specs.Rounding.{top_of};
 ghost use Rattle.yds_spending.specs.Load.{IsHeldAt};

@@ -1,7 +1,7 @@
 ghost use Rattle.std.specs.Prelude.{◌≡◌, ◌+◌, ◌-◌, ◌*◌, ◌<◌, ◌≤◌, length, MatchOption, IfSome};
 ghost use Rattle.std.specs.List.{All};
 ghost use Rattle.std.specs.Int.{◌∣◌};
-ghost use Rattle.yds_model.specs.declared.limits.TheConstants.{MAX_GAPS, MAX_POINTS};
+ghost use Rattle.base.specs.declared.limits.TheConstants.{MAX_GAPS, MAX_POINTS};
 ghost use Rattle.yds_model.specs.Table.{hull_of, hull_multiple};
 ghost use Rattle.yds_model.specs.Rounding.{top_of};
 ghost use Rattle.yds_spending.specs.Load.{IsHeldAt};

@@ -1,6 +1,8 @@
 -- The least common multiple of the gaps between points of rising speed.
-use Rattle.yds_model.proofs.Common.{◌≡◌, ℕ, ◌-◌, ◌*◌, ◌<◌, ◌≤◌, List, [], ◌∷◌, length, take, drop, refl, sym, ap, ◌∙◌, arith, Option, Some, None, MatchOption, slice_index_or, take_all, length-drop, mul-pos, dvd-mul_left, dvd-mul_right, le_of_dvd, common_multiple, multiple_of_all, Point, AreRising, gaps_of, multiple_is_least, den_positive}
-use Rattle.yds_model.specs.declared.limits.TheConstants.{MAX_GAPS}
+use Rattle.yds_model.proofs.Common.{◌≡◌, ℕ, ◌-◌, ◌*◌, ◌<◌, ◌≤◌, List, [], ◌∷◌, length, take, drop, refl, sym, ap, ◌∙◌, arith, Option, Some, None, MatchOption, slice_index_or, take_all, length-drop, mul-pos, dvd-mul_left, dvd-mul_right, le_of_dvd, common_multiple, multiple_of_all, Point, AreRising, gaps_of}
+use Rattle.fraction_lemmas.proofs.Divisor.{multiple_is_least}
+use Rattle.fraction_lemmas.proofs.Fractions.{den_positive}
+use Rattle.base.specs.declared.limits.TheConstants.{MAX_GAPS}
 use Rattle.yds_table.specs.Gaps.{IsMultipleOf}
 
 multiple_some : (a b : ℕ) → 1 ≤ a → 1 ≤ b → 1 ≤ common_multiple a b

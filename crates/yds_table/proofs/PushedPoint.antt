@@ -1,6 +1,6 @@
 -- A table with one more point.
 use Rattle.yds_model.proofs.Common.{◌≡◌, ℕ, ◌-◌, ◌<◌, ◌≤◌, inl, inr, List, [], ◌∷◌, ◌++◌, length, take, suc, ap, ◌∙◌, subst, arith, cases_lt, length-append, take_all, take-append-le, get_or_append_left, All-push, multiple_of_all, Point, no_point, point_at, AreRising, gaps_of, hull_multiple, IsTable, IsPoint, ArePoints}
-use Rattle.yds_model.specs.declared.limits.TheConstants.{MAX_POINTS, MAX_GAPS}
+use Rattle.base.specs.declared.limits.TheConstants.{MAX_POINTS, MAX_GAPS}
 use Rattle.yds_table.specs.Table.{IsPointTable, last_of}
 use Rattle.yds_table.specs.Gaps.{IsMultipleOf}
 use Rattle.yds_table.specs.KeptTable.{IsLowerHull, IsKept}

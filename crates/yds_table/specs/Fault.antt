@@ -1,6 +1,6 @@
 -- When a table is refused, and when one more point is.
 use Rattle.std.specs.Prelude.{◌≡◌, ◌<◌, ◌≤◌, List, [], ◌∷◌, ◌++◌}
-use Rattle.yds_model.specs.declared.limits.TheConstants.{MAX_GAPS}
+use Rattle.base.specs.declared.limits.TheConstants.{MAX_GAPS}
 use Rattle.yds_model.specs.Table.{Point, hull_multiple}
 use Rattle.yds_table.specs.declared.fault.TableFault.{TableFault}
 use Rattle.yds_table.specs.declared.fault.TableFault.TheVariants.{NoIdle, NotRising, GapsTooFine, Memory}

@@ -1,6 +1,6 @@
 -- The least common multiple of the gaps between points, within its limit.
 use Rattle.std.specs.Prelude.{◌≡◌, ℕ, ◌≤◌, List}
-use Rattle.yds_model.specs.declared.limits.TheConstants.{MAX_GAPS}
+use Rattle.base.specs.declared.limits.TheConstants.{MAX_GAPS}
 use Rattle.yds_model.specs.Divisor.{multiple_of_all}
 use Rattle.yds_model.specs.Table.{Point, gaps_of}
 

@@ -1,7 +1,7 @@
 -- What the fields of a table are.
 use Rattle.std.specs.Prelude.{◌≡◌, ℕ, ◌≤◌, List, length}
 use Rattle.std.specs.List.{All}
-use Rattle.yds_model.specs.declared.limits.TheConstants.{MAX_GAPS}
+use Rattle.base.specs.declared.limits.TheConstants.{MAX_GAPS}
 use Rattle.yds_model.specs.Table.{Point, point_at, AreRising, IsHullOf, hull_of, hull_multiple}
 use Rattle.yds_model.specs.Within.{IsPoint}
 use Rattle.yds_table.specs.Table.{IsPointTable, last_of}

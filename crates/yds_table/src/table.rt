@@ -1,6 +1,6 @@
 ghost use Rattle.std.specs.Prelude.{◌≡◌, ◌*◌, ◌<◌, ◌≤◌, ◌↔◌, [], ◌∷◌, ◌++◌, length, IsNone, IfSome, IfOk, OnOk, IfErr, OnErr, MatchOption};
 ghost use Rattle.std.specs.List.{All};
-ghost use Rattle.yds_model.specs.declared.limits.TheConstants.{MAX_POINTS, MAX_GAPS};
+ghost use Rattle.base.specs.declared.limits.TheConstants.{MAX_POINTS, MAX_GAPS};
 ghost use Rattle.yds_model.specs.Table.{point_at, AreRising, IsHullOf, hull_of, hull_multiple};
 ghost use Rattle.yds_model.specs.Within.{IsPoint};
 ghost use Rattle.yds_table.specs.Table.{IsPointTable, last_of};

@@ -1,6 +1,6 @@
 -- How many jobs tasks have together, and their work, as one task more comes.
 use Rattle.yds_model.proofs.Common.{◌≡◌, ℕ, ◌+◌, ◌*◌, ◌<◌, ◌≤◌, List, [], ◌∷◌, ◌++◌, length, arith, true, Option, Some, None, is_some, IfSome, All, sum_by, mul-le-mul_left, flat_map-append, append-nil, length_push, All-head, All-tail, All-push, sum_by-cons, sum_by-append, Job, IsJob, Task, TaskSet, nth_job, count_of_jobs, horizon_of, jobs_of_tasks, count_of_all}
-use Rattle.yds_model.specs.declared.limits.TheConstants.{MAX_JOBS, MAX_TASKS, MAX_TIME, MAX_WORK}
+use Rattle.base.specs.declared.limits.TheConstants.{MAX_JOBS, MAX_TASKS, MAX_TIME, MAX_WORK}
 use Rattle.yds_laws.proofs.TaskWork.{jobs_of_task, jobs_until, works_of_task}
 use Rattle.yds_tasks.specs.KeptTasks.{IsTask, IsTaskSet, KeepsTasks, with_task}
 

@@ -1,6 +1,6 @@
 -- What a line is told to say, by what the draft holds.
 use Rattle.yds_model.proofs.Common.{◌≡◌, ℕ, ◌<◌, Bool, true, false, not, List, [], ◌∷◌, ◌++◌, length, Option, Some, None, Result, Ok, Err, refl, sym, ap, ◌∙◌, subst, arith, eqb-true, inl, inr, is_some, nat_lt, nat_le, ◌==◌, OnOk, IfErr, filter_map, cases_Bool, lt-ltb, first_of_them, Field, Spot, ◌>>=◌, demand, count_fields, field_at, Task, TaskSet, TaskEntry, HorizonEntry, TaskEntryOf, horizon_said, task_said, tasks_said, task_number_in, is_task_name, count_of_all, new_task_name, read_horizon, read_task}
-use Rattle.yds_model.specs.declared.limits.TheConstants.{MAX_JOBS, MAX_TASKS, MAX_TIME, MAX_WORK}
+use Rattle.base.specs.declared.limits.TheConstants.{MAX_JOBS, MAX_TASKS, MAX_TIME, MAX_WORK}
 use Rattle.yds_model.specs.declared.task_reason.TaskReason.{TaskReason}
 use Rattle.yds_model.specs.declared.task_reason.TaskReason.TheVariants as reasons
 use Rattle.yds_text.specs.Count.{no_reason}

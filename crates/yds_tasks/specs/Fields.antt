@@ -3,11 +3,11 @@
 use Rattle.std.specs.Prelude.{◌≡◌, ℕ, List, Result, Ok, Err, Bool, not, nat_le}
 use Rattle.std.specs.List.{list_any}
 use Rattle.std.specs.Str.{bytes_eq}
-use Rattle.yds_model.specs.declared.limits.TheConstants.{MAX_JOBS, MAX_TIME, MAX_WORK}
+use Rattle.base.specs.declared.limits.TheConstants.{MAX_JOBS, MAX_TIME, MAX_WORK}
 use Rattle.yds_model.specs.declared.task_reason.TaskReason.{TaskReason}
 use Rattle.yds_model.specs.declared.task_reason.TaskReason.TheVariants as reasons
-use Rattle.yds_model.specs.Lines.{Field}
-use Rattle.yds_model.specs.Fields.{Spot, ◌>>=◌, demand}
+use Rattle.base.specs.Lines.{Field}
+use Rattle.base.specs.Fields.{Spot, ◌>>=◌, demand}
 use Rattle.yds_model.specs.Tasks.{Task, TaskSet}
 use Rattle.yds_model.specs.TaskReading.{is_task_name, task_number_in, count_of_all}
 use Rattle.yds_text.specs.declared.count.FieldCount.{FieldCount}

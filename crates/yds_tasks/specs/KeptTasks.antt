@@ -1,7 +1,7 @@
 -- What a task keeps, and what tasks under a horizon keep together.
 use Rattle.std.specs.Prelude.{◌≡◌, ℕ, ◌≤◌, List, [], ◌∷◌, ◌++◌, length, None, IfSome, IsTrue, sum_by}
 use Rattle.std.specs.List.{All, slice_index_or}
-use Rattle.yds_model.specs.declared.limits.TheConstants.{MAX_JOBS, MAX_TASKS, MAX_TIME, MAX_WORK}
+use Rattle.base.specs.declared.limits.TheConstants.{MAX_JOBS, MAX_TASKS, MAX_TIME, MAX_WORK}
 use Rattle.yds_model.specs.Tasks.{Task, TaskSet, jobs_of_tasks}
 use Rattle.yds_model.specs.TaskReading.{is_task_name, count_of_all}
 

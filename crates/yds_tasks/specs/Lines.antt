@@ -3,8 +3,8 @@ use Rattle.std.specs.Prelude.{◌≡◌, ℕ, List, [], ◌∷◌, ◌++◌, Res
 use Rattle.std.specs.Str.{bytes_eq}
 use Rattle.indexmap.specs.IndexSet.{contains_by}
 use Rattle.yds_model.specs.declared.task_reason.TaskReason.{TaskReason}
-use Rattle.yds_model.specs.Lines.{Line}
-use Rattle.yds_model.specs.Fields.{Fault, Spot}
+use Rattle.base.specs.Lines.{Line}
+use Rattle.base.specs.Fields.{Fault, Spot}
 use Rattle.yds_model.specs.Reading.{live_lines}
 use Rattle.yds_model.specs.Tasks.{TaskSet}
 use Rattle.yds_model.specs.TaskReading.{TaskEntry, tasks_said, read_tasks_after}

@@ -1,6 +1,6 @@
 //! The tasks that are being read: what the lines said so far.
 ghost use Rattle.std.specs.Prelude.{◌≡◌, ◌≤◌, ◌<◌, ◌∷◌, [], List, length, is_some, OnOk, IfOk, IfErr, IsTrue, IsFalse};
-ghost use Rattle.yds_model.specs.declared.limits.TheConstants.{MAX_TASKS, MAX_JOBS};
+ghost use Rattle.base.specs.declared.limits.TheConstants.{MAX_TASKS, MAX_JOBS};
 ghost use Rattle.yds_model.specs.TaskReading.{TaskEntry, TaskEntryOf, read_horizon, read_task, read_task_fields, is_task_name, count_of_all};
 ghost use Rattle.yds_text.specs.Read.{field_read};
 ghost use Rattle.yds_tasks.specs.Fields.{Gives, task_name_of, task_of, has_name};

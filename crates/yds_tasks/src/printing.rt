@@ -1,7 +1,7 @@
 //! What `expand` writes: the jobs of the tasks, line by line, and their one level where they have one.
 ghost use Rattle.std.specs.Prelude.{◌<◌, ◌≤◌, IsErr};
 ghost use Rattle.std.specs.List.{flat_map};
-ghost use Rattle.yds_model.specs.declared.limits.TheConstants.{MAX_TIME};
+ghost use Rattle.base.specs.declared.limits.TheConstants.{MAX_TIME};
 ghost use Rattle.yds_model.specs.ExpandAnswer.{level_comment, expansion_text};
 ghost use Rattle.yds_port.specs.Sink.{Puts};
 ghost use Rattle.yds_tasks.specs.Printed.{task_lines};

@@ -1,6 +1,6 @@
 //! The jobs of one task.
 ghost use Rattle.std.specs.Prelude.{◌≡◌, ◌≤◌};
-ghost use Rattle.yds_model.specs.declared.limits.TheConstants.{MAX_TIME};
+ghost use Rattle.base.specs.declared.limits.TheConstants.{MAX_TIME};
 ghost use Rattle.yds_model.specs.Job.{IsJob};
 ghost use Rattle.yds_model.specs.Tasks.{nth_job, count_of_jobs, fills_horizon};
 ghost use Rattle.yds_tasks.specs.Read.{task_read};

@@ -1,6 +1,6 @@
 ghost use Rattle.std.specs.Prelude.{◌≡◌, ◌≤◌, ◌<◌, ◌+◌, ◌*◌, ◌∷◌, [], List, length, map, is_some, Some, None, OnOk, IsTrue, nat_le, sum_by};
 ghost use Rattle.std.specs.List.{list_all, list_any};
-ghost use Rattle.yds_model.specs.declared.limits.TheConstants.{MAX_TASKS, MAX_TIME, MAX_JOBS};
+ghost use Rattle.base.specs.declared.limits.TheConstants.{MAX_TASKS, MAX_TIME, MAX_JOBS};
 ghost use Rattle.yds_model.specs.Tasks.{nth_job, jobs_of_tasks, horizon_of, fills_horizon, has_work, one_level};
 ghost use Rattle.yds_model.specs.TaskReading.{count_of_all};
 ghost use Rattle.yds_tasks.specs.KeptTasks.{IsTaskSet, with_task, task_at};

@@ -1,8 +1,8 @@
 -- What a text spells as a fraction, by the digits at its front and what follows them.
 use Rattle.yds_model.proofs.Common.{◌≡◌, ℕ, ◌+◌, ◌-◌, ◌<◌, ◌≤◌, ◌&&◌, Bool, true, false, cond, List, length, get_or, take, drop, nat_le, nat_lt, Result, Ok, Err, refl, arith, ne_eqb, list_any, prefix_len, digits_value, cases_Bool, and_parts, le-leb, leb-true, leb-false, ltb-true, false≢true, take_all, length-drop, list_any_at, list_any_none, prefix_len_passes, Fraction, of_whole, is_digit, is_number, is_plus, is_slash, number_at, fraction_at, kept, digit_range}
-use Rattle.yds_model.specs.declared.limits.TheConstants.{MAX_DENOMINATOR}
-use Rattle.yds_model.specs.declared.number_fault.NumberFault.{NumberFault}
-use Rattle.yds_model.specs.declared.number_fault.NumberFault.TheVariants.{BadNumber, OutOfRange}
+use Rattle.base.specs.declared.limits.TheConstants.{MAX_DENOMINATOR}
+use Rattle.base.specs.declared.number_fault.NumberFault.{NumberFault}
+use Rattle.base.specs.declared.number_fault.NumberFault.TheVariants.{BadNumber, OutOfRange}
 use Rattle.yds_text.specs.FractionParts.{fraction_after, fraction_of_parts, is_bad}
 use Rattle.yds_text.proofs.Digits.{Told, is_told, number_ends, first_separator, no_number_before}
 

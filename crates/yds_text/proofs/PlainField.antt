@@ -1,7 +1,7 @@
 -- The first field of a plain spelling: one space, the field, and a blank or the end after it.
 use Rattle.yds_model.proofs.Common.{◌≡◌, ℕ, ◌+◌, ◌-◌, ◌<◌, ◌≤◌, true, false, List, [], ◌∷◌, ◌++◌, length, get_or, take, drop, All, Ok, refl, sym, ap, ap₂, ◌∙◌, subst, arith, ne_eqb, length-append, append_assoc, prefix_len, take-append_seam, drop-append-add, false≢true, cases_Bool, le-leb, leb-true, lt-ltb, eqb-true, and_parts, and_from, take-append-drop, length-take-le, common_steps, All-head, All-tail, All-cons, All-append, All-weaker, is_blank, fields_from, Fraction, is_digit, is_number, is_visible, is_name, number_at, fraction_at, kept, EndsField, fields_from-run, number_digits, digit_range}
 use Rattle.yds_fraction.specs.Mixed.{fraction_of}
-use Rattle.yds_model.specs.declared.limits.TheConstants.{MAX_DENOMINATOR, MAX_NAME}
+use Rattle.base.specs.declared.limits.TheConstants.{MAX_DENOMINATOR, MAX_NAME}
 use Rattle.yds_text.specs.FractionParts.{fraction_after, fraction_of_parts}
 use Rattle.yds_text.specs.Plain.{BeginsNumber, BeginsPlainly, ReadsText, ends_field}
 use Rattle.yds_text.proofs.Digits.{Told, is_told, front_passes, front_all}

@@ -1,8 +1,8 @@
 -- What a reader of a line's fields returned, against their count by the definition. The definition takes the reason for which
 -- a wrong count is refused; here none is given.
 use Rattle.std.specs.Prelude.{◌≡◌, ◌≤◌, length, ℕ, List, [], ◌∷◌, true, Result, Ok, Err}
-use Rattle.yds_model.specs.Lines.{Field}
-use Rattle.yds_model.specs.Fields.{field_at, count_fields}
+use Rattle.base.specs.Lines.{Field}
+use Rattle.base.specs.Fields.{field_at, count_fields}
 use Rattle.yds_text.specs.declared.count.FieldCount.{FieldCount}
 use Rattle.yds_text.specs.declared.field.Field.{Field as FieldRead}
 use Rattle.yds_text.specs.Read.{field_read}

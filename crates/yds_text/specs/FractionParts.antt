@@ -2,10 +2,11 @@
 use Rattle.std.specs.Prelude.{ℕ, Bool, true, false, List, ◌&&◌, if◌then◌else◌, Result, Ok, Err}
 use Rattle.std.specs.List.{list_any, before_first, after_first}
 use Rattle.std.specs.Str.Parse.{digits_value}
-use Rattle.yds_model.specs.declared.number_fault.NumberFault.{NumberFault}
-use Rattle.yds_model.specs.declared.number_fault.NumberFault.TheVariants.{BadNumber, OutOfRange}
+use Rattle.base.specs.declared.number_fault.NumberFault.{NumberFault}
+use Rattle.base.specs.declared.number_fault.NumberFault.TheVariants.{BadNumber, OutOfRange}
 use Rattle.yds_model.specs.Scale.{Fraction}
-use Rattle.yds_model.specs.Spelling.{is_number, is_slash, kept}
+use Rattle.base.specs.Spelling.{is_number}
+use Rattle.yds_model.specs.Spelling.{is_slash, kept}
 
 -- the fraction of three numbers
 abbrev pub fraction_of_parts : ℕ → List ℕ → List ℕ → List ℕ → Result Fraction NumberFault

@@ -1,6 +1,6 @@
 -- What contracts see of the lines and of the fields that are left to read.
 use Rattle.std.specs.Prelude.{ℕ, List}
-use Rattle.yds_model.specs.Lines.{Line, Field}
+use Rattle.base.specs.Lines.{Line, Field}
 
 -- the lines from this place in the input on
 pub record LinesLeft : Type 0 where

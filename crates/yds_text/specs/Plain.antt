@@ -1,7 +1,7 @@
 -- What a reader of a field of the plain spelling read: one space, the field, and a blank or the end after it.
 use Rattle.std.specs.Prelude.{◌≡◌, ℕ, ◌+◌, Bool, true, List, [], ◌∷◌, ◌++◌, length, Ok}
-use Rattle.yds_model.specs.Lines.{Field, is_blank, fields_from}
-use Rattle.yds_model.specs.Spelling.{number_at}
+use Rattle.base.specs.Lines.{Field, is_blank, fields_from}
+use Rattle.base.specs.Spelling.{number_at}
 
 -- a field ends before these bytes
 abbrev pub ends_field : List ℕ → Bool

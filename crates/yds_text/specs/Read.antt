@@ -1,6 +1,6 @@
 -- What a call of `next` reads: the first of what is left, or nothing where nothing is left.
 use Rattle.std.specs.Prelude.{◌≡◌, [], ◌∷◌, Option, MatchOption}
-use Rattle.yds_model.specs.Lines as text
+use Rattle.base.specs.Lines as text
 use Rattle.yds_text.specs.Left.{LinesLeft, FieldsLeft}
 use Rattle.yds_text.specs.declared.line.Line.{Line}
 use Rattle.yds_text.specs.declared.field.Field.{Field}

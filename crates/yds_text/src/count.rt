@@ -1,6 +1,6 @@
 //! How many fields stand on a line after its first one.
 ghost use Rattle.std.specs.Prelude.{◌≡◌, ◌∷◌, []};
-ghost use Rattle.yds_model.specs.Fields.{past_end};
+ghost use Rattle.base.specs.Fields.{past_end};
 ghost use Rattle.yds_text.specs.Read.{field_read};
 ghost use Rattle.yds_text.specs.Count.{Counts, ReadsNext, EndsThere};
 

@@ -1,10 +1,11 @@
 //! The fields of a line.
 ghost use Rattle.std.specs.Prelude.{◌≡◌, ℕ, ◌+◌, ◌<◌, ◌≤◌, ◌↔◌, [], ◌∷◌, length, map, Ok, IfSome, IsTrue};
 ghost use Rattle.std.specs.List.{prefix_len, position_or_len};
-ghost use Rattle.yds_model.specs.declared.limits.TheConstants.{MAX_BYTES, MAX_WHOLE};
-ghost use Rattle.yds_model.specs.Lines.{fields_from, fields_of, is_blank};
+ghost use Rattle.base.specs.declared.limits.TheConstants.{MAX_BYTES, MAX_WHOLE};
+ghost use Rattle.base.specs.Lines.{fields_from, fields_of, is_blank};
 ghost use Rattle.yds_model.specs.Reading.{begins_comment};
-ghost use Rattle.yds_model.specs.Spelling.{number_at, fraction_at, is_name};
+ghost use Rattle.base.specs.Spelling.{number_at, is_name};
+ghost use Rattle.yds_model.specs.Spelling.{fraction_at};
 ghost use Rattle.yds_text.specs.Plain.{ReadsText};
 
 use crate::plain::{first_fraction, first_name, first_number};
@@ -36,8 +37,8 @@ pub struct Fields<'a> {
 
 impl<'a> Model for Fields<'a> {
     ghost use Rattle.std.specs.Prelude.{ℕ, ◌+◌, ◌≤◌, List, length, map};
-    ghost use Rattle.yds_model.specs.declared.limits.TheConstants.{MAX_BYTES};
-    ghost use Rattle.yds_model.specs.Lines.{fields_from};
+    ghost use Rattle.base.specs.declared.limits.TheConstants.{MAX_BYTES};
+    ghost use Rattle.base.specs.Lines.{fields_from};
     ghost use Rattle.yds_text.specs.Left.{FieldsLeft};
 
     ghost Value = { FieldsLeft };

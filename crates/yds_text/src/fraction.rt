@@ -1,7 +1,8 @@
 //! The fractions that fields spell.
 ghost use Rattle.std.specs.Prelude.{◌≡◌, ℕ, ◌≤◌, List, IfOk};
-ghost use Rattle.yds_model.specs.declared.limits.TheConstants.{MAX_DENOMINATOR, MAX_WHOLE};
-ghost use Rattle.yds_model.specs.Spelling.{fraction_at, kept, number_at};
+ghost use Rattle.base.specs.declared.limits.TheConstants.{MAX_DENOMINATOR, MAX_WHOLE};
+ghost use Rattle.base.specs.Spelling.{number_at};
+ghost use Rattle.yds_model.specs.Spelling.{fraction_at, kept};
 ghost use Rattle.yds_text.specs.FractionParts.{fraction_after, fraction_of_parts, is_bad};
 
 use crate::field::Field;

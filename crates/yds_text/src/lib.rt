@@ -1,7 +1,7 @@
 //! Borrowed lines and fields of a text, and the numbers, fractions and names that fields spell.
 //!
-//! It stands on `yds_model`, which defines what the lines of bytes, the fields of a line and the
-//! spellings are, and on `yds_fraction` for the fractions. It keeps the promise that reading goes by
+//! It stands on `base`, which defines what the lines of bytes, the fields of a line and the spellings of
+//! numbers and names are, and on `yds_model` and `yds_fraction` for the fractions. It keeps the promise that reading goes by
 //! those definitions: no byte is lost, each place is told right, and each fault comes exactly where
 //! it is one. No call takes memory, and every part is a slice of the input.
 #![tactic(auto)]

@@ -1,7 +1,7 @@
 //! The lines of a text.
 ghost use Rattle.std.specs.Prelude.{◌≡◌, ℕ, ◌+◌, ◌<◌, ◌≤◌, ◌∷◌, length, drop, map};
-ghost use Rattle.yds_model.specs.declared.limits.TheConstants.{MAX_BYTES};
-ghost use Rattle.yds_model.specs.Lines.{lines_from, lines_of, fields_of, without_return};
+ghost use Rattle.base.specs.declared.limits.TheConstants.{MAX_BYTES};
+ghost use Rattle.base.specs.Lines.{lines_from, lines_of, fields_of, without_return};
 ghost use Rattle.yds_model.specs.Reading.{begins_comment};
 
 use crate::field::{Fields, is_comment};
@@ -30,8 +30,8 @@ pub struct LineIter<'a> {
 
 impl<'a> Model for LineIter<'a> {
     ghost use Rattle.std.specs.Prelude.{ℕ, ◌+◌, ◌≤◌, List, length, drop, map};
-    ghost use Rattle.yds_model.specs.declared.limits.TheConstants.{MAX_BYTES};
-    ghost use Rattle.yds_model.specs.Lines.{lines_from, trimmed};
+    ghost use Rattle.base.specs.declared.limits.TheConstants.{MAX_BYTES};
+    ghost use Rattle.base.specs.Lines.{lines_from, trimmed};
     ghost use Rattle.yds_text.specs.Left.{LinesLeft};
 
     ghost Value = { LinesLeft };

@@ -1,8 +1,9 @@
 //! Fields of the plain spelling, with one space before each, read in one pass over their bytes.
 ghost use Rattle.std.specs.Prelude.{◌≡◌, ◌<◌, ◌≤◌, ◌∷◌, length, Ok, IfSome, IsTrue};
 ghost use Rattle.std.specs.List.{prefix_len};
-ghost use Rattle.yds_model.specs.declared.limits.TheConstants.{MAX_DENOMINATOR};
-ghost use Rattle.yds_model.specs.Spelling.{number_at, fraction_at, is_visible, is_name};
+ghost use Rattle.base.specs.declared.limits.TheConstants.{MAX_DENOMINATOR};
+ghost use Rattle.base.specs.Spelling.{number_at, is_visible, is_name};
+ghost use Rattle.yds_model.specs.Spelling.{fraction_at};
 ghost use Rattle.yds_fraction.specs.Mixed.{fraction_of};
 ghost use Rattle.yds_text.specs.Plain.{BeginsNumber, BeginsPlainly, ends_field};
 

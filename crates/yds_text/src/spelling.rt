@@ -3,7 +3,7 @@ ghost use Rattle.std.specs.Prelude.{◌≡◌, ◌+◌, ◌*◌, ◌^◌, ◌≤
 ghost use Rattle.std.specs.Char.{digit_value};
 ghost use Rattle.std.specs.List.{list_all, prefix_len};
 ghost use Rattle.std.specs.Str.Parse.{digits_value};
-ghost use Rattle.yds_model.specs.Spelling.{number_at, is_digit, is_number, is_visible, is_name};
+ghost use Rattle.base.specs.Spelling.{number_at, is_digit, is_number, is_visible, is_name};
 
 use crate::field::Field;
 use std::str;

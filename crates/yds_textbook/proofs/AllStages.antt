@@ -5,8 +5,8 @@ use Rattle.yds_timetable.specs.Shares.{JobShare}
 use Rattle.yds_search.specs.Found.{Group, group_at, per_time, per_work, units_of_job, units_in_stretch}
 use Rattle.yds_search.specs.Views.{group_view}
 use Rattle.yds_search.proofs.KeySums.{over, over_same, count_all, All-range}
-use Rattle.yds_model.specs.Numbers.{sum_below}
-use Rattle.yds_model.proofs.SumsBelow.{sum_below_at_most, sum_below-add, sum_numbers}
+use Rattle.base.specs.Numbers.{sum_below}
+use Rattle.model_lemmas.proofs.SumsBelow.{sum_below_at_most, sum_below-add, sum_numbers}
 use Rattle.yds_critical.specs.declared.interval.Interval.{Interval}
 use Rattle.yds_critical.specs.Critical.{IsCritical}
 use Rattle.yds_contract.specs.Contracted.{place, Removes}

@@ -1,6 +1,7 @@
 -- The critical interval of the waiting jobs, for those inside it, and what its removal leaves for the others.
-use Rattle.yds_model.proofs.Common.{◌≡◌, ℕ, ◌-◌, ◌*◌, ◌<◌, ◌≤◌, List, [], ◌∷◌, length, map, get_or, ◌∙◌, sym, arith, inl, inr, ap, refl, true, Bool, nat_le, not, filter, All, cases_Bool, leb-true, le-leb, and_from, and_parts, not_from_true, not_from_false, not-true, true≢false, get_or-map, length-map, sum_by-cons, sum_by-le, length-filter_both, All-map, All-filter, All-weaker, filter_passes, mul-le-mul_right, Job, IsJob, no_job, job_at, Piece, window_is_within, work_within, part_within}
-use Rattle.yds_model.specs.declared.limits.TheConstants.{MAX_JOBS, MAX_TIME, MAX_WORK}
+use Rattle.yds_model.proofs.Common.{◌≡◌, ℕ, ◌-◌, ◌*◌, ◌<◌, ◌≤◌, List, [], ◌∷◌, length, map, get_or, ◌∙◌, sym, arith, inl, inr, ap, refl, true, Bool, nat_le, not, filter, All, cases_Bool, leb-true, le-leb, and_from, and_parts, not_from_true, not_from_false, not-true, true≢false, get_or-map, length-map, sum_by-cons, sum_by-le, length-filter_both, All-map, All-filter, All-weaker, filter_passes, mul-le-mul_right, Job, IsJob, no_job, job_at, Piece, window_is_within, work_within}
+use Rattle.model_lemmas.proofs.Confined.{part_within}
+use Rattle.base.specs.declared.limits.TheConstants.{MAX_JOBS, MAX_TIME, MAX_WORK}
 use Rattle.yds_critical.specs.declared.interval.Interval.{Interval}
 use Rattle.yds_critical.specs.Critical.{IsCritical}
 use Rattle.yds_critical.proofs.Searching.{best_works}

@@ -1,6 +1,7 @@
 -- Intensities don't rise from stage to stage: an interval of the time that is left once a critical interval is removed, if it were denser
 -- than that, would have been denser before, together with the critical interval where it touches it. It is the mediant of the two.
-use Rattle.yds_model.proofs.Common.{◌≡◌, ℕ, ◌+◌, ◌-◌, ◌*◌, ◌<◌, ◌≤◌, List, get_or, ap, arith, inl, inr, cond, refl, true, min, nat_le, not, All, sum_by, cases_lt, cases_Bool, le-leb, leb-true, and_from, and_parts, not_from_true, not_from_false, mul-le-mul_right, Job, job_at, Piece, sum_by-add, sum_by_at_most, sum_by-map, sum_by-filter, window_is_within, work_within, part_within}
+use Rattle.yds_model.proofs.Common.{◌≡◌, ℕ, ◌+◌, ◌-◌, ◌*◌, ◌<◌, ◌≤◌, List, get_or, ap, arith, inl, inr, cond, refl, true, min, nat_le, not, All, sum_by, cases_lt, cases_Bool, le-leb, leb-true, and_from, and_parts, not_from_true, not_from_false, mul-le-mul_right, Job, job_at, Piece, sum_by-add, sum_by_at_most, sum_by-map, sum_by-filter, window_is_within, work_within}
+use Rattle.model_lemmas.proofs.Confined.{part_within}
 use Rattle.yds_critical.specs.declared.interval.Interval.{Interval}
 use Rattle.yds_critical.specs.Critical.{IsCritical}
 use Rattle.yds_contract.specs.Contracted.{AreApartFrom, place, Removes}

@@ -1,9 +1,9 @@
 -- Shares by their stretches, and sums that are equal term by term.
 use Rattle.yds_model.proofs.Common.{◌≡◌, ℕ, zero, suc, ◌+◌, ◌<◌, ◌≤◌, ◌==◌, List, [], ◌∷◌, length, get_or, sym, arith, inl, inr, cond, refl, subst, Bool, nat_lt, filter, All, AllPairs, sum_by, range_with_len, cases_lt, cases_Bool, cases_order, eq-eqb, ne_eqb, lt-ltb, le-ltb, get_or-le-sum_by, All-contains, Contains-get_or, length-range_with_len, get_or-range_with_len, sum_by-add, sum_by_at_most, sum_by-filter, contains_filter}
 use Rattle.yds_edf.specs.Serving.{AreTies}
-use Rattle.yds_model.specs.Numbers.{sum_below}
+use Rattle.base.specs.Numbers.{sum_below}
 use Rattle.yds_timetable.specs.Shares.{JobShare, units_given, shares_in, shares_before}
-use Rattle.yds_model.proofs.SumsBelow.{sum_below_less}
+use Rattle.model_lemmas.proofs.SumsBelow.{sum_below_less}
 
 -- terms that are at most others, with the same sum, are the same
 pub same_terms : (n k : ℕ) (f g : ℕ → ℕ) → k < n → ((j : ℕ) → j < n → f j ≤ g j) → sum_below n f ≡ sum_below n g → f k ≡ g k

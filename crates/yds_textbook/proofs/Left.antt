@@ -5,9 +5,9 @@ use Rattle.yds_events.specs.Stretch.{IsOutside, no_stretch, nth_stretch}
 use Rattle.yds_events.specs.Window.{length_at}
 use Rattle.yds_events.proofs.Neighbours.{stretch_order}
 use Rattle.yds_search.proofs.KeySums.{All-range}
-use Rattle.yds_model.specs.Numbers.{sum_below}
+use Rattle.base.specs.Numbers.{sum_below}
 use Rattle.yds_edf.specs.Demand.{capacity_at, capacity_between, IsWithinCapacity, AreUncut}
-use Rattle.yds_model.proofs.SumsBelow.{sum_below_same, sum_below_at_most, sum_below-mul, sum_places, sum_numbers}
+use Rattle.model_lemmas.proofs.SumsBelow.{sum_below_same, sum_below_at_most, sum_below-mul, sum_places, sum_numbers}
 use Rattle.yds_critical.specs.declared.interval.Interval.{Interval}
 use Rattle.yds_critical.proofs.Shrinking.{nothing_within}
 use Rattle.yds_contract.specs.Contracted.{AreApartFrom, place}

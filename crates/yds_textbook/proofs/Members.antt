@@ -1,7 +1,7 @@
 -- Numbers among others, and the first stage that has one.
 use Rattle.yds_model.proofs.Common.{◌≡◌, ℕ, zero, suc, ◌+◌, ◌<◌, ◌≤◌, ◌==◌, List, [], ◌∷◌, length, get_or, ◌∙◌, sym, ap, arith, cond, refl, true, false, Bool, ◌||◌, filter, All, AllPairs, Contains, sum_by, position_or_len, cases_eq, eq-eqb, ne_eqb, eqb-true, false_from_ne_true, get_or_read, sum_by-cons, get_or-le-sum_by, position_or_len_is, place_cases, Any-from_list_any, list_any_at, All-contains, All-filter, All-tail, All-head, All-contains_itself, filter_passes}
 use Rattle.yds_search.proofs.KeySums.{over, over_same, over_add, over_zero, over_more, inside_range}
-use Rattle.yds_model.specs.Numbers.{sum_below}
+use Rattle.base.specs.Numbers.{sum_below}
 use Rattle.yds_textbook.specs.Together.{stands_among}
 
 -- the test finds just the numbers that stand there

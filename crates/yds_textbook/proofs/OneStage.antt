@@ -1,6 +1,7 @@
 -- What a stage serves in the time that is left, in real time: each of its jobs gets all its units in its window, in stretches of the stage, and
 -- each of these stretches is full, earliest deadline first.
-use Rattle.yds_model.proofs.Common.{◌≡◌, ℕ, ◌+◌, ◌-◌, ◌*◌, ◌<◌, ◌≤◌, ◌⊎◌, ◌==◌, List, length, get_or, map, ◌∙◌, sym, ap, arith, inl, inr, cond, refl, subst, slice_index, All, AllPairs, Contains, range_with_len, sum_by, cases_lt, cases_eq, le-leb, eq-eqb, ne_eqb, get_or-map, length-map, get_or_default, AllPairs-filter, All-map, All-filter, All-contains, Contains-get_or, get_or-range_with_len, Job, no_job, job_at, work_of, Piece, stretches, ComesFirst, stretch_at, sum_by_same, sum_by-map, sum_by-filter, part_within}
+use Rattle.yds_model.proofs.Common.{◌≡◌, ℕ, ◌+◌, ◌-◌, ◌*◌, ◌<◌, ◌≤◌, ◌⊎◌, ◌==◌, List, length, get_or, map, ◌∙◌, sym, ap, arith, inl, inr, cond, refl, subst, slice_index, All, AllPairs, Contains, range_with_len, sum_by, cases_lt, cases_eq, le-leb, eq-eqb, ne_eqb, get_or-map, length-map, get_or_default, AllPairs-filter, All-map, All-filter, All-contains, Contains-get_or, get_or-range_with_len, Job, no_job, job_at, work_of, Piece, stretches, ComesFirst, stretch_at, sum_by_same, sum_by-map, sum_by-filter}
+use Rattle.model_lemmas.proofs.Confined.{part_within}
 use Rattle.yds_events.specs.Stretch.{no_stretch, nth_stretch, length_of}
 use Rattle.yds_events.specs.Window.{length_at, IsInWindow}
 use Rattle.yds_events.proofs.Neighbours.{release_outside, deadline_outside}
@@ -8,12 +9,12 @@ use Rattle.yds_search.specs.Found.{Group, per_time, per_work, units_of_job, unit
 use Rattle.yds_search.specs.Views.{group_view}
 use Rattle.yds_search.proofs.LowestSpeed.{lowest}
 use Rattle.yds_edf.specs.Pending.{units_wanted}
-use Rattle.yds_model.specs.Numbers.{sum_below}
+use Rattle.base.specs.Numbers.{sum_below}
 use Rattle.yds_timetable.specs.Shares.{JobShare, units_given, total_units, shares_in, shares_before}
 use Rattle.yds_edf.specs.Serving.{IsDueBefore}
 use Rattle.yds_edf.specs.Filled.{pending_at_start}
 use Rattle.yds_edf.specs.Demand.{capacity_at}
-use Rattle.yds_model.proofs.SumsBelow.{sum_below_same, sum_by_grouped, sum_below-mul, sum_places, sum_numbers}
+use Rattle.model_lemmas.proofs.SumsBelow.{sum_below_same, sum_by_grouped, sum_below-mul, sum_places, sum_numbers}
 use Rattle.yds_edf.proofs.Filled.{stands_in}
 use Rattle.yds_critical.specs.declared.interval.Interval.{Interval}
 use Rattle.yds_critical.specs.Critical.{IsCritical}

@@ -1,9 +1,9 @@
 -- What holds between two stages, once some time is removed and some jobs wait.
 use Rattle.yds_model.proofs.Common.{◌≡◌, ℕ, ◌+◌, ◌-◌, ◌<◌, ◌≤◌, List, [], ◌∷◌, length, get_or, ◌∙◌, sym, ap, arith, cond, refl, true, false, subst, min, nat_lt, not, filter, ◌==◌, All, AllPairs, sum_by, leb-true, and_parts, eq-eqb, both_ways, false_from_ne_true, get_or_default, AllPairs-filter, sum_by-IsPermutation, All-filter, filter_passes, Job, IsJob, no_job, job_at, Piece, stretches, numbers_of, stretch_at}
-use Rattle.yds_model.specs.declared.limits.TheConstants.{MAX_JOBS}
+use Rattle.base.specs.declared.limits.TheConstants.{MAX_JOBS}
 use Rattle.yds_events.specs.Window.{IsInWindow}
 use Rattle.yds_search.proofs.KeySums.{inside_range}
-use Rattle.yds_model.specs.Numbers.{sum_below}
+use Rattle.base.specs.Numbers.{sum_below}
 use Rattle.yds_intensity.specs.DeadlineOrder.{IsDeadlineOrder}
 use Rattle.yds_intensity.proofs.Sweeps.{number_known}
 use Rattle.yds_critical.specs.declared.interval.Interval.{Interval}

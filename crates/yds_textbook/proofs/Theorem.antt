@@ -1,13 +1,13 @@
 -- The theorem of Yao, Demers and Shenker: the stages of the textbook's way make a plan.
 use Rattle.yds_model.proofs.Common.{◌≡◌, ℕ, ◌-◌, ◌*◌, ◌<◌, ◌≤◌, ◌==◌, List, [], ◌∷◌, length, ◌∙◌, sym, ap, arith, inl, inr, cond, refl, true, false, subst, Bool, nat_lt, filter, Option, Result, Ok, Err, IfOk, All, Contains, cases_lt, le-leb, leb-true, length-map, length-map-range_with_len, get_or-map-range_with_len, length-range_with_len, get_or-range_with_len, Contains-permutation, Job, IsJob, WrittenSlot, IsPlan, job_at, Piece, stretches, numbers_of, stretch_at, contains_filter}
-use Rattle.yds_model.specs.declared.limits.TheConstants.{MAX_JOBS}
+use Rattle.base.specs.declared.limits.TheConstants.{MAX_JOBS}
 use Rattle.yds_events.specs.Window.{length_at}
 use Rattle.yds_events.proofs.Neighbours.{stretch_forward}
 use Rattle.yds_timetable.specs.Shares.{no_share, share_at}
 use Rattle.yds_search.specs.Found.{Found, IsShare, IsFound, group_of, group_at, per_work, per_time}
 use Rattle.yds_search.specs.Views.{group_view}
 use Rattle.yds_search.proofs.KeySums.{over_same}
-use Rattle.yds_model.proofs.SumsBelow.{sum_below_bound}
+use Rattle.model_lemmas.proofs.SumsBelow.{sum_below_bound}
 use Rattle.yds_intensity.specs.DeadlineOrder.{IsDeadlineOrder}
 use Rattle.yds_critical.specs.declared.interval.Interval.{Interval}
 use Rattle.yds_critical.specs.Critical.{IsCritical}

@@ -4,7 +4,7 @@ use Rattle.yds_events.specs.Stretch.{IsOutside}
 use Rattle.yds_events.specs.Window.{length_at}
 use Rattle.yds_events.proofs.Times.{release_at, deadline_at, not_later}
 use Rattle.yds_events.proofs.Neighbours.{count_stretches, stretch_begins, stretch_ends, stretch_forward, release_outside, deadline_outside}
-use Rattle.yds_model.specs.Numbers.{sum_below}
+use Rattle.base.specs.Numbers.{sum_below}
 use Rattle.yds_critical.specs.declared.interval.Interval.{Interval}
 use Rattle.yds_contract.specs.Contracted.{AreApartFrom, place, Removes}
 use Rattle.yds_contract.proofs.ContractedPlaces.{place_rises, place_removes}

@@ -1,7 +1,7 @@
 -- The textbook's way: critical interval, fill, contract, repeat (Yao, Demers and Shenker, FOCS 1995).
 use Rattle.std.specs.Prelude.{◌≡◌, ℕ, ◌-◌, ◌*◌, ◌<◌, ◌≤◌, List, [], ◌∷◌, length, map, slice_index}
 use Rattle.std.specs.List.{All, range_with_len}
-use Rattle.yds_model.specs.declared.limits.TheConstants.{MAX_TIME, MAX_LEVEL_WORK}
+use Rattle.base.specs.declared.limits.TheConstants.{MAX_TIME, MAX_LEVEL_WORK}
 use Rattle.yds_model.specs.Job.{Job}
 use Rattle.yds_model.specs.Scale.{Quotient}
 use Rattle.yds_model.specs.Piece.{Piece}

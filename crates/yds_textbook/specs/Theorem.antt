@@ -2,7 +2,7 @@
 -- function of this crate.
 use Rattle.std.specs.Prelude.{◌≡◌, ℕ, ◌≤◌, List, [], length, filter}
 use Rattle.std.specs.List.{All}
-use Rattle.yds_model.specs.declared.limits.TheConstants.{MAX_JOBS}
+use Rattle.base.specs.declared.limits.TheConstants.{MAX_JOBS}
 use Rattle.yds_model.specs.Job.{Job, IsJob}
 use Rattle.yds_model.specs.Slot.{WrittenSlot}
 use Rattle.yds_model.specs.Level.{Level}

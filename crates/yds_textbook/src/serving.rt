@@ -1,6 +1,6 @@
 ghost use Rattle.std.specs.Prelude.{◌≡◌, ◌*◌, ◌≤◌, length, map, IfOk};
 ghost use Rattle.std.specs.List.{All, range_with_len};
-ghost use Rattle.yds_model.specs.declared.limits.TheConstants.{MAX_JOBS};
+ghost use Rattle.base.specs.declared.limits.TheConstants.{MAX_JOBS};
 ghost use Rattle.yds_model.specs.Piece.{PiecesFrom};
 ghost use Rattle.yds_edf.specs.Demand.{AreUncut, IsWithinCapacity};
 ghost use Rattle.yds_edf.specs.Filled.{IsFilled};

@@ -1,6 +1,6 @@
 ghost use Rattle.std.specs.Prelude.{◌≡◌, ◌≤◌, length, map, IfOk};
 ghost use Rattle.std.specs.List.{range_with_len};
-ghost use Rattle.yds_model.specs.declared.limits.TheConstants.{MAX_JOBS};
+ghost use Rattle.base.specs.declared.limits.TheConstants.{MAX_JOBS};
 ghost use Rattle.yds_model.specs.Event.{stretches};
 ghost use Rattle.yds_search.specs.Views.{found_view};
 ghost use Rattle.yds_textbook.specs.Together.{stage_of_job, stage_of_stretch, found_of};

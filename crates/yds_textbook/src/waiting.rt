@@ -1,6 +1,6 @@
 ghost use Rattle.std.specs.Prelude.{◌≡◌, ℕ, ◌*◌, ◌<◌, ◌≤◌, List, [], length, filter, IfOk};
 ghost use Rattle.std.specs.List.{All};
-ghost use Rattle.yds_model.specs.declared.limits.TheConstants.{MAX_JOBS};
+ghost use Rattle.base.specs.declared.limits.TheConstants.{MAX_JOBS};
 ghost use Rattle.yds_intensity.specs.DeadlineOrder.{IsDeadlineOrder};
 ghost use Rattle.yds_critical.specs.Critical.{IsCriticalOf};
 ghost use Rattle.yds_contract.specs.Contracted.{place};

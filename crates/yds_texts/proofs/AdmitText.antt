@@ -1,9 +1,9 @@
 -- What the answer of `admit` is worth: its text is read again as the document of the admitted jobs with their slots, and `audit`
 -- answers it with 'feasible'. The comments of the refused jobs are short, and bring nothing.
 use Rattle.yds_model.proofs.Common.{◌≡◌, ℕ, zero, suc, ◌+◌, ◌*◌, ◌<◌, ◌≤◌, Bool, true, false, List, [], ◌∷◌, ◌++◌, length, decimal, Option, Some, Result, Ok, Err, refl, sym, ap, subst, ◌∙◌, arith, inl, inr, codes, if◌then◌else◌, bytes_eq, All, AllByRecursion, flat_map, filter, length-decimal-le, length-append, All-nil, All-cons, All-head, All-tail, All-weaker, length-range_with_len, sum_by-le, length-filter, count_by-le-length, Job, IsJob, job_at, numbers_of, jobs_with, lies_within, confined_work, Refusal, IsRefusal, AdmitsAfter, top_capacity, with_taken, refusal_comment, AdmitAnswer, Document, name_at, no_document, canonical_text, is_name, number_at, reading, IsDocument, Request, AskAdmit, OfDocument, request_of_word, request_of_top, request_of_two, request_of_grid, request_of_trial, request_of_three, request_of, AnswersRequest}
-use Rattle.yds_model.specs.declared.limits.TheConstants.{MAX_JOBS, MAX_TIME, MAX_WORK, MAX_TOP, MAX_NAME}
-use Rattle.yds_model.specs.declared.number_fault.NumberFault.{NumberFault}
-use Rattle.yds_model.specs.declared.status.Status.TheVariants.{Done}
+use Rattle.base.specs.declared.limits.TheConstants.{MAX_JOBS, MAX_TIME, MAX_WORK, MAX_TOP, MAX_NAME}
+use Rattle.base.specs.declared.number_fault.NumberFault.{NumberFault}
+use Rattle.base.specs.declared.status.Status.TheVariants.{Done}
 use Rattle.yds_texts.specs.AdmitText.{ReadAdmission, HoldsAdmission, AdmissionsAreRead, AdmissionsAreFeasible}
 use Rattle.yds_laws.proofs.Forced.{refusals_are_forced}
 use Rattle.yds_laws.proofs.AdmittedRuns.{admitted_runs_within_top}

@@ -1,9 +1,10 @@
 -- The answer to an input that isn't refused, and what `audit` answers to a text that is read as a document.
-use Rattle.yds_model.proofs.Common.{◌≡◌, ℕ, ◌*◌, ◌≤◌, Bool, true, false, List, [], ◌∷◌, length, Some, Result, Ok, Err, refl, arith, codes, le-ltb, all_pieces, all_members, Point, IsFeasible, AreSlots, Feasible, Document, Fault, reading, IsDocument, IsTextOf, Question, AskAudit, OfDocument, OnPoints, AnswersQuestion, AnswersReading, UnlessTooLong, is_too_long, AnswersRequest, verdict_is_exact}
-use Rattle.yds_model.specs.declared.limits.TheConstants.{MAX_INPUT, MAX_JOBS}
+use Rattle.yds_model.proofs.Common.{◌≡◌, ℕ, ◌*◌, ◌≤◌, Bool, true, false, List, [], ◌∷◌, length, Some, Result, Ok, Err, refl, arith, codes, le-ltb, all_pieces, all_members, Point, IsFeasible, AreSlots, Feasible, Document, Fault, reading, IsDocument, IsTextOf, Question, AskAudit, OfDocument, OnPoints, AnswersQuestion, AnswersReading, UnlessTooLong, is_too_long, AnswersRequest}
+use Rattle.model_lemmas.proofs.Verdicts.{verdict_is_exact}
+use Rattle.base.specs.declared.limits.TheConstants.{MAX_INPUT, MAX_JOBS}
 use Rattle.yds_model.specs.declared.reason.Reason.{Reason}
-use Rattle.yds_model.specs.declared.status.Status.{Status}
-use Rattle.yds_model.specs.declared.status.Status.TheVariants.{Done, No, Refused}
+use Rattle.base.specs.declared.status.Status.{Status}
+use Rattle.base.specs.declared.status.Status.TheVariants.{Done, No, Refused}
 use Rattle.yds_texts.proofs.RoundTrip.{printed_is_read}
 use Rattle.yds_texts.proofs.Short.{text_is_short}
 use Rattle.yds_texts.proofs.Within.{read_is_within_limits}

@@ -1,6 +1,6 @@
 -- Reading in parts: bytes that bring a document that was read so far to a longer one.
 use Rattle.yds_model.proofs.Common.{◌≡◌, ◌≢◌, ℕ, ◌+◌, ◌<◌, ◌≤◌, true, false, ◌==◌, List, [], ◌∷◌, ◌++◌, length, map, Ok, refl, sym, ap, subst, ◌∙◌, arith, append-nil, append_assoc, Bool, if◌then◌else◌, All, All-cons, AllByRecursion, join_with_byte, flat_map, All-weaker, or_from, ne_eqb, Document, no_document, Line, Field, is_blank, joined, fields_from, document_said, lines_from, without_return, trimmed, fields_of, lines_of, Entry, read_fields, begins_comment, is_skipped, read_line, live_lines, read_after, reading, line, IsFull, spaced, fields_from-join, lines_from-written, without_return-none, All-join}
-use Rattle.yds_model.proofs.Said.{Says}
+use Rattle.model_lemmas.proofs.Said.{Says}
 
 -- ---- one line
 

@@ -1,8 +1,10 @@
 -- What the answer of `compare` is worth: it ends as `round` does and tells the same energy of a plan, and no policy's energy is less.
-use Rattle.yds_model.proofs.Common.{lowest_is_lowest, scale_exists, top_of, CanServe, IsLowest, Job, All-map, length-map, ◌≡◌, ℕ, ◌*◌, ◌≤◌, length, Bool, true, false, List, [], ◌∷◌, ◌++◌, Some, Result, Ok, Err, sym, ap, subst, ◌∙◌, append_assoc, inl, inr, mul-pos, codes, decimal, flat_map, zip, All, Fraction, WrittenSlot, WholeSlot, AtEachScale, slots_at, Piece, Point, IsTable, hull_multiple, IsPlan, IsRounding, IsRunAt, average_rate, optimal_available, Document, Fault, reading, line, fraction_text, canonical_text, Side, Spends, TooSlowFor, IsSide, Spent, IsSpent, in_parts, all_time_at, side_lines, rounded_line, ComparedAnswer, CompareAnswer, TooSlowAnswer, RoundedAnswer, RoundAnswer, AskRound, AskCompare, OfDocument, OnPoints, AnswersReading, UnlessTooLong, is_too_long, AnswersRequest}
+use Rattle.yds_model.proofs.Common.{top_of, CanServe, IsLowest, Job, All-map, length-map, ◌≡◌, ℕ, ◌*◌, ◌≤◌, length, Bool, true, false, List, [], ◌∷◌, ◌++◌, Some, Result, Ok, Err, sym, ap, subst, ◌∙◌, append_assoc, inl, inr, mul-pos, codes, decimal, flat_map, zip, All, Fraction, WrittenSlot, WholeSlot, AtEachScale, slots_at, Piece, Point, IsTable, hull_multiple, IsPlan, IsRounding, IsRunAt, average_rate, optimal_available, Document, Fault, reading, line, fraction_text, canonical_text, Side, Spends, TooSlowFor, IsSide, Spent, IsSpent, in_parts, all_time_at, side_lines, rounded_line, ComparedAnswer, CompareAnswer, TooSlowAnswer, RoundedAnswer, RoundAnswer, AskRound, AskCompare, OfDocument, OnPoints, AnswersReading, UnlessTooLong, is_too_long, AnswersRequest}
+use Rattle.fraction_lemmas.proofs.LowestTerms.{lowest_is_lowest}
+use Rattle.model_lemmas.proofs.Scale.{scale_exists}
 use Rattle.yds_model.specs.declared.reason.Reason.{Reason}
-use Rattle.yds_model.specs.declared.status.Status.{Status}
-use Rattle.yds_model.specs.declared.status.Status.TheVariants.{Done, No}
+use Rattle.base.specs.declared.status.Status.{Status}
+use Rattle.base.specs.declared.status.Status.TheVariants.{Done, No}
 use Rattle.yds_texts.specs.CompareText.{plan_energy_line, TellOneEnergy, ComparedAsRounded, CostsNoLess, ComparedPlanIsCheapest, HoldsComparison, ComparedIsTooSlow, AreTold, IsToldSide}
 use Rattle.yds_texts.specs.RoundText.{with_energy}
 use Rattle.yds_energy.proofs.Compared.{plan_spends_its_rounding, plan_spends_least, hull_some_multiple}

@@ -1,5 +1,6 @@
 -- What the levels of a plan do above a speed leaves the straight line at the speed of each level.
-use Rattle.yds_model.proofs.Common.{◌≡◌, ℕ, zero, suc, ◌+◌, ◌-◌, ◌*◌, ◌<◌, ◌≤◌, List, [], ◌∷◌, length, ap, arith, inl, inr, sum_by-cons, cases_lt, mul-pos, mul-le-mul_right, mul-lt-mul_of_pos_right, at_most_still, Job, numerator, Quotient, WrittenSlot, Level, no_level, level_at, IsPlan}
+use Rattle.yds_model.proofs.Common.{◌≡◌, ℕ, zero, suc, ◌+◌, ◌-◌, ◌*◌, ◌<◌, ◌≤◌, List, [], ◌∷◌, length, ap, arith, inl, inr, sum_by-cons, cases_lt, mul-pos, mul-le-mul_right, mul-lt-mul_of_pos_right, Job, numerator, Quotient, WrittenSlot, Level, no_level, level_at, IsPlan}
+use Rattle.fraction_lemmas.proofs.Fractions.{at_most_still}
 use Rattle.yds_laws.specs.CurveLaws.{excess_of, way, IsOnLine}
 use Rattle.yds_laws.proofs.Curve.{curve}
 use Rattle.yds_laws.proofs.CurveLine.{excess_value}

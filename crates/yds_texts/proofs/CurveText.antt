@@ -1,7 +1,9 @@
 -- What the answer of `curve` is worth: at each of its breaks the least excess, and between two of them a straight line.
 use Rattle.yds_texts.proofs.Answered.{answered, done_not_refused}
-use Rattle.yds_model.proofs.Common.{AskCurve, All-from_get_or, cases_lt, ◌≡◌, ℕ, zero, suc, ◌+◌, ◌-◌, ◌*◌, ◌<◌, ◌≤◌, List, length, get_or, reverse, refl, sym, ap, subst, ◌∙◌, arith, add-one, add-zero, ◌⊎◌, get_or-map, get_or-reverse, length-map, length-reverse, le_refl, mul-le-mul_right, mul-lt-mul_of_pos_right, lt_of_mul-lt-mul_right, le_of_mul-le-mul_right, Job, Fraction, numerator, IsLess, IsAtMost, of_whole, WrittenSlot, Level, no_level, level_at, in_lowest_terms, IsLowest, IsPlan, IsLeastExcess, Break, break_at, breaks_of, least_above, HasValue, lowest_value, lowest_is_lowest, at_most_still}
-use Rattle.yds_model.specs.declared.status.Status.TheVariants.{Done}
+use Rattle.yds_model.proofs.Common.{AskCurve, All-from_get_or, cases_lt, ◌≡◌, ℕ, zero, suc, ◌+◌, ◌-◌, ◌*◌, ◌<◌, ◌≤◌, List, length, get_or, reverse, refl, sym, ap, subst, ◌∙◌, arith, add-one, add-zero, ◌⊎◌, get_or-map, get_or-reverse, length-map, length-reverse, le_refl, mul-le-mul_right, mul-lt-mul_of_pos_right, lt_of_mul-lt-mul_right, le_of_mul-le-mul_right, Job, Fraction, numerator, IsLess, IsAtMost, of_whole, WrittenSlot, Level, no_level, level_at, in_lowest_terms, IsLowest, IsPlan, IsLeastExcess, Break, break_at, breaks_of, least_above}
+use Rattle.fraction_lemmas.proofs.LowestTerms.{HasValue, lowest_value, lowest_is_lowest}
+use Rattle.fraction_lemmas.proofs.Fractions.{at_most_still}
+use Rattle.base.specs.declared.status.Status.TheVariants.{Done}
 use Rattle.yds_laws.specs.CurveLaws.{excess_of, IsNotAbove, IsOnLine, IsNotBelow}
 use Rattle.yds_laws.proofs.CurveLine.{curve_is_straight}
 use Rattle.yds_laws.proofs.LeastAbove.{levels_tell_least_excess}

@@ -1,6 +1,7 @@
 -- The parts of a document stay within the limits as one more job, point, slot, level, piece or member comes.
-use Rattle.yds_model.proofs.Common.{◌≡◌, ℕ, ◌+◌, ◌/◌, ◌<◌, ◌≤◌, ◌⊎◌, Bool, true, false, nat_lt, ◌==◌, List, [], ◌∷◌, ◌++◌, length, Some, None, Ok, refl, sym, subst, ◌∙◌, arith, inl, inr, eqb-true, append-nil, if◌then◌else◌, All, list_all, filter_map, position, bytes_eq, and_parts, ltb-true, ltb-false, cases_lt, cases_eq, eq-eqb, ne_eqb, false≢true, bytes_eq-Decides, length-append, length_push, get_or_push, get_or_append_left, take_all, take-append-le, flat_map_more, All-nil, All-cons, All-push, All-weaker, All-append, fails_before_first, Job, IsJob, Fraction, of_parts, WrittenSlot, Level, all_pieces, all_members, Point, point_at, AreRising, IsTable, hull_multiple, name_at, is_name, Entry, piece_said, member_said, are_alike, follows_points, IsFraction, AreDifferentNames, IsPoint, IsSlot, IsPiece, IsLevel, AreNamedJobs, ArePoints, AreSlotsOf, AreLevelsOf, AreInGrain, AreAlike, place_cases, All-front, All-last, empty_level, with_entry, last_longer}
-use Rattle.yds_model.specs.declared.limits.TheConstants.{MAX_JOBS, MAX_POINTS, MAX_GAPS, MAX_DENOMINATOR, MAX_SLOTS, MAX_LEVELS, MAX_PIECES, MAX_MEMBERS}
+use Rattle.yds_model.proofs.Common.{◌≡◌, ℕ, ◌+◌, ◌/◌, ◌<◌, ◌≤◌, ◌⊎◌, Bool, true, false, nat_lt, ◌==◌, List, [], ◌∷◌, ◌++◌, length, Some, None, Ok, refl, sym, subst, ◌∙◌, arith, inl, inr, eqb-true, append-nil, if◌then◌else◌, All, list_all, filter_map, position, bytes_eq, and_parts, ltb-true, ltb-false, cases_lt, cases_eq, eq-eqb, ne_eqb, false≢true, bytes_eq-Decides, length-append, length_push, get_or_push, get_or_append_left, take_all, take-append-le, flat_map_more, All-nil, All-cons, All-push, All-weaker, All-append, fails_before_first, Job, IsJob, Fraction, of_parts, WrittenSlot, Level, all_pieces, all_members, Point, point_at, AreRising, IsTable, hull_multiple, name_at, is_name, Entry, piece_said, member_said, are_alike, follows_points, IsFraction, AreDifferentNames, IsPoint, IsSlot, IsPiece, IsLevel, AreNamedJobs, ArePoints, AreSlotsOf, AreLevelsOf, AreInGrain, AreAlike, place_cases, All-front, All-last}
+use Rattle.model_lemmas.proofs.Said.{empty_level, with_entry, last_longer}
+use Rattle.base.specs.declared.limits.TheConstants.{MAX_JOBS, MAX_POINTS, MAX_GAPS, MAX_DENOMINATOR, MAX_SLOTS, MAX_LEVELS, MAX_PIECES, MAX_MEMBERS}
 use Rattle.yds_model.specs.declared.reason.Reason.TheVariants as reasons
 use Rattle.yds_texts.proofs.Inverse.{demand_ok}
 

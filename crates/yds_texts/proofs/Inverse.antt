@@ -1,10 +1,10 @@
 -- What a step of reading says where it succeeds.
 use Rattle.yds_model.proofs.Common.{◌≡◌, ℕ, ◌<◌, ◌≤◌, Bool, true, false, ◌==◌, nat_le, List, [], ◌∷◌, ◌++◌, length, Option, Some, None, Result, Ok, Err, refl, sym, ap, subst, ◌∙◌, arith, inl, inr, is_none, eqb-true, digits_value, bytes_eq, filter_map, position-Some, and_parts, leb-true, cases_Bool, Fraction, of_whole, Line, Field, is_number, is_mixed, mixed_of, kept, number_at, fraction_at, is_name, Entry, name_said, job_named, first_of_them, Spot, ◌>>=◌, refuse, demand, field_at, count_fields, in_field, Kind, kind_of, fields_wanted, may_follow, has_room, reason_of, number_in, fraction_in, new_name, known_job, read_kind, read_fields, IsFraction}
-use Rattle.yds_model.specs.declared.number_fault.NumberFault.{NumberFault}
-use Rattle.yds_model.specs.declared.number_fault.NumberFault.TheVariants as faults
+use Rattle.base.specs.declared.number_fault.NumberFault.{NumberFault}
+use Rattle.base.specs.declared.number_fault.NumberFault.TheVariants as faults
 use Rattle.yds_model.specs.declared.reason.Reason.{Reason}
 use Rattle.yds_model.specs.declared.reason.Reason.TheVariants as reasons
-use Rattle.yds_model.specs.Fields.{on_line}
+use Rattle.base.specs.Fields.{on_line}
 
 -- ---- steps one after another
 

@@ -1,7 +1,9 @@
 -- What the answers of `audit` and `check` are worth: a yes exactly where the document is as wanted, a no exactly where it isn't.
-use Rattle.yds_model.proofs.Common.{◌≡◌, ℕ, ◌<◌, List, [], ◌∷◌, ◌++◌, length, get_or, Ok, refl, sym, ap, subst, ◌∙◌, arith, inl, inr, codes, ◌≤◌, ◌↔◌, Option, Some, None, All, take_at, drop_at, All-nil, All-cons, All-take, All-drop, All-weaker, Job, WrittenSlot, Level, all_members, IsProper, AreLevels, Verdict, Feasible, Backward, Overlap, Early, Late, OffPoint, WrongWork, IsVerdict, Judgement, Accepted, Slots, IsJudgement, Document, Point, line, reading, IsLevel, IsDocument, AuditAnswer, verdict_words, verdict_status, judgement_words, judgement_status, AskCheck, AskAudit, AskAuditOnPoints, verdict_is_exact, table_verdict_is_exact, verdict_is_unique}
-use Rattle.yds_model.specs.declared.status.Status.{Status}
-use Rattle.yds_model.specs.declared.status.Status.TheVariants.{Done, No, Refused}
+use Rattle.yds_model.proofs.Common.{◌≡◌, ℕ, ◌<◌, List, [], ◌∷◌, ◌++◌, length, get_or, Ok, refl, sym, ap, subst, ◌∙◌, arith, inl, inr, codes, ◌≤◌, ◌↔◌, Option, Some, None, All, take_at, drop_at, All-nil, All-cons, All-take, All-drop, All-weaker, Job, WrittenSlot, Level, all_members, IsProper, AreLevels, Verdict, Feasible, Backward, Overlap, Early, Late, OffPoint, WrongWork, IsVerdict, Judgement, Accepted, Slots, IsJudgement, Document, Point, line, reading, IsLevel, IsDocument, AuditAnswer, verdict_words, verdict_status, judgement_words, judgement_status, AskCheck, AskAudit, AskAuditOnPoints}
+use Rattle.model_lemmas.proofs.Verdicts.{verdict_is_exact, table_verdict_is_exact}
+use Rattle.model_lemmas.proofs.OneVerdict.{verdict_is_unique}
+use Rattle.base.specs.declared.status.Status.{Status}
+use Rattle.base.specs.declared.status.Status.TheVariants.{Done, No, Refused}
 use Rattle.yds_texts.specs.JudgedText.{TellsWhether, IsCertified, AreBestSlots, IsServed, IsServedOnPoints, IsJudged, JudgementsTellProper, VerdictsTellFeasible}
 use Rattle.yds_laws.proofs.Bound.{explained_is_least}
 use Rattle.yds_laws.proofs.Explained.{proper_explains}

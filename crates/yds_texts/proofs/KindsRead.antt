@@ -1,6 +1,8 @@
 -- The printed line of each kind is read as what it says, after lines that leave room for it.
-use Rattle.yds_model.proofs.Common.{◌≡◌, ℕ, ◌^◌, ◌<◌, ◌≤◌, true, ◌==◌, List, [], ◌∷◌, ◌++◌, length, Some, None, Ok, decimal, refl, arith, inl, inr, eq-eqb, codes, if◌then◌else◌, All, AllByRecursion, filter_map, list_all, lt-ltb, le-leb, cases_eq, ne_eqb, and_from, All-head, All-tail, Job, IsJob, Fraction, WrittenSlot, Piece, Level, Point, point_at, AreRising, IsTable, hull_multiple, Grid, is_name, fraction_text, Entry, JobEntry, PointEntry, SlotEntry, LevelEntry, PieceEntry, MemberEntry, GridEntry, EnergyEntry, name_said, point_said, slot_said, piece_said, member_said, grid_said, energy_said, levels_said, job_named, read_fields, follows_points, are_alike, fits_grain, IsFraction, IsPoint, IsSlot, IsLevel, IsPiece, IsGrid, AreAlike, spaced, number_at-decimal, levels_counted, alike_test}
-use Rattle.yds_model.specs.declared.limits.TheConstants.{MAX_JOBS, MAX_TIME, MAX_POINTS, MAX_POINT_SPEED, MAX_POINT_POWER, MAX_GAPS, MAX_SLOTS, MAX_SLOT_WORK, MAX_LEVELS, MAX_PIECES, MAX_MEMBERS, MAX_ENERGY}
+use Rattle.yds_model.proofs.Common.{◌≡◌, ℕ, ◌^◌, ◌<◌, ◌≤◌, true, ◌==◌, List, [], ◌∷◌, ◌++◌, length, Some, None, Ok, decimal, refl, arith, inl, inr, eq-eqb, codes, if◌then◌else◌, All, AllByRecursion, filter_map, list_all, lt-ltb, le-leb, cases_eq, ne_eqb, and_from, All-head, All-tail, Job, IsJob, Fraction, WrittenSlot, Piece, Level, Point, point_at, AreRising, IsTable, hull_multiple, Grid, is_name, fraction_text, Entry, JobEntry, PointEntry, SlotEntry, LevelEntry, PieceEntry, MemberEntry, GridEntry, EnergyEntry, name_said, point_said, slot_said, piece_said, member_said, grid_said, energy_said, levels_said, job_named, read_fields, follows_points, are_alike, fits_grain, IsFraction, IsPoint, IsSlot, IsLevel, IsPiece, IsGrid, AreAlike, spaced, number_at-decimal}
+use Rattle.model_lemmas.proofs.Said.{levels_counted}
+use Rattle.model_lemmas.proofs.Alike.{alike_test}
+use Rattle.base.specs.declared.limits.TheConstants.{MAX_JOBS, MAX_TIME, MAX_POINTS, MAX_POINT_SPEED, MAX_POINT_POWER, MAX_GAPS, MAX_SLOTS, MAX_SLOT_WORK, MAX_LEVELS, MAX_PIECES, MAX_MEMBERS, MAX_ENERGY}
 use Rattle.yds_texts.proofs.Brought.{IsWord}
 use Rattle.yds_texts.proofs.Printed.{decimal_word, name_word, fraction_word, fraction_read}
 

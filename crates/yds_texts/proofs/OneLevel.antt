@@ -1,5 +1,7 @@
 -- Where the jobs of each task follow one another without a gap until the horizon, a plan has one level.
-use Rattle.yds_model.proofs.Common.{◌≡◌, ℕ, ◌+◌, ◌-◌, ◌*◌, ◌<◌, ◌≤◌, true, List, [], ◌∷◌, length, get_or, refl, sym, ap, ◌∙◌, arith, inl, inr, All, sum_by, list_all, range_with_len, le_of_mul-le-mul_left, eq_of_mul-eq-mul_left, mul-le-mul_left, mul-sub, cases_lt, sum_by-cons, get_or-le-sum_by, Job, no_job, job_at, WrittenSlot, WholeSlot, IsScale, slots_at, IsFeasibleAt, excess, horizon, busy, Piece, IsConfined, total_length, Level, IsPlan, Task, fills_horizon, busy_and_idle, deadlines_within, scale_exists, sum_by-mul, sum_by_at_most, sum_by_zero}
+use Rattle.yds_model.proofs.Common.{◌≡◌, ℕ, ◌+◌, ◌-◌, ◌*◌, ◌<◌, ◌≤◌, true, List, [], ◌∷◌, length, get_or, refl, sym, ap, ◌∙◌, arith, inl, inr, All, sum_by, list_all, range_with_len, le_of_mul-le-mul_left, eq_of_mul-eq-mul_left, mul-le-mul_left, mul-sub, cases_lt, sum_by-cons, get_or-le-sum_by, Job, no_job, job_at, WrittenSlot, WholeSlot, IsScale, slots_at, IsFeasibleAt, excess, horizon, busy, Piece, IsConfined, total_length, Level, IsPlan, Task, fills_horizon, sum_by-mul, sum_by_at_most, sum_by_zero}
+use Rattle.model_lemmas.proofs.Horizon.{busy_and_idle, deadlines_within}
+use Rattle.model_lemmas.proofs.Scale.{scale_exists}
 use Rattle.yds_texts.specs.TaskLaws.{IsOneLevel}
 use Rattle.yds_laws.proofs.Bound.{confinement_bound}
 use Rattle.yds_laws.proofs.Curve.{curve, AreFalling, DoTheSame, same_levels}

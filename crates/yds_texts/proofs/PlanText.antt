@@ -1,8 +1,8 @@
 -- What the answer of `plan` is worth: its text is read again as the document with its plan, `audit` answers it with
 -- 'feasible' and `check` with 'accepted'.
 use Rattle.yds_model.proofs.Common.{◌≡◌, ℕ, ◌<◌, ◌≤◌, ◌==◌, List, [], ◌∷◌, length, get_or, Some, Ok, refl, ap, subst, arith, inl, inr, eq-eqb, eqb-true, cond, codes, ◌≢◌, All, AllPairs, cases_lt, Decides-eqb, length-append, All-head, All-tail, All-from_get_or, All-contains, AllPairs-cons, get_or-le-sum_by, IsDistinct-from_AllPairs, Contains-from_any, length-le_from_distinct_below, count, AreDifferent, Job, work_of, WrittenSlot, Level, level_at, no_level, all_members, IsProper, IsPlan, Accepted, Document, reading, IsTextOf, with_plan, AskPlan, AskCheck, OfDocument, AnswersRequest, count-cons, counted_contains}
-use Rattle.yds_model.specs.declared.limits.TheConstants.{MAX_INPUT, MAX_JOBS}
-use Rattle.yds_model.specs.declared.status.Status.TheVariants.{Done}
+use Rattle.base.specs.declared.limits.TheConstants.{MAX_INPUT, MAX_JOBS}
+use Rattle.base.specs.declared.status.Status.TheVariants.{Done}
 use Rattle.yds_texts.specs.PlanText.{PlansHoldTheHeadline, PlansAreFeasible, PlansAreAccepted}
 use Rattle.yds_laws.proofs.Bound.{explained_is_least}
 use Rattle.yds_laws.proofs.Explained.{proper_explains}

@@ -1,9 +1,10 @@
 -- What the answer of `round` is worth: its text is read again as the document with the least energy, and `audit` answers it with
 -- 'feasible', with the points and without. Where it says no, no schedule stays at or below the top speed.
-use Rattle.yds_model.proofs.Common.{◌≡◌, ℕ, ◌≤◌, List, [], ◌∷◌, length, Some, Ok, refl, sym, arith, inl, inr, codes, Point, IsTable, top_of, CanServe, Feasible, Document, reading, ArePoints, RoundedAnswer, RoundAnswer, AuditAnswer, AskRound, AskAuditOnPoints, OfDocument, OnPoints, AnswersRequest, table_verdict_is_exact}
-use Rattle.yds_model.specs.declared.limits.TheConstants.{MAX_JOBS}
-use Rattle.yds_model.specs.declared.status.Status.{Status}
-use Rattle.yds_model.specs.declared.status.Status.TheVariants.{Done, No}
+use Rattle.yds_model.proofs.Common.{◌≡◌, ℕ, ◌≤◌, List, [], ◌∷◌, length, Some, Ok, refl, sym, arith, inl, inr, codes, Point, IsTable, top_of, CanServe, Feasible, Document, reading, ArePoints, RoundedAnswer, RoundAnswer, AuditAnswer, AskRound, AskAuditOnPoints, OfDocument, OnPoints, AnswersRequest}
+use Rattle.model_lemmas.proofs.Verdicts.{table_verdict_is_exact}
+use Rattle.base.specs.declared.limits.TheConstants.{MAX_JOBS}
+use Rattle.base.specs.declared.status.Status.{Status}
+use Rattle.base.specs.declared.status.Status.TheVariants.{Done, No}
 use Rattle.yds_energy.specs.RoundingLaws.{IsFeasibleOnPoints}
 use Rattle.yds_texts.specs.RoundText.{with_energy, LeastEnergy, RoundedHoldsLeastEnergy, RoundedIsAudited, HoldsTooSlow, RefusedIsTooSlow}
 use Rattle.yds_texts.proofs.Answered.{done_not_no, no_not_refused, answered, on_points, text_read, slots_agree, answers_document, audited}

@@ -1,8 +1,9 @@
 -- What is printed is read back: each part of the text brings the document that was read so far to a longer one.
-use Rattle.yds_model.proofs.Common.{◌≡◌, ℕ, ◌+◌, ◌<◌, ◌≤◌, List, [], ◌∷◌, ◌++◌, length, get_or, take, true, map, ◌⊎◌, Option, Some, None, Ok, refl, sym, ap, subst, ◌∙◌, arith, inl, inr, append-nil, append_assoc, ◌==◌, if◌then◌else◌, MatchOption, All, list_all, filter_map, flat_map, zip, position, bytes_eq, get_or-append_seam, take-append-add, length-append, map-append, get_or_append_left, flat_map_more, flat_map-append, All-from_get_or, firsts-zip, seconds-zip, Job, IsJob, Fraction, WrittenSlot, no_written_slot, written_slot_at, Piece, Level, all_pieces, all_members, Point, IsTable, hull_multiple, Document, Grid, name_at, no_document, is_name, JobEntry, PointEntry, SlotEntry, LevelEntry, PieceEntry, MemberEntry, GridEntry, EnergyEntry, name_said, point_said, slot_said, piece_said, member_said, grid_said, energy_said, levels_said, job_named, line, job_line, job_lines, point_line, slot_line, piece_line, member_line, level_lines, grid_lines, energy_lines, canonical_text, follows_points, are_alike, fits_grain, IsFraction, IsDocument, IsPoint, IsSlot, IsLevel, IsPiece, IsGrid, AreInGrain, AreAlike, with_job, says-job, says-point, says-slot, says-level, of_piece, of_member, says-last, says-grid, says-energy, none_first}
-use Rattle.yds_model.specs.declared.limits.TheConstants.{MAX_JOBS, MAX_POINTS, MAX_GAPS, MAX_SLOTS, MAX_LEVELS, MAX_PIECES, MAX_MEMBERS, MAX_ENERGY}
+use Rattle.yds_model.proofs.Common.{◌≡◌, ℕ, ◌+◌, ◌<◌, ◌≤◌, List, [], ◌∷◌, ◌++◌, length, get_or, take, true, map, ◌⊎◌, Option, Some, None, Ok, refl, sym, ap, subst, ◌∙◌, arith, inl, inr, append-nil, append_assoc, ◌==◌, if◌then◌else◌, MatchOption, All, list_all, filter_map, flat_map, zip, position, bytes_eq, get_or-append_seam, take-append-add, length-append, map-append, get_or_append_left, flat_map_more, flat_map-append, All-from_get_or, firsts-zip, seconds-zip, Job, IsJob, Fraction, WrittenSlot, no_written_slot, written_slot_at, Piece, Level, all_pieces, all_members, Point, IsTable, hull_multiple, Document, Grid, name_at, no_document, is_name, JobEntry, PointEntry, SlotEntry, LevelEntry, PieceEntry, MemberEntry, GridEntry, EnergyEntry, name_said, point_said, slot_said, piece_said, member_said, grid_said, energy_said, levels_said, job_named, line, job_line, job_lines, point_line, slot_line, piece_line, member_line, level_lines, grid_lines, energy_lines, canonical_text, follows_points, are_alike, fits_grain, IsFraction, IsDocument, IsPoint, IsSlot, IsLevel, IsPiece, IsGrid, AreInGrain, AreAlike}
+use Rattle.model_lemmas.proofs.Said.{with_job, says-job, says-point, says-slot, says-level, of_piece, of_member, says-last, says-grid, says-energy, none_first}
+use Rattle.base.specs.declared.limits.TheConstants.{MAX_JOBS, MAX_POINTS, MAX_GAPS, MAX_SLOTS, MAX_LEVELS, MAX_PIECES, MAX_MEMBERS, MAX_ENERGY}
 use Rattle.yds_texts.specs.RoundTrip.{JobsAndSlotsAreRead, PrintedIsRead}
-use Rattle.yds_model.proofs.Said.{Says}
+use Rattle.model_lemmas.proofs.Said.{Says}
 use Rattle.yds_texts.proofs.Brought.{Brings, Brings-nil, Brings-append, Brings-line, Brings-each, read_whole}
 use Rattle.yds_texts.proofs.JobNames.{name_new, name_known}
 use Rattle.yds_texts.proofs.KindsRead.{job_texts, job_words, job_read, point_texts, point_words, point_read, follows_front, slot_texts, slot_words, slot_read, grain_test, level_texts, level_words, level_read, piece_texts, piece_words, piece_read, member_texts, member_words, member_read, grid_texts, grid_words, grid_read, energy_texts, energy_words, energy_read}

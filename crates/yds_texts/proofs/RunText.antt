@@ -1,7 +1,8 @@
 -- What the answers of `avr` and `oa` are worth: their texts are read again as the document with the run, and `audit` answers them with
 -- 'feasible'.
-use Rattle.yds_model.proofs.Common.{◌≡◌, ℕ, ◌*◌, ◌≤◌, List, length, Some, Ok, subst, arith, length-map, Job, WrittenSlot, WholeSlot, AtEachScale, slot_at_scale, Piece, IsFeasible, IsRunAt, average_rate, IsAverageRateRun, optimal_available, IsOptimalAvailableRun, Document, reading, IsTextOf, AskAverageRate, AskOptimalAvailable, OfDocument, AnswersRequest, scale_exists}
-use Rattle.yds_model.specs.declared.status.Status.TheVariants.{Done}
+use Rattle.yds_model.proofs.Common.{◌≡◌, ℕ, ◌*◌, ◌≤◌, List, length, Some, Ok, subst, arith, length-map, Job, WrittenSlot, WholeSlot, AtEachScale, slot_at_scale, Piece, IsFeasible, IsRunAt, average_rate, IsAverageRateRun, optimal_available, IsOptimalAvailableRun, Document, reading, IsTextOf, AskAverageRate, AskOptimalAvailable, OfDocument, AnswersRequest}
+use Rattle.model_lemmas.proofs.Scale.{scale_exists}
+use Rattle.base.specs.declared.status.Status.TheVariants.{Done}
 use Rattle.yds_laws.specs.RunLaws.{IsExactAverageRate, IsExactOptimalAvailable}
 use Rattle.yds_laws.proofs.ExactRates.{average_rate_is_exact}
 use Rattle.yds_laws.proofs.ExactRuns.{optimal_available_is_exact}

@@ -1,6 +1,6 @@
 -- How long the lines of a text are, and the text.
 use Rattle.yds_model.proofs.Common.{◌≡◌, ℕ, zero, suc, ◌+◌, ◌*◌, ◌<◌, ◌≤◌, ◌^◌, true, ◌==◌, List, [], ◌∷◌, ◌++◌, length, get_or, All, decimal, Option, Some, None, arith, inl, inr, codes, MatchOption, join_with_byte, flat_map, mul-suc, and_parts, leb-true, cases_Bool, length-decimal-le, length-append, All-head, All-tail, All-weaker, Job, IsJob, Fraction, WrittenSlot, Piece, Level, all_pieces, all_members, Point, Document, Grid, name_at, is_name, line, fraction_text, job_line, job_lines, point_line, slot_line, piece_line, member_line, level_lines, grid_lines, energy_lines, canonical_text, IsFraction, IsPoint, IsSlot, IsLevel, IsPiece, IsGrid, IsDocument}
-use Rattle.yds_model.specs.declared.limits.TheConstants.{MAX_NAME, MAX_TIME, MAX_SLOT_WORK, MAX_ENERGY}
+use Rattle.base.specs.declared.limits.TheConstants.{MAX_NAME, MAX_TIME, MAX_SLOT_WORK, MAX_ENERGY}
 use Rattle.yds_texts.specs.RoundTrip.{LinesAreShort, TextIsShort}
 use Rattle.yds_texts.proofs.KindsRead.{level_texts}
 

@@ -1,6 +1,6 @@
 -- Tasks that are read keep their limits, and no two have the same name.
 use Rattle.yds_model.proofs.Common.{◌≡◌, ◌≢◌, ℕ, ◌<◌, ◌≤◌, Bool, true, false, not, nat_le, nat_lt, ◌==◌, List, [], ◌∷◌, ◌++◌, length, Some, None, Result, Ok, Err, refl, sym, ap, subst, ◌∙◌, arith, codes, if◌then◌else◌, All, AllPairs, filter_map, list_any, bytes_eq, leb-true, ltb-true, false≢true, or_parts, All-nil, All-cons, All-push, bytes_eq-Decides, Line, Field, lines_of, fields_of, number_at, Spot, ◌>>=◌, demand, refuse, count_fields, field_at, first_of_them, live_lines, Task, TaskSet, TaskEntry, HorizonEntry, TaskEntryOf, horizon_said, task_said, tasks_said, task_reason_of, task_number_in, is_task_name, has_task_named, new_task_name, count_of_all, read_horizon, read_task, read_task_fields, read_task_line, read_tasks_after, task_reading, AllPairs-append}
-use Rattle.yds_model.specs.declared.limits.TheConstants.{MAX_JOBS, MAX_TIME, MAX_WORK, MAX_TASKS}
+use Rattle.base.specs.declared.limits.TheConstants.{MAX_JOBS, MAX_TIME, MAX_WORK, MAX_TASKS}
 use Rattle.yds_model.specs.declared.task_reason.TaskReason.{TaskReason}
 use Rattle.yds_model.specs.declared.task_reason.TaskReason.TheVariants as reasons
 use Rattle.yds_texts.proofs.Inverse.{demand_ok, one_step, two_steps, four_steps, in_field_ok, number_at_ok, no_first, on_line_ok, read_of, lines_keep}

@@ -1,6 +1,6 @@
 -- The names of tasks' jobs: the last dot parts a task's name and a job's number, so no two are the same.
 use Rattle.yds_model.proofs.Common.{◌≡◌, ◌≢◌, ℕ, suc, ◌+◌, ◌<◌, ◌≤◌, true, ◌&&◌, nat_le, List, [], ◌∷◌, ◌++◌, length, get_or, map, decimal, refl, sym, ap, subst, ◌∙◌, append_assoc, arith, codes, All, AllPairs, flat_map, list_all, range_with_len, digits_value, get_or-append_seam, and_parts, and_from, leb-true, le-leb, length-decimal-le, length-append, All-head, All-tail, list_all-append, get_or-map-range_with_len, length-map-range_with_len, is_digit, is_visible, is_name, Task, nth_name, count_of_jobs, numbers_of_jobs, is_task_name, AreDifferentNames, AllPairs-append, All-flat, decimal_digits, decimal_without, digit_range, digits_value-decimal}
-use Rattle.yds_model.specs.declared.limits.TheConstants.{MAX_JOBS, MAX_NAME, MAX_TASK_NAME}
+use Rattle.base.specs.declared.limits.TheConstants.{MAX_JOBS, MAX_NAME, MAX_TASK_NAME}
 use Rattle.yds_texts.proofs.TaskLimits.{HaveOtherNames}
 
 -- # Lists over the numbers of jobs

@@ -1,8 +1,9 @@
 -- The text of the jobs of tasks that were read is read as a document with just these jobs; and their one level.
-use Rattle.yds_model.proofs.Common.{◌≡◌, ℕ, ◌*◌, ◌<◌, ◌≤◌, zero, suc, ◌^◌, ◌&&◌, Bool, true, false, List, [], ◌∷◌, length, get_or, decimal, Option, Some, None, Result, Ok, Err, refl, sym, ap, subst, ◌∙◌, arith, inl, inr, codes, if◌then◌else◌, All, AllByRecursion, list_all, list_any, sum_by, mul-pos, cases_Bool, and_parts, leb-true, false≢true, length-decimal-le, length-append, length-flat_map, All-weaker, All-head, All-tail, length-map-range_with_len, sum_by-append, get_or-le-sum_by, Job, IsJob, Document, no_document, is_name, job_lines, Fault, reading, IsDocument, AreNamedJobs, IsPlan, Task, TaskSet, nth_job, nth_name, count_of_jobs, horizon_of, jobs_of_tasks, names_of_tasks, fills_horizon, has_work, level_until, count_of_all, task_reading, level_comment, expansion_text, AnswersTasks, is_too_long, sum_by_same, works_few, All-flat}
-use Rattle.yds_model.specs.declared.limits.TheConstants.{MAX_JOBS, MAX_TIME}
+use Rattle.yds_model.proofs.Common.{◌≡◌, ℕ, ◌*◌, ◌<◌, ◌≤◌, zero, suc, ◌^◌, ◌&&◌, Bool, true, false, List, [], ◌∷◌, length, get_or, decimal, Option, Some, None, Result, Ok, Err, refl, sym, ap, subst, ◌∙◌, arith, inl, inr, codes, if◌then◌else◌, All, AllByRecursion, list_all, list_any, sum_by, mul-pos, cases_Bool, and_parts, leb-true, false≢true, length-decimal-le, length-append, length-flat_map, All-weaker, All-head, All-tail, length-map-range_with_len, sum_by-append, get_or-le-sum_by, Job, IsJob, Document, no_document, is_name, job_lines, Fault, reading, IsDocument, AreNamedJobs, IsPlan, Task, TaskSet, nth_job, nth_name, count_of_jobs, horizon_of, jobs_of_tasks, names_of_tasks, fills_horizon, has_work, level_until, count_of_all, task_reading, level_comment, expansion_text, AnswersTasks, is_too_long, sum_by_same, All-flat}
+use Rattle.model_lemmas.proofs.Horizon.{works_few}
+use Rattle.base.specs.declared.limits.TheConstants.{MAX_JOBS, MAX_TIME}
 use Rattle.yds_model.specs.declared.task_reason.TaskReason.{TaskReason}
-use Rattle.yds_model.specs.declared.status.Status.TheVariants.{Done}
+use Rattle.base.specs.declared.status.Status.TheVariants.{Done}
 use Rattle.yds_model.specs.Tasks.{one_level}
 use Rattle.yds_texts.specs.TaskLaws.{jobs_document, IsExpansion, HoldsExpansion, ExpansionsAreRead, IsOneLevel, OneLevelIsPlanned}
 use Rattle.yds_texts.proofs.Brought.{IsWord, Brings, Brings-nil, Brings-append, Brings-comment, read_whole}

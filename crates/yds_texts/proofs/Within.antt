@@ -1,9 +1,11 @@
 -- What is read keeps the limits: each line that is read brings a document within them to another.
-use Rattle.yds_model.proofs.Common.{◌≡◌, ℕ, ◌+◌, ◌-◌, ◌*◌, ◌/◌, ◌<◌, ◌≤◌, true, false, nat_le, nat_lt, ◌==◌, List, [], ◌∷◌, ◌++◌, length, Some, None, Ok, refl, sym, ap, subst, ◌∙◌, arith, if◌then◌else◌, All, list_all, filter_map, position, slice_index_or, bytes_eq, div-le_of_le-mul, leb-true, ltb-true, length_push, All-nil, All-cons, All-push, All-head, Job, IsJob, of_parts, WrittenSlot, Piece, Level, all_pieces, all_members, Point, hull_multiple, Document, Grid, no_document, Line, Field, lines_of, fields_of, Entry, JobEntry, PointEntry, SlotEntry, LevelEntry, PieceEntry, MemberEntry, TicksEntry, GridEntry, EnergyEntry, name_said, point_said, slot_said, piece_said, member_said, ticks_said, grid_said, energy_said, is_level, document_said, ◌>>=◌, demand, field_at, Kind, JobLine, PointLine, SlotLine, LevelLine, PieceLine, MemberLine, TicksLine, RunLine, GridLine, EnergyLine, may_follow, has_room, number_in, fraction_in, new_name, known_job, are_alike, fits_grain, follows_points, read_job, read_point, read_slot, read_level, read_piece, read_member, read_ticks, read_run_at, read_grid, read_energy, read_kind, read_fields, read_line, live_lines, read_after, IsFraction, IsDocument, AreLevelsOf, IsPoint, IsSlot, IsPiece, IsLevel, IsGrid, AreNamedJobs, says_other, none_said, more_said, with_job, says-job, with_point, says-point, with_slot, says-slot, with_levels, empty_level, says-level, with_entry, IsOfLevels, of_piece, of_member, says-last, with_grid, says-grid, with_energy, says-energy, said-ticks, levels_counted, parts_alike}
-use Rattle.yds_model.specs.declared.limits.TheConstants.{MAX_JOBS, MAX_TIME, MAX_WORK, MAX_RUN_SPEED, MAX_POINTS, MAX_POINT_SPEED, MAX_POINT_POWER, MAX_GAPS, MAX_SLOTS, MAX_SLOT_WORK, MAX_LEVELS, MAX_LEVEL_WORK, MAX_LEVEL_LENGTH, MAX_PIECES, MAX_MEMBERS, MAX_TICKS, MAX_DENOMINATOR, MAX_GRID, MAX_ROUNDED, MAX_ENERGY}
+use Rattle.yds_model.proofs.Common.{◌≡◌, ℕ, ◌+◌, ◌-◌, ◌*◌, ◌/◌, ◌<◌, ◌≤◌, true, false, nat_le, nat_lt, ◌==◌, List, [], ◌∷◌, ◌++◌, length, Some, None, Ok, refl, sym, ap, subst, ◌∙◌, arith, if◌then◌else◌, All, list_all, filter_map, position, slice_index_or, bytes_eq, div-le_of_le-mul, leb-true, ltb-true, length_push, All-nil, All-cons, All-push, All-head, Job, IsJob, of_parts, WrittenSlot, Piece, Level, all_pieces, all_members, Point, hull_multiple, Document, Grid, no_document, Line, Field, lines_of, fields_of, Entry, JobEntry, PointEntry, SlotEntry, LevelEntry, PieceEntry, MemberEntry, TicksEntry, GridEntry, EnergyEntry, name_said, point_said, slot_said, piece_said, member_said, ticks_said, grid_said, energy_said, is_level, document_said, ◌>>=◌, demand, field_at, Kind, JobLine, PointLine, SlotLine, LevelLine, PieceLine, MemberLine, TicksLine, RunLine, GridLine, EnergyLine, may_follow, has_room, number_in, fraction_in, new_name, known_job, are_alike, fits_grain, follows_points, read_job, read_point, read_slot, read_level, read_piece, read_member, read_ticks, read_run_at, read_grid, read_energy, read_kind, read_fields, read_line, live_lines, read_after, IsFraction, IsDocument, AreLevelsOf, IsPoint, IsSlot, IsPiece, IsLevel, IsGrid, AreNamedJobs}
+use Rattle.model_lemmas.proofs.Said.{says_other, none_said, more_said, with_job, says-job, with_point, says-point, with_slot, says-slot, with_levels, empty_level, says-level, with_entry, IsOfLevels, of_piece, of_member, says-last, with_grid, says-grid, with_energy, says-energy, said-ticks, levels_counted}
+use Rattle.fraction_lemmas.proofs.Fractions.{parts_alike}
+use Rattle.base.specs.declared.limits.TheConstants.{MAX_JOBS, MAX_TIME, MAX_WORK, MAX_RUN_SPEED, MAX_POINTS, MAX_POINT_SPEED, MAX_POINT_POWER, MAX_GAPS, MAX_SLOTS, MAX_SLOT_WORK, MAX_LEVELS, MAX_LEVEL_WORK, MAX_LEVEL_LENGTH, MAX_PIECES, MAX_MEMBERS, MAX_TICKS, MAX_DENOMINATOR, MAX_GRID, MAX_ROUNDED, MAX_ENERGY}
 use Rattle.yds_model.specs.declared.reason.Reason.TheVariants as reasons
 use Rattle.yds_texts.specs.RoundTrip.{ReadIsWithinLimits, CanonicalTextIsRead}
-use Rattle.yds_model.proofs.Said.{Says}
+use Rattle.model_lemmas.proofs.Said.{Says}
 use Rattle.yds_texts.proofs.Inverse.{demand_ok, one_step, two_steps, four_steps, entry_made, number_ok, fraction_ok, name_ok, known_ok, fields_ok, no_first, on_line_ok, read_of, lines_keep}
 use Rattle.yds_texts.proofs.Grown.{jobs_more, points_more, slots_more, slots_of_more, levels_of_more, levels_more, last_level_more, alike_from_test, parts_fit}
 use Rattle.yds_texts.proofs.RoundTrip.{printed_is_read}

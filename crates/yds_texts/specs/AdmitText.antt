@@ -1,8 +1,8 @@
 -- What the answer of `admit` is worth, as laws of the relation of words, input, text and status.
 use Rattle.std.specs.Prelude.{◌≡◌, ℕ, ◌≤◌, List, [], ◌∷◌, ◌++◌, length, codes, Some, Ok}
 use Rattle.std.specs.List.{All, flat_map}
-use Rattle.yds_model.specs.declared.limits.TheConstants.{MAX_INPUT}
-use Rattle.yds_model.specs.declared.status.Status.TheVariants.{Done}
+use Rattle.base.specs.declared.limits.TheConstants.{MAX_INPUT}
+use Rattle.base.specs.declared.status.Status.TheVariants.{Done}
 use Rattle.yds_model.specs.Slot.{WrittenSlot, AtEachScale}
 use Rattle.yds_model.specs.Feasible.{IsFeasible}
 use Rattle.yds_model.specs.Admission.{IsWithinTop, jobs_with, Refusal, IsAdmission, IsAdmittedRun}

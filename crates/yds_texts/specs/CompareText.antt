@@ -1,14 +1,15 @@
 -- What the answer of `compare` is worth, as laws of the relation of words, input, text and status.
 use Rattle.std.specs.Prelude.{◌≡◌, ℕ, List, [], ◌∷◌, ◌++◌, length, codes, Some, Ok}
 use Rattle.std.specs.List.{All}
-use Rattle.yds_model.specs.declared.status.Status.{Status}
-use Rattle.yds_model.specs.declared.status.Status.TheVariants.{Done, No}
+use Rattle.base.specs.declared.status.Status.{Status}
+use Rattle.base.specs.declared.status.Status.TheVariants.{Done, No}
 use Rattle.yds_model.specs.Scale.{Fraction, IsAtMost}
 use Rattle.yds_model.specs.Slot.{WrittenSlot}
 use Rattle.yds_model.specs.Divisor.{IsLowest}
 use Rattle.yds_model.specs.Table.{Point}
 use Rattle.yds_model.specs.Document.{Document}
-use Rattle.yds_model.specs.Text.{line, fraction_text, canonical_text}
+use Rattle.base.specs.Lines.{line}
+use Rattle.yds_model.specs.Text.{fraction_text, canonical_text}
 use Rattle.yds_model.specs.Reading.{reading}
 use Rattle.yds_model.specs.Comparison.{Spent, Side, Spends, TooSlowFor}
 use Rattle.yds_model.specs.CompareAnswer.{ComparedAnswer}

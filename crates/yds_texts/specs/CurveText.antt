@@ -1,7 +1,7 @@
 -- What the answer of `curve` is worth, as a law of the relation of words, input, text and status.
 use Rattle.std.specs.Prelude.{◌≡◌, ℕ, ◌+◌, ◌<◌, ◌≤◌, List, [], ◌∷◌, length, codes, Ok}
 use Rattle.std.specs.List.{All, flat_map, slice_index_or}
-use Rattle.yds_model.specs.declared.status.Status.TheVariants.{Done}
+use Rattle.base.specs.declared.status.Status.TheVariants.{Done}
 use Rattle.yds_model.specs.Job.{Job}
 use Rattle.yds_model.specs.Scale.{Fraction, Quotient, of_whole, numerator, IsLess, IsAtMost}
 use Rattle.yds_model.specs.Curve.{IsLeastExcess, Break}

@@ -1,8 +1,8 @@
 -- What the answer of `plan` is worth, as laws of the relation of words, input, text and status: the headline, which is what a reader
 -- wants to know of such a text.
 use Rattle.std.specs.Prelude.{◌≡◌, ℕ, ◌≤◌, List, [], ◌∷◌, length, codes, Ok}
-use Rattle.yds_model.specs.declared.limits.TheConstants.{MAX_INPUT}
-use Rattle.yds_model.specs.declared.status.Status.TheVariants.{Done}
+use Rattle.base.specs.declared.limits.TheConstants.{MAX_INPUT}
+use Rattle.base.specs.declared.status.Status.TheVariants.{Done}
 use Rattle.yds_model.specs.Slot.{WrittenSlot}
 use Rattle.yds_model.specs.Level.{Level}
 use Rattle.yds_model.specs.Feasible.{IsFeasible}

@@ -1,8 +1,8 @@
 -- What the answer of `round` is worth, as laws of the relation of words, input, text and status.
 use Rattle.std.specs.Prelude.{◌≡◌, ℕ, ◌≤◌, List, [], ◌∷◌, length, codes, decimal, Some, None, Ok}
 use Rattle.std.specs.List.{All}
-use Rattle.yds_model.specs.declared.limits.TheConstants.{MAX_INPUT}
-use Rattle.yds_model.specs.declared.status.Status.TheVariants.{Done, No}
+use Rattle.base.specs.declared.limits.TheConstants.{MAX_INPUT}
+use Rattle.base.specs.declared.status.Status.TheVariants.{Done, No}
 use Rattle.yds_model.specs.Scale.{Fraction}
 use Rattle.yds_model.specs.Slot.{WrittenSlot}
 use Rattle.yds_model.specs.Feasible.{IsFeasible}
@@ -13,7 +13,8 @@ use Rattle.yds_model.specs.Audit.{IsOnTable}
 use Rattle.yds_model.specs.Admission.{CanServe}
 use Rattle.yds_model.specs.Rounding.{top_of, IsTooFast, IsEnergyOf}
 use Rattle.yds_model.specs.Document.{Document, with_answer}
-use Rattle.yds_model.specs.Text.{line, canonical_text}
+use Rattle.base.specs.Lines.{line}
+use Rattle.yds_model.specs.Text.{canonical_text}
 use Rattle.yds_model.specs.Reading.{reading}
 use Rattle.yds_model.specs.Answer.{Answers}
 use Rattle.yds_energy.specs.RoundingLaws.{IsLeastEnergy}

@@ -1,6 +1,6 @@
 -- The laws by which the text of a document is read back. Each is the contract of a public function of this crate.
 use Rattle.std.specs.Prelude.{◌≡◌, ℕ, ◌*◌, ◌≤◌, List, [], length, Some, None, Ok, IsTrue}
-use Rattle.yds_model.specs.declared.limits.TheConstants.{MAX_JOBS, MAX_ENERGY, MAX_INPUT}
+use Rattle.base.specs.declared.limits.TheConstants.{MAX_JOBS, MAX_ENERGY, MAX_INPUT}
 use Rattle.yds_model.specs.Job.{Job, IsJob}
 use Rattle.yds_model.specs.Scale.{Fraction}
 use Rattle.yds_model.specs.Slot.{WrittenSlot}
@@ -8,7 +8,7 @@ use Rattle.yds_model.specs.Piece.{Piece}
 use Rattle.yds_model.specs.Level.{Level, all_members, all_pieces}
 use Rattle.yds_model.specs.Table.{Point}
 use Rattle.yds_model.specs.Document.{Document, Grid, name_at}
-use Rattle.yds_model.specs.Spelling.{is_name}
+use Rattle.base.specs.Spelling.{is_name}
 use Rattle.yds_model.specs.Text.{job_line, point_line, slot_line, piece_line, member_line, level_lines, grid_lines, energy_lines, canonical_text}
 use Rattle.yds_model.specs.Reading.{reading}
 use Rattle.yds_model.specs.Within.{IsFraction, IsPoint, IsSlot, IsPiece, IsLevel, IsGrid, IsDocument}

@@ -1,7 +1,7 @@
 -- What the answers of `avr` and `oa` are worth, as laws of the relation of words, input, text and status.
 use Rattle.std.specs.Prelude.{◌≡◌, ℕ, ◌≤◌, List, [], ◌∷◌, length, codes, Some, None, Ok}
-use Rattle.yds_model.specs.declared.limits.TheConstants.{MAX_INPUT}
-use Rattle.yds_model.specs.declared.status.Status.TheVariants.{Done}
+use Rattle.base.specs.declared.limits.TheConstants.{MAX_INPUT}
+use Rattle.base.specs.declared.status.Status.TheVariants.{Done}
 use Rattle.yds_model.specs.Job.{Job}
 use Rattle.yds_model.specs.Slot.{WrittenSlot}
 use Rattle.yds_model.specs.Feasible.{IsFeasible}

@@ -1,7 +1,7 @@
 -- The laws of lines and fields. Each is the contract of a public function of this crate.
 use Rattle.std.specs.Prelude.{◌≡◌, ℕ, ◌+◌, ◌≤◌, List, [], ◌∷◌, length, take, drop}
 use Rattle.std.specs.List.{All}
-use Rattle.yds_model.specs.Lines.{Line, Field, lines_of, fields_of}
+use Rattle.base.specs.Lines.{Line, Field, lines_of, fields_of}
 
 -- the line is the slice of the bytes from its start on
 abbrev pub IsLineSlice : List ℕ → Line → Type 0

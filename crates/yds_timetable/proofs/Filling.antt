@@ -1,6 +1,6 @@
 -- Share by share and stretch by stretch: the next slots are within their limits, and then they stand last.
 use Rattle.yds_model.proofs.Common.{◌≡◌, ℕ, ◌+◌, ◌*◌, ◌<◌, ◌≤◌, List, [], ◌∷◌, ◌++◌, ◌∙◌, length, get_or, take, drop, sym, refl, ap, ap₂, subst, arith, Some, None, add-one, Option, All, append_assoc, length-append, take_more, take-append-drop, length-take-le, flat_map-append, length-flat_map-take, sum_by-cons, sum_by_push, sum_by_more_le, All-nil, All-cons, All-append, mul-le-mul_right, le_of_mul-le-mul_right, Fraction, of_whole, of_parts, WrittenSlot, Piece, IsFraction, All-front, All-back, flat_map-take}
-use Rattle.yds_model.specs.declared.limits.TheConstants.{MAX_SLOTS, MAX_TIME, MAX_SLOT_WORK, MAX_WHOLE}
+use Rattle.base.specs.declared.limits.TheConstants.{MAX_SLOTS, MAX_TIME, MAX_SLOT_WORK, MAX_WHOLE}
 use Rattle.yds_model.specs.Plan.{IsOver}
 use Rattle.yds_events.specs.Stretch.{no_stretch}
 use Rattle.yds_fraction.proofs.WithinLimits.{IsFraction-within}

@@ -1,5 +1,6 @@
 -- Works over one denominator for each job fit the grain of their job.
-use Rattle.yds_model.proofs.Common.{arith, ◌≡◌, ℕ, ◌⊎◌, List, ◌∙◌, get_or, sym, subst, inl, inr, All, WrittenSlot, grain_reached}
+use Rattle.yds_model.proofs.Common.{arith, ◌≡◌, ℕ, ◌⊎◌, List, ◌∙◌, get_or, sym, subst, inl, inr, All, WrittenSlot}
+use Rattle.model_lemmas.proofs.Grain.{grain_reached}
 use Rattle.yds_model.specs.Plan.{IsOver}
 use Rattle.yds_slots.specs.Schedule.{FitsGrain}
 

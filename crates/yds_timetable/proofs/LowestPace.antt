@@ -1,6 +1,8 @@
 -- Units and a length in lowest terms, and units that are read off a pace.
-use Rattle.yds_model.proofs.Common.{◌≡◌, ℕ, ◌*◌, ◌/◌, ◌≤◌, List, Some, ap, subst, sym, ◌∙◌, arith, Option, All, div-mul_cancel, div-le_self, mul-div_cancel, common_divisor, Piece, divisor_is_greatest, factors}
-use Rattle.yds_model.specs.declared.limits.TheConstants.{MAX_DENOMINATOR, MAX_SLOT_WORK}
+use Rattle.yds_model.proofs.Common.{◌≡◌, ℕ, ◌*◌, ◌/◌, ◌≤◌, List, Some, ap, subst, sym, ◌∙◌, arith, Option, All, div-mul_cancel, div-le_self, mul-div_cancel, common_divisor, Piece}
+use Rattle.fraction_lemmas.proofs.Divisor.{divisor_is_greatest}
+use Rattle.fraction_lemmas.proofs.Fractions.{factors}
+use Rattle.base.specs.declared.limits.TheConstants.{MAX_DENOMINATOR, MAX_SLOT_WORK}
 use Rattle.yds_events.specs.Stretch.{IsStretch, length_of}
 use Rattle.yds_timetable.specs.declared.limits.TheConstants.{MAX_UNITS}
 use Rattle.yds_timetable.specs.declared.pace.Pace.{Pace}

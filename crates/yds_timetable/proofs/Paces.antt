@@ -1,5 +1,6 @@
 -- The slots of shares that fill a stretch at a pace, at a scale and as they are written.
-use Rattle.yds_model.proofs.Common.{◌≡◌, ℕ, ◌+◌, ◌-◌, ◌*◌, ◌<◌, ◌≤◌, List, [], ◌∷◌, ◌∙◌, refl, sym, subst, arith, inl, inr, ap, sum_by, All, AllZip, All-nil, All-cons, All-head, All-tail, sum_by-cons, eq_of_mul-eq-mul_left, le_of_mul-le-mul_right, lt_of_mul-lt-mul_right, mul-le-mul_right, mul-pos, mul-sub, le_refl, Fraction, at_scale, numerator, of_whole, of_parts, WrittenSlot, WholeSlot, IsDivided, IsSolid, slot_at_scale, slots_at, Piece, RunFrom, LiesIn, LiesWritten, HasSpeed, FillsAtSpeed, factors}
+use Rattle.yds_model.proofs.Common.{◌≡◌, ℕ, ◌+◌, ◌-◌, ◌*◌, ◌<◌, ◌≤◌, List, [], ◌∷◌, ◌∙◌, refl, sym, subst, arith, inl, inr, ap, sum_by, All, AllZip, All-nil, All-cons, All-head, All-tail, sum_by-cons, eq_of_mul-eq-mul_left, le_of_mul-le-mul_right, lt_of_mul-lt-mul_right, mul-le-mul_right, mul-pos, mul-sub, le_refl, Fraction, at_scale, numerator, of_whole, of_parts, WrittenSlot, WholeSlot, IsDivided, IsSolid, slot_at_scale, slots_at, Piece, RunFrom, LiesIn, LiesWritten, HasSpeed, FillsAtSpeed}
+use Rattle.fraction_lemmas.proofs.Fractions.{factors}
 use Rattle.yds_model.specs.Plan.{IsOver}
 use Rattle.yds_slots.proofs.WorkParts.{of_parts_at, of_parts_over, of_parts_value}
 use Rattle.yds_events.specs.Stretch.{length_of}

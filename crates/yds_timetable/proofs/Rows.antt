@@ -1,5 +1,6 @@
 -- The slots of a timetable's stretches: they run one after another, and which of them lie in a stretch.
-use Rattle.yds_model.proofs.Common.{◌≡◌, ◌≢◌, ℕ, zero, suc, ◌+◌, ◌*◌, ◌<◌, ◌≤◌, List, [], ◌∷◌, ◌++◌, ◌∙◌, length, get_or, refl, sym, subst, arith, inl, inr, ap, ap₂, true, false, Some, None, Bool, Option, ◌&&◌, ◌==◌, cond, nat_le, sum_by, filter, All, AllZip, cases_eq, cases_lt, eq-eqb, le-leb, lt-leb, ne_eqb, and_right, append-nil, map-append, get_or-map, length-map, All-nil, All-tail, All-map, All-weaker, filter-append, sum_by-cons, mul-le-mul_right, mul-pos, at_scale, of_whole, WrittenSlot, WholeSlot, IsDivided, IsScale, IsSolid, slot_at, slot_at_scale, slots_at, work_given, Piece, PiecesFrom, RunFrom, LiesIn, slots_in, FillsAtSpeed, ServesCapacity, All-front, All-back, All-flat, run_earlier, run_joined, filter_all, filter_none}
+use Rattle.yds_model.proofs.Common.{◌≡◌, ◌≢◌, ℕ, zero, suc, ◌+◌, ◌*◌, ◌<◌, ◌≤◌, List, [], ◌∷◌, ◌++◌, ◌∙◌, length, get_or, refl, sym, subst, arith, inl, inr, ap, ap₂, true, false, Some, None, Bool, Option, ◌&&◌, ◌==◌, cond, nat_le, sum_by, filter, All, AllZip, cases_eq, cases_lt, eq-eqb, le-leb, lt-leb, ne_eqb, and_right, append-nil, map-append, get_or-map, length-map, All-nil, All-tail, All-map, All-weaker, filter-append, sum_by-cons, mul-le-mul_right, mul-pos, at_scale, of_whole, WrittenSlot, WholeSlot, IsDivided, IsScale, IsSolid, slot_at, slot_at_scale, slots_at, work_given, Piece, PiecesFrom, RunFrom, LiesIn, slots_in, FillsAtSpeed, ServesCapacity, All-front, All-back, All-flat, filter_all, filter_none}
+use Rattle.model_lemmas.proofs.Runs.{run_earlier, run_joined}
 use Rattle.yds_model.specs.Plan.{IsOver}
 use Rattle.yds_slots.proofs.WorkParts.{of_parts_over}
 use Rattle.yds_events.specs.Stretch.{no_stretch, length_of}

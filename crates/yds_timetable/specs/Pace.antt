@@ -1,7 +1,7 @@
 -- A pace: so many units are done in so many time units. The slots of shares that follow one another at a pace.
 use Rattle.std.specs.Prelude.{◌≡◌, ℕ, ◌+◌, ◌*◌, ◌/◌, ◌≤◌, List, [], ◌∷◌}
 use Rattle.std.specs.List.{All}
-use Rattle.yds_model.specs.declared.limits.TheConstants.{MAX_DENOMINATOR, MAX_SLOT_WORK}
+use Rattle.base.specs.declared.limits.TheConstants.{MAX_DENOMINATOR, MAX_SLOT_WORK}
 use Rattle.yds_model.specs.Divisor.{common_divisor}
 use Rattle.yds_model.specs.Scale.{Fraction, of_parts}
 use Rattle.yds_model.specs.Slot.{WrittenSlot}

@@ -1,6 +1,6 @@
 ghost use Rattle.std.specs.Prelude.{◌≡◌, ◌<◌, ◌≤◌, ◌++◌, length, IfOk, OnOk};
 ghost use Rattle.std.specs.List.{All};
-ghost use Rattle.yds_model.specs.declared.limits.TheConstants.{MAX_TIME};
+ghost use Rattle.base.specs.declared.limits.TheConstants.{MAX_TIME};
 ghost use Rattle.yds_model.specs.Within.{IsFraction};
 ghost use Rattle.yds_timetable.specs.Pace.{time_after, slot_of, slots_from};
 ghost use Rattle.yds_timetable.specs.Timetable.{row_at, row_slots, slots_of};

@@ -1,5 +1,5 @@
 ghost use Rattle.std.specs.Prelude.{◌≡◌, ◌+◌, ◌*◌, ◌≤◌, MatchOption};
-ghost use Rattle.yds_model.specs.declared.limits.TheConstants.{MAX_DENOMINATOR, MAX_SLOT_WORK, MAX_TIME};
+ghost use Rattle.base.specs.declared.limits.TheConstants.{MAX_DENOMINATOR, MAX_SLOT_WORK, MAX_TIME};
 ghost use Rattle.yds_model.specs.Scale.{of_parts};
 ghost use Rattle.yds_model.specs.Within.{IsFraction};
 ghost use Rattle.yds_events.specs.Stretch.{IsStretch};

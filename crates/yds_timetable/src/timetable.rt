@@ -1,6 +1,6 @@
 ghost use Rattle.std.specs.Prelude.{◌≡◌, ◌^◌, ◌<◌, ◌≤◌, [], ◌∷◌, ◌++◌, length, map, IfOk, IfErr, OnOk, OnErr};
 ghost use Rattle.std.specs.List.{All, range_with_len};
-ghost use Rattle.yds_model.specs.declared.limits.TheConstants.{MAX_SLOTS};
+ghost use Rattle.base.specs.declared.limits.TheConstants.{MAX_SLOTS};
 ghost use Rattle.yds_events.specs.Stretch.{IsStretch};
 ghost use Rattle.yds_timetable.specs.Shares.{total_units};
 ghost use Rattle.yds_timetable.specs.Timetable.{row_at, rows_of, IsRow};

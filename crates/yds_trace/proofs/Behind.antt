@@ -1,5 +1,5 @@
 -- Where a task's first jobs are forgotten: each event acts on its last job, which is kept. Of those before it only a loss changes the end.
-use Rattle.yds_model.proofs.Common.{◌≡◌, ◌≢◌, ◌∙◌, ℕ, suc, ◌+◌, ◌<◌, List, [], ◌∷◌, ◌++◌, map, reverse, Bool, true, false, not, ◌==◌, ◌&&◌, nat_lt, if◌then◌else◌, Option, Some, None, is_none, All, refl, sym, ap, subst, append-nil, map-append, length-map, All-map, arith, ne_eqb}
+use Rattle.base.proofs.Common.{◌≡◌, ◌≢◌, ◌∙◌, ℕ, suc, ◌+◌, ◌<◌, List, [], ◌∷◌, ◌++◌, map, reverse, Bool, true, false, not, ◌==◌, ◌&&◌, nat_lt, if◌then◌else◌, Option, Some, None, is_none, All, refl, sym, ap, subst, append-nil, map-append, length-map, All-map, arith, ne_eqb}
 use Rattle.yds_kernel.specs.declared.state.State.{State}
 use Rattle.yds_kernel.specs.declared.state.State.TheVariants as states
 use Rattle.yds_kernel.specs.Event.{Said}

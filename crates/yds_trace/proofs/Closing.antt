@@ -1,5 +1,5 @@
 -- Items that are made from others, one after another.
-use Rattle.yds_model.proofs.Common.{◌≡◌, List, [], ◌∷◌, ◌++◌, ◌∙◌, map, sym, ap, map-append, append-nil, append_assoc}
+use Rattle.base.proofs.Common.{◌≡◌, List, [], ◌∷◌, ◌++◌, ◌∙◌, map, sym, ap, map-append, append-nil, append_assoc}
 
 pub made_more : {A B F : Type 0} (f : A → B) (g : F → B) (all now : List A) (made : A) (item : F) (before rest : List F) →
     now ≡ all ++ made ∷ [] → before ≡ item ∷ rest → f made ≡ g item → (map f now ++ map g rest) ≡ (map f all ++ map g before)

@@ -1,5 +1,5 @@
 -- Items once more.
-use Rattle.yds_model.proofs.Common.{◌≡◌, ◌∙◌, ℕ, ◌+◌, ◌<◌, inl, inr, cases_lt, subst, arith, get_or_append_left, get_or_push, get_or_default, List, [], ◌∷◌, ◌++◌, map, length, get_or, take, sym, ap, ap₂, map-append, take_more}
+use Rattle.base.proofs.Common.{◌≡◌, ◌∙◌, ℕ, ◌+◌, ◌<◌, inl, inr, cases_lt, subst, arith, get_or_append_left, get_or_push, get_or_default, List, [], ◌∷◌, ◌++◌, map, length, get_or, take, sym, ap, ap₂, map-append, take_more}
 
 -- one more copy, by what is read of it
 pub copied_more : {A B : Type 0} (read : A → B) (items all now : List A) (made item : A) (i : ℕ) → i < length items → now ≡ all ++ made ∷ [] →

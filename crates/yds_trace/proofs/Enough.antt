@@ -1,5 +1,5 @@
 -- What waits is at most what is kept of the tasks.
-use Rattle.yds_model.proofs.Common.{◌≡◌, ◌∙◌, ℕ, suc, ◌+◌, ◌<◌, ◌≤◌, List, [], ◌∷◌, ◌++◌, map, filter, reverse, length, get_or, sum_by, enumerate_from, Bool, true, false, cond, nat_le, if◌then◌else◌, Option, Some, None, is_some, All, All-head, All-tail, All-weaker, refl, sym, ap, subst, arith, lt-leb, le-leb, leb-true, filter-append, sum_by-cons, sum_by-append, sum_by-map, sum_by-le-sum_by, sum_by-IsPermutation, length-reverse}
+use Rattle.base.proofs.Common.{◌≡◌, ◌∙◌, ℕ, suc, ◌+◌, ◌<◌, ◌≤◌, List, [], ◌∷◌, ◌++◌, map, filter, reverse, length, get_or, sum_by, enumerate_from, Bool, true, false, cond, nat_le, if◌then◌else◌, Option, Some, None, is_some, All, All-head, All-tail, All-weaker, refl, sym, ap, subst, arith, lt-leb, le-leb, leb-true, filter-append, sum_by-cons, sum_by-append, sum_by-map, sum_by-le-sum_by, sum_by-IsPermutation, length-reverse}
 use Rattle.std.proofs.lemmas.List.Sorted.{IsPermutation-reverse}
 use Rattle.yds_kernel.specs.Event.{Said}
 use Rattle.yds_kernel.specs.Parts.{capped}

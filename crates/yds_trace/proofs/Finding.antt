@@ -1,5 +1,5 @@
 -- Which task a thread is, in code and in the definitions.
-use Rattle.yds_model.proofs.Common.{◌≡◌, ℕ, ◌+◌, List, [], ◌∷◌, map, Bool, not, cond, nat_lt, Some, None, position, refl, ap, ap₂, sym, length-map}
+use Rattle.base.proofs.Common.{◌≡◌, ℕ, ◌+◌, List, [], ◌∷◌, map, Bool, not, cond, nat_lt, Some, None, position, refl, ap, ap₂, sym, length-map}
 use Rattle.std.specs.List.{prefix_len}
 use Rattle.yds_kernel.specs.Event.{Happening, Switch, WakeUp, Speed, Loss, Marker, Other}
 use Rattle.yds_trace.specs.Asked.{Task}

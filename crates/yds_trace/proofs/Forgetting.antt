@@ -1,5 +1,5 @@
 -- The first jobs of a task are forgotten, which begin before the boundary.
-use Rattle.yds_model.proofs.Common.{◌≡◌, ◌∙◌, ℕ, zero, suc, ◌<◌, ◌≤◌, ◌==◌, List, [], ◌∷◌, ◌++◌, map, reverse, length, take, drop, Bool, if◌then◌else◌, Option, All-append, All-map, All-weaker, refl, sym, ap, ap₂, subst, arith, append-nil, append_assoc, map-append, reverse-append, length-append, length-map, length-take, length-drop}
+use Rattle.base.proofs.Common.{◌≡◌, ◌∙◌, ℕ, zero, suc, ◌<◌, ◌≤◌, ◌==◌, List, [], ◌∷◌, ◌++◌, map, reverse, length, take, drop, Bool, if◌then◌else◌, Option, All-append, All-map, All-weaker, refl, sym, ap, ap₂, subst, arith, append-nil, append_assoc, map-append, reverse-append, length-append, length-map, length-take, length-drop}
 use Rattle.std.proofs.lemmas.List.{take-append-drop}
 use Rattle.yds_kernel.specs.Event.{Said}
 use Rattle.yds_trace.specs.declared.followed.Followed.{Followed}

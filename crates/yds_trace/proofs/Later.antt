@@ -1,5 +1,5 @@
 -- A line changes the parts behind two cuts where it changes those behind one of them.
-use Rattle.yds_model.proofs.Common.{◌≡◌, ◌∙◌, ℕ, ◌<◌, ◌≤◌, List, max, Bool, true, false, not, ◌&&◌, ◌||◌, nat_lt, is_some, refl, ap, ap₂, arith, lt-ltb}
+use Rattle.base.proofs.Common.{◌≡◌, ◌∙◌, ℕ, ◌<◌, ◌≤◌, List, max, Bool, true, false, not, ◌&&◌, ◌||◌, nat_lt, is_some, refl, ap, ap₂, arith, lt-ltb}
 use Rattle.std.proofs.lemmas.Bool.{ltb-true, ltb-false, le-ltb}
 use Rattle.yds_kernel.specs.declared.loss.Since.TheVariants as since
 use Rattle.yds_kernel.specs.Event.{Happening, Switch, WakeUp, Speed, Loss, Marker, Other, Event, Said, Stamped, Lost, Nothing}

@@ -1,5 +1,5 @@
 -- What stands last in the code's lists stands first in the definitions'.
-use Rattle.yds_model.proofs.Common.{◌≡◌, ℕ, zero, suc, ◌+◌, ◌<◌, ◌≤◌, List, [], ◌∷◌, ◌++◌, ◌∙◌, map, reverse, length, get_or, set, refl, ap, ap₂, sym, arith, map-append, reverse-append, get_or-set_same, get_or-set_other, get_or_default, drop_all, take_all, take, drop, append-nil, length-map, length-reverse, length-set, cases_lt, inl, inr, ◌≢◌, Bool, true, false, if◌then◌else◌, nat_lt, min, ltb-true}
+use Rattle.base.proofs.Common.{◌≡◌, ℕ, zero, suc, ◌+◌, ◌<◌, ◌≤◌, List, [], ◌∷◌, ◌++◌, ◌∙◌, map, reverse, length, get_or, set, refl, ap, ap₂, sym, arith, map-append, reverse-append, get_or-set_same, get_or-set_other, get_or_default, drop_all, take_all, take, drop, append-nil, length-map, length-reverse, length-set, cases_lt, inl, inr, ◌≢◌, Bool, true, false, if◌then◌else◌, nat_lt, min, ltb-true}
 use Rattle.yds_trace.specs.declared.job.End.{End}
 use Rattle.yds_trace.specs.declared.job.End.TheVariants as ends
 use Rattle.yds_trace.specs.declared.job.Job.{Job as JobKept}

@@ -1,5 +1,5 @@
 -- Which tasks the lines name.
-use Rattle.yds_model.proofs.Common.{◌≡◌, ◌∙◌, ℕ, suc, ◌+◌, ◌<◌, List, [], ◌∷◌, length, slice_index_or, Bool, true, false, not, ◌||◌, if◌then◌else◌, Option, Some, None, is_some, is_none, refl, arith, ap, ap₂}
+use Rattle.base.proofs.Common.{◌≡◌, ◌∙◌, ℕ, suc, ◌+◌, ◌<◌, List, [], ◌∷◌, length, slice_index_or, Bool, true, false, not, ◌||◌, if◌then◌else◌, Option, Some, None, is_some, is_none, refl, arith, ap, ap₂}
 use Rattle.std.specs.List.{position_from}
 use Rattle.yds_kernel.specs.Parts.{or_else}
 use Rattle.yds_kernel.specs.Event.{Happening, Switch, WakeUp, Speed, Loss, Marker, Other, Said}

@@ -1,5 +1,5 @@
 -- Jobs as the documents of one processor have them: a job that moved is there what it ran on that processor.
-use Rattle.yds_model.proofs.Common.{◌≡◌, ◌∙◌, ℕ, zero, suc, ◌<◌, ◌≤◌, ◌==◌, ◌&&◌, ◌||◌, Bool, true, false, not, cond, if◌then◌else◌, List, [], ◌∷◌, ◌++◌, map, filter, reverse, length, get_or, All, All-weaker, Contains, eq-eqb, refl, sym, ap, ap₂, arith, length-map, map-append, reverse-append, filter-append, list_any}
+use Rattle.base.proofs.Common.{◌≡◌, ◌∙◌, ℕ, zero, suc, ◌<◌, ◌≤◌, ◌==◌, ◌&&◌, ◌||◌, Bool, true, false, not, cond, if◌then◌else◌, List, [], ◌∷◌, ◌++◌, map, filter, reverse, length, get_or, All, All-weaker, Contains, eq-eqb, refl, sym, ap, ap₂, arith, length-map, map-append, reverse-append, filter-append, list_any}
 use Rattle.std.proofs.lemmas.List.Elements.{All-filter, All-map}
 use Rattle.std.proofs.lemmas.List.Folds.{list_any-append}
 use Rattle.yds_kernel.specs.Event.{Said}

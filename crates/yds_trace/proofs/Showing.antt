@@ -1,5 +1,5 @@
 -- What is shown of a task: its jobs behind those that are forgotten, closed at the end of what is shown.
-use Rattle.yds_model.proofs.Common.{◌≡◌, ◌∙◌, ℕ, zero, suc, ◌<◌, ◌≤◌, ◌==◌, List, [], ◌∷◌, ◌++◌, map, reverse, length, Bool, not, if◌then◌else◌, Option, Some, None, All-weaker, refl, sym, ap, arith, reverse-append}
+use Rattle.base.proofs.Common.{◌≡◌, ◌∙◌, ℕ, zero, suc, ◌<◌, ◌≤◌, ◌==◌, List, [], ◌∷◌, ◌++◌, map, reverse, length, Bool, not, if◌then◌else◌, Option, Some, None, All-weaker, refl, sym, ap, arith, reverse-append}
 use Rattle.std.proofs.lemmas.List.{reverse-reverse}
 use Rattle.yds_kernel.specs.Event.{Said}
 use Rattle.yds_trace.specs.declared.followed.Followed.{Followed}

@@ -1,5 +1,5 @@
 -- Who was in the way: the spans that are kept, and those that are forgotten before them.
-use Rattle.yds_model.proofs.Common.{◌≡◌, ◌∙◌, ℕ, ◌+◌, ◌<◌, ◌≤◌, List, [], ◌∷◌, ◌++◌, map, reverse, length, take, drop, filter, min, Bool, true, false, if◌then◌else◌, nat_lt, Option, Some, None, option_map, is_some, All, All-head, All-tail, All-cons, All-nil, All-append, All-weaker, All-map, refl, sym, ap, ap₂, subst, arith, append_assoc, map-append, reverse-append, filter-append, length-map, length-reverse, length-filter, count_by-le-length, All-permutation, ltb-true, le-ltb}
+use Rattle.base.proofs.Common.{◌≡◌, ◌∙◌, ℕ, ◌+◌, ◌<◌, ◌≤◌, List, [], ◌∷◌, ◌++◌, map, reverse, length, take, drop, filter, min, Bool, true, false, if◌then◌else◌, nat_lt, Option, Some, None, option_map, is_some, All, All-head, All-tail, All-cons, All-nil, All-append, All-weaker, All-map, refl, sym, ap, ap₂, subst, arith, append_assoc, map-append, reverse-append, filter-append, length-map, length-reverse, length-filter, count_by-le-length, All-permutation, ltb-true, le-ltb}
 use Rattle.std.proofs.lemmas.List.{reverse-reverse, take-append-drop, take_min}
 use Rattle.std.proofs.lemmas.List.Sorted.{IsPermutation-reverse}
 use Rattle.yds_kernel.specs.declared.loss.Since.{Since}

@@ -1,5 +1,5 @@
 -- The lines that count, one line after another.
-use Rattle.yds_model.proofs.Common.{◌≡◌, ◌∙◌, ℕ, ◌∷◌, List, false, if◌then◌else◌, Option, Some, None, refl, ap}
+use Rattle.base.proofs.Common.{◌≡◌, ◌∙◌, ℕ, ◌∷◌, List, false, if◌then◌else◌, Option, Some, None, refl, ap}
 use Rattle.yds_kernel.specs.declared.state.State.{State}
 use Rattle.yds_kernel.specs.declared.state.State.TheVariants as states
 use Rattle.yds_kernel.specs.declared.loss.Since.{Since}

@@ -1,5 +1,5 @@
 -- What a line changes of the parts that are written.
-use Rattle.yds_model.proofs.Common.{◌≡◌, Bool, true, false, not, ◌&&◌, ◌||◌, refl}
+use Rattle.base.proofs.Common.{◌≡◌, Bool, true, false, not, ◌&&◌, ◌||◌, refl}
 
 pub or_none : (b : Bool) → b ≡ (b || false)
 or_none true = refl

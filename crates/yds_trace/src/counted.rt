@@ -24,9 +24,9 @@ use crate::past::Past;
 use crate::refused::Refused;
 use crate::step::{Step, Whose};
 use crate::within::is_within_to;
+use base::Memory;
 use std::alloc::Global;
 use yds_kernel::{Event, Happening, Since, State};
-use yds_model::Memory;
 
 /// What is kept of the lines that count.
 #[derive(Debug, Drop)]

@@ -16,8 +16,8 @@ use crate::known::Known;
 use crate::others::Span;
 use crate::past::Past;
 use crate::tally::Tally;
+use base::Memory;
 use std::alloc::Global;
-use yds_model::Memory;
 
 /// What is known of the tasks at the end of what is asked for.
 #[derive(Debug, Drop)]

@@ -13,8 +13,8 @@ use crate::asked::Task;
 use crate::jobs::{began_before, count_stretches, drop_first, early, has_open_job};
 use crate::known::{Known, stands_on};
 use crate::step::{Place, Step, Whose};
+use base::Memory;
 use std::alloc::Global;
-use yds_model::Memory;
 
 /// What is known of a task.
 #[derive(Debug, Drop)]

@@ -3,9 +3,9 @@ ghost use Rattle.std.specs.Prelude.{◌≡◌, IfOk};
 ghost use Rattle.yds_trace.specs.Jobs as spec;
 ghost use Rattle.yds_trace.specs.Views.{job_read};
 
+use base::Memory;
 use std::alloc::Global;
 use yds_kernel::State;
-use yds_model::Memory;
 
 /// When a job ended, as far as the trace shows.
 #[derive(Clone, Copy, Debug, PartialEq, Eq)]

@@ -10,8 +10,8 @@ ghost use Rattle.yds_trace.specs.Parts.{last_begin};
 ghost use Rattle.yds_trace.specs.Views.{job_read, jobs_listed};
 
 use crate::job::{End, Job, Stretch};
+use base::Memory;
 use std::alloc::Global;
-use yds_model::Memory;
 
 /// A job begins.
 #[tactic(auto, using(crate::proofs::Listed::jobs_listed_push))]

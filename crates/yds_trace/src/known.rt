@@ -10,9 +10,9 @@ use crate::jobs::{
     start_running, unsee_last, wake,
 };
 use crate::step::Step;
+use base::Memory;
 use std::alloc::Global;
 use yds_kernel::State;
-use yds_model::Memory;
 
 /// What is known of a task's thread after some lines.
 #[derive(Debug, Drop)]

@@ -1,6 +1,6 @@
 //! From the events of a kernel's trace to the jobs of the tasks that are asked for.
 //!
-//! It stands on `yds_kernel`, whose events it reads, and on `yds_model` for what a job, a slot and a feasible schedule are.
+//! It stands on `yds_kernel`, whose events it reads.
 //! The definitions in `specs/` say what a trace means; they see all lines of it. What passes through a trace once, and keeps
 //! only what is open, is proved against them.
 #![tactic(auto)]

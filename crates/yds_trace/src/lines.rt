@@ -14,9 +14,9 @@ use crate::past::Past;
 use crate::step::Whose;
 use crate::tally::Tally;
 use crate::within::{is_behind_from, is_within_to};
+use base::Memory;
 use std::alloc::Global;
 use yds_kernel::{Event, Happening, Since};
-use yds_model::Memory;
 
 /// What is kept of all lines.
 #[derive(Debug, Drop)]

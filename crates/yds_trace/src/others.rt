@@ -15,9 +15,9 @@ ghost use Rattle.yds_trace.specs.Views.{another_read, going_read, span_read};
 use crate::jobs::drop_first;
 use crate::limits::MAX_OTHER_NAME;
 use crate::step::Whose;
+use base::Memory;
 use std::alloc::Global;
 use yds_kernel::{Event, Happening, Since, Thread};
-use yds_model::Memory;
 
 /// A thread that isn't listed.
 #[derive(Debug, Drop)]

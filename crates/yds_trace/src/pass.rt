@@ -26,9 +26,9 @@ use crate::lines::Lines;
 use crate::refused::Refused;
 use crate::share::share_all;
 use crate::shown::{Shown, show_each};
+use base::Memory;
 use std::alloc::Global;
 use yds_kernel::{Event, Said, Since};
-use yds_model::Memory;
 
 /// What is known of the tasks behind some lines of a trace.
 #[derive(Debug, Drop)]

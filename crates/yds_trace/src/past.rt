@@ -13,9 +13,9 @@ use crate::asked::{Start, StartSpeed};
 use crate::job::Leaving;
 use crate::places::{at, put_at};
 use crate::step::Step;
+use base::Memory;
 use std::alloc::Global;
 use yds_kernel::{Event, Happening, Since};
-use yds_model::Memory;
 
 /// What a processor's lines told since events were last lost, or since the trace's begin.
 #[derive(Clone, Copy, Debug, PartialEq, Eq)]

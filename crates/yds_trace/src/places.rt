@@ -1,7 +1,7 @@
 //! Values at the places of a list, which grows where one is put behind its end.
 ghost use Rattle.std.specs.Prelude.{◌≡◌, ℕ, ◌==◌, ◌+◌, ◌<◌, ◌≤◌, ◌^◌, slice_index_or, vec_len, if◌then◌else◌, OnOk};
 
-use yds_model::Memory;
+use base::Memory;
 
 /// What stands at this place, or what fills the list where it has none.
 pub(crate) fn at<T: Copy>(values: &[T], place: u64, fill: T) -> T

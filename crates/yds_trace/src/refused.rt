@@ -2,7 +2,7 @@
 ghost use Rattle.std.specs.Prelude.{◌≡◌};
 
 use crate::fault::Cause;
-use yds_model::Memory;
+use base::Memory;
 
 /// Why a line isn't taken, or what is known at the end isn't told.
 #[derive(Clone, Copy, Debug, PartialEq, Eq)]

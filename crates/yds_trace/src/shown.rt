@@ -18,8 +18,8 @@ use crate::others::{Span, copied as copied_spans};
 use crate::past::Past;
 use crate::share::share_each;
 use crate::tally::Tally;
+use base::Memory;
 use std::alloc::Global;
-use yds_model::Memory;
 
 /// What is known of a task's jobs.
 #[derive(Debug, Drop)]

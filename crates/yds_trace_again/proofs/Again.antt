@@ -1,6 +1,6 @@
 -- The text of a trace's document is read again as just its jobs and its runs; so is that of some of its jobs.
 use Rattle.yds_model.proofs.Common.{ℕ, ◌≤◌, List, [], ◌∷◌, ◌++◌, length, map, filter, flat_map, no_document, Entry}
-use Rattle.yds_model.specs.declared.limits.TheConstants.{MAX_INPUT}
+use Rattle.base.specs.declared.limits.TheConstants.{MAX_INPUT}
 use Rattle.yds_trace.specs.Asked.{Asked}
 use Rattle.yds_trace.specs.Document.{all_judged, units_of, Written, Placed}
 use Rattle.yds_trace_document.specs.Settled.{Settled, settled_of}

@@ -2,7 +2,7 @@
 use Rattle.yds_model.proofs.Common.{◌≡◌, ◌≢◌, ℕ, zero, suc, ◌+◌, ◌<◌, ◌≤◌, ◌==◌, ◌&&◌, eqb-true, Bool, true, false, nat_lt, List, [], ◌∷◌, ◌++◌, length, map, filter, get_or, Option, Some, None, is_some, refl, sym, ap, subst, ◌∙◌, arith, inl, codes, if◌then◌else◌, All, All-nil, AllByRecursion, AllPairs, recursion_from_All, All-from_recursion, All-map, list_any, list_all, position, position_or_len, option_map, filter_map, flat_map, enumerate_from, ArePoints, AreLevelsOf, IsLevel, fails_before_first, and_parts, or_parts, and_from, ltb-false, cond_both, nat_le, reverse, sum_by-cons, list_all-append, decimal, le-leb, length-map, length-append, IsJob, of_whole, written_slot_at, IsFraction, IsSlot, AreNamedJobs, AreDifferentNames, IsDocument, name_at, is_name, is_visible}
 use Rattle.std.specs.List.{cons_option}
 use Rattle.yds_texts.proofs.Within.{only_jobs}
-use Rattle.yds_model.specs.declared.limits.TheConstants.{MAX_JOBS, MAX_TIME, MAX_WORK, MAX_SLOTS, MAX_SLOT_WORK, MAX_NAME}
+use Rattle.base.specs.declared.limits.TheConstants.{MAX_JOBS, MAX_TIME, MAX_WORK, MAX_SLOTS, MAX_SLOT_WORK, MAX_NAME}
 use Rattle.yds_kernel.specs.Event.{Said}
 use Rattle.yds_trace.specs.Asked.{Task, no_task, Asked, IsAsked, task_at}
 use Rattle.yds_trace.specs.Jobs.{Job as TracedJob}

@@ -1,8 +1,9 @@
 -- The lines of a trace's document are read one after another: its jobs, its ticks and its runs.
-use Rattle.yds_model.proofs.Common.{◌≡◌, ℕ, suc, ◌+◌, ◌-◌, ◌*◌, ◌/◌, ◌<◌, ◌≤◌, ◌==◌, true, List, [], ◌∷◌, ◌++◌, length, map, decimal, Some, None, Ok, refl, sym, ap, subst, ◌∙◌, arith, inl, codes, if◌then◌else◌, All, All-cons, All-nil, AllByRecursion, list_all, filter_map, flat_map, position, bytes_eq, lt-ltb, le-leb, mul-le-mul_right, div-one, length-append, map-append, length-map, IsJob, Fraction, of_whole, of_parts, AreAlike, Document, no_document, name_at, is_name, Entry, JobEntry, SlotEntry, TicksEntry, name_said, slot_said, ticks_said, job_named, read_fields, fits_grain, are_alike, spaced, number_at-decimal, AreNamedJobs, with_job, with_slot, says-job, says-slot, says_other, said-ticks, none_said, more_said}
+use Rattle.yds_model.proofs.Common.{◌≡◌, ℕ, suc, ◌+◌, ◌-◌, ◌*◌, ◌/◌, ◌<◌, ◌≤◌, ◌==◌, true, List, [], ◌∷◌, ◌++◌, length, map, decimal, Some, None, Ok, refl, sym, ap, subst, ◌∙◌, arith, inl, codes, if◌then◌else◌, All, All-cons, All-nil, AllByRecursion, list_all, filter_map, flat_map, position, bytes_eq, lt-ltb, le-leb, mul-le-mul_right, div-one, length-append, map-append, length-map, IsJob, Fraction, of_whole, of_parts, AreAlike, Document, no_document, name_at, is_name, Entry, JobEntry, SlotEntry, TicksEntry, name_said, slot_said, ticks_said, job_named, read_fields, fits_grain, are_alike, spaced, number_at-decimal, AreNamedJobs}
+use Rattle.model_lemmas.proofs.Said.{with_job, with_slot, says-job, says-slot, says_other, said-ticks, none_said, more_said}
 use Rattle.std.proofs.Math.Nat.{mod-one}
-use Rattle.yds_model.specs.declared.limits.TheConstants.{MAX_JOBS, MAX_TIME, MAX_WORK, MAX_SLOTS, MAX_SLOT_WORK, MAX_RUN_SPEED}
-use Rattle.yds_model.proofs.Said.{Says}
+use Rattle.base.specs.declared.limits.TheConstants.{MAX_JOBS, MAX_TIME, MAX_WORK, MAX_SLOTS, MAX_SLOT_WORK, MAX_RUN_SPEED}
+use Rattle.model_lemmas.proofs.Said.{Says}
 use Rattle.yds_trace.specs.WrittenTime.{Run, work_of_run}
 use Rattle.yds_trace.specs.Document.{Written, Placed}
 use Rattle.yds_trace_laws.specs.AsSlots.{job_read, slot_read, jobs_read, slots_read}

@@ -1,6 +1,6 @@
 -- A trace's document as the definition of documents reads it.
 use Rattle.std.specs.Prelude.{◌≡◌, ℕ, ◌≤◌, List, length, map, Ok}
-use Rattle.yds_model.specs.declared.limits.TheConstants.{MAX_INPUT}
+use Rattle.base.specs.declared.limits.TheConstants.{MAX_INPUT}
 use Rattle.yds_model.specs.Document.{Document as DocumentRead, no_document}
 use Rattle.yds_model.specs.Within.{IsDocument}
 use Rattle.yds_model.specs.Reading.{reading}

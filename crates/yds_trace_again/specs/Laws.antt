@@ -1,8 +1,8 @@
 -- What follows for whoever reads a trace's document again.
 use Rattle.std.specs.Prelude.{◌≡◌, ◌≢◌, ◌≤◌, ℕ, List, length, map, filter, Bool, true, Option, None}
 use Rattle.std.specs.List.{All, AllPairs}
-use Rattle.yds_model.specs.declared.limits.TheConstants.{MAX_INPUT}
-use Rattle.yds_model.specs.Spelling.{is_name}
+use Rattle.base.specs.declared.limits.TheConstants.{MAX_INPUT}
+use Rattle.base.specs.Spelling.{is_name}
 use Rattle.yds_kernel.specs.Event.{Said}
 use Rattle.yds_trace.specs.declared.tally.Tally.{Tally}
 use Rattle.yds_trace.specs.Asked.{Task, Asked, IsAsked}

@@ -1,5 +1,5 @@
 -- What is asked within bounds that count from the first event, and what is not.
-use Rattle.yds_model.proofs.Common.{◌≡◌, ℕ, List, [], ◌∷◌, Some, None, refl}
+use Rattle.base.proofs.Common.{◌≡◌, ℕ, List, [], ◌∷◌, Some, None, refl}
 use Rattle.yds_kernel.specs.declared.loss.Since.{Since}
 use Rattle.yds_kernel.specs.Event.{Said, Stamped, Lost, Other}
 use Rattle.yds_kernel.specs.Text.{Trace}

@@ -1,5 +1,5 @@
 -- What is told of a cause is told of one with the same text and status.
-use Rattle.yds_model.proofs.Common.{◌≡◌, ℕ, List, Option, subst}
+use Rattle.base.proofs.Common.{◌≡◌, ℕ, List, Option, subst}
 use Rattle.yds_trace_cli.specs.Telling.{Tells}
 
 pub told_as : (text same_text : List ℕ) (code same_code ended : ℕ) (old new : Option (List ℕ)) (flushed : Option ℕ) (faults_before faults_now : ℕ) → text ≡ same_text → code ≡ same_code

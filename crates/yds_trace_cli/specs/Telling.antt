@@ -3,8 +3,8 @@ use Rattle.std.specs.Prelude.{◌≡◌, ℕ, ◌⊎◌, List, codes, Option}
 use Rattle.std.specs.Io.KnownBytes.{Appends}
 use Rattle.std.specs.declared.io.ErrorKind.{ErrorKind}
 use Rattle.std.specs.declared.io.ErrorKind.TheVariants.{OutOfMemory}
-use Rattle.yds_model.specs.declared.status.Status.TheVariants.{WriteFault}
-use Rattle.yds_model.specs.Status.{status_code}
+use Rattle.base.specs.declared.status.Status.TheVariants.{WriteFault}
+use Rattle.base.specs.Status.{status_code}
 use Rattle.yds_port.specs.Count.{Rose}
 use Rattle.yds_port.specs.Sink.{AppendsFront, IsFlushed}
 

@@ -9,13 +9,14 @@
 
 ghost use Rattle.std.specs.Prelude.{◌≡◌, IfOk, drop};
 ghost use Rattle.std.specs.Result.{IfErr};
-ghost use Rattle.yds_model.specs.Status.{status_code};
+ghost use Rattle.base.specs.Status.{status_code};
 ghost use Rattle.yds_trace_cli.specs.Codes.{code_without_words};
 ghost use Rattle.yds_trace_cli.specs.Telling.{Tells, text_without_words};
 
 mod disk;
 mod small_writes;
 
+use base::Status;
 use disk::Disk;
 use small_writes::SmallWrites;
 use std::hash::RandomState;
@@ -23,7 +24,6 @@ use std::io::{BufWriter, ErrorKind};
 use std::process::ExitCode;
 use std::random::RandomSource;
 use std::{env, io};
-use yds_model::Status;
 use yds_port::{Flushed, Sink, StdSink, write_all};
 use yds_trace_files::Files;
 use yds_trace_run::run;

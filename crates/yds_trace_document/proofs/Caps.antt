@@ -1,6 +1,6 @@
 -- Works that are capped at 64 bits are refused as those that are whole, and what isn't refused isn't capped.
-use Rattle.yds_model.proofs.Common.{◌≡◌, ℕ, zero, suc, ◌+◌, ◌≤◌, ◌==◌, ◌&&◌, ◌||◌, Bool, true, false, not, cond, List, [], ◌∷◌, map, length, ◌∙◌, refl, sym, ap, ap₂, arith, nat_lt, nat_le, eqb-true, leb-true, le-leb, ltb-false, Option, Some, None, option_map, max, get_or, position, prefix_len, length-map, if◌then◌else◌}
-use Rattle.yds_model.specs.declared.limits.TheConstants.{MAX_JOBS, MAX_SLOTS, MAX_WORK}
+use Rattle.base.proofs.Common.{◌≡◌, ℕ, zero, suc, ◌+◌, ◌≤◌, ◌==◌, ◌&&◌, ◌||◌, Bool, true, false, not, cond, List, [], ◌∷◌, map, length, ◌∙◌, refl, sym, ap, ap₂, arith, nat_lt, nat_le, eqb-true, leb-true, le-leb, ltb-false, Option, Some, None, option_map, max, get_or, position, prefix_len, length-map, if◌then◌else◌}
+use Rattle.base.specs.declared.limits.TheConstants.{MAX_JOBS, MAX_SLOTS, MAX_WORK}
 use Rattle.yds_kernel.specs.Parts.{capped, or_else}
 use Rattle.yds_trace.specs.Document.{Written}
 use Rattle.yds_trace_document.specs.declared.fault.DocumentFault.{DocumentFault}

@@ -1,5 +1,5 @@
 -- What is kept last one first.
-use Rattle.yds_model.proofs.Common.{◌≡◌, List, [], ◌∷◌, ◌++◌, map-append, reverse-append}
+use Rattle.base.proofs.Common.{◌≡◌, List, [], ◌∷◌, ◌++◌, map-append, reverse-append}
 use Rattle.yds_trace_document.specs.declared.run.Run.{Run as RunKept}
 use Rattle.yds_trace_document.specs.Views.{run_read, runs_listed}
 

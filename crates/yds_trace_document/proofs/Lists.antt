@@ -1,5 +1,5 @@
 -- Lists as they are kept and as they are read.
-use Rattle.yds_model.proofs.Common.{◌≡◌, ℕ, suc, ◌+◌, ◌||◌, Bool, not, cond, List, [], ◌∷◌, ◌++◌, map, reverse, length, ◌∙◌, refl, sym, ap, ap₂, arith, nat_lt, Some, None, list_any, sum_by, sum_by-cons, count_by, position, prefix_len, enumerate_from, length-map, map-append, reverse-append}
+use Rattle.base.proofs.Common.{◌≡◌, ℕ, suc, ◌+◌, ◌||◌, Bool, not, cond, List, [], ◌∷◌, ◌++◌, map, reverse, length, ◌∙◌, refl, sym, ap, ap₂, arith, nat_lt, Some, None, list_any, sum_by, sum_by-cons, count_by, position, prefix_len, enumerate_from, length-map, map-append, reverse-append}
 
 pub map_reverse : {A B : Type 0} (f : A → B) (xs : List A) → map f (reverse xs) ≡ reverse (map f xs)
 map_reverse f [] = refl

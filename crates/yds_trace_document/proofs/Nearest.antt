@@ -1,5 +1,5 @@
 -- How far a number is from the nearest whole number of units.
-use Rattle.yds_model.proofs.Common.{◌≡◌, ℕ, ◌+◌, ◌-◌, ◌*◌, ◌/◌, ◌%◌, ◌≤◌, ◌<◌, arith, div-add-mod}
+use Rattle.base.proofs.Common.{◌≡◌, ℕ, ◌+◌, ◌-◌, ◌*◌, ◌/◌, ◌%◌, ◌≤◌, ◌<◌, arith, div-add-mod}
 
 pub nearest_up : (number unit : ℕ) → 1 ≤ unit → unit - number % unit ≤ number % unit → (2 * number + unit) / (2 * unit) ≡ number / unit + 1
 nearest_up number unit least up = grind arith

@@ -1,5 +1,5 @@
 -- What is settled of the waiting jobs of each task is what the definitions say of a part.
-use Rattle.yds_model.proofs.Common.{◌≡◌, ℕ, ◌+◌, ◌*◌, List, max, ◌∙◌, ap, ap₂, Option, unwrap_or, filter_map}
+use Rattle.base.proofs.Common.{◌≡◌, ℕ, ◌+◌, ◌*◌, List, max, ◌∙◌, ap, ap₂, Option, unwrap_or, filter_map}
 use Rattle.yds_kernel.specs.Event.{Said}
 use Rattle.yds_trace.specs.declared.cut.Cut.{Cut}
 use Rattle.yds_trace.specs.declared.tally.Tally.{Tally}

@@ -1,5 +1,5 @@
 -- What is kept at a trace's end gives what the definitions say of its lines.
-use Rattle.yds_model.proofs.Common.{◌≡◌, ℕ, ◌+◌, List, [], ◌∷◌, ◌++◌, map, length, get_or, ◌∙◌, refl, sym, ap, ap₂, subst, arith, min, Bool, false, not, ◌&&◌, nat_le, if◌then◌else◌, Option, Some, None, unwrap_or, flat_map, enumerate_from, filter_map, get_or_at, append_assoc, length_push}
+use Rattle.base.proofs.Common.{◌≡◌, ℕ, ◌+◌, List, [], ◌∷◌, ◌++◌, map, length, get_or, ◌∙◌, refl, sym, ap, ap₂, subst, arith, min, Bool, false, not, ◌&&◌, nat_le, if◌then◌else◌, Option, Some, None, unwrap_or, flat_map, enumerate_from, filter_map, get_or_at, append_assoc, length_push}
 use Rattle.std.specs.Prelude.{is_none}
 use Rattle.std.specs.List.{cons_option}
 use Rattle.yds_kernel.specs.Event.{Said}

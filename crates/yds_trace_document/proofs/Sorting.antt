@@ -1,5 +1,5 @@
 -- A stable sort puts a list in order: there is one list that rises and keeps equal keys as they stand.
-use Rattle.yds_model.proofs.Common.{◌≡◌, ℕ, suc, ◌<◌, ◌≤◌, ◌==◌, ◌&&◌, Bool, true, false, not, cond, List, [], ◌∷◌, map, length, get_or, filter, ◌∙◌, refl, sym, ap, ap₂, inl, inr, arith, nat_le, nat_tests, cases_order, cond_both, le-leb, leb-true, leb-false, eqb-true, eq-eqb, is_lt, nat_cmp, IsNonDecreasingBy, IsStableByKey}
+use Rattle.base.proofs.Common.{◌≡◌, ℕ, suc, ◌<◌, ◌≤◌, ◌==◌, ◌&&◌, Bool, true, false, not, cond, List, [], ◌∷◌, map, length, get_or, filter, ◌∙◌, refl, sym, ap, ap₂, inl, inr, arith, nat_le, nat_tests, cases_order, cond_both, le-leb, leb-true, leb-false, eqb-true, eq-eqb, is_lt, nat_cmp, IsNonDecreasingBy, IsStableByKey}
 use Rattle.yds_trace.specs.Document.{put_in, in_order}
 
 -- each key is at least this

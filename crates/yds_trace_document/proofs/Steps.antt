@@ -1,5 +1,5 @@
 -- What one step of a loop adds.
-use Rattle.yds_model.proofs.Common.{◌≡◌, ℕ, suc, ◌+◌, ◌-◌, ◌<◌, List, [], ◌∷◌, ◌++◌, map, reverse, length, get_or, take, take_more, ◌∙◌, refl, sym, ap, ap₂, arith, Option, Some, None, option_to_list, enumerate_from, flat_map, flat_map-append, append-nil, map-append, map_more, length-map, filter_map, filter_map-append, option_map}
+use Rattle.base.proofs.Common.{◌≡◌, ℕ, suc, ◌+◌, ◌-◌, ◌<◌, List, [], ◌∷◌, ◌++◌, map, reverse, length, get_or, take, take_more, ◌∙◌, refl, sym, ap, ap₂, arith, Option, Some, None, option_to_list, enumerate_from, flat_map, flat_map-append, append-nil, map-append, map_more, length-map, filter_map, filter_map-append, option_map}
 use Rattle.std.proofs.lemmas.List.{reverse-reverse, length-take-le}
 use Rattle.std.specs.Prelude.{Vec, Bool}
 use Rattle.std.specs.List.{cons_option}

@@ -1,5 +1,5 @@
 -- The jobs that wait are those that are shown and begin at the boundary or later.
-use Rattle.yds_model.proofs.Common.{◌≡◌, ℕ, suc, ◌+◌, ◌<◌, ◌≤◌, ◌&&◌, Bool, true, false, cond, List, [], ◌∷◌, ◌++◌, map, filter, length, get_or, ◌∙◌, refl, sym, ap, ap₂, subst, arith, nat_le, cond_both, lt-leb, All, All-head, All-tail, filter-append, map-append, append_assoc, length_push, get_or_at, enumerate_from, Option}
+use Rattle.base.proofs.Common.{◌≡◌, ℕ, suc, ◌+◌, ◌<◌, ◌≤◌, ◌&&◌, Bool, true, false, cond, List, [], ◌∷◌, ◌++◌, map, filter, length, get_or, ◌∙◌, refl, sym, ap, ap₂, subst, arith, nat_le, cond_both, lt-leb, All, All-head, All-tail, filter-append, map-append, append_assoc, length_push, get_or_at, enumerate_from, Option}
 use Rattle.yds_kernel.specs.Event.{Said}
 use Rattle.yds_trace.specs.declared.cut.Cut.{Cut}
 use Rattle.yds_trace.specs.declared.shown.ShownTask.{ShownTask}

@@ -1,7 +1,7 @@
 -- For which a document isn't written: the limits of the format, speeds that are too coarse, and jobs that had to be left out.
 use Rattle.std.specs.Prelude.{ℕ, ◌+◌, ◌-◌, ◌*◌, ◌/◌, List, [], ◌∷◌, map, get_or, length, max, not, Bool, true, false, ◌==◌, ◌&&◌, ◌||◌, nat_lt, if◌then◌else◌, Option, Some, None, is_some, option_map, position, unwrap_or}
 use Rattle.std.specs.List.{list_any}
-use Rattle.yds_model.specs.declared.limits.TheConstants.{MAX_JOBS, MAX_SLOTS, MAX_TIME, MAX_WORK, MAX_RUN_SPEED, MAX_NAME}
+use Rattle.base.specs.declared.limits.TheConstants.{MAX_JOBS, MAX_SLOTS, MAX_TIME, MAX_WORK, MAX_RUN_SPEED, MAX_NAME}
 use Rattle.yds_kernel.specs.Parts.{capped, or_else}
 use Rattle.yds_trace.specs.declared.job.Stretch.{Stretch}
 use Rattle.yds_trace.specs.declared.reason.Reason.{Reason}

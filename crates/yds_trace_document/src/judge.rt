@@ -12,8 +12,8 @@ ghost use Rattle.yds_trace_document.specs.Views.{judged_read, judged_list, withi
 
 use crate::judged::Judged;
 use crate::name::Name;
+use base::Memory;
 use std::alloc::Global;
-use yds_model::Memory;
 use yds_trace::{End, Job, Reason, Stretch, Task};
 
 /// What is asked for beside the tasks, and the trace's last time. Times are nanoseconds.

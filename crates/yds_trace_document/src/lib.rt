@@ -1,7 +1,7 @@
 //! From what is known at a trace's end to one document: which jobs it has, with their windows, works and runs, which are late,
 //! and which are left out.
 //!
-//! It stands on `yds_trace`, whose definitions say what a document has, and on `yds_model` for the limits of its format. It
+//! It stands on `yds_trace`, whose definitions say what a document has, and on `base` for the limits of its format. It
 //! carries the promise that what is settled of the jobs is what the definitions in `specs/` say, and that each fault for which
 //! a document isn't written is the first that there is.
 #![tactic(auto)]

@@ -14,7 +14,7 @@ use crate::run::Run;
 use crate::settlement::Settled;
 use crate::units::Units;
 use crate::written::Written;
-use yds_model::limits::{MAX_JOBS, MAX_RUN_SPEED, MAX_SLOTS, MAX_TIME, MAX_WORK};
+use base::limits::{MAX_JOBS, MAX_RUN_SPEED, MAX_SLOTS, MAX_TIME, MAX_WORK};
 use yds_trace::{Asked, Cut, Reason, Stretch};
 
 /// The first cause for which what is settled isn't written as a document, if there is one. With `strict` no job may be missed.

@@ -1,13 +1,13 @@
 //! The names of a trace's jobs.
 ghost use Rattle.std.specs.Prelude.{◌≡◌, ◌≤◌, ◌++◌, IfOk, OnOk, length, codes, decimal, nat_lt};
-ghost use Rattle.yds_model.specs.declared.limits.TheConstants.{MAX_NAME};
+ghost use Rattle.base.specs.declared.limits.TheConstants.{MAX_NAME};
 ghost use Rattle.yds_trace_document.specs.Kept as kept;
 ghost use Rattle.yds_trace_document.specs.Views.{base_name, name_read};
 
+use base::Memory;
+use base::limits::MAX_NAME;
 use itoa::Buffer;
 use std::alloc::{AllocError, Global};
-use yds_model::Memory;
-use yds_model::limits::MAX_NAME;
 
 /// The name of a task's job: the task's, a dot and the job's number, counted from 0. Where the first job began before the
 /// trace, it is called `before`, and the next one has the number 0. Behind it stands the processor of a job that moved, where

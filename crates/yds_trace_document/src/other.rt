@@ -4,8 +4,8 @@ ghost use Rattle.yds_trace.specs.Others as spec;
 ghost use Rattle.yds_trace.specs.Views.{span_read};
 ghost use Rattle.yds_trace_document.specs.Views.{other_read};
 
+use base::Memory;
 use std::alloc::Global;
-use yds_model::Memory;
 use yds_trace::Span;
 
 /// A thread that had the processor for a time, while a job waited. Times are nanoseconds of the trace's clock.

@@ -21,8 +21,8 @@ use crate::membership::belongs;
 use crate::other::{Other, all_lent, all_within, behind};
 use crate::settlement::{Settled, in_order_of_begins, settled_in};
 use crate::units::Units;
+use base::Memory;
 use std::alloc::Global;
-use yds_model::Memory;
 use yds_trace::{Asked, Shown, ShownTask, Tally, Task};
 
 /// What is settled of a part.

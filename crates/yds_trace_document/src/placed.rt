@@ -7,8 +7,8 @@ ghost use Rattle.yds_trace_document.specs.Views.{runs_read, written_list, placed
 
 use crate::run::Run;
 use crate::written::Written;
+use base::Memory;
 use std::alloc::Global;
-use yds_model::Memory;
 
 /// A run of the job at this place among those written.
 #[derive(Clone, Copy, Debug, PartialEq, Eq)]

@@ -5,8 +5,8 @@ ghost use Rattle.yds_trace_document.specs.Kept as kept;
 ghost use Rattle.yds_trace_document.specs.Views.{units_read, run_read, runs_read, runs_listed};
 
 use crate::units::Units;
+use base::Memory;
 use std::alloc::Global;
-use yds_model::Memory;
 use yds_trace::Stretch;
 
 /// A job has the processor from one unit of time to another, at a speed in units of speed.

@@ -17,8 +17,8 @@ use crate::other::{Other, all_lent, all_within};
 use crate::placed::{Placed, placed_in_order};
 use crate::units::Units;
 use crate::written::{Written, written_jobs};
+use base::Memory;
 use std::alloc::Global;
-use yds_model::Memory;
 use yds_trace::{Asked, Ended, Job, Tally, Task};
 
 /// What is settled of the jobs at a trace's end: what becomes of each, and the document of those that are written.

@@ -13,8 +13,8 @@ use crate::judged::Judged;
 use crate::name::Name;
 use crate::run::{Run, runs_of};
 use crate::units::Units;
+use base::Memory;
 use std::alloc::Global;
-use yds_model::Memory;
 use yds_trace::{End, Job};
 
 /// What is written of a job, in units of the document.

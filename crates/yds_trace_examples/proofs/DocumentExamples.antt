@@ -1,5 +1,5 @@
 -- The documents of small traces. A unit of time is 10 nanoseconds, a job is due 100 after its begin, and time 0 is where the first whole job begins.
-use Rattle.yds_model.proofs.Common.{◌≡◌, ℕ, ◌≤◌, All, List, [], ◌∷◌, map, codes, reverse, Option, Some, None, refl, arith, All-cons, All-nil}
+use Rattle.base.proofs.Common.{◌≡◌, ℕ, ◌≤◌, All, List, [], ◌∷◌, map, codes, reverse, Option, Some, None, refl, arith, All-cons, All-nil}
 use Rattle.std.specs.Fmt.{digits}
 use Rattle.yds_kernel.specs.Event.{Said}
 use Rattle.yds_trace.specs.declared.reason.Reason.{Reason}

@@ -1,5 +1,5 @@
 -- Faults of a trace: the number of the line, and why.
-use Rattle.yds_model.proofs.Common.{◌≡◌, ℕ, List, [], ◌∷◌, codes, reverse, true, Option, Some, None, refl}
+use Rattle.base.proofs.Common.{◌≡◌, ℕ, List, [], ◌∷◌, codes, reverse, true, Option, Some, None, refl}
 use Rattle.yds_kernel.specs.declared.state.State.TheVariants as states
 use Rattle.yds_kernel.specs.declared.loss.Since.TheVariants as since
 use Rattle.yds_kernel.specs.Event.{Thread, Loss, Speed, Switch, WakeUp, Said, Lost, Nothing}

@@ -1,5 +1,5 @@
 -- When jobs are late, and times as a document has them.
-use Rattle.yds_model.proofs.Common.{◌≡◌, [], ◌∷◌, true, false, Some, None, refl}
+use Rattle.base.proofs.Common.{◌≡◌, [], ◌∷◌, true, false, Some, None, refl}
 use Rattle.yds_trace.specs.declared.job.End.TheVariants as ends
 use Rattle.yds_trace.specs.Late.{late_by}
 use Rattle.yds_trace.specs.WrittenTime.{Units, written_time, written_speed, is_coarse, runs_of, is_short}

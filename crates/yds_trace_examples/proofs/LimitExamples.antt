@@ -1,5 +1,5 @@
 -- For which small traces no document is written, and what is told of that. A job is due 100 after its begin.
-use Rattle.yds_model.proofs.Common.{◌≡◌, List, [], ◌∷◌, reverse, false, Option, Some, None, refl}
+use Rattle.base.proofs.Common.{◌≡◌, List, [], ◌∷◌, reverse, false, Option, Some, None, refl}
 use Rattle.std.specs.Fmt.{digits}
 use Rattle.yds_kernel.specs.Event.{Said}
 use Rattle.yds_trace.specs.declared.reason.Reason.TheVariants as reasons

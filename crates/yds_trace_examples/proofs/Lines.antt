@@ -1,5 +1,5 @@
 -- Lines of a trace in few words, in order of time: each of one processor, at so many nanoseconds.
-use Rattle.yds_model.proofs.Common.{ℕ, List, [], ◌∷◌, codes, true, false, Some, None}
+use Rattle.base.proofs.Common.{ℕ, List, [], ◌∷◌, codes, true, false, Some, None}
 use Rattle.yds_kernel.specs.declared.state.State.TheVariants as states
 use Rattle.yds_kernel.specs.declared.loss.Since.TheVariants as since
 use Rattle.yds_kernel.specs.Event.{Thread, Happening, Switch, WakeUp, Speed, Marker, Said, Stamped, Lost}

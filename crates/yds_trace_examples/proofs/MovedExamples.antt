@@ -1,6 +1,6 @@
 -- Jobs that moved: each processor's documents have what they ran there, where that is asked for. A unit of time is 10 nanoseconds, and a job is due 100
 -- after its begin.
-use Rattle.yds_model.proofs.Common.{◌≡◌, ℕ, List, [], ◌∷◌, map, codes, reverse, Option, Some, None, refl}
+use Rattle.base.proofs.Common.{◌≡◌, ℕ, List, [], ◌∷◌, map, codes, reverse, Option, Some, None, refl}
 use Rattle.std.specs.Fmt.{digits}
 use Rattle.yds_kernel.specs.Event.{Said}
 use Rattle.yds_trace.specs.declared.job.End.TheVariants as ends

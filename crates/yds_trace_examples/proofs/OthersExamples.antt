@@ -1,5 +1,5 @@
 -- Who else had a processor while a job of `t` waited.
-use Rattle.yds_model.proofs.Common.{◌≡◌, ℕ, List, [], ◌∷◌, ◌++◌, codes, flat_map, replicate, reverse, Some, None, refl}
+use Rattle.base.proofs.Common.{◌≡◌, ℕ, List, [], ◌∷◌, ◌++◌, codes, flat_map, replicate, reverse, Some, None, refl}
 use Rattle.std.specs.Fmt.{digits}
 use Rattle.yds_kernel.specs.declared.state.State.TheVariants as states
 use Rattle.yds_kernel.specs.Event.{Thread, Switch, Said}

@@ -1,5 +1,5 @@
 -- Where a part of a trace may end. Jobs of `t` and of another thread wait; each is due 100 after its begin.
-use Rattle.yds_model.proofs.Common.{◌≡◌, ℕ, ◌<◌, ◌≤◌, length, List, [], ◌∷◌, map, filter, list_any, codes, reverse, Bool, true, false, Option, Some, None, refl}
+use Rattle.base.proofs.Common.{◌≡◌, ℕ, ◌<◌, ◌≤◌, length, List, [], ◌∷◌, map, filter, list_any, codes, reverse, Bool, true, false, Option, Some, None, refl}
 use Rattle.std.proofs.lemmas.Bool.{lt-ltb, le-ltb}
 use Rattle.yds_kernel.specs.Event.{WakeUp, Said}
 use Rattle.yds_trace.specs.Asked.{Named, Task, Asked}

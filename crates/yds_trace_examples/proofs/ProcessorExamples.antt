@@ -1,5 +1,5 @@
 -- Which processors have documents where each has its own, and what is said there of a job that ran elsewhere.
-use Rattle.yds_model.proofs.Common.{◌≡◌, ℕ, List, [], ◌∷◌, map, reverse, true, Option, Some, None, refl}
+use Rattle.base.proofs.Common.{◌≡◌, ℕ, List, [], ◌∷◌, map, reverse, true, Option, Some, None, refl}
 use Rattle.yds_kernel.specs.Event.{Speed, Said}
 use Rattle.yds_trace.specs.declared.reason.Reason.{Reason}
 use Rattle.yds_trace.specs.declared.reason.Reason.TheVariants as reasons

@@ -1,5 +1,5 @@
 -- What small traces are told as. A unit of time is 10 nanoseconds, and a job is due 100 after its begin.
-use Rattle.yds_model.proofs.Common.{◌≡◌, ℕ, List, [], ◌∷◌, ◌++◌, codes, flat_map, reverse, Bool, true, false, Option, Some, None, refl}
+use Rattle.base.proofs.Common.{◌≡◌, ℕ, List, [], ◌∷◌, ◌++◌, codes, flat_map, reverse, Bool, true, false, Option, Some, None, refl}
 use Rattle.std.specs.Fmt.{digits}
 use Rattle.yds_kernel.specs.declared.fault.Reason.TheVariants as forms
 use Rattle.yds_kernel.specs.Event.{Said}

@@ -1,5 +1,5 @@
 -- What is left of files, and which one a read failed of.
-use Rattle.yds_model.proofs.Common.{◌≡◌, ℕ, List, [], ◌∷◌, codes, if◌then◌else◌, Option, Some, None, refl}
+use Rattle.base.proofs.Common.{◌≡◌, ℕ, List, [], ◌∷◌, codes, if◌then◌else◌, Option, Some, None, refl}
 use Rattle.std.specs.Str.{bytes_eq}
 use Rattle.yds_trace_files.specs.declared.unread.FileFault.TheVariants as faults
 use Rattle.yds_trace_files.specs.Joined.{all_of, failed_of}

@@ -1,5 +1,5 @@
 -- Reads of files, one behind the other.
-use Rattle.yds_model.proofs.Common.{◌≡◌, ◌∙◌, ℕ, List, [], ◌++◌, Option, Some, None, refl, sym, ap, subst, append-nil, append_assoc}
+use Rattle.base.proofs.Common.{◌≡◌, ◌∙◌, ℕ, List, [], ◌++◌, Option, Some, None, refl, sym, ap, subst, append-nil, append_assoc}
 use Rattle.std.specs.Prelude.{◌-◌, ◌≢◌, slice_index}
 use Rattle.std.specs.Io.KnownBytes.{Keeps, Consumes, IsAtEnd}
 use Rattle.std.proofs.KnownBytes.{Keeps-trans}

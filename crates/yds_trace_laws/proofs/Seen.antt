@@ -12,7 +12,7 @@ use Rattle.yds_trace.specs.Document.{Judged, Written, Placed, stands, written_en
 use Rattle.yds_trace_laws.specs.AsSlots.{job_read, jobs_read, slots_read}
 use Rattle.yds_trace_laws.specs.InUnits.{document_in, AreOf, NoneBefore}
 use Rattle.yds_trace_laws.specs.Laws.{SomeAreInTime, FeasibleMeansInTime, WorkNeedsASlot, FrontsAreInfeasible}
-use Rattle.yds_model.proofs.Horizon.{part_own}
+use Rattle.base.proofs.Sums.{part_own}
 use Rattle.yds_trace_laws.proofs.Ordered.{in_order-sum, in_order-all, in_order-all_back, append-all, map-all}
 use Rattle.yds_trace_laws.proofs.Runs.{each_of_these}
 use Rattle.yds_trace_laws.proofs.Times.{lateness_is_kept}

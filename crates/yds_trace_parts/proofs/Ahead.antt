@@ -1,8 +1,8 @@
 -- What the telling of some lines shows of the whole trace.
-use Rattle.yds_model.proofs.Common.{◌≡◌, ℕ, ◌+◌, List, [], ◌∷◌, ◌++◌, length, reverse, Bool, Option, Some, None, Err, refl, sym, ap, subst, ◌∙◌, Appends}
+use Rattle.base.proofs.Common.{◌≡◌, ℕ, ◌+◌, List, [], ◌∷◌, ◌++◌, length, reverse, Bool, Option, Some, None, Err, refl, sym, ap, subst, ◌∙◌, Appends}
 use Rattle.std.specs.Prelude.{option_map}
 use Rattle.std.proofs.lemmas.List.{reverse-reverse}
-use Rattle.yds_model.specs.Fields.{Spot, Fault}
+use Rattle.base.specs.Fields.{Spot, Fault}
 use Rattle.yds_kernel.specs.declared.fault.Reason.{Reason}
 use Rattle.yds_kernel.specs.Parts.{or_else}
 use Rattle.yds_kernel.specs.Event.{Said}

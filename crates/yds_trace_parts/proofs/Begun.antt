@@ -1,5 +1,5 @@
 -- What a trace that is begun, or isn't, shows of what is written of it.
-use Rattle.yds_model.proofs.Common.{◌≡◌, ℕ, ◌+◌, ◌≤◌, ◌^◌, inl, inr, List, [], Bool, Option, Some, None, Result, Err, refl, sym, ap, subst, arith, append-nil}
+use Rattle.base.proofs.Common.{◌≡◌, ℕ, ◌+◌, ◌≤◌, ◌^◌, inl, inr, List, [], Bool, Option, Some, None, Result, Err, refl, sym, ap, subst, arith, append-nil}
 use Rattle.std.specs.Prelude.{IfSome, option_map}
 use Rattle.std.proofs.KnownBytes.{Appends-nil}
 use Rattle.yds_kernel_text.specs.declared.limits.TheConstants.{ROOM}

@@ -1,5 +1,5 @@
 -- What a trace that was told shows of the source and of the sink, by each way in which it ends.
-use Rattle.yds_model.proofs.Common.{◌≡◌, ℕ, ◌<◌, List, [], Bool, Option, Some, None, Result, Ok, Err, refl, subst, arith}
+use Rattle.base.proofs.Common.{◌≡◌, ℕ, ◌<◌, List, [], Bool, Option, Some, None, Result, Ok, Err, refl, subst, arith}
 use Rattle.std.specs.Prelude.{⊤, IfSome}
 use Rattle.yds_port.specs.Count.{Rose}
 use Rattle.yds_kernel_order.specs.Order.{order_of}

@@ -1,5 +1,5 @@
 -- How often a sink was flushed behind some lines, step by step.
-use Rattle.yds_model.proofs.Common.{◌≡◌, ℕ, suc, inl, inr, List, [], ◌∷◌, ◌++◌, length, length-append, append-nil, Bool, true, false, nat_lt, lt-ltb, ltb-true, if◌then◌else◌, Option, Some, None, refl, sym, ap, subst, ◌∙◌, arith}
+use Rattle.base.proofs.Common.{◌≡◌, ℕ, suc, inl, inr, List, [], ◌∷◌, ◌++◌, length, length-append, append-nil, Bool, true, false, nat_lt, lt-ltb, ltb-true, if◌then◌else◌, Option, Some, None, refl, sym, ap, subst, ◌∙◌, arith}
 use Rattle.std.specs.Prelude.{IfSome}
 use Rattle.yds_port.specs.Sink.{IsFlushed}
 use Rattle.yds_kernel.specs.Event.{Said}

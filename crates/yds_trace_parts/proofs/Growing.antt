@@ -1,8 +1,8 @@
 -- What is told of more lines begins with what is told of fewer, and a halt stays.
-use Rattle.yds_model.proofs.Common.{◌≡◌, ℕ, List, [], ◌∷◌, ◌++◌, Bool, Option, Some, None, refl, sym, ap, ◌∙◌, append_assoc, append-nil}
+use Rattle.base.proofs.Common.{◌≡◌, ℕ, List, [], ◌∷◌, ◌++◌, Bool, Option, Some, None, refl, sym, ap, ◌∙◌, append_assoc, append-nil}
 use Rattle.yds_kernel.specs.Event.{Said}
 use Rattle.yds_kernel.specs.declared.fault.Reason.{Reason}
-use Rattle.yds_model.specs.Fields.{Fault}
+use Rattle.base.specs.Fields.{Fault}
 use Rattle.yds_trace.specs.Asked.{Asked, on}
 use Rattle.yds_trace.specs.Parts.{cut_after, processors_of}
 use Rattle.yds_trace_parts.specs.Laws.{Begins}

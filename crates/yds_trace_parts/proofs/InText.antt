@@ -1,7 +1,7 @@
 -- The line for which a trace isn't told further: at which place it stands, and that its number in the text is told.
-use Rattle.yds_model.proofs.Common.{◌≡◌, ℕ, ◌+◌, List, [], ◌∷◌, length, Bool, true, false, not, ◌&&◌, if◌then◌else◌, nat_lt, list_any, Option, Some, None, refl, sym, ap, subst, ◌∙◌, add-one}
+use Rattle.base.proofs.Common.{◌≡◌, ℕ, ◌+◌, List, [], ◌∷◌, length, Bool, true, false, not, ◌&&◌, if◌then◌else◌, nat_lt, list_any, Option, Some, None, refl, sym, ap, subst, ◌∙◌, add-one}
 use Rattle.std.specs.Prelude.{⊤, option_map}
-use Rattle.yds_model.specs.declared.limits.TheConstants.{MAX_INPUT}
+use Rattle.base.specs.declared.limits.TheConstants.{MAX_INPUT}
 use Rattle.yds_kernel.specs.Event.{Said}
 use Rattle.yds_kernel.specs.Parts.{or_else}
 use Rattle.yds_trace.specs.declared.cut.Cut.{Cut}

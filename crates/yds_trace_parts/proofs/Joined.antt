@@ -1,5 +1,5 @@
 -- Pieces of the text, one behind the other.
-use Rattle.yds_model.proofs.Common.{◌≡◌, ℕ, List, [], ◌∷◌, ◌++◌, map, Bool, Option, Some, None, refl, sym, ap, ◌∙◌, append_assoc, append-nil}
+use Rattle.base.proofs.Common.{◌≡◌, ℕ, List, [], ◌∷◌, ◌++◌, map, Bool, Option, Some, None, refl, sym, ap, ◌∙◌, append_assoc, append-nil}
 use Rattle.yds_kernel.specs.Event.{Said}
 use Rattle.yds_trace.specs.Asked.{Asked}
 use Rattle.yds_trace_parts.specs.declared.processors.Processor.{Processor}

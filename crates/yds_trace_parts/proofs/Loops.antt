@@ -1,5 +1,5 @@
 -- What the loops over the processors keep.
-use Rattle.yds_model.proofs.Common.{◌≡◌, ℕ, ◌+◌, ◌<◌, ◌≤◌, ◌||◌, ◌⊎◌, inl, inr, Bool, true, false, List, [], ◌∷◌, ◌++◌, map, max, min, length, list_any, Option, Some, None, unwrap_or, refl, sym, ap, ap₂, subst, ◌∙◌, arith, append_assoc, append-nil, le_refl, le-ltb, nat_lt, get_or, drop, drop-cons, add-one, not, is_some, ◌&&◌, length-append, length-map}
+use Rattle.base.proofs.Common.{◌≡◌, ℕ, ◌+◌, ◌<◌, ◌≤◌, ◌||◌, ◌⊎◌, inl, inr, Bool, true, false, List, [], ◌∷◌, ◌++◌, map, max, min, length, list_any, Option, Some, None, unwrap_or, refl, sym, ap, ap₂, subst, ◌∙◌, arith, append_assoc, append-nil, le_refl, le-ltb, nat_lt, get_or, drop, drop-cons, add-one, not, is_some, ◌&&◌, length-append, length-map}
 use Rattle.std.proofs.lemmas.List.{drop_all}
 use Rattle.yds_kernel.specs.declared.loss.Since.TheVariants as since
 use Rattle.yds_kernel.specs.Event.{Said, Stamped, Lost, Nothing, Event, Happening, Switch, WakeUp, Speed, Loss, Marker, Other}

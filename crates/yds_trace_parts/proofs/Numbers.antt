@@ -1,5 +1,5 @@
 -- The first numbers, and the cuts of the processors that have them.
-use Rattle.yds_model.proofs.Common.{◌≡◌, ℕ, zero, suc, ◌+◌, ◌≤◌, ◌||◌, Bool, true, false, nat_le, List, [], ◌∷◌, ◌++◌, map, length, list_any, refl, sym, ap, subst, ◌∙◌, arith, add-one, map-append, length-append, length-map, leb-true, leb-false}
+use Rattle.base.proofs.Common.{◌≡◌, ℕ, zero, suc, ◌+◌, ◌≤◌, ◌||◌, Bool, true, false, nat_le, List, [], ◌∷◌, ◌++◌, map, length, list_any, refl, sym, ap, subst, ◌∙◌, arith, add-one, map-append, length-append, length-map, leb-true, leb-false}
 use Rattle.yds_trace.specs.declared.cut.Cut.{Cut}
 use Rattle.yds_trace.specs.Parts.{first_numbers}
 use Rattle.yds_trace_parts.specs.declared.processors.Processor.{Processor}

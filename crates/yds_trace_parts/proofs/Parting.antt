@@ -1,8 +1,8 @@
 -- What the code finds of a part is what the definitions say of it.
-use Rattle.yds_model.proofs.Common.{◌≡◌, ◌<◌, ◌≤◌, ◌+◌, ℕ, List, length, Bool, true, false, nat_lt, nat_le, Option, Some, None, Ok, Err, if◌then◌else◌, sym, ap, subst, ◌∙◌, arith, nat_tests, leb-true, le-leb}
+use Rattle.base.proofs.Common.{◌≡◌, ◌<◌, ◌≤◌, ◌+◌, ℕ, List, length, Bool, true, false, nat_lt, nat_le, Option, Some, None, Ok, Err, if◌then◌else◌, sym, ap, subst, ◌∙◌, arith, nat_tests, leb-true, le-leb}
 use Rattle.std.specs.Prelude.{Vec}
 use Rattle.std.specs.declared.alloc.Global.{Global}
-use Rattle.yds_model.specs.declared.limits.TheConstants.{MAX_INPUT}
+use Rattle.base.specs.declared.limits.TheConstants.{MAX_INPUT}
 use Rattle.yds_kernel.specs.Event.{Said}
 use Rattle.yds_kernel.specs.Parts.{or_else, capped}
 use Rattle.yds_trace.specs.declared.cut.Cut.{Cut}

@@ -1,5 +1,5 @@
 -- What is shown of a pass is what a part's calls need, and what holds of it when a line more is taken.
-use Rattle.yds_model.proofs.Common.{Bor, ◌≡◌, ℕ, ◌+◌, ◌*◌, ◌≤◌, List, ◌∷◌, ◌++◌, length, map, All, All-back, Option, None, Some, unwrap_or, option_copied, sym, ap, subst, ◌∙◌, arith, le_refl, length-append, length-map, slice_index_or}
+use Rattle.base.proofs.Common.{Bor, ◌≡◌, ℕ, ◌+◌, ◌*◌, ◌≤◌, List, ◌∷◌, ◌++◌, length, map, All, All-back, Option, None, Some, unwrap_or, option_copied, sym, ap, subst, ◌∙◌, arith, le_refl, length-append, length-map, slice_index_or}
 use Rattle.yds_kernel.specs.declared.limits.TheConstants.{MAX_U64}
 use Rattle.yds_kernel.specs.Event.{Said}
 use Rattle.yds_kernel.specs.Parts.{or_else}

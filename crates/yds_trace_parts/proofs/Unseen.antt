@@ -1,5 +1,5 @@
 -- What was written of each processor, of which lines tell or not, and the last of all of it.
-use Rattle.yds_model.proofs.Common.{◌≡◌, ℕ, ◌+◌, ◌≤◌, ◌||◌, Bool, true, false, List, [], ◌∷◌, map, max, list_any, Option, Some, None, refl, sym, ap, ap₂, subst, ◌∙◌, arith, add-one, if◌then◌else◌}
+use Rattle.base.proofs.Common.{◌≡◌, ℕ, ◌+◌, ◌≤◌, ◌||◌, Bool, true, false, List, [], ◌∷◌, map, max, list_any, Option, Some, None, refl, sym, ap, ap₂, subst, ◌∙◌, arith, add-one, if◌then◌else◌}
 use Rattle.yds_kernel.specs.Event.{Said}
 use Rattle.yds_trace.specs.declared.cut.Cut.{Cut}
 use Rattle.yds_trace.specs.declared.fault.Cause.TheVariants as causes

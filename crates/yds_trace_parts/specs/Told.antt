@@ -2,8 +2,8 @@
 -- told by its place in the trace, and of bytes by its number in the text.
 use Rattle.std.specs.Prelude.{ℕ, ◌+◌, List, [], ◌∷◌, ◌++◌, length, Bool, not, ◌&&◌, ◌||◌, nat_lt, if◌then◌else◌, Option, Some, None, option_map}
 use Rattle.std.specs.List.{find, list_any}
-use Rattle.yds_model.specs.declared.limits.TheConstants.{MAX_INPUT}
-use Rattle.yds_model.specs.Fields.{Fault}
+use Rattle.base.specs.declared.limits.TheConstants.{MAX_INPUT}
+use Rattle.base.specs.Fields.{Fault}
 use Rattle.yds_kernel.specs.declared.fault.Reason.{Reason}
 use Rattle.yds_kernel.specs.Event.{Said}
 use Rattle.yds_kernel.specs.Parts.{or_else, capped}

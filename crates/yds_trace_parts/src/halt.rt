@@ -2,9 +2,9 @@
 ghost use Rattle.std.specs.Prelude.{◌≡◌};
 ghost use Rattle.yds_trace_parts.specs.Telling.{halt_of_text, with_number};
 
+use base::Memory;
 use std::alloc::AllocError;
 use yds_kernel::LineFault;
-use yds_model::Memory;
 use yds_port::WriteFault;
 use yds_trace::Cause;
 use yds_trace_document::DocumentFault;

@@ -18,9 +18,9 @@ use crate::processors::{
     Pieces, Processor, first_processor, grow, last_pieces, latest_of, least_boundary, next_pieces,
     processor_of, unseen_behind,
 };
+use base::Memory;
 use std::alloc::Global;
 use yds_kernel::Said;
-use yds_model::Memory;
 use yds_trace::{
     Asked, Cut, Kept, LOOK_EVERY, NO_CUT, PART_JOBS, PART_OTHERS, PART_STRETCHES, Pass, Refused,
 };

@@ -1,5 +1,5 @@
 -- What a trace that is begun shows of the input.
-use Rattle.yds_model.proofs.Common.{◌≡◌, ℕ, arith, inl, List, [], true, false, Option, Some, None, Result, Ok, Err, refl, sym, ap, subst, ◌∙◌}
+use Rattle.base.proofs.Common.{◌≡◌, ℕ, arith, inl, List, [], true, false, Option, Some, None, Result, Ok, Err, refl, sym, ap, subst, ◌∙◌}
 use Rattle.std.specs.Prelude.{IfSome, IfOk, OnOk}
 use Rattle.std.specs.Result.{IfErr}
 use Rattle.yds_kernel.specs.Event.{Said}

@@ -1,5 +1,5 @@
 -- What is left of a source behind the end of a reading.
-use Rattle.yds_model.proofs.Common.{◌≡◌, ℕ, ◌+◌, ◌^◌, ◌≤◌, inl, inr, List, [], length, take, Option, Some, None, ap, subst, arith, le_refl, length-append, length-take-le, Consumes}
+use Rattle.base.proofs.Common.{◌≡◌, ℕ, ◌+◌, ◌^◌, ◌≤◌, inl, inr, List, [], length, take, Option, Some, None, ap, subst, arith, le_refl, length-append, length-take-le, Consumes}
 use Rattle.std.specs.Prelude.{⊤, IfSome}
 use Rattle.std.specs.Io.KnownBytes.{Keeps, IsAtEnd}
 use Rattle.yds_port.specs.Count.{Rose}

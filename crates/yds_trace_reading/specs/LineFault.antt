@@ -1,7 +1,7 @@
 -- For which line a trace isn't told: the first one in their order, whether by its form or by the lines before it; or the last one, where the
 -- trace as a whole tells nothing.
 use Rattle.std.specs.Prelude.{ℕ, List, length, reverse, Option, Some, None}
-use Rattle.yds_model.specs.Fields.{Fault}
+use Rattle.base.specs.Fields.{Fault}
 use Rattle.yds_kernel.specs.declared.fault.Reason.{Reason}
 use Rattle.yds_kernel.specs.Parts.{or_else}
 use Rattle.yds_kernel.specs.Event.{Said}

@@ -1,9 +1,9 @@
 //! Why a trace wasn't read to what is known at its end.
 
 use crate::first::NoBegin;
+use base::Memory;
 use std::alloc::AllocError;
 use yds_kernel::LineFault;
-use yds_model::Memory;
 use yds_trace::Cause;
 
 /// Why the reading of a trace ended before what is known at its end.

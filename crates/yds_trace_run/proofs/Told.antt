@@ -1,8 +1,8 @@
 -- From what was read of a trace to what was written of it.
 use Rattle.yds_model.proofs.Common.{◌≡◌, ℕ, ◌⊎◌, inl, inr, List, [], append-nil, Bool, true, false, Option, Some, None, Result, Ok, Err, refl, sym, ap, subst, ◌∙◌}
 use Rattle.std.specs.Prelude.{IfSome}
-use Rattle.yds_model.specs.declared.status.Status.{Status}
-use Rattle.yds_model.specs.declared.status.Status.TheVariants as statuses
+use Rattle.base.specs.declared.status.Status.{Status}
+use Rattle.base.specs.declared.status.Status.TheVariants as statuses
 use Rattle.yds_kernel.specs.declared.fault.LineFault.{LineFault as FormFault}
 use Rattle.yds_kernel.specs.Parts.{or_else}
 use Rattle.yds_kernel.specs.Text.{Trace}

@@ -1,7 +1,7 @@
 -- What answers the words over the bytes of an input: a text, and the status of a run that wrote it.
 use Rattle.std.specs.Prelude.{◌≡◌, ℕ, ◌⊎◌, List, [], ◌++◌, Bool, true, false, Option, Some, None, Result, Ok, Err}
-use Rattle.yds_model.specs.declared.status.Status.{Status}
-use Rattle.yds_model.specs.declared.status.Status.TheVariants as statuses
+use Rattle.base.specs.declared.status.Status.{Status}
+use Rattle.base.specs.declared.status.Status.TheVariants as statuses
 use Rattle.yds_kernel.specs.Event.{Said}
 use Rattle.yds_kernel_order.specs.Order.{order_of}
 use Rattle.yds_trace.specs.Asked.{Asked}

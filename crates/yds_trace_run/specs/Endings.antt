@@ -1,8 +1,8 @@
 -- What a run writes, by its status.
 use Rattle.std.specs.Prelude.{◌≡◌, ◌≢◌, ℕ, ◌<◌, ◌≤◌, ◌⊎◌, List, [], Bool, Option, None, Some, Result}
 use Rattle.std.specs.Io.KnownBytes.{Appends}
-use Rattle.yds_model.specs.declared.status.Status.{Status}
-use Rattle.yds_model.specs.declared.status.Status.TheVariants as statuses
+use Rattle.base.specs.declared.status.Status.{Status}
+use Rattle.base.specs.declared.status.Status.TheVariants as statuses
 use Rattle.yds_port.specs.Count.{Rose, next_count}
 use Rattle.yds_port.specs.Sink.{AppendsFront, IsFlushed}
 use Rattle.yds_trace_words.specs.Words.{WordFault}

@@ -1,6 +1,6 @@
 -- Why a trace isn't told: a line that is refused, or its document.
 use Rattle.std.specs.Prelude.{ℕ, List, length, Bool, nat_lt, if◌then◌else◌, Option, Some, None}
-use Rattle.yds_model.specs.declared.limits.TheConstants.{MAX_INPUT}
+use Rattle.base.specs.declared.limits.TheConstants.{MAX_INPUT}
 use Rattle.yds_kernel.specs.Parts.{or_else}
 use Rattle.yds_kernel.specs.Event.{Said}
 use Rattle.yds_kernel_order.specs.Order.{order_of}

@@ -1,9 +1,9 @@
 //! What no clause says: that files are opened by their names, in their order, and what is written of one that can't be read.
+use base::Status;
 use std::hash::RandomState;
 use std::io;
 use std::io::{ErrorKind, Read};
 use std::test::Fail;
-use yds_model::Status;
 use yds_port::{MemorySink, StdSource};
 use yds_trace_files::{Files, Opens};
 use yds_trace_run::run;

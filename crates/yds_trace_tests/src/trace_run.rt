@@ -1,8 +1,8 @@
 //! What no clause says: that a small trace is told, and what is written where one isn't.
+use base::{Memory, Status};
 use std::alloc::{AllocError, Global};
 use std::hash::RandomState;
 use std::test::Fail;
-use yds_model::{Memory, Status};
 use yds_port::{MemorySink, MemorySource};
 use yds_trace_run::run;
 

@@ -1,7 +1,7 @@
 //! What no clause says: that words are taken with their values, and what is written of those that can't be.
+use base::Memory;
 use std::alloc::Global;
 use std::test::Fail;
-use yds_model::Memory;
 use yds_trace_words::{NoRequest, Request, fault_line, inputs, read_words};
 
 /// These words, each up to a blank.

@@ -1,5 +1,5 @@
 -- The head lines of parts count jobs on from part to part.
-use Rattle.yds_model.proofs.Common.{◌≡◌, ℕ, ◌+◌, ◌||◌, Bool, true, false, cond, List, [], ◌∷◌, length, ◌∙◌, refl, sym, ap, ap₂, arith, nat_le, leb-true, le-leb, Option, Some, None, is_some, codes, decimal, sum_by-cons, count_by, filter_map}
+use Rattle.base.proofs.Common.{◌≡◌, ℕ, ◌+◌, ◌||◌, Bool, true, false, cond, List, [], ◌∷◌, length, ◌∙◌, refl, sym, ap, ap₂, arith, nat_le, leb-true, le-leb, Option, Some, None, is_some, codes, decimal, sum_by-cons, count_by, filter_map}
 use Rattle.std.specs.List.{cons_option}
 use Rattle.yds_kernel.specs.Event.{Said}
 use Rattle.yds_kernel.specs.Parts.{capped}

@@ -1,5 +1,5 @@
 -- Each job is written, or counted once among those that are left out.
-use Rattle.yds_model.proofs.Common.{◌≡◌, ℕ, ◌+◌, ◌&&◌, ◌||◌, Bool, true, false, not, cond, List, [], ◌∷◌, filter, length, refl, arith, nat_le, Option, Some, None, is_some, cond_both, ltb-false, sum_by, sum_by-cons, sum_by-append, count_by, filter_map, length-filter}
+use Rattle.base.proofs.Common.{◌≡◌, ℕ, ◌+◌, ◌&&◌, ◌||◌, Bool, true, false, not, cond, List, [], ◌∷◌, filter, length, refl, arith, nat_le, Option, Some, None, is_some, cond_both, ltb-false, sum_by, sum_by-cons, sum_by-append, count_by, filter_map, length-filter}
 use Rattle.std.specs.Prelude.{is_none}
 use Rattle.std.specs.List.{cons_option}
 use Rattle.yds_kernel.specs.Event.{Said}

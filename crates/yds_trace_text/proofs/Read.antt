@@ -1,5 +1,5 @@
 -- Lists as they are kept and as they are read.
-use Rattle.yds_model.proofs.Common.{◌≡◌, ℕ, zero, suc, ◌+◌, ◌-◌, ◌<◌, ◌≤◌, List, [], ◌∷◌, ◌++◌, map, reverse, length, get_or, take, ◌∙◌, refl, sym, ap, ap₂, arith, append-nil, append_assoc, flat_map, min, zip}
+use Rattle.base.proofs.Common.{◌≡◌, ℕ, zero, suc, ◌+◌, ◌-◌, ◌<◌, ◌≤◌, List, [], ◌∷◌, ◌++◌, map, reverse, length, get_or, take, ◌∙◌, refl, sym, ap, ap₂, arith, append-nil, append_assoc, flat_map, min, zip}
 use Rattle.std.proofs.lemmas.List.{reverse-reverse}
 use Rattle.yds_trace.specs.declared.job.Stretch.{Stretch}
 use Rattle.yds_trace_document.specs.declared.judged.Judged.{Judged as JudgedKept}

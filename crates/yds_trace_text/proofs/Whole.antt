@@ -1,5 +1,5 @@
 -- The text of what is kept is that of the trace's lines.
-use Rattle.yds_model.proofs.Common.{◌≡◌, ◌∙◌, ℕ, Bool, Result, Ok, Err, sym, subst, None}
+use Rattle.base.proofs.Common.{◌≡◌, ◌∙◌, ℕ, Bool, Result, Ok, Err, sym, subst, None}
 use Rattle.std.specs.Prelude.{Vec}
 use Rattle.std.specs.declared.alloc.Global.{Global}
 use Rattle.yds_trace.specs.declared.cut.Cut.{Cut}

@@ -1,7 +1,7 @@
 -- The text of a trace's document: jobs, runs, and comments that tell what the document hasn't. Lines, fields and numbers are those of documents.
 use Rattle.std.specs.Prelude.{ℕ, ◌+◌, ◌-◌, ◌*◌, ◌/◌, ◌%◌, List, [], ◌∷◌, ◌++◌, length, drop, map, filter, reverse, codes, decimal, sum_by, count_by, Bool, true, not, ◌==◌, ◌&&◌, ◌||◌, nat_lt, nat_le, if◌then◌else◌, Option, Some, None, is_some}
 use Rattle.std.specs.List.{flat_map, slice_index_or, zip}
-use Rattle.yds_model.specs.Text.{line}
+use Rattle.base.specs.Lines.{line}
 use Rattle.yds_kernel.specs.declared.limits.TheConstants.{MAX_U64}
 use Rattle.yds_kernel.specs.Event.{Said}
 use Rattle.yds_kernel.specs.Parts.{capped}

@@ -3,7 +3,7 @@ ghost use Rattle.std.specs.Prelude.{◌≡◌, ◌++◌, OnOk};
 ghost use Rattle.yds_trace_text.specs.Text.{told, comment};
 ghost use Rattle.yds_trace_text.specs.Views.{pieces};
 
-use yds_model::Memory;
+use base::Memory;
 
 /// Puts these texts behind the others.
 pub(crate) fn put(texts: &[&[u8]], text: &mut Vec<u8>) -> Result<(), Memory>

@@ -1,6 +1,6 @@
 //! Why a text isn't written.
+use base::Memory;
 use thiserror::Error;
-use yds_model::Memory;
 use yds_trace_document::DocumentFault;
 
 /// Why the text of a document isn't written.

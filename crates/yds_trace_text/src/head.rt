@@ -5,8 +5,8 @@ ghost use Rattle.yds_trace_text.specs.Text as spec;
 
 use crate::bytes::put_comment;
 use crate::numbers::{cycles, decimal, in_seconds};
+use base::Memory;
 use std::alloc::Global;
-use yds_model::Memory;
 use yds_trace_document::Units;
 
 /// The processor, and when time 0 is.

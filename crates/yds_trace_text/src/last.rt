@@ -6,8 +6,8 @@ ghost use Rattle.yds_trace_text.specs.Text as spec;
 
 use crate::bytes::{put, put_comment};
 use crate::numbers::{counted, decimal};
+use base::Memory;
 use std::alloc::Global;
-use yds_model::Memory;
 use yds_trace_document::{Judged, Settled};
 
 /// Whether a job is left out.

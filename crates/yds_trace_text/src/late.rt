@@ -8,8 +8,8 @@ ghost use Rattle.yds_trace_text.specs.Text as spec;
 
 use crate::bytes::{put, put_comment};
 use crate::numbers::{decimal, in_milliseconds};
+use base::Memory;
 use std::alloc::Global;
-use yds_model::Memory;
 use yds_trace::{Job, Reason};
 use yds_trace_document::{Judged, Name, Run, Units, is_open, runs_end, written_end, written_runs};
 

@@ -9,9 +9,9 @@ ghost use Rattle.yds_trace_text.specs.Views.{name_or_none, group_read, groups_re
 use crate::bytes::put_comment;
 use crate::late::reason_text;
 use crate::numbers::{counted, decimal};
+use base::Memory;
 use std::alloc::Global;
 use yds_kernel::MAX_U64;
-use yds_model::Memory;
 use yds_trace::{Reason, Task};
 use yds_trace_document::{Judged, Name};
 

@@ -1,8 +1,8 @@
 //! The text of a trace's document, or of one of its parts: jobs, runs, and comments that tell what the document hasn't.
 //!
-//! It stands on `yds_trace_document`, which settles what becomes of the jobs, and on `yds_model` for the lines of documents. It
-//! carries the promise that what is written is the text that the definitions in `specs/` say, byte for byte, or that it is said
-//! to be too long for a document.
+//! It stands on `yds_trace_document`, which settles what becomes of the jobs, and on `base` for the limits of a document and
+//! for the line that fields make. It carries the promise that what is written is the text that the definitions in `specs/`
+//! say, byte for byte, or that it is said to be too long for a document.
 #![tactic(auto)]
 
 mod bytes;

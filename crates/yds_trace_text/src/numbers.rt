@@ -2,9 +2,9 @@
 ghost use Rattle.std.specs.Prelude.{◌≡◌, ◌≤◌, ◌<◌, ◌+◌, ◌++◌, drop, decimal, OnOk, IfOk};
 ghost use Rattle.yds_trace_text.specs.Text as spec;
 
+use base::Memory;
 use itoa::Buffer;
 use std::alloc::Global;
-use yds_model::Memory;
 
 /// Its digits.
 pub(crate) fn decimal(alloc: Global, number: u64) -> Result<Vec<u8>, Memory>

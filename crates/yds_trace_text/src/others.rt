@@ -6,8 +6,8 @@ ghost use Rattle.yds_trace_text.specs.Text as spec;
 
 use crate::bytes::put_comment;
 use crate::numbers::decimal;
+use base::Memory;
 use std::alloc::Global;
-use yds_model::Memory;
 use yds_trace_document::{Other, Units};
 
 /// A byte as it is told of a name, which may have any.

@@ -1,6 +1,6 @@
 //! The text of a part.
 ghost use Rattle.std.specs.Prelude.{◌≡◌, ◌≤◌, ◌<◌, ◌+◌, ◌++◌, List, OnOk, IfOk, IfErr, length};
-ghost use Rattle.yds_model.specs.declared.limits.TheConstants.{MAX_INPUT};
+ghost use Rattle.base.specs.declared.limits.TheConstants.{MAX_INPUT};
 ghost use Rattle.yds_kernel.specs.Event.{Said};
 ghost use Rattle.yds_kernel.specs.Parts.{capped};
 ghost use Rattle.yds_trace.specs.Views.{asked_read};
@@ -14,9 +14,9 @@ use crate::bytes::put_comment;
 use crate::fault::{NoText, TextFault};
 use crate::numbers::decimal;
 use crate::writing::put_settled;
+use base::Memory;
+use base::limits::MAX_INPUT;
 use std::alloc::Global;
-use yds_model::Memory;
-use yds_model::limits::MAX_INPUT;
 use yds_trace::{Asked, Cut};
 use yds_trace_document::{Part, Written, part_limit_fault};
 

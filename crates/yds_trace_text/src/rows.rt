@@ -6,9 +6,9 @@ ghost use Rattle.yds_trace_text.specs.Text as spec;
 ghost use Rattle.yds_trace_text.specs.Views.{names_read};
 
 use crate::bytes::put;
+use base::Memory;
 use itoa::Buffer;
 use std::alloc::Global;
-use yds_model::Memory;
 use yds_trace_document::{Placed, Run, Written};
 
 /// The names of these jobs.

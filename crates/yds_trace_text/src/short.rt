@@ -7,8 +7,8 @@ ghost use Rattle.yds_trace_text.specs.Text as spec;
 
 use crate::bytes::put_comment;
 use crate::numbers::{counted, in_milliseconds};
+use base::Memory;
 use std::alloc::Global;
-use yds_model::Memory;
 use yds_trace::Stretch;
 use yds_trace_document::{Judged, Units};
 

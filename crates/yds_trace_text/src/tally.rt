@@ -4,8 +4,8 @@ ghost use Rattle.yds_trace_text.specs.Text as spec;
 
 use crate::bytes::put_comment;
 use crate::numbers::{decimal, in_seconds};
+use base::Memory;
 use std::alloc::Global;
-use yds_model::Memory;
 use yds_trace::{Pause, Tally};
 
 /// A second, in nanoseconds.

@@ -8,8 +8,8 @@ ghost use Rattle.yds_trace_text.specs.Views.{name_or_none};
 use crate::bytes::put_comment;
 use crate::left_out::name_text;
 use crate::numbers::{counted, decimal};
+use base::Memory;
 use std::alloc::Global;
-use yds_model::Memory;
 use yds_trace_document::{Judged, Name};
 
 /// How many wake-ups came while a job was open, if it stands as it is.

@@ -1,7 +1,7 @@
 //! The whole text.
 ghost use Rattle.std.specs.Prelude.{◌≡◌, ◌≤◌, ◌<◌, ◌++◌, List, OnOk, IfOk, IfErr, length};
 ghost use Rattle.std.specs.List.{flat_map};
-ghost use Rattle.yds_model.specs.declared.limits.TheConstants.{MAX_INPUT};
+ghost use Rattle.base.specs.declared.limits.TheConstants.{MAX_INPUT};
 ghost use Rattle.yds_kernel.specs.Event.{Said};
 ghost use Rattle.yds_trace.specs.Asked as words;
 ghost use Rattle.yds_trace.specs.Ended.{IsEnded};
@@ -25,9 +25,9 @@ use crate::short::put_short_stretches;
 use crate::tally::put_tally;
 use crate::woken::put_wake_ups;
 use crate::wrong_unit::put_all_wrong_units;
+use base::Memory;
+use base::limits::MAX_INPUT;
 use std::alloc::Global;
-use yds_model::Memory;
-use yds_model::limits::MAX_INPUT;
 use yds_trace::{Asked, Ended};
 use yds_trace_document::{Settled, limit_fault, settle};
 

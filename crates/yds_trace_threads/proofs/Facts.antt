@@ -1,12 +1,12 @@
 -- What is kept of threads, behind an act and behind more time.
-use Rattle.yds_model.proofs.Common.{◌≡◌, ℕ, suc, ◌+◌, ◌-◌, ◌<◌, ◌==◌, ◌&&◌, Bool, true, false, not, cond, List, [], ◌∷◌, ◌++◌, length, take, refl, sym, ap, ◌∙◌, arith, eq-eqb, ne_eqb, true≢false, or_parts, cond_both, ltb-true, ltb-false, ◌||◌, nat_lt, nat_tests, sum_by-cons, lt-ltb, add-zero, add-one, Some, fun_ext, subst}
+use Rattle.base.proofs.Common.{◌≡◌, ℕ, suc, ◌+◌, ◌-◌, ◌<◌, ◌==◌, ◌&&◌, Bool, true, false, not, cond, List, [], ◌∷◌, ◌++◌, length, take, refl, sym, ap, ◌∙◌, arith, eq-eqb, ne_eqb, true≢false, or_parts, cond_both, ltb-true, ltb-false, ◌||◌, nat_lt, nat_tests, sum_by-cons, lt-ltb, add-zero, add-one, Some, fun_ext, subst}
 use Rattle.std.specs.Prelude.{nat_eq}
 use Rattle.std.specs.List.{list_any}
 use Rattle.std.proofs.lemmas.List.Folds.{list_any-append}
 use Rattle.indexmap.specs.IndexSet.{insert_key}
 use Rattle.yds_kernel.specs.Parts.{capped}
 use Rattle.yds_kernel.specs.Event.{Thread, Said}
-use Rattle.yds_model.specs.Numbers.{sum_below}
+use Rattle.base.specs.Numbers.{sum_below}
 use Rattle.yds_trace.specs.Past.{last_time}
 use Rattle.yds_trace_threads.specs.declared.limits.TheConstants.{PROCESSORS, MOST_COUNTED, MOST_NAME}
 use Rattle.yds_trace_threads.specs.declared.act.Deed.{Deed}

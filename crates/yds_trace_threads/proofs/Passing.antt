@@ -1,9 +1,9 @@
 -- What a pass over some lines shows of the whole trace.
-use Rattle.yds_model.proofs.Common.{◌≡◌, ℕ, ◌+◌, ◌≤◌, ◌^◌, inl, inr, List, [], ◌∷◌, ◌++◌, length, Option, Some, None, Result, Ok, Err, refl, sym, ap, ap₂, subst, ◌∙◌, arith}
+use Rattle.base.proofs.Common.{◌≡◌, ℕ, ◌+◌, ◌≤◌, ◌^◌, inl, inr, List, [], ◌∷◌, ◌++◌, length, Option, Some, None, Result, Ok, Err, refl, sym, ap, ap₂, subst, ◌∙◌, arith}
 use Rattle.std.specs.Prelude.{IfSome, IfOk, Vec}
 use Rattle.std.specs.Result.{IfErr}
 use Rattle.std.specs.declared.alloc.Global.{Global}
-use Rattle.yds_model.specs.Fields.{Fault}
+use Rattle.base.specs.Fields.{Fault}
 use Rattle.yds_kernel.specs.declared.fault.Reason.{Reason}
 use Rattle.yds_kernel.specs.declared.fault.LineFault.{LineFault as FaultRead}
 use Rattle.yds_kernel.specs.Parts.{or_else}

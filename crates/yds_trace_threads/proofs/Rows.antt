@@ -1,5 +1,5 @@
 -- Rows of the first of some threads: one changes, or one comes.
-use Rattle.yds_model.proofs.Common.{◌≡◌, ℕ, zero, suc, ◌+◌, ◌<◌, ◌≤◌, ◌==◌, Bool, false, List, [], ◌∷◌, ◌++◌, length, map, take, set, Option, Some, None, refl, sym, ap, ap₂, subst, ◌∙◌, arith, eqb-false, ne_eqb, or_parts, position, position-Some, take_all, take-append-le, map-append, length-append, eqb-true, get_or, lt-ltb, cases_lt, inl, inr, cond, not, or_from, length-map, length-take, cases_Bool, get_or-map, map-set}
+use Rattle.base.proofs.Common.{◌≡◌, ℕ, zero, suc, ◌+◌, ◌<◌, ◌≤◌, ◌==◌, Bool, false, List, [], ◌∷◌, ◌++◌, length, map, take, set, Option, Some, None, refl, sym, ap, ap₂, subst, ◌∙◌, arith, eqb-false, ne_eqb, or_parts, position, position-Some, take_all, take-append-le, map-append, length-append, eqb-true, get_or, lt-ltb, cases_lt, inl, inr, cond, not, or_from, length-map, length-take, cases_Bool, get_or-map, map-set}
 use Rattle.std.specs.Prelude.{nat_eq, slice_get}
 use Rattle.std.specs.List.{AllByRecursion, IsDistinct, list_any, position_or_len}
 use Rattle.std.proofs.lemmas.Map.Keys.{IsDistinct-head, IsDistinct-tail}

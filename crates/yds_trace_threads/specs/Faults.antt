@@ -1,6 +1,6 @@
 -- For which line a trace's threads aren't told.
 use Rattle.std.specs.Prelude.{ℕ, ◌+◌, List, [], ◌∷◌, length, nat_lt, if◌then◌else◌, Option, Some, None}
-use Rattle.yds_model.specs.Fields.{Fault}
+use Rattle.base.specs.Fields.{Fault}
 use Rattle.yds_kernel.specs.declared.fault.Reason.{Reason}
 use Rattle.yds_kernel.specs.Parts.{or_else}
 use Rattle.yds_kernel.specs.Event.{Event, Said, Stamped, Lost, Nothing}

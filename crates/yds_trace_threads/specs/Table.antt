@@ -1,8 +1,8 @@
 -- The table of a trace's threads, and its text.
 use Rattle.std.specs.Prelude.{ℕ, ◌+◌, ◌-◌, ◌/◌, ◌%◌, List, [], ◌∷◌, ◌++◌, length, take, drop, map, codes, decimal, ◌==◌, ◌||◌, if◌then◌else◌}
 use Rattle.std.specs.List.{flat_map}
-use Rattle.yds_model.specs.Numbers.{sum_below}
-use Rattle.yds_model.specs.Spelling.{is_visible}
+use Rattle.base.specs.Numbers.{sum_below}
+use Rattle.base.specs.Spelling.{is_visible}
 use Rattle.yds_kernel.specs.declared.limits.TheConstants.{MAX_U64}
 use Rattle.yds_kernel.specs.Parts.{capped}
 use Rattle.yds_kernel.specs.Event.{Said}

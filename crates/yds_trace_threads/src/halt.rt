@@ -1,8 +1,8 @@
 //! Why a trace's threads aren't told.
 
+use base::Memory;
 use std::alloc::AllocError;
 use yds_kernel::LineFault;
-use yds_model::Memory;
 use yds_port::WriteFault;
 use yds_trace::Cause;
 

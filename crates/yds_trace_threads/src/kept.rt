@@ -5,8 +5,8 @@ ghost use Rattle.yds_trace_threads.specs.Kept.{facts_read, nothing_of, facts_beh
 
 use crate::act::Deed;
 use crate::limits::MOST_NAME;
+use base::Memory;
 use std::alloc::Global;
-use yds_model::Memory;
 
 /// What is kept of a thread.
 #[derive(Debug, Drop)]

@@ -4,9 +4,9 @@ ghost use Rattle.yds_trace_threads.specs.declared.limits.TheConstants.{PROCESSOR
 
 use crate::act::Holder;
 use crate::limits::PROCESSORS;
+use base::Memory;
 use std::alloc::Global;
 use yds_kernel::{Event, Happening};
-use yds_model::Memory;
 use yds_trace::MAX_PROCESSOR;
 
 /// What is kept of the processors so far.

@@ -16,10 +16,10 @@ use crate::limits::PROCESSORS;
 use crate::processors::Processors;
 use crate::text::table_text;
 use crate::threads::Threads;
+use base::Memory;
 use std::alloc::Global;
 use std::hash::RandomState;
 use yds_kernel::{Event, Happening, Said};
-use yds_model::Memory;
 use yds_trace::{Cause, MAX_PROCESSOR, Refused};
 
 /// What is kept of the lines so far.

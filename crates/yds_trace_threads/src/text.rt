@@ -8,10 +8,10 @@ ghost use Rattle.yds_trace_threads.specs.Table as spec;
 use crate::kept::Kept;
 use crate::limits::MOST_THREADS;
 use crate::threads::Threads;
+use base::Memory;
 use itoa::Buffer;
 use std::alloc::Global;
 use yds_kernel::MAX_U64;
-use yds_model::Memory;
 
 /// The table of these threads.
 pub(crate) fn table_text(alloc: Global, threads: Threads) -> Result<Vec<u8>, Memory>

@@ -8,11 +8,11 @@ ghost use Rattle.yds_trace_threads.specs.Kept.{Holds, IsThreads, IsPlace, no_mor
 use crate::act::Deed;
 use crate::kept::Kept;
 use crate::limits::{MOST_COUNTED, MOST_THREADS};
+use base::Memory;
 use indexmap::IndexSet;
 use std::alloc::Global;
 use std::hash::RandomState;
 use yds_kernel::Thread;
-use yds_model::Memory;
 
 /// What is kept of the threads so far.
 #[derive(Drop)]

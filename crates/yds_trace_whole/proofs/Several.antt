@@ -1,10 +1,11 @@
 -- The texts of two parts or more are no document: the second line of ticks is refused, if not a line before it.
-use Rattle.yds_model.proofs.Common.{◌≡◌, ℕ, ◌+◌, ◌≤◌, ◌==◌, Bool, true, false, if◌then◌else◌, List, [], ◌∷◌, ◌++◌, length, map, flat_map, filter_map, Result, Ok, Err, Option, Some, None, is_none, refl, sym, ap, ap₂, subst, ◌∙◌, inl, inr, arith, codes, decimal, join_with_byte, cases_Bool, eqb-true, append_assoc, append-nil, length-append, map-append, AllByRecursion, recursion_from_All, Line, trimmed, in_front, lines_from, lines_from-written, is_skipped, live_lines, read_line, read_after, reading, document_said, Document, Entry, TicksEntry, ticks_said, more_said}
+use Rattle.yds_model.proofs.Common.{◌≡◌, ℕ, ◌+◌, ◌≤◌, ◌==◌, Bool, true, false, if◌then◌else◌, List, [], ◌∷◌, ◌++◌, length, map, flat_map, filter_map, Result, Ok, Err, Option, Some, None, is_none, refl, sym, ap, ap₂, subst, ◌∙◌, inl, inr, arith, codes, decimal, join_with_byte, cases_Bool, eqb-true, append_assoc, append-nil, length-append, map-append, AllByRecursion, recursion_from_All, Line, trimmed, in_front, lines_from, lines_from-written, is_skipped, live_lines, read_line, read_after, reading, document_said, Document, Entry, TicksEntry, ticks_said}
+use Rattle.model_lemmas.proofs.Said.{more_said}
 use Rattle.std.specs.Bool.{⊤}
 use Rattle.std.proofs.lemmas.List.Elements.{filter_map-append}
 use Rattle.yds_model.specs.declared.reason.Reason.{Reason}
 use Rattle.yds_model.specs.declared.reason.Reason.TheVariants as reasons
-use Rattle.yds_model.specs.Fields.{Fault}
+use Rattle.base.specs.Fields.{Fault}
 use Rattle.yds_kernel.specs.Event.{Said}
 use Rattle.yds_trace.specs.declared.cut.Cut.{Cut}
 use Rattle.yds_trace.specs.Asked.{Asked, on}

@@ -2,7 +2,7 @@
 -- again as a document of its own.
 use Rattle.std.specs.Prelude.{◌≡◌, ℕ, ◌<◌, ◌≤◌, List, filter, length, Bool, Some, None}
 use Rattle.std.specs.List.{All, Contains}
-use Rattle.yds_model.specs.declared.limits.TheConstants.{MAX_INPUT}
+use Rattle.base.specs.declared.limits.TheConstants.{MAX_INPUT}
 use Rattle.yds_model.specs.Feasible.{IsFeasible}
 use Rattle.yds_kernel.specs.Event.{Said}
 use Rattle.yds_trace.specs.Asked.{Asked, on}

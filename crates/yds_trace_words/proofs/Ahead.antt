@@ -1,5 +1,5 @@
 -- What was read before what is still to come.
-use Rattle.yds_model.proofs.Common.{◌≡◌, List, [], ◌∷◌, ◌++◌, Result, Ok, Err, refl, sym, ap, append_assoc}
+use Rattle.base.proofs.Common.{◌≡◌, List, [], ◌∷◌, ◌++◌, Result, Ok, Err, refl, sym, ap, append_assoc}
 use Rattle.yds_trace_words.specs.Words.{WordFault, before}
 
 abbrev pub ahead : {A : Type 0} → List A → Result (List A) WordFault → Result (List A) WordFault

@@ -1,5 +1,5 @@
 -- Times by the words `--from` and `--to`, and near misses.
-use Rattle.yds_model.proofs.Common.{◌≡◌, ℕ, List, [], ◌∷◌, codes, Some, None, Ok, refl}
+use Rattle.base.proofs.Common.{◌≡◌, ℕ, List, [], ◌∷◌, codes, Some, None, Ok, refl}
 use Rattle.yds_trace.specs.declared.limits.TheConstants.{MAX_TIME}
 use Rattle.yds_trace_bounds.specs.declared.bounds.Moment.TheVariants.{Clock, AfterFirst}
 use Rattle.yds_trace_words.specs.declared.fault.Reason.TheVariants as reasons

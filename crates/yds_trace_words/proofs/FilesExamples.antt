@@ -1,5 +1,5 @@
 -- Words that are files, and near misses.
-use Rattle.yds_model.proofs.Common.{◌≡◌, [], ◌∷◌, codes, Ok, refl}
+use Rattle.base.proofs.Common.{◌≡◌, [], ◌∷◌, codes, Ok, refl}
 use Rattle.yds_trace_words.specs.declared.fault.Reason.TheVariants as reasons
 use Rattle.yds_trace_words.specs.Words.{files_of, inputs_of, settings_of, refuse}
 

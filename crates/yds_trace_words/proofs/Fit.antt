@@ -1,12 +1,12 @@
 -- What holds of what is asked of a trace, from the words that ask for it.
 use Rattle.std.specs.Prelude.{IfSome}
-use Rattle.yds_model.proofs.Common.{◌≡◌, ◌≢◌, ℕ, ◌+◌, ◌*◌, ◌^◌, ◌≤◌, ◌⊎◌, inl, inr, List, [], ◌∷◌, length, All, All-cons, All-nil, Bool, true, false, nat_le, nat_lt, Option, Some, None, option_map, is_none, unwrap_or, ◌||◌, ◌==◌, Result, Ok, Err, refl, ap, subst, AllPairs, AllPairs-cons, get_or, list_any_at, bytes_eq, bytes_eq-Decides, cases_Bool, ◌∙◌, arith, if◌then◌else◌, leb-true, ltb-false, codes, and_parts, ◌&&◌, digits_value}
+use Rattle.base.proofs.Common.{◌≡◌, ◌≢◌, ℕ, ◌+◌, ◌*◌, ◌^◌, ◌≤◌, ◌⊎◌, inl, inr, List, [], ◌∷◌, length, All, All-cons, All-nil, Bool, true, false, nat_le, nat_lt, Option, Some, None, option_map, is_none, unwrap_or, ◌||◌, ◌==◌, Result, Ok, Err, refl, ap, subst, AllPairs, AllPairs-cons, get_or, list_any_at, bytes_eq, bytes_eq-Decides, cases_Bool, ◌∙◌, arith, if◌then◌else◌, leb-true, ltb-false, codes, and_parts, ◌&&◌, digits_value}
 use Rattle.std.specs.List.{slice_split, list_any, before_first, after_first}
 use Rattle.std.specs.Result.{result_ok}
 use Rattle.std.proofs.lemmas.List.Splits.{length-slice_split}
-use Rattle.yds_model.specs.Spelling.{number_at, is_number}
-use Rattle.yds_model.specs.declared.number_fault.NumberFault.{NumberFault}
-use Rattle.yds_model.specs.declared.number_fault.NumberFault.TheVariants.{BadNumber, OutOfRange}
+use Rattle.base.specs.Spelling.{number_at, is_number}
+use Rattle.base.specs.declared.number_fault.NumberFault.{NumberFault}
+use Rattle.base.specs.declared.number_fault.NumberFault.TheVariants.{BadNumber, OutOfRange}
 use Rattle.yds_kernel.specs.Parts.{◌>>=◌ as ◌>>?◌}
 use Rattle.yds_kernel.specs.declared.limits.TheConstants.{MAX_NUMBER}
 use Rattle.yds_trace.specs.declared.limits.TheConstants.{MAX_TIME, MAX_DEADLINE}

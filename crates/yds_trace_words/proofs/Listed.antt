@@ -1,5 +1,5 @@
 -- The tasks and the speeds of a list, one after another.
-use Rattle.yds_model.proofs.Common.{◌≡◌, ℕ, ◌+◌, ◌<◌, ◌≤◌, List, [], ◌∷◌, ◌++◌, length, All, Bool, true, false, not, ◌||◌, cond, Result, Ok, Err, refl, sym, ap, ◌∙◌, append_assoc, arith, false≢true, length-drop, take_all, All-cons, All-nil}
+use Rattle.base.proofs.Common.{◌≡◌, ℕ, ◌+◌, ◌<◌, ◌≤◌, List, [], ◌∷◌, ◌++◌, length, All, Bool, true, false, not, ◌||◌, cond, Result, Ok, Err, refl, sym, ap, ◌∙◌, append_assoc, arith, false≢true, length-drop, take_all, All-cons, All-nil}
 use Rattle.std.specs.List.{list_any, slice_split, before_first, after_first, position_or_len}
 use Rattle.std.proofs.lemmas.List.Splits.{slice_split_none, slice_split_first}
 use Rattle.yds_trace.specs.Asked.{Task, StartSpeed}

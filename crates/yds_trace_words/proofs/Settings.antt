@@ -1,5 +1,5 @@
 -- The settings of words, one after another.
-use Rattle.yds_model.proofs.Common.{◌≡◌, ℕ, List, [], ◌∷◌, ◌++◌, Bool, true, false, Result, Ok, Err, refl, ap, ◌∙◌, if◌then◌else◌}
+use Rattle.base.proofs.Common.{◌≡◌, ℕ, List, [], ◌∷◌, ◌++◌, Bool, true, false, Result, Ok, Err, refl, ap, ◌∙◌, if◌then◌else◌}
 use Rattle.yds_trace_words.specs.declared.fault.Reason.TheVariants as reasons
 pub use Rattle.yds_trace_words.proofs.Ahead.{ahead}
 use Rattle.yds_trace_words.proofs.Ahead.{ahead_more}

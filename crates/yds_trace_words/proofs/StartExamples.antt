@@ -1,5 +1,5 @@
 -- Speeds before the first change, by the word `--start`, and near misses.
-use Rattle.yds_model.proofs.Common.{◌≡◌, [], ◌∷◌, codes, Some, None, Ok, refl}
+use Rattle.base.proofs.Common.{◌≡◌, [], ◌∷◌, codes, Some, None, Ok, refl}
 use Rattle.yds_trace.specs.Asked.{Same, Listed}
 use Rattle.yds_trace_words.specs.declared.fault.Reason.TheVariants as reasons
 use Rattle.yds_trace_words.specs.Words.{refuse}

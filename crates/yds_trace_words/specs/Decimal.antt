@@ -3,7 +3,7 @@ use Rattle.std.specs.Prelude.{ℕ, ◌+◌, ◌*◌, ◌-◌, ◌^◌, List, len
 use Rattle.std.specs.List.{list_all, list_any, before_first, after_first}
 use Rattle.std.specs.Result.{result_ok}
 use Rattle.std.specs.Str.Parse.{digits_value}
-use Rattle.yds_model.specs.Spelling.{is_digit, number_at}
+use Rattle.base.specs.Spelling.{is_digit, number_at}
 use Rattle.yds_kernel.specs.Parts.{◌>>=◌}
 
 abbrev pub is_point : ℕ → Bool

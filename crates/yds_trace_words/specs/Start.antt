@@ -1,7 +1,7 @@
 -- The speeds before the first change that `--start` gives: `KHZ` for all processors, or `CPU:KHZ` for some, parted by commas.
 use Rattle.std.specs.Prelude.{ℕ, ◌+◌, List, [], ◌∷◌, length, codes, Bool, ◌==◌, ◌||◌, nat_lt, if◌then◌else◌, Option, Some, None, Result, Ok, Err}
 use Rattle.std.specs.List.{list_any, slice_split, before_first, after_first}
-use Rattle.yds_model.specs.Spelling.{number_at}
+use Rattle.base.specs.Spelling.{number_at}
 use Rattle.yds_kernel.specs.declared.limits.TheConstants.{MAX_NUMBER}
 use Rattle.yds_trace.specs.declared.limits.TheConstants.{MAX_PROCESSOR}
 use Rattle.yds_trace.specs.Asked.{StartSpeed, Start, Same, Listed}

@@ -1,6 +1,6 @@
 -- The texts that answer words alone.
 use Rattle.std.specs.Prelude.{ℕ, List, [], ◌++◌, map, take, codes, decimal, ◌==◌, ◌||◌, if◌then◌else◌, Option, Some, None}
-use Rattle.yds_model.specs.Spelling.{is_visible}
+use Rattle.base.specs.Spelling.{is_visible}
 use Rattle.yds_trace_words.specs.declared.fault.Place.{Place}
 use Rattle.yds_trace_words.specs.declared.fault.Place.TheVariants as places
 use Rattle.yds_trace_words.specs.declared.fault.Reason.{Reason}

@@ -2,7 +2,7 @@
 ghost use Rattle.std.specs.Prelude.{◌≡◌, ◌≤◌, ◌<◌, ◌+◌, ◌*◌, ◌^◌, length, true, option_map};
 ghost use Rattle.std.specs.List.{list_all};
 ghost use Rattle.std.specs.Str.Parse.{digits_value};
-ghost use Rattle.yds_model.specs.Spelling.{is_digit};
+ghost use Rattle.base.specs.Spelling.{is_digit};
 ghost use Rattle.yds_trace_words.specs.Decimal as spec;
 
 use crate::setting::split_at_byte;

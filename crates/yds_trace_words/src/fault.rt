@@ -3,8 +3,8 @@ ghost use Rattle.std.specs.Prelude.{◌≡◌, codes};
 ghost use Rattle.yds_trace_words.specs.declared.fault.Place.TheVariants as places;
 ghost use Rattle.yds_trace_words.specs.Views.{fault_read};
 
+use base::Memory;
 use std::alloc::{AllocError, AllocFailed};
-use yds_model::Memory;
 
 /// What is wrong with a word, or with a setting or a task that it gives.
 #[derive(Clone, Copy, Debug, PartialEq, Eq)]

@@ -5,8 +5,8 @@ ghost use Rattle.yds_trace_words.specs.Letters as spec;
 ghost use Rattle.yds_trace_words.specs.Views.{pieces_read};
 ghost use Rattle.yds_trace_words.specs.declared.letter.Sign.TheVariants as signs;
 
+use base::Memory;
 use std::alloc::Global;
-use yds_model::Memory;
 
 /// A letter of a list of tasks: a byte of a text, or a sign between texts.
 #[derive(Clone, Copy, Debug, PartialEq, Eq)]

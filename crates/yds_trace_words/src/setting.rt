@@ -6,8 +6,8 @@ ghost use Rattle.yds_trace_words.specs.Words.{settings_of, files_of, inputs_of, 
 ghost use Rattle.yds_trace_words.specs.Views.{words_of, setting_read, settings_read, names_read, Reads, IsWord};
 
 use crate::fault::{NoRequest, Reason, WordFault};
+use base::Memory;
 use std::alloc::Global;
-use yds_model::Memory;
 
 /// What is set, and to which value; a flag's is empty.
 #[derive(Clone, Copy, Debug, PartialEq, Eq)]

@@ -1,7 +1,7 @@
 //! The tasks that `--tasks` lists.
 ghost use Rattle.std.specs.Prelude.{◌≡◌, map, option_map};
 ghost use Rattle.std.specs.List.{list_all, list_any};
-ghost use Rattle.yds_model.specs.Spelling.{is_visible};
+ghost use Rattle.base.specs.Spelling.{is_visible};
 ghost use Rattle.yds_trace.specs.Views.{task_read, which_read};
 ghost use Rattle.yds_trace_words.specs.Letters.{text_of};
 ghost use Rattle.yds_trace_words.specs.Tasks as spec;

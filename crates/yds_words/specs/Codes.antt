@@ -2,8 +2,8 @@
 use Rattle.std.specs.Prelude.{ℕ}
 use Rattle.std.specs.declared.io.ErrorKind.{ErrorKind}
 use Rattle.std.specs.declared.io.ErrorKind.TheVariants.{OutOfMemory}
-use Rattle.yds_model.specs.declared.status.Status.TheVariants.{Memory}
-use Rattle.yds_model.specs.Status.{status_code}
+use Rattle.base.specs.declared.status.Status.TheVariants.{Memory}
+use Rattle.base.specs.Status.{status_code}
 use Rattle.yds_words.specs.declared.codes.TheConstants.{NO_WORDS}
 
 -- where the words of the command line can't be taken, by the cause: that of want of memory, or `NO_WORDS`, as for a word that is no text

@@ -1,7 +1,7 @@
 -- The words of the command line, as bytes, and what they ask for.
 use Rattle.std.specs.Prelude.{ℕ, ◌≤◌, List, map, String, string_bytes, Option, Some, None, true, false}
 use Rattle.std.specs.declared.alloc.Global.{Global}
-use Rattle.yds_model.specs.declared.limits.TheConstants.{MAX_GRID, MAX_TRIAL_JOBS, MAX_TOP}
+use Rattle.base.specs.declared.limits.TheConstants.{MAX_GRID, MAX_TRIAL_JOBS, MAX_TOP}
 use Rattle.yds_model.specs.Request.{Question as ModelQuestion, AskPlan, AskRound, AskAverageRate, AskOptimalAvailable, AskCheck, AskAudit, AskAuditOnPoints, AskReport, AskReportAsJson, AskAdmit, AskCurve, AskCompare, Request, OfDocument, OfTasks, OfTrial, request_of}
 use Rattle.yds_words.specs.declared.command.Question.{Question}
 use Rattle.yds_words.specs.declared.command.Question.TheVariants as questions

@@ -1,7 +1,7 @@
 //! What the program ends with: the number of its run's status, or one where its words can't be taken.
 ghost use Rattle.std.specs.Prelude.{◌≡◌, IfOk};
 ghost use Rattle.std.specs.Result.{IfErr};
-ghost use Rattle.yds_model.specs.Status.{status_code};
+ghost use Rattle.base.specs.Status.{status_code};
 ghost use Rattle.yds_words.specs.Codes.{code_without_words};
 
 use std::io::ErrorKind;

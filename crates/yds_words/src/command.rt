@@ -1,7 +1,7 @@
 ghost use Rattle.std.specs.Prelude.{◌≡◌, ◌≤◌, option_map, IfSome};
 ghost use Rattle.std.specs.Result.{result_ok};
-ghost use Rattle.yds_model.specs.Spelling.{number_at};
-ghost use Rattle.yds_model.specs.declared.limits.TheConstants.{MAX_GRID, MAX_SEED, MAX_TRIAL_JOBS};
+ghost use Rattle.base.specs.Spelling.{number_at};
+ghost use Rattle.base.specs.declared.limits.TheConstants.{MAX_GRID, MAX_SEED, MAX_TRIAL_JOBS};
 ghost use Rattle.yds_model.specs.Request.{request_of_word, request_of_two, request_of_three, request_of_trial, request_of_grid};
 ghost use Rattle.yds_words.specs.Words.{words_of, asked, request_view, IsWithinLimits};
 

@@ -1,6 +1,6 @@
 ghost use Rattle.std.specs.Prelude.{◌≡◌, ℕ, ◌<◌, ◌≤◌, length, map, slice_get, IfOk};
 ghost use Rattle.std.specs.List.{All};
-ghost use Rattle.yds_model.specs.declared.limits.TheConstants.{MAX_JOBS};
+ghost use Rattle.base.specs.declared.limits.TheConstants.{MAX_JOBS};
 ghost use Rattle.yds_model.specs.Job.{IsJob};
 ghost use Rattle.yds_model.specs.Event.{stretches};
 ghost use Rattle.yds_search.specs.Found.{IsFound, group_at};

@@ -1,5 +1,5 @@
 use Rattle.yds_model.proofs.Common.{sym}
-use Rattle.yds_model.specs.declared.limits.TheConstants.{MAX_WHOLE}
+use Rattle.base.specs.declared.limits.TheConstants.{MAX_WHOLE}
 use Rattle.yds_fraction.proofs.WithinLimits.{IsFraction-within}
 use Rattle.document_reader.proofs.FractionField.{fraction_within}
 use Rattle.document_reader.proofs.fields.fraction_in.Goals as goal

@@ -1,4 +1,4 @@
-use Rattle.yds_model.specs.declared.limits.TheConstants.{MAX_WHOLE}
+use Rattle.base.specs.declared.limits.TheConstants.{MAX_WHOLE}
 use Rattle.yds_fraction.proofs.WithinLimits.{IsFraction-within}
 use Rattle.document_reader.proofs.FractionField.{fraction_within}
 use Rattle.document_reader.proofs.fields.plain_fraction.Goals as goal

@@ -1,5 +1,5 @@
 use Rattle.yds_model.proofs.Common.{◌≡◌, ◌*◌, refl, SlotEntry}
-use Rattle.yds_model.specs.declared.limits.TheConstants.{MAX_TIME}
+use Rattle.base.specs.declared.limits.TheConstants.{MAX_TIME}
 use Rattle.document_reader.proofs.PlainLine.{says_run}
 use Rattle.document_reader.proofs.run.plain_run.Goals as goal
 

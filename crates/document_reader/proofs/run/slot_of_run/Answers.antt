@@ -1,5 +1,5 @@
 use Rattle.yds_model.proofs.Common.{arith}
-use Rattle.yds_model.specs.declared.limits.TheConstants.{MAX_TIME, MAX_SLOT_WORK, MAX_WHOLE}
+use Rattle.base.specs.declared.limits.TheConstants.{MAX_TIME, MAX_SLOT_WORK, MAX_WHOLE}
 use Rattle.yds_fraction.proofs.WithinLimits.{IsFraction-within}
 use Rattle.document_reader.proofs.RunParts.{parts_alike, tick_within}
 use Rattle.document_reader.proofs.run.slot_of_run.Goals as goal

@@ -1,4 +1,5 @@
-use Rattle.yds_model.proofs.Common.{sym, ◌∙◌, subst, IsFraction, alike_test}
+use Rattle.yds_model.proofs.Common.{sym, ◌∙◌, subst, IsFraction}
+use Rattle.model_lemmas.proofs.Alike.{alike_test}
 use Rattle.document_reader.proofs.PlainLine.{says_slot}
 use Rattle.document_reader.proofs.slot.plain_slot.Goals as goal
 

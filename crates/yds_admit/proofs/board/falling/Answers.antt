@@ -1,5 +1,5 @@
 use Rattle.yds_model.proofs.Common.{◌-◌, ◌≤◌, arith, rules, IsNonDecreasingBy-from_sort_by_key, All-permutation}
-use Rattle.yds_model.specs.declared.limits.TheConstants.{MAX_TIME}
+use Rattle.base.specs.declared.limits.TheConstants.{MAX_TIME}
 use Rattle.yds_admit.specs.declared.board.Spot.{Spot}
 use Rattle.yds_admit.proofs.board.falling.Goals as goal
 

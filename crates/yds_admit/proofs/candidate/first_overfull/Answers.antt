@@ -1,4 +1,5 @@
-use Rattle.yds_model.proofs.Common.{ℕ, ◌∷◌, ◌++◌, [], arith, IsPermutation-append_left, All-permutation, sum_by-IsPermutation, Job, IsJob, part_within}
+use Rattle.yds_model.proofs.Common.{ℕ, ◌∷◌, ◌++◌, [], arith, IsPermutation-append_left, All-permutation, sum_by-IsPermutation, Job, IsJob}
+use Rattle.model_lemmas.proofs.Confined.{part_within}
 use Rattle.yds_admit.specs.State.{next_job}
 use Rattle.yds_admit.proofs.Bounds.{fits_over}
 use Rattle.yds_admit.proofs.Least.{room_alone}

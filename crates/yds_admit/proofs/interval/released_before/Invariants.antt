@@ -1,5 +1,5 @@
 use Rattle.yds_model.proofs.Common.{◌≡◌, ◌*◌, ◌≤◌, take, released_work}
-use Rattle.yds_model.specs.declared.limits.TheConstants.{MAX_WORK}
+use Rattle.base.specs.declared.limits.TheConstants.{MAX_WORK}
 use Rattle.yds_admit.proofs.interval.released_before.Given as goal
 
 abbrev pub invariant-loop-number : goal.invariant-loop-number

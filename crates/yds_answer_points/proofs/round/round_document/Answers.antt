@@ -1,5 +1,5 @@
 use Rattle.yds_model.proofs.Common.{◌≡◌, ◌≤◌, List, [], length, sym, refl, ap, subst, ◌∙◌, inr, Some, None, Job, Fraction, WrittenSlot, Level, IsPlan, IsRounding, Point, with_answer, canonical_text, IsDocument, RoundAnswer}
-use Rattle.yds_model.specs.declared.status.Status.TheVariants as statuses
+use Rattle.base.specs.declared.status.Status.TheVariants as statuses
 use Rattle.yds_texts.proofs.RoundText.{points_answer}
 use Rattle.document_value.specs.Documents.{document_view, points_of}
 use Rattle.yds_round.specs.declared.fault.RoundFault.TheVariants as faults

@@ -1,4 +1,5 @@
-use Rattle.yds_model.proofs.Common.{grain_of, parts_given, grain_positive}
+use Rattle.yds_model.proofs.Common.{grain_of, parts_given}
+use Rattle.model_lemmas.proofs.Grain.{grain_positive}
 use Rattle.yds_audit.proofs.Works.{parts_are_work}
 use Rattle.yds_audit.proofs.auditor.gives.Goals as goal
 

@@ -1,5 +1,5 @@
 use Rattle.yds_model.proofs.Common.{◌≡◌, ◌*◌, ◌≤◌, take, total_length}
-use Rattle.yds_model.specs.declared.limits.TheConstants.{MAX_TIME}
+use Rattle.base.specs.declared.limits.TheConstants.{MAX_TIME}
 use Rattle.yds_checker.proofs.sums.lengths_together.Given as goal
 
 abbrev pub invariant-loop-piece : goal.invariant-loop-piece

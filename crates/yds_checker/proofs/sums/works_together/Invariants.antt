@@ -1,5 +1,5 @@
 use Rattle.yds_model.proofs.Common.{◌≡◌, ◌*◌, ◌≤◌, take, work_of}
-use Rattle.yds_model.specs.declared.limits.TheConstants.{MAX_WORK}
+use Rattle.base.specs.declared.limits.TheConstants.{MAX_WORK}
 use Rattle.yds_checker.proofs.sums.works_together.Given as goal
 
 abbrev pub invariant-loop-job : goal.invariant-loop-job

@@ -1,5 +1,5 @@
 use Rattle.yds_model.proofs.Common.{List, ◌++◌, ap, sym, arith, refl, Piece}
-use Rattle.yds_model.specs.declared.limits.TheConstants.{MAX_TIME}
+use Rattle.base.specs.declared.limits.TheConstants.{MAX_TIME}
 use Rattle.yds_contract.specs.Removed.{removed_at, stretch_of, removed_stretches}
 use Rattle.yds_contract.specs.Clipped.{pieces_after}
 use Rattle.yds_contract.proofs.RemovedStretches.{count, stretch_at, removed_forward, end_fits, next_fits, walked_more, walked_all}

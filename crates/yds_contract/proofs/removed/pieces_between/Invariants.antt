@@ -1,4 +1,4 @@
-use Rattle.yds_model.specs.declared.limits.TheConstants.{MAX_TIME}
+use Rattle.base.specs.declared.limits.TheConstants.{MAX_TIME}
 use Rattle.yds_contract.specs.Removed.{removed_stretches}
 use Rattle.yds_contract.proofs.RemovedStretches.{Walked}
 use Rattle.yds_contract.proofs.removed.pieces_between.Given as goal

@@ -1,5 +1,5 @@
 use Rattle.yds_model.proofs.Common.{◌*◌, ◌≤◌, List, map, ◌++◌, ap, sym, arith, refl, mul-le-mul, mul-le-mul_right, Piece}
-use Rattle.yds_model.specs.declared.limits.TheConstants.{MAX_TIME}
+use Rattle.base.specs.declared.limits.TheConstants.{MAX_TIME}
 use Rattle.yds_contract.specs.Removed.{removed_at, stretch_of, removed_stretches}
 use Rattle.yds_contract.specs.Clipped.{pieces_after}
 use Rattle.yds_contract.specs.Spread.{piece_in_parts}

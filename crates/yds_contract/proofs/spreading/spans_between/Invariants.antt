@@ -1,5 +1,5 @@
 use Rattle.yds_model.proofs.Common.{◌*◌, map}
-use Rattle.yds_model.specs.declared.limits.TheConstants.{MAX_TIME}
+use Rattle.base.specs.declared.limits.TheConstants.{MAX_TIME}
 use Rattle.yds_contract.specs.Removed.{removed_stretches}
 use Rattle.yds_contract.specs.Spread.{piece_in_parts}
 use Rattle.yds_contract.proofs.RemovedStretches.{Walked}

@@ -1,5 +1,5 @@
 use Rattle.yds_model.proofs.Common.{◌≡◌, ℕ, ◌≤◌, ap, subst, ◌∙◌, at_scale, WrittenSlot}
-use Rattle.yds_model.specs.declared.limits.TheConstants.{MAX_SLOT_WORK}
+use Rattle.base.specs.declared.limits.TheConstants.{MAX_SLOT_WORK}
 use Rattle.yds_contract.specs.Removed.{removed_stretches}
 use Rattle.yds_contract.proofs.Scaled.{parts_fit}
 use Rattle.yds_contract.proofs.Spreads.{spans_same, spans_found, spans_can}

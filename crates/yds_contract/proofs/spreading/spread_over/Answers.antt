@@ -1,5 +1,5 @@
 use Rattle.yds_model.proofs.Common.{◌≡◌, ℕ, ◌-◌, ◌*◌, ◌≤◌, List, ◌++◌, map, take, ap, sym, subst, ◌∙◌, arith, take_all, WrittenSlot, Piece}
-use Rattle.yds_model.specs.declared.limits.TheConstants.{MAX_TIME}
+use Rattle.base.specs.declared.limits.TheConstants.{MAX_TIME}
 use Rattle.yds_contract.specs.Removed.{removed_stretches}
 use Rattle.yds_contract.specs.Cut.{cut_between, cut_all}
 use Rattle.yds_contract.specs.Spread.{slot_over}

@@ -1,5 +1,5 @@
 use Rattle.yds_model.proofs.Common.{◌≡◌, ◌*◌, ◌≤◌, take, map, sum_by, break_at}
-use Rattle.yds_model.specs.declared.limits.TheConstants.{MAX_LEVEL_WORK, MAX_LEVEL_LENGTH}
+use Rattle.base.specs.declared.limits.TheConstants.{MAX_LEVEL_WORK, MAX_LEVEL_LENGTH}
 use Rattle.yds_curve.proofs.bends.curve.Given as goal
 
 abbrev pub invariant-loop-level : goal.invariant-loop-level

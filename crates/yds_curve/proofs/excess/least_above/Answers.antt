@@ -1,5 +1,5 @@
 use Rattle.yds_model.proofs.Common.{◌≤◌, ◌-◌, ◌*◌, ◌∙◌, ℕ, ap, ap₂, arith, sum_by, take_all, sum_by_more, mul-le-mul_right, Level, in_lowest_terms}
-use Rattle.yds_model.specs.declared.limits.TheConstants.{MAX_LEVELS, MAX_LEVEL_WORK}
+use Rattle.base.specs.declared.limits.TheConstants.{MAX_LEVELS, MAX_LEVEL_WORK}
 use Rattle.yds_curve.proofs.Fronts.{work_in_range, few_above}
 use Rattle.yds_curve.proofs.excess.least_above.Goals as goal
 

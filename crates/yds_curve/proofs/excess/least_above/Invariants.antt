@@ -1,5 +1,5 @@
 use Rattle.yds_model.proofs.Common.{◌≡◌, ◌*◌, ◌-◌, ◌≤◌, take, sum_by}
-use Rattle.yds_model.specs.declared.limits.TheConstants.{MAX_LEVEL_WORK}
+use Rattle.base.specs.declared.limits.TheConstants.{MAX_LEVEL_WORK}
 use Rattle.yds_curve.proofs.excess.least_above.Given as goal
 
 abbrev pub invariant-loop-level : goal.invariant-loop-level

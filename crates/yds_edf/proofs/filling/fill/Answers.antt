@@ -1,5 +1,5 @@
 use Rattle.yds_model.proofs.Common.{ℕ, ◌*◌, ◌≤◌, All, All-nil, All-append, ◌≡◌, ◌∙◌, length, arith, ap, subst, get_or_read, Piece}
-use Rattle.yds_model.specs.declared.limits.TheConstants.{MAX_WORK}
+use Rattle.base.specs.declared.limits.TheConstants.{MAX_WORK}
 use Rattle.yds_edf.specs.Engine.{TiedQueue}
 use Rattle.yds_events.specs.Stretch.{no_stretch}
 use Rattle.yds_edf.proofs.Filled.{Filling, begun, filled_after, all_filled}

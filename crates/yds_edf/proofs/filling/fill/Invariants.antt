@@ -1,5 +1,5 @@
 use Rattle.yds_model.proofs.Common.{◌*◌, ◌≤◌, All, IsJob}
-use Rattle.yds_model.specs.declared.limits.TheConstants.{MAX_WORK}
+use Rattle.base.specs.declared.limits.TheConstants.{MAX_WORK}
 use Rattle.yds_edf.proofs.Filled.{Filling}
 use Rattle.yds_edf.proofs.filling.fill.Given as goal
 

@@ -1,5 +1,5 @@
 use Rattle.yds_model.proofs.Common.{◌*◌, ◌≤◌, arith, ap, All-weaker, Piece}
-use Rattle.yds_model.specs.declared.limits.TheConstants.{MAX_SLOT_WORK, MAX_WORK}
+use Rattle.base.specs.declared.limits.TheConstants.{MAX_SLOT_WORK, MAX_WORK}
 use Rattle.yds_timetable.specs.Shares.{JobShare}
 use Rattle.yds_timetable.specs.Pace.{lowest_pace}
 use Rattle.yds_timetable.proofs.LowestPace.{lowest_is}

@@ -1,4 +1,5 @@
-use Rattle.yds_model.proofs.Common.{arith, last_deadline, releases_from}
+use Rattle.yds_model.proofs.Common.{arith, last_deadline}
+use Rattle.model_lemmas.proofs.Horizon.{releases_from}
 use Rattle.yds_events.proofs.first_and_last.horizon.Goals as goal
 
 pub overflow_sub-result : goal.overflow_sub-result

@@ -1,4 +1,5 @@
-use Rattle.yds_model.proofs.Common.{◌*◌, ◌^◌, ◌<◌, subst, arith, IsGcd, trailing_zeros, w64, mod-eq_of_lt, IsGcd-from_zero, IsGcd-swap, le_of_dvd, same_from_IsGcd, divisor_is_greatest}
+use Rattle.yds_model.proofs.Common.{◌*◌, ◌^◌, ◌<◌, subst, arith, IsGcd, trailing_zeros, w64, mod-eq_of_lt, IsGcd-from_zero, IsGcd-swap, le_of_dvd, same_from_IsGcd}
+use Rattle.fraction_lemmas.proofs.Divisor.{divisor_is_greatest}
 use Rattle.yds_fraction.proofs.Halves.{divisor_of_parts}
 use Rattle.yds_fraction.proofs.divisors.gcd.Goals as goal
 

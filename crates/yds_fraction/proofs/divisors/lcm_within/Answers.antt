@@ -1,4 +1,4 @@
-use Rattle.yds_model.proofs.Common.{den_positive}
+use Rattle.fraction_lemmas.proofs.Fractions.{den_positive}
 use Rattle.yds_fraction.proofs.divisors.lcm_within.Goals as goal
 
 pub nonzero_div-a : goal.nonzero_div-a

@@ -1,4 +1,4 @@
-use Rattle.yds_model.proofs.Common.{codes, ◌∙◌, sym, arith}
+use Rattle.base.proofs.Common.{codes, ◌∙◌, sym, arith}
 use Rattle.yds_kernel.proofs.Names.{begins_with, begins_within, known_word, switch_word, waking_word, wakeup_word}
 use Rattle.yds_kernel.proofs.find.common_len.Goals as goal
 

@@ -1,4 +1,4 @@
-use Rattle.yds_model.proofs.Common.{◌∙◌, ◌+◌, sym, ap, arith, length-drop}
+use Rattle.base.proofs.Common.{◌∙◌, ◌+◌, sym, ap, arith, length-drop}
 use Rattle.yds_kernel.specs.Stamp.{stamp_at, first_stamp}
 use Rattle.yds_kernel.specs.Views.{stamp_read}
 use Rattle.yds_kernel.proofs.Places.{whole_rest, stamps_at, stamps_after, stamps_none}

@@ -1,4 +1,4 @@
-use Rattle.yds_model.proofs.Common.{◌≡◌, ◌≤◌, length}
+use Rattle.base.proofs.Common.{◌≡◌, ◌≤◌, length}
 use Rattle.yds_kernel.specs.Stamp.{first_stamp}
 use Rattle.yds_kernel.proofs.find.first_stamp.Given as goal
 

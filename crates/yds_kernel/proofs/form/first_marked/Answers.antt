@@ -1,4 +1,4 @@
-use Rattle.yds_model.proofs.Common.{◌≡◌, ◌<◌, ◌+◌, ℕ, length, drop, ◌∙◌, sym, ap, arith, drop-drop, length-drop}
+use Rattle.base.proofs.Common.{◌≡◌, ◌<◌, ◌+◌, ℕ, length, drop, ◌∙◌, sym, ap, arith, drop-drop, length-drop}
 use Rattle.yds_kernel.specs.Form.{marked, first_marked}
 use Rattle.yds_kernel.specs.Views.{marked_read}
 use Rattle.yds_kernel.proofs.Places.{whole_rest, marks_at, marks_after, marks_none}

@@ -1,4 +1,4 @@
-use Rattle.yds_model.proofs.Common.{◌≡◌, ◌-◌, ◌≤◌, length, drop}
+use Rattle.base.proofs.Common.{◌≡◌, ◌-◌, ◌≤◌, length, drop}
 use Rattle.yds_kernel.specs.Form.{first_marked}
 use Rattle.yds_kernel.proofs.form.first_marked.Given as goal
 

@@ -1,4 +1,4 @@
-use Rattle.yds_model.proofs.Common.{◌∙◌, sym, arith}
+use Rattle.base.proofs.Common.{◌∙◌, sym, arith}
 use Rattle.yds_kernel.proofs.Names.{is_whole}
 use Rattle.yds_kernel.proofs.kind.is_name.Goals as goal
 

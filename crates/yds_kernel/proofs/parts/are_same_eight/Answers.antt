@@ -1,4 +1,4 @@
-use Rattle.yds_model.proofs.Common.{◌≡◌, ◌-◌, take, drop, length, true, ◌∙◌, arith, rules, common_steps}
+use Rattle.base.proofs.Common.{◌≡◌, ◌-◌, take, drop, length, true, ◌∙◌, arith, rules, common_steps}
 use Rattle.std.specs.Str.{bytes_eq}
 use Rattle.yds_kernel.proofs.Halves.{halves_same}
 use Rattle.yds_kernel.proofs.parts.are_same_eight.Goals as goal

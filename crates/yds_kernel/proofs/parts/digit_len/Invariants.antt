@@ -1,4 +1,4 @@
-use Rattle.yds_model.proofs.Common.{◌≡◌, ◌+◌, drop, prefix_len, is_digit}
+use Rattle.base.proofs.Common.{◌≡◌, ◌+◌, drop, prefix_len, is_digit}
 use Rattle.yds_kernel.proofs.parts.digit_len.Given as goal
 
 abbrev pub invariant-loop-index : goal.invariant-loop-index

@@ -1,5 +1,5 @@
 use Rattle.std.proofs.Common.{◌≡◌, sym, ap, ◌∙◌, arith, length, length-take-le}
-use Rattle.yds_model.specs.Lines.{is_blank}
+use Rattle.base.specs.Lines.{is_blank}
 use Rattle.yds_kernel.proofs.Marks.{lowest_first, first_blank}
 use Rattle.yds_kernel.proofs.parts.field_len.Goals as goal
 

@@ -1,4 +1,4 @@
-use Rattle.yds_model.proofs.Common.{◌≡◌, ◌+◌, drop, position_or_len, is_blank}
+use Rattle.base.proofs.Common.{◌≡◌, ◌+◌, drop, position_or_len, is_blank}
 use Rattle.yds_kernel.proofs.parts.field_len.Given as goal
 
 abbrev pub invariant-loop-index : goal.invariant-loop-index

@@ -1,4 +1,4 @@
-use Rattle.yds_model.proofs.Common.{◌≡◌, ◌<◌, ◌^◌, ◌∙◌, ℕ, sym, ap, subst, arith, take, take-take, digits_value}
+use Rattle.base.proofs.Common.{◌≡◌, ◌<◌, ◌^◌, ◌∙◌, ℕ, sym, ap, subst, arith, take, take-take, digits_value}
 use Rattle.yds_kernel.specs.Parts.{capped}
 use Rattle.yds_kernel.proofs.Digits.{few_digits}
 use Rattle.yds_kernel.proofs.parts.front_number.Goals as goal

@@ -1,4 +1,4 @@
-use Rattle.yds_model.proofs.Common.{◌≡◌, ◌+◌, ◌*◌, ◌-◌, ℕ, take, get_or, true, sym, ap, ◌∙◌, arith, rules, digit_value, digits_value, common_steps, digits_value_more, is_digit, digit_range}
+use Rattle.base.proofs.Common.{◌≡◌, ◌+◌, ◌*◌, ◌-◌, ℕ, take, get_or, true, sym, ap, ◌∙◌, arith, rules, digit_value, digits_value, common_steps, digits_value_more, is_digit, digit_range}
 use Rattle.std.proofs.lemmas.Grind.{pow_more}
 use Rattle.yds_kernel.specs.Parts.{capped}
 use Rattle.yds_kernel.proofs.Digits.{capped_more, digit_says}

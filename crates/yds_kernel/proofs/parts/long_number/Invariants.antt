@@ -1,4 +1,4 @@
-use Rattle.yds_model.proofs.Common.{◌≡◌, ◌+◌, ◌<◌, ◌^◌, take, drop, prefix_len, digits_value, is_digit}
+use Rattle.base.proofs.Common.{◌≡◌, ◌+◌, ◌<◌, ◌^◌, take, drop, prefix_len, digits_value, is_digit}
 use Rattle.yds_kernel.specs.Parts.{capped}
 use Rattle.yds_kernel.proofs.parts.long_number.Given as goal
 

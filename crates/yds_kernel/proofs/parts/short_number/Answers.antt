@@ -1,4 +1,4 @@
-use Rattle.yds_model.proofs.Common.{◌≡◌, ◌+◌, ◌*◌, ◌-◌, take, get_or, true, arith, rules, digit_value, digits_value, common_steps, digits_value_more, is_digit, digit_range}
+use Rattle.base.proofs.Common.{◌≡◌, ◌+◌, ◌*◌, ◌-◌, take, get_or, true, arith, rules, digit_value, digits_value, common_steps, digits_value_more, is_digit, digit_range}
 use Rattle.std.proofs.lemmas.Grind.{pow_more}
 use Rattle.yds_kernel.proofs.Digits.{digit_says}
 use Rattle.yds_kernel.proofs.parts.short_number.Goals as goal

@@ -1,4 +1,4 @@
-use Rattle.yds_model.proofs.Common.{◌≡◌, ◌+◌, drop, prefix_len}
+use Rattle.base.proofs.Common.{◌≡◌, ◌+◌, drop, prefix_len}
 use Rattle.yds_kernel.specs.Line.{is_hash}
 use Rattle.yds_kernel.proofs.read.hash_len.Given as goal
 

@@ -1,4 +1,4 @@
-use Rattle.yds_model.proofs.Common.{sym, arith, length-take-le}
+use Rattle.base.proofs.Common.{sym, arith, length-take-le}
 use Rattle.yds_kernel.proofs.read.long_line.Goals as goal
 
 pub slice_bounds-first_stamp-end : goal.slice_bounds-first_stamp-end

@@ -1,4 +1,4 @@
-use Rattle.yds_model.proofs.Common.{◌∙◌, sym, ap, arith}
+use Rattle.base.proofs.Common.{◌∙◌, sym, ap, arith}
 use Rattle.yds_kernel.specs.Line.{opens}
 use Rattle.yds_kernel.proofs.Places.{whole_rest, opens_more}
 use Rattle.yds_kernel.proofs.read.opens_somewhere.Goals as goal

@@ -1,4 +1,4 @@
-use Rattle.yds_model.proofs.Common.{◌≡◌, drop}
+use Rattle.base.proofs.Common.{◌≡◌, drop}
 use Rattle.yds_kernel.specs.Line.{opens_somewhere}
 use Rattle.yds_kernel.proofs.read.opens_somewhere.Given as goal
 

@@ -1,4 +1,4 @@
-use Rattle.yds_model.proofs.Common.{ℕ, ◌≡◌, ◌+◌, ◌-◌, ap, ◌∙◌, arith}
+use Rattle.base.proofs.Common.{ℕ, ◌≡◌, ◌+◌, ◌-◌, ap, ◌∙◌, arith}
 use Rattle.std.specs.List.{swap}
 use Rattle.yds_kernel_order.specs.Ring.{wrapped}
 use Rattle.yds_kernel_order.proofs.Moving.{moves_one}

@@ -1,4 +1,4 @@
-use Rattle.yds_model.proofs.Common.{◌≡◌, length}
+use Rattle.base.proofs.Common.{◌≡◌, length}
 use Rattle.yds_kernel_order.specs.declared.ring.TheConstants.{SLOTS}
 use Rattle.yds_kernel_order.specs.Ring.{IsMovedDown}
 use Rattle.yds_kernel_order.proofs.ring.move_down.Given as goal

@@ -1,4 +1,4 @@
-use Rattle.yds_model.proofs.Common.{ℕ, ◌+◌, ◌-◌, sym, ◌∙◌, arith}
+use Rattle.base.proofs.Common.{ℕ, ◌+◌, ◌-◌, sym, ◌∙◌, arith}
 use Rattle.yds_kernel_order.proofs.Passing.{slot_read, passes_here, passes_too_many, passes_too_far, passes_on}
 use Rattle.yds_kernel_order.proofs.ring.passed.Goals as goal
 use Rattle.yds_kernel_order.proofs.ring.passed.Goals.{then-count-eq-MAX_PASSED-via-then-count-eq-MAX_PASSED, then-count-eq-MAX_PASSED-via-else-count-eq-MAX_PASSED+then-is_far_behind}

@@ -1,4 +1,4 @@
-use Rattle.yds_model.proofs.Common.{◌≤◌}
+use Rattle.base.proofs.Common.{◌≤◌}
 use Rattle.yds_kernel_order.specs.declared.limits.TheConstants.{MAX_PASSED}
 use Rattle.yds_kernel_order.proofs.Passing.{HasPassed}
 use Rattle.yds_kernel_order.proofs.ring.passed.Given as goal

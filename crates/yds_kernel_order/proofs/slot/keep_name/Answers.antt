@@ -1,4 +1,4 @@
-use Rattle.yds_model.proofs.Common.{◌≤◌, length, arith}
+use Rattle.base.proofs.Common.{◌≤◌, length, arith}
 use Rattle.yds_kernel_order.proofs.Names.{front_kept}
 use Rattle.yds_kernel_order.proofs.slot.keep_name.Goals as goal
 use Rattle.yds_kernel_order.proofs.slot.keep_name.Goals.{then-len-name+in_ok-grow, else-len-name}

@@ -1,4 +1,4 @@
-use Rattle.yds_model.proofs.Common.{ℕ, ◌++◌, ◌∷◌, [], length, take, sym, ap, ◌∙◌, take-append_seam, take_all, le_refl, without_return, without_return-end, without_return-other}
+use Rattle.base.proofs.Common.{ℕ, ◌++◌, ◌∷◌, [], length, take, sym, ap, ◌∙◌, take-append_seam, take_all, le_refl, without_return, without_return-end, without_return-other}
 use Rattle.yds_kernel_text.proofs.reader.trimmed_len.Goals as goal
 
 pub returns-in-Some-clause-value : goal.returns-in-Some-clause-value

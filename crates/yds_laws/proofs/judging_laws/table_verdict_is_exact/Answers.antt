@@ -1,4 +1,4 @@
-use Rattle.yds_model.proofs.Common.{table_verdict_is_exact as law}
+use Rattle.model_lemmas.proofs.Verdicts.{table_verdict_is_exact as law}
 use Rattle.yds_laws.proofs.judging_laws.table_verdict_is_exact.Goals as goal
 
 pub returns : goal.returns

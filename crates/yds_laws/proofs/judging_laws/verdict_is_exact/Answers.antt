@@ -1,4 +1,4 @@
-use Rattle.yds_model.proofs.Common.{verdict_is_exact as law}
+use Rattle.model_lemmas.proofs.Verdicts.{verdict_is_exact as law}
 use Rattle.yds_laws.proofs.judging_laws.verdict_is_exact.Goals as goal
 
 pub returns : goal.returns

@@ -1,4 +1,4 @@
-use Rattle.yds_model.proofs.Common.{multiple_of_values as law}
+use Rattle.fraction_lemmas.proofs.Fractions.{multiple_of_values as law}
 use Rattle.yds_laws.proofs.scale_laws.multiple_is_of_values.Goals as goal
 
 pub returns : goal.returns

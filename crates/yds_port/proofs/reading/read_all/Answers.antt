@@ -1,4 +1,4 @@
-use Rattle.yds_model.proofs.Common.{◌∙◌, arith, length-drop}
+use Rattle.base.proofs.Common.{◌∙◌, arith, length-drop}
 use Rattle.yds_port.proofs.Read.{Consumes-next}
 use Rattle.yds_port.proofs.reading.read_all.Goals as goal
 

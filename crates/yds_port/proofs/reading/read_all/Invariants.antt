@@ -1,4 +1,4 @@
-use Rattle.yds_model.proofs.Common.{◌≡◌, ◌+◌, ◌-◌, ◌≤◌, take, vec_len, Consumes}
+use Rattle.base.proofs.Common.{◌≡◌, ◌+◌, ◌-◌, ◌≤◌, take, vec_len, Consumes}
 use Rattle.yds_port.proofs.reading.read_all.Given as goal
 
 -- the filled front of the vector is what was taken

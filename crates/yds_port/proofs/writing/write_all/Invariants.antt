@@ -1,4 +1,4 @@
-use Rattle.yds_model.proofs.Common.{◌≡◌, List, ℕ, ◌++◌, length, Appends}
+use Rattle.base.proofs.Common.{◌≡◌, List, ℕ, ◌++◌, length, Appends}
 use Rattle.yds_port.proofs.writing.write_all.Given as goal
 
 -- a front of the piece was appended, and the rest is to be written

@@ -1,4 +1,5 @@
-use Rattle.yds_model.proofs.Common.{arith, divisor_positive}
+use Rattle.yds_model.proofs.Common.{arith}
+use Rattle.fraction_lemmas.proofs.Divisor.{divisor_positive}
 use Rattle.yds_search.proofs.search.speed_of.Goals as goal
 
 pub nonzero_div-result : goal.nonzero_div-result

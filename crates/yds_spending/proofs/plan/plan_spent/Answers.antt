@@ -1,4 +1,5 @@
-use Rattle.yds_model.proofs.Common.{WrittenSlot, IsPlan, IsSpent, ◌≡◌, ◌≤◌, ◌∙◌, List, length, ap, sym, subst, arith, sum_by, All, slots_at, Point, AreRising, horizon, hull_of, stretches, top_of, last_within}
+use Rattle.yds_model.proofs.Common.{WrittenSlot, IsPlan, IsSpent, ◌≡◌, ◌≤◌, ◌∙◌, List, length, ap, sym, subst, arith, sum_by, All, slots_at, Point, AreRising, horizon, hull_of, stretches, top_of}
+use Rattle.model_lemmas.proofs.Horizon.{last_within}
 use Rattle.std.proofs.lemmas.Result.{IfOk-weaker}
 use Rattle.yds_events.specs.Stretch.{length_of}
 use Rattle.yds_energy.proofs.LevelTimes.{levels_fit_the_horizon}

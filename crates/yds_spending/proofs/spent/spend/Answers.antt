@@ -1,5 +1,5 @@
 use Rattle.yds_model.proofs.Common.{◌≡◌, ℕ, ◌*◌, ◌++◌, ◌∷◌, [], List, map, take, get_or, sym, ap, ap₂, ◌∙◌, arith, sum_by, take_more, map-append, sum_by_more, sum_by-take-le, mul-pos, Fraction, Point, hull_of, hull_multiple, in_lowest_terms, in_parts}
-use Rattle.yds_model.specs.declared.limits.TheConstants.{MAX_TIME, MAX_POINTS, MAX_POINT_POWER}
+use Rattle.base.specs.declared.limits.TheConstants.{MAX_TIME, MAX_POINTS, MAX_POINT_POWER}
 use Rattle.yds_spending.specs.declared.time_share.TimeShare.{TimeShare}
 use Rattle.yds_spending.specs.TimeShare.{time_share_at}
 use Rattle.yds_spending.specs.Spent.{time_of_loads}

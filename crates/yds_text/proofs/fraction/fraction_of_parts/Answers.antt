@@ -1,5 +1,5 @@
 use Rattle.yds_model.proofs.Common.{◌≡◌, ◌∙◌, Err, true, sym, ap, arith, err_from_is_err_and, is_number}
-use Rattle.yds_model.specs.declared.limits.TheConstants.{MAX_DENOMINATOR}
+use Rattle.base.specs.declared.limits.TheConstants.{MAX_DENOMINATOR}
 use Rattle.yds_text.specs.FractionParts.{is_bad}
 use Rattle.yds_text.proofs.Digits.{Told, is_told}
 use Rattle.yds_text.proofs.Fractions.{good_spelling, too_large, parts_out, parts_told, whole_bad, num_bad, den_bad}

@@ -1,5 +1,5 @@
 use Rattle.yds_model.proofs.Common.{sym}
-use Rattle.yds_model.proofs.Spelling.{name_utf8}
+use Rattle.base.proofs.Spelling.{name_utf8}
 use Rattle.yds_text.proofs.Spelled.{some_text}
 use Rattle.yds_text.proofs.spelling.name.Goals as goal
 

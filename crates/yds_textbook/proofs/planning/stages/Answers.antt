@@ -1,5 +1,5 @@
 use Rattle.yds_model.proofs.Common.{◌≡◌, ◌≤◌, ℕ, List, [], length, ◌∙◌, sym, subst, ap, arith, All}
-use Rattle.yds_model.specs.declared.limits.TheConstants.{MAX_JOBS}
+use Rattle.base.specs.declared.limits.TheConstants.{MAX_JOBS}
 use Rattle.yds_critical.specs.Critical.{IsCritical}
 use Rattle.yds_contract.specs.Contracted.{Removes}
 use Rattle.yds_textbook.specs.declared.stage.Stage.{Stage}

@@ -1,5 +1,5 @@
 use Rattle.yds_model.proofs.Common.{◌≡◌, ◌∙◌, sym, refl, ap, subst, get_or, append-nil, of_whole, WrittenSlot, IsFraction}
-use Rattle.yds_model.specs.declared.limits.TheConstants.{MAX_TIME}
+use Rattle.base.specs.declared.limits.TheConstants.{MAX_TIME}
 use Rattle.yds_timetable.specs.Shares.{JobShare}
 use Rattle.yds_slots.specs.Schedule.{WrittenSchedule}
 use Rattle.yds_timetable.proofs.Filling.{IsNext, reached_none, can_reach, room_next, grain_next, laid_next, reached_next}

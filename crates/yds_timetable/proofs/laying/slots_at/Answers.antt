@@ -1,5 +1,5 @@
 use Rattle.yds_model.proofs.Common.{◌≡◌, ◌≤◌, ◌∙◌, ◌++◌, ◌∷◌, [], List, arith, sym, ap, ap₂, subst, get_or, All-nil, of_whole, WrittenSlot, IsFraction}
-use Rattle.yds_model.specs.declared.limits.TheConstants.{MAX_TIME}
+use Rattle.base.specs.declared.limits.TheConstants.{MAX_TIME}
 use Rattle.yds_timetable.specs.Shares.{JobShare}
 use Rattle.yds_timetable.proofs.Filling.{IsNext, reached_none, can_reach, slots_next, all_next, reached_next}
 use Rattle.yds_timetable.proofs.laying.slots_at.Goals as goal

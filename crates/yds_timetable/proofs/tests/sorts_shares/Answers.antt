@@ -1,5 +1,5 @@
 use Rattle.yds_model.proofs.Common.{ℕ, ◌≡◌, ◌*◌, ◌≤◌, List, [], ◌∷◌, Some, None, refl, sym, ap₂, subst, arith, All, All-nil, All-cons, Piece}
-use Rattle.yds_model.specs.declared.limits.TheConstants.{MAX_SLOT_WORK}
+use Rattle.base.specs.declared.limits.TheConstants.{MAX_SLOT_WORK}
 use Rattle.yds_events.specs.Stretch.{IsStretch}
 use Rattle.yds_timetable.specs.declared.pace.Pace.{Pace}
 use Rattle.yds_timetable.specs.Shares.{JobShare}

@@ -1,4 +1,4 @@
-use Rattle.yds_model.proofs.Common.{◌≡◌, ◌∙◌, ℕ, nat_lt, is_some, List, map, sym, ap}
+use Rattle.base.proofs.Common.{◌≡◌, ◌∙◌, ℕ, nat_lt, is_some, List, map, sym, ap}
 use Rattle.yds_kernel.specs.declared.loss.Since.TheVariants as since
 use Rattle.yds_kernel.specs.Views.{thread_read}
 use Rattle.yds_trace.specs.declared.asked.Task.{Task as TaskKept}

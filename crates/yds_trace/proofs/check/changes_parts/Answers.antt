@@ -1,4 +1,4 @@
-use Rattle.yds_model.proofs.Common.{ℕ, nat_lt, ap}
+use Rattle.base.proofs.Common.{ℕ, nat_lt, ap}
 use Rattle.yds_trace.specs.Views.{start_read}
 use Rattle.yds_trace.proofs.check.changes_parts.Goals as goal
 

@@ -1,4 +1,4 @@
-use Rattle.yds_model.proofs.Common.{ℕ, ap, nat_lt}
+use Rattle.base.proofs.Common.{ℕ, ap, nat_lt}
 use Rattle.yds_trace.proofs.counted.counts.Goals as goal
 
 pub returns-in-Loss : goal.returns-in-Loss

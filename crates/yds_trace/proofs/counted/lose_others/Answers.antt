@@ -1,4 +1,4 @@
-use Rattle.yds_model.proofs.Common.{◌∙◌, ◌∷◌}
+use Rattle.base.proofs.Common.{◌∙◌, ◌∷◌}
 use Rattle.yds_kernel.specs.Event.{Lost}
 use Rattle.yds_trace.proofs.Spans.{unwanted, wanted_are, are_wanted}
 use Rattle.yds_trace.proofs.counted.lose_others.Goals as goal

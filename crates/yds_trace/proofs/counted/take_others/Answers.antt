@@ -1,4 +1,4 @@
-use Rattle.yds_model.proofs.Common.{◌∙◌, ◌∷◌}
+use Rattle.base.proofs.Common.{◌∙◌, ◌∷◌}
 use Rattle.yds_kernel.specs.Event.{Stamped}
 use Rattle.yds_kernel.specs.Views.{event_read}
 use Rattle.yds_trace.proofs.Spans.{unwanted, wanted_are, are_wanted}

@@ -1,4 +1,4 @@
-use Rattle.yds_model.proofs.Common.{◌∙◌, arith, nil_from_length}
+use Rattle.base.proofs.Common.{◌∙◌, arith, nil_from_length}
 use Rattle.yds_trace.proofs.Closing.{made_more, made_all}
 use Rattle.yds_trace.proofs.ended.close_each.Goals as goal
 

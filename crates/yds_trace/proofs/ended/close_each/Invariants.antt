@@ -1,4 +1,4 @@
-use Rattle.yds_model.proofs.Common.{◌≡◌, List, ◌++◌, map}
+use Rattle.base.proofs.Common.{◌≡◌, List, ◌++◌, map}
 use Rattle.yds_kernel.specs.Event.{Said}
 use Rattle.yds_trace.specs.Asked.{Start}
 use Rattle.yds_trace.specs.Kept.{IsPast}

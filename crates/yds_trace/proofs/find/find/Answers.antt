@@ -1,4 +1,4 @@
-use Rattle.yds_model.proofs.Common.{◌∙◌, ℕ, Option, ap₂}
+use Rattle.base.proofs.Common.{◌∙◌, ℕ, Option, ap₂}
 use Rattle.yds_trace.specs.declared.find.Found.{Found}
 use Rattle.yds_trace.specs.Asked.{is_numbered, is_named}
 use Rattle.yds_trace.specs.Views.{task_read}

@@ -1,4 +1,4 @@
-use Rattle.yds_model.proofs.Common.{◌≡◌, take, sum_by}
+use Rattle.base.proofs.Common.{◌≡◌, take, sum_by}
 use Rattle.yds_kernel.specs.Parts.{capped}
 use Rattle.yds_trace.specs.Following.{stretches_of}
 use Rattle.yds_trace.proofs.followed.count_all_stretches.Given as goal

@@ -1,4 +1,4 @@
-use Rattle.yds_model.proofs.Common.{◌≡◌, ℕ, ◌<◌, slice_index_or, vec_len}
+use Rattle.base.proofs.Common.{◌≡◌, ℕ, ◌<◌, slice_index_or, vec_len}
 use Rattle.yds_trace.specs.declared.followed.Followed.{Followed}
 use Rattle.yds_trace.specs.Following.{IsUnknown}
 use Rattle.yds_trace.proofs.followed.follow.Given as goal

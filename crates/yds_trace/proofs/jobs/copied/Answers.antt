@@ -1,4 +1,4 @@
-use Rattle.yds_model.proofs.Common.{arith}
+use Rattle.base.proofs.Common.{arith}
 use Rattle.yds_trace.specs.Views.{job_read}
 use Rattle.yds_trace.proofs.Copying.{copied_more}
 use Rattle.yds_trace.proofs.jobs.copied.Goals as goal

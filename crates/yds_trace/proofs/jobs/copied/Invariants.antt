@@ -1,4 +1,4 @@
-use Rattle.yds_model.proofs.Common.{◌≡◌, map, take}
+use Rattle.base.proofs.Common.{◌≡◌, map, take}
 use Rattle.yds_trace.specs.Views.{job_read}
 use Rattle.yds_trace.proofs.jobs.copied.Given as goal
 

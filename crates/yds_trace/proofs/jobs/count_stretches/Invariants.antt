@@ -1,4 +1,4 @@
-use Rattle.yds_model.proofs.Common.{◌≡◌, take, sum_by}
+use Rattle.base.proofs.Common.{◌≡◌, take, sum_by}
 use Rattle.yds_kernel.specs.Parts.{capped}
 use Rattle.yds_trace.specs.Following.{stretches_in}
 use Rattle.yds_trace.proofs.jobs.count_stretches.Given as goal

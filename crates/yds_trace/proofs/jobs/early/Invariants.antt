@@ -1,4 +1,4 @@
-use Rattle.yds_model.proofs.Common.{◌<◌, take, All}
+use Rattle.base.proofs.Common.{◌<◌, take, All}
 use Rattle.yds_trace.specs.declared.job.Job.{Job as JobKept}
 use Rattle.yds_trace.proofs.jobs.early.Given as goal
 

@@ -1,4 +1,4 @@
-use Rattle.yds_model.proofs.Common.{◌∙◌, ap, arith, length, map}
+use Rattle.base.proofs.Common.{◌∙◌, ap, arith, length, map}
 use Rattle.yds_trace.specs.Jobs.{lost_earlier}
 use Rattle.yds_trace.specs.Views.{jobs_listed}
 use Rattle.yds_trace.proofs.Listed.{lost_none, lost_more, kept_whole, lost_all}

@@ -1,4 +1,4 @@
-use Rattle.yds_model.proofs.Common.{◌∙◌, ap, vec_len, ◌-◌, arith, refl}
+use Rattle.base.proofs.Common.{◌∙◌, ap, vec_len, ◌-◌, arith, refl}
 use Rattle.yds_trace.specs.declared.job.End.{End}
 use Rattle.yds_trace.specs.declared.job.Job.{Job as JobKept}
 use Rattle.yds_trace.specs.Jobs.{lost_job}

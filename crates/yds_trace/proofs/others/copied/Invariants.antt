@@ -1,4 +1,4 @@
-use Rattle.yds_model.proofs.Common.{◌≡◌, map, take}
+use Rattle.base.proofs.Common.{◌≡◌, map, take}
 use Rattle.yds_trace.specs.Views.{span_read}
 use Rattle.yds_trace.proofs.others.copied.Given as goal
 

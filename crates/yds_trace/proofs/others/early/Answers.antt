@@ -1,4 +1,4 @@
-use Rattle.yds_model.proofs.Common.{◌≤◌, All-more, arith, subst}
+use Rattle.base.proofs.Common.{◌≤◌, All-more, arith, subst}
 use Rattle.yds_trace.specs.declared.others.Span.{Span}
 use Rattle.yds_trace.proofs.others.early.Goals as goal
 

@@ -1,4 +1,4 @@
-use Rattle.yds_model.proofs.Common.{◌≤◌, take, All}
+use Rattle.base.proofs.Common.{◌≤◌, take, All}
 use Rattle.yds_trace.specs.declared.others.Span.{Span}
 use Rattle.yds_trace.proofs.others.early.Given as goal
 

@@ -1,4 +1,4 @@
-use Rattle.yds_model.proofs.Common.{◌≡◌, ◌∙◌, ℕ, ◌+◌, ◌-◌, ◌≤◌, List, ◌∷◌, length, map, drop, get_or, sym, ap, subst, arith}
+use Rattle.base.proofs.Common.{◌≡◌, ◌∙◌, ℕ, ◌+◌, ◌-◌, ◌≤◌, List, ◌∷◌, length, map, drop, get_or, sym, ap, subst, arith}
 use Rattle.std.proofs.lemmas.List.{at_drop_more}
 use Rattle.yds_trace.specs.declared.asked.StartSpeed.{StartSpeed as StartSpeedKept}
 use Rattle.yds_trace.specs.declared.past.Told.{Told}

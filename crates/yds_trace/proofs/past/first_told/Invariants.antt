@@ -1,4 +1,4 @@
-use Rattle.yds_model.proofs.Common.{map, drop}
+use Rattle.base.proofs.Common.{map, drop}
 use Rattle.yds_trace.specs.Views.{speed_read}
 use Rattle.yds_trace.specs.Kept.{TellsSpeeds}
 use Rattle.yds_trace.proofs.past.first_told.Given as goal

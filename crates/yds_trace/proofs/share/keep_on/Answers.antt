@@ -1,4 +1,4 @@
-use Rattle.yds_model.proofs.Common.{◌==◌, rules}
+use Rattle.base.proofs.Common.{◌==◌, rules}
 use Rattle.std.proofs.lemmas.Fn.{filter_same}
 use Rattle.yds_trace.specs.declared.job.Stretch.{Stretch}
 use Rattle.yds_trace.proofs.share.keep_on.Goals as goal

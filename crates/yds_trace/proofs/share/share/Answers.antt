@@ -1,4 +1,4 @@
-use Rattle.yds_model.proofs.Common.{◌∙◌, ◌==◌, true, List, reverse, sym, ap}
+use Rattle.base.proofs.Common.{◌∙◌, ◌==◌, true, List, reverse, sym, ap}
 use Rattle.yds_trace.specs.declared.job.Stretch.{Stretch}
 use Rattle.yds_trace.specs.Views.{asked_read, job_read}
 use Rattle.yds_trace.proofs.Shares.{filter_reverse, share_made, with_stretches}

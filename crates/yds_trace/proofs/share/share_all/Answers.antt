@@ -1,4 +1,4 @@
-use Rattle.yds_model.proofs.Common.{map, sym, arith}
+use Rattle.base.proofs.Common.{map, sym, arith}
 use Rattle.yds_trace.specs.Document.{share_of}
 use Rattle.yds_trace.specs.Ended.{in_order_of_begin}
 use Rattle.yds_trace.specs.Views.{asked_read}

@@ -1,4 +1,4 @@
-use Rattle.yds_model.proofs.Common.{arith}
+use Rattle.base.proofs.Common.{arith}
 use Rattle.yds_trace.specs.Document.{share_of}
 use Rattle.yds_trace.specs.Views.{asked_read, job_read}
 use Rattle.yds_trace.proofs.Shares.{changed_by_places}

@@ -1,4 +1,4 @@
-use Rattle.yds_model.proofs.Common.{arith}
+use Rattle.base.proofs.Common.{arith}
 use Rattle.yds_trace.specs.Following.{Shares}
 use Rattle.yds_trace.specs.Views.{asked_read}
 use Rattle.yds_trace.proofs.Copying.{each_more}

@@ -1,4 +1,4 @@
-use Rattle.yds_model.proofs.Common.{◌≡◌, ℕ, ◌<◌, get_or, vec_len}
+use Rattle.base.proofs.Common.{◌≡◌, ℕ, ◌<◌, get_or, vec_len}
 use Rattle.yds_trace.specs.declared.shown.ShownTask.{ShownTask}
 use Rattle.yds_trace.specs.Following.{Shares}
 use Rattle.yds_trace.specs.Views.{asked_read}

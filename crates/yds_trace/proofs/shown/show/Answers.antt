@@ -1,4 +1,4 @@
-use Rattle.yds_model.proofs.Common.{◌∙◌, List, map, reverse, refl, ap}
+use Rattle.base.proofs.Common.{◌∙◌, List, map, reverse, refl, ap}
 use Rattle.yds_trace.specs.Jobs.{Job}
 use Rattle.yds_trace.specs.Passing.{closed_at, standing_on}
 use Rattle.yds_trace.specs.Views.{job_read}

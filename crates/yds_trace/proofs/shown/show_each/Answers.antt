@@ -1,4 +1,4 @@
-use Rattle.yds_model.proofs.Common.{arith}
+use Rattle.base.proofs.Common.{arith}
 use Rattle.yds_trace.specs.Following.{Shows}
 use Rattle.yds_trace.proofs.Copying.{each_more}
 use Rattle.yds_trace.proofs.shown.show_each.Goals as goal

@@ -1,4 +1,4 @@
-use Rattle.yds_model.proofs.Common.{◌≡◌, ℕ, ◌<◌, List, slice_index_or, vec_len}
+use Rattle.base.proofs.Common.{◌≡◌, ℕ, ◌<◌, List, slice_index_or, vec_len}
 use Rattle.yds_kernel.specs.Event.{Said}
 use Rattle.yds_trace.specs.Asked.{Start}
 use Rattle.yds_trace.specs.declared.followed.Followed.{Followed}

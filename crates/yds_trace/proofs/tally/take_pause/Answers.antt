@@ -1,4 +1,4 @@
-use Rattle.yds_model.proofs.Common.{◌≡◌, ◌∙◌, ◌-◌, ◌≤◌, ◌<◌, ℕ, sym, ap, arith}
+use Rattle.base.proofs.Common.{◌≡◌, ◌∙◌, ◌-◌, ◌≤◌, ◌<◌, ℕ, sym, ap, arith}
 use Rattle.yds_trace.specs.declared.tally.Pause.{Pause}
 use Rattle.yds_trace.specs.Past.{last_time}
 use Rattle.yds_trace.specs.Tally.{has_pause}

@@ -1,4 +1,4 @@
-use Rattle.yds_model.proofs.Common.{◌∙◌, ◌++◌, ◌∷◌, [], ◌+◌, ◌<◌, List, length, arith, ap, ap₂, sym, map-append}
+use Rattle.base.proofs.Common.{◌∙◌, ◌++◌, ◌∷◌, [], ◌+◌, ◌<◌, List, length, arith, ap, ap₂, sym, map-append}
 use Rattle.yds_trace.specs.declared.job.Job.{Job as JobKept}
 use Rattle.yds_trace.specs.Document.{Judged}
 use Rattle.yds_trace.specs.Views.{job_read, task_read}

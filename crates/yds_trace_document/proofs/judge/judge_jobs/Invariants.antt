@@ -1,4 +1,4 @@
-use Rattle.yds_model.proofs.Common.{◌≡◌, take, map, enumerate_from}
+use Rattle.base.proofs.Common.{◌≡◌, take, map, enumerate_from}
 use Rattle.yds_trace.specs.Views.{job_read, task_read}
 use Rattle.yds_trace_document.specs.Kept.{judged_at}
 use Rattle.yds_trace_document.specs.Views.{judged_list, within_read}

@@ -1,4 +1,4 @@
-use Rattle.yds_model.proofs.Common.{◌≡◌, drop}
+use Rattle.base.proofs.Common.{◌≡◌, drop}
 use Rattle.yds_trace_document.specs.LeftOut.{first_frequent}
 use Rattle.yds_trace_document.specs.Views.{judged_list, count_in}
 use Rattle.yds_trace_document.proofs.left_out.first_frequent.Given as goal

@@ -1,4 +1,4 @@
-use Rattle.yds_model.proofs.Common.{◌∙◌, ℕ, List, length-map, sym, ap, ap₂, Option, Some, option_map}
+use Rattle.base.proofs.Common.{◌∙◌, ℕ, List, length-map, sym, ap, ap₂, Option, Some, option_map}
 use Rattle.yds_trace.specs.declared.reason.Reason.{Reason}
 use Rattle.yds_trace.specs.Document.{Judged}
 use Rattle.yds_trace_document.specs.declared.fault.LeftOut.{LeftOut}

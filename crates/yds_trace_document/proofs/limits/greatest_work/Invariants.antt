@@ -1,4 +1,4 @@
-use Rattle.yds_model.proofs.Common.{◌≡◌, max, drop}
+use Rattle.base.proofs.Common.{◌≡◌, max, drop}
 use Rattle.yds_trace_document.specs.Limits.{works_of, greatest}
 use Rattle.yds_trace_document.specs.Views.{written_list}
 use Rattle.yds_trace_document.proofs.limits.greatest_work.Given as goal

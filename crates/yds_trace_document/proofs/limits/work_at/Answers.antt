@@ -1,4 +1,4 @@
-use Rattle.yds_model.proofs.Common.{◌≡◌, ◌∙◌, ◌<◌, ℕ, List, map, length, length-map, get_or, get_or-map, sym, ap, subst, arith}
+use Rattle.base.proofs.Common.{◌≡◌, ◌∙◌, ◌<◌, ℕ, List, map, length, length-map, get_or, get_or-map, sym, ap, subst, arith}
 use Rattle.yds_trace.specs.Document.{Written}
 use Rattle.yds_trace_document.specs.declared.written.Written.{Written as WrittenKept}
 use Rattle.yds_trace_document.specs.Limits.{works_of}

@@ -1,4 +1,4 @@
-use Rattle.yds_model.proofs.Common.{sym, arith}
+use Rattle.base.proofs.Common.{sym, arith}
 use Rattle.yds_trace_document.proofs.Nearest.{far_up, far_down}
 use Rattle.yds_trace_document.proofs.numbers.distance.Goals as goal
 

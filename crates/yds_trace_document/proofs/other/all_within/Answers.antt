@@ -1,4 +1,4 @@
-use Rattle.yds_model.proofs.Common.{◌<◌, length, arith}
+use Rattle.base.proofs.Common.{◌<◌, length, arith}
 use Rattle.yds_trace.specs.Others.{span_within}
 use Rattle.yds_trace_document.specs.Views.{other_read}
 use Rattle.yds_trace_document.proofs.Steps.{made_step}

@@ -1,4 +1,4 @@
-use Rattle.yds_model.proofs.Common.{◌≡◌, take, map}
+use Rattle.base.proofs.Common.{◌≡◌, take, map}
 use Rattle.yds_trace.specs.Others.{spans_within}
 use Rattle.yds_trace_document.specs.Views.{other_read}
 use Rattle.yds_trace_document.proofs.other.all_within.Given as goal

@@ -1,4 +1,4 @@
-use Rattle.yds_model.proofs.Common.{◌∙◌, ap, map, rules}
+use Rattle.base.proofs.Common.{◌∙◌, ap, map, rules}
 use Rattle.std.proofs.lemmas.Fn.{filter_same}
 use Rattle.yds_trace.specs.Others.{goes_behind}
 use Rattle.yds_trace_document.specs.declared.other.Other.{Other as OtherKept}

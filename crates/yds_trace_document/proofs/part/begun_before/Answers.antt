@@ -1,4 +1,4 @@
-use Rattle.yds_model.proofs.Common.{◌∙◌, ap, rules}
+use Rattle.base.proofs.Common.{◌∙◌, ap, rules}
 use Rattle.std.proofs.lemmas.Fn.{filter_same}
 use Rattle.yds_trace.specs.Parts.{is_before_end}
 use Rattle.yds_trace_document.specs.declared.judged.Judged.{Judged as JudgedKept}

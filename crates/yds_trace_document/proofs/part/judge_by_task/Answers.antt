@@ -1,4 +1,4 @@
-use Rattle.yds_model.proofs.Common.{◌≡◌, ◌∙◌, ℕ, List, IfOk, map, ap₂, subst, sym}
+use Rattle.base.proofs.Common.{◌≡◌, ◌∙◌, ℕ, List, IfOk, map, ap₂, subst, sym}
 use Rattle.yds_trace.specs.declared.asked.Task.{Task as TaskKept}
 use Rattle.yds_trace.specs.declared.shown.ShownTask.{ShownTask}
 use Rattle.yds_trace.specs.Shown.{IsShared}

@@ -1,4 +1,4 @@
-use Rattle.yds_model.proofs.Common.{◌∙◌, ◌++◌, ◌∷◌, [], ◌<◌, List, length, arith, ap, ap₂, sym, map-append}
+use Rattle.base.proofs.Common.{◌∙◌, ◌++◌, ◌∷◌, [], ◌<◌, List, length, arith, ap, ap₂, sym, map-append}
 use Rattle.yds_trace.specs.declared.asked.Task.{Task as TaskKept}
 use Rattle.yds_trace.specs.declared.shown.ShownTask.{ShownTask}
 use Rattle.yds_trace.specs.Document.{Judged}

@@ -1,4 +1,4 @@
-use Rattle.yds_model.proofs.Common.{◌≡◌, take, map}
+use Rattle.base.proofs.Common.{◌≡◌, take, map}
 use Rattle.yds_trace.specs.Views.{task_read}
 use Rattle.yds_trace_document.specs.Kept.{shown_tasks}
 use Rattle.yds_trace_document.specs.Views.{judged_lists, within_read}

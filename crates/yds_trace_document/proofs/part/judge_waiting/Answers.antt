@@ -1,4 +1,4 @@
-use Rattle.yds_model.proofs.Common.{◌≡◌, ◌∙◌, List, map, filter, ap, sym}
+use Rattle.base.proofs.Common.{◌≡◌, ◌∙◌, List, map, filter, ap, sym}
 use Rattle.std.specs.Prelude.{Vec}
 use Rattle.std.specs.declared.alloc.Global.{Global}
 use Rattle.yds_trace.specs.declared.others.Span.{Span as SpanKept}

@@ -1,4 +1,4 @@
-use Rattle.yds_model.proofs.Common.{◌≡◌, ◌++◌, map}
+use Rattle.base.proofs.Common.{◌≡◌, ◌++◌, map}
 use Rattle.yds_trace.specs.Views.{asked_read}
 use Rattle.yds_trace_document.specs.PartKept.{items_of_part}
 use Rattle.yds_trace_document.specs.Views.{judged_lists}

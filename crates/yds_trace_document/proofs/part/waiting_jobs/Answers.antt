@@ -1,4 +1,4 @@
-use Rattle.yds_model.proofs.Common.{◌≡◌, ◌∙◌, List, IfOk, ap, subst}
+use Rattle.base.proofs.Common.{◌≡◌, ◌∙◌, List, IfOk, ap, subst}
 use Rattle.yds_trace.specs.Document.{Judged, in_order}
 use Rattle.yds_trace_document.specs.Kept.{begin_of, together}
 use Rattle.yds_trace_document.specs.Views.{judged_list}

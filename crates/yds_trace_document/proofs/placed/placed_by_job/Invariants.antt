@@ -1,4 +1,4 @@
-use Rattle.yds_model.proofs.Common.{◌≡◌, take, flat_map, enumerate_from}
+use Rattle.base.proofs.Common.{◌≡◌, take, flat_map, enumerate_from}
 use Rattle.yds_trace.specs.Document.{placed_runs}
 use Rattle.yds_trace_document.specs.Views.{written_list, placed_list}
 use Rattle.yds_trace_document.proofs.placed.placed_by_job.Given as goal

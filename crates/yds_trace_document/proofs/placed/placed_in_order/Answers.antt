@@ -1,4 +1,4 @@
-use Rattle.yds_model.proofs.Common.{◌∙◌, map, ap, sym, rules, IsNonDecreasingBy-from_sort_by_key, answers_always}
+use Rattle.base.proofs.Common.{◌∙◌, map, ap, sym, rules, IsNonDecreasingBy-from_sort_by_key, answers_always}
 use Rattle.yds_trace.specs.Document.{Placed, in_order}
 use Rattle.yds_trace_document.specs.declared.placed.Placed.{Placed as PlacedKept}
 use Rattle.yds_trace_document.specs.Views.{placed_read}

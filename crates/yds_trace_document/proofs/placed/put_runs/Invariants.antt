@@ -1,4 +1,4 @@
-use Rattle.yds_model.proofs.Common.{◌≡◌, ◌++◌, take}
+use Rattle.base.proofs.Common.{◌≡◌, ◌++◌, take}
 use Rattle.yds_trace_document.specs.Kept.{placed_of}
 use Rattle.yds_trace_document.specs.Views.{runs_read, placed_list}
 use Rattle.yds_trace_document.proofs.placed.put_runs.Given as goal

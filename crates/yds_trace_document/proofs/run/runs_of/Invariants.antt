@@ -1,4 +1,4 @@
-use Rattle.yds_model.proofs.Common.{◌≡◌, ◌≤◌, length, drop}
+use Rattle.base.proofs.Common.{◌≡◌, ◌≤◌, length, drop}
 use Rattle.yds_trace.specs.WrittenTime.{runs_of}
 use Rattle.yds_trace_document.specs.Views.{units_read, runs_listed}
 use Rattle.yds_trace_document.proofs.run.runs_of.Given as goal

@@ -1,4 +1,4 @@
-use Rattle.yds_model.proofs.Common.{◌≡◌, take}
+use Rattle.base.proofs.Common.{◌≡◌, take}
 use Rattle.yds_trace_document.specs.Kept.{together}
 use Rattle.yds_trace_document.specs.Views.{judged_list, judged_lists}
 use Rattle.yds_trace_document.proofs.settlement.all_tasks.Given as goal

@@ -1,4 +1,4 @@
-use Rattle.yds_model.proofs.Common.{◌≡◌, ◌≤◌, length, drop}
+use Rattle.base.proofs.Common.{◌≡◌, ◌≤◌, length, drop}
 use Rattle.yds_trace.specs.Document.{least_begin}
 use Rattle.yds_trace_document.specs.Views.{judged_list}
 use Rattle.yds_trace_document.proofs.settlement.first_begin.Given as goal

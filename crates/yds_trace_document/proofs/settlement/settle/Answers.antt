@@ -1,4 +1,4 @@
-use Rattle.yds_model.proofs.Common.{◌≡◌, ◌∙◌, List, IfOk, map, ap, ap₂, subst}
+use Rattle.base.proofs.Common.{◌≡◌, ◌∙◌, List, IfOk, map, ap, ap₂, subst}
 use Rattle.std.specs.Prelude.{Vec}
 use Rattle.std.specs.declared.alloc.Global.{Global}
 use Rattle.yds_trace.specs.declared.asked.Task.{Task as TaskKept}

@@ -1,4 +1,4 @@
-use Rattle.yds_model.proofs.Common.{◌≡◌, take}
+use Rattle.base.proofs.Common.{◌≡◌, take}
 use Rattle.yds_kernel.specs.Parts.{capped}
 use Rattle.yds_trace.specs.WrittenTime.{work_of_runs}
 use Rattle.yds_trace_document.specs.Views.{runs_read}

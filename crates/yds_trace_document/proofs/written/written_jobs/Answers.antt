@@ -1,4 +1,4 @@
-use Rattle.yds_model.proofs.Common.{◌∙◌, ◌<◌, length, arith, ap}
+use Rattle.base.proofs.Common.{◌∙◌, ◌<◌, length, arith, ap}
 use Rattle.yds_trace_document.specs.declared.judged.Judged.{Judged as JudgedKept}
 use Rattle.yds_trace_document.specs.Kept.{capped_of}
 use Rattle.yds_trace_document.specs.Views.{units_read, judged_read, written_read}

@@ -1,4 +1,4 @@
-use Rattle.yds_model.proofs.Common.{◌≡◌, take}
+use Rattle.base.proofs.Common.{◌≡◌, take}
 use Rattle.yds_trace_document.specs.Kept.{capped_jobs}
 use Rattle.yds_trace_document.specs.Views.{units_read, judged_list, written_list}
 use Rattle.yds_trace_document.proofs.written.written_jobs.Given as goal

@@ -1,4 +1,4 @@
-use Rattle.yds_model.proofs.Common.{ℕ, ◌+◌, ◌∙◌, inr, [], Ok, refl, sym, ap, subst, arith, err_from_is_err_and}
+use Rattle.base.proofs.Common.{ℕ, ◌+◌, ◌∙◌, inr, [], Ok, refl, sym, ap, subst, arith, err_from_is_err_and}
 use Rattle.yds_kernel_order.specs.Order.{said_in}
 use Rattle.yds_kernel_order.specs.Ordering.{Ordering}
 use Rattle.yds_trace.specs.Asked.{Asked}

@@ -1,4 +1,4 @@
-use Rattle.yds_model.proofs.Common.{◌≡◌}
+use Rattle.base.proofs.Common.{◌≡◌}
 use Rattle.yds_trace.specs.Views.{asked_read}
 use Rattle.yds_trace_bounds.specs.Bounds.{asked_from}
 use Rattle.yds_trace_reading.proofs.Beginning.{IsKnownFirst}

@@ -1,4 +1,4 @@
-use Rattle.yds_model.proofs.Common.{◌≡◌, drop}
+use Rattle.base.proofs.Common.{◌≡◌, drop}
 use Rattle.yds_trace.specs.Parts.{greatest_due}
 use Rattle.yds_trace_document.specs.Views.{judged_list}
 use Rattle.yds_trace_parts.proofs.part.greatest_due.Given as goal

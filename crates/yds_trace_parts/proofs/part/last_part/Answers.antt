@@ -1,4 +1,4 @@
-use Rattle.yds_model.proofs.Common.{refl, err_from_is_err_and}
+use Rattle.base.proofs.Common.{refl, err_from_is_err_and}
 use Rattle.yds_trace.specs.Views.{asked_read}
 use Rattle.yds_trace_parts.proofs.Parting.{memory_halts, text_alone_is}
 use Rattle.yds_trace_parts.proofs.part.last_part.Goals as goal

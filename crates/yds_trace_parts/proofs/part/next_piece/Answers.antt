@@ -1,4 +1,4 @@
-use Rattle.yds_model.proofs.Common.{◌∙◌, refl, sym}
+use Rattle.base.proofs.Common.{◌∙◌, refl, sym}
 use Rattle.yds_trace.specs.Views.{asked_read}
 use Rattle.yds_trace_parts.proofs.part.next_piece.Goals as goal
 

@@ -1,4 +1,4 @@
-use Rattle.yds_model.proofs.Common.{◌∙◌, ap, sym}
+use Rattle.base.proofs.Common.{◌∙◌, ap, sym}
 use Rattle.yds_trace_document.specs.Views.{judged_list}
 use Rattle.yds_trace_parts.proofs.part.place_piece.Goals as goal
 

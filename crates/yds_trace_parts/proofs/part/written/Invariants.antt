@@ -1,4 +1,4 @@
-use Rattle.yds_model.proofs.Common.{◌≡◌, count_by, take}
+use Rattle.base.proofs.Common.{◌≡◌, count_by, take}
 use Rattle.yds_kernel.specs.Parts.{capped}
 use Rattle.yds_trace.specs.Parts.{is_written}
 use Rattle.yds_trace_document.specs.Views.{judged_list}

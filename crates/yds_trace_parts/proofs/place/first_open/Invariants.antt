@@ -1,4 +1,4 @@
-use Rattle.yds_model.proofs.Common.{◌≡◌, drop, not}
+use Rattle.base.proofs.Common.{◌≡◌, drop, not}
 use Rattle.std.specs.List.{find}
 use Rattle.yds_trace.specs.Views.{asked_read}
 use Rattle.yds_trace_document.specs.Views.{judged_list}

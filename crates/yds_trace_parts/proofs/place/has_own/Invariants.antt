@@ -1,4 +1,4 @@
-use Rattle.yds_model.proofs.Common.{◌≡◌, drop, list_any}
+use Rattle.base.proofs.Common.{◌≡◌, drop, list_any}
 use Rattle.yds_trace.specs.Parts.{is_own}
 use Rattle.yds_trace.specs.Views.{asked_read}
 use Rattle.yds_trace_document.specs.Views.{judged_list}

@@ -1,4 +1,4 @@
-use Rattle.yds_model.proofs.Common.{◌∙◌, List, ap}
+use Rattle.base.proofs.Common.{◌∙◌, List, ap}
 use Rattle.yds_trace.specs.Document.{Judged}
 use Rattle.yds_trace.specs.Parts.{waiting}
 use Rattle.yds_trace.specs.Views.{asked_read}

@@ -1,4 +1,4 @@
-use Rattle.yds_model.proofs.Common.{◌≡◌, drop}
+use Rattle.base.proofs.Common.{◌≡◌, drop}
 use Rattle.yds_trace.specs.Views.{asked_read}
 use Rattle.yds_trace_document.specs.Views.{judged_list}
 use Rattle.yds_trace_parts.specs.Place.{front_read, places_read, start, walk}

@@ -1,4 +1,4 @@
-use Rattle.yds_model.proofs.Common.{◌≡◌, take}
+use Rattle.base.proofs.Common.{◌≡◌, take}
 use Rattle.yds_kernel.specs.Parts.{capped}
 use Rattle.yds_trace.specs.Parts.{stretches_of}
 use Rattle.yds_trace_document.specs.Views.{judged_list}

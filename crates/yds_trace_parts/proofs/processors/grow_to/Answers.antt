@@ -1,4 +1,4 @@
-use Rattle.yds_model.proofs.Common.{◌≡◌, ℕ, ◌∷◌, ◌++◌, [], length, ◌∙◌, ap, arith}
+use Rattle.base.proofs.Common.{◌≡◌, ℕ, ◌∷◌, ◌++◌, [], length, ◌∙◌, ap, arith}
 use Rattle.yds_trace_parts.specs.declared.processors.Processor.{Processor}
 use Rattle.yds_trace_parts.proofs.Loops.{grows_first, grows_more, grows_last}
 use Rattle.yds_trace_parts.proofs.processors.grow_to.Goals as goal

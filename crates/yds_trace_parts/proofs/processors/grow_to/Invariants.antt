@@ -1,4 +1,4 @@
-use Rattle.yds_model.proofs.Common.{◌+◌, ◌-◌, vec_len}
+use Rattle.base.proofs.Common.{◌+◌, ◌-◌, vec_len}
 use Rattle.yds_trace_parts.proofs.Loops.{GrowsTo}
 use Rattle.yds_trace_parts.proofs.processors.grow_to.Given as goal
 

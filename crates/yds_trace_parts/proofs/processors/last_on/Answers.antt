@@ -1,4 +1,4 @@
-use Rattle.yds_model.proofs.Common.{IfOk, IfErr, None, subst, err_from_is_err_and}
+use Rattle.base.proofs.Common.{IfOk, IfErr, None, subst, err_from_is_err_and}
 use Rattle.yds_trace.specs.Asked.{Asked, on}
 use Rattle.yds_trace_parts.specs.Told.{part_halt}
 use Rattle.yds_trace_parts.specs.Telling.{IsLast, IsHaltFor}

@@ -1,4 +1,4 @@
-use Rattle.yds_model.proofs.Common.{◌≡◌, ◌||◌, Bool, ◌∙◌, sym, ap, err_from_is_err_and}
+use Rattle.base.proofs.Common.{◌≡◌, ◌||◌, Bool, ◌∙◌, sym, ap, err_from_is_err_and}
 use Rattle.yds_trace_parts.proofs.Loops.{last_first, last_at_place, last_halts_at, last_end}
 use Rattle.yds_trace_parts.proofs.processors.last_pieces.Goals as goal
 use Rattle.yds_trace_parts.proofs.processors.last_pieces.Goals.{then-has_job, else-has_job}

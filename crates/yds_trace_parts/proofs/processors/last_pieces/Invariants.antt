@@ -1,4 +1,4 @@
-use Rattle.yds_model.proofs.Common.{drop}
+use Rattle.base.proofs.Common.{drop}
 use Rattle.yds_trace_parts.proofs.Loops.{AreLastOf}
 use Rattle.yds_trace_parts.proofs.processors.last_pieces.Given as goal
 

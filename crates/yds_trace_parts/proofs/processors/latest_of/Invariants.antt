@@ -1,4 +1,4 @@
-use Rattle.yds_model.proofs.Common.{drop}
+use Rattle.base.proofs.Common.{drop}
 use Rattle.yds_trace_parts.specs.Telling.{cuts_of}
 use Rattle.yds_trace_parts.proofs.Loops.{LatestSoFar}
 use Rattle.yds_trace_parts.proofs.processors.latest_of.Given as goal

@@ -1,4 +1,4 @@
-use Rattle.yds_model.proofs.Common.{drop}
+use Rattle.base.proofs.Common.{drop}
 use Rattle.yds_trace_parts.specs.Telling.{cuts_of}
 use Rattle.yds_trace_parts.proofs.Loops.{LeastSoFar}
 use Rattle.yds_trace_parts.proofs.processors.least_boundary.Given as goal

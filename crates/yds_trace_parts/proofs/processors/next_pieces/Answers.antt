@@ -1,4 +1,4 @@
-use Rattle.yds_model.proofs.Common.{err_from_is_err_and}
+use Rattle.base.proofs.Common.{err_from_is_err_and}
 use Rattle.yds_trace_parts.proofs.Loops.{next_first, next_at, next_halts_at, next_end}
 use Rattle.yds_trace_parts.proofs.processors.next_pieces.Goals as goal
 

@@ -1,4 +1,4 @@
-use Rattle.yds_model.proofs.Common.{drop}
+use Rattle.base.proofs.Common.{drop}
 use Rattle.yds_trace_parts.proofs.Loops.{AreNext}
 use Rattle.yds_trace_parts.proofs.processors.next_pieces.Given as goal
 

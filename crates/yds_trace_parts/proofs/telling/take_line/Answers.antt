@@ -1,4 +1,4 @@
-use Rattle.yds_model.proofs.Common.{Option, ap, sym, ◌∙◌}
+use Rattle.base.proofs.Common.{Option, ap, sym, ◌∙◌}
 use Rattle.yds_kernel.specs.Parts.{or_else}
 use Rattle.yds_kernel.specs.Views.{said_read}
 use Rattle.yds_trace.specs.declared.fault.Cause.{Cause}

@@ -1,4 +1,4 @@
-use Rattle.yds_model.proofs.Common.{[], sym, ◌∙◌}
+use Rattle.base.proofs.Common.{[], sym, ◌∙◌}
 use Rattle.yds_trace_reading.proofs.Beginning.{begins_uncounted, begins_none, begins_with, not_begins_with, given_with}
 use Rattle.yds_trace_reading.proofs.first.begin.Goals as goal
 

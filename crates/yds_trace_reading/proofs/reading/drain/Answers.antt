@@ -1,4 +1,4 @@
-use Rattle.yds_model.proofs.Common.{◌∙◌, arith, refl}
+use Rattle.base.proofs.Common.{◌∙◌, arith, refl}
 use Rattle.yds_trace_reading.proofs.Draining.{behind_nothing, behind_a_read, read_to_end, read_to_a_fault, read_as_much}
 use Rattle.yds_trace_reading.proofs.reading.drain.Goals as goal
 

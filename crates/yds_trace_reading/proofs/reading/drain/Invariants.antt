@@ -1,4 +1,4 @@
-use Rattle.yds_model.proofs.Common.{◌≡◌}
+use Rattle.base.proofs.Common.{◌≡◌}
 use Rattle.yds_trace_reading.proofs.Draining.{IsBehind}
 use Rattle.yds_trace_reading.proofs.reading.drain.Given as goal
 

@@ -1,4 +1,4 @@
-use Rattle.yds_model.proofs.Common.{◌∙◌, arith, ap, subst, [], err_from_is_err_and}
+use Rattle.base.proofs.Common.{◌∙◌, arith, ap, subst, [], err_from_is_err_and}
 use Rattle.yds_kernel_order.specs.Order.{said_in}
 use Rattle.yds_kernel_order.specs.Ordering.{Ordering}
 use Rattle.yds_trace.specs.Asked.{Asked}

@@ -1,7 +1,7 @@
 use Rattle.yds_model.proofs.Common.{◌≡◌, ◌∙◌, ℕ, List, refl, sym, subst, Option, Some, None, Result, Ok, true, false_from_ne_true}
 use Rattle.std.specs.Prelude.{⊤, IfSome}
-use Rattle.yds_model.specs.declared.status.Status.{Status}
-use Rattle.yds_model.specs.declared.status.Status.TheVariants as statuses
+use Rattle.base.specs.declared.status.Status.{Status}
+use Rattle.base.specs.declared.status.Status.TheVariants as statuses
 use Rattle.yds_port.specs.Count.{next_count}
 use Rattle.yds_kernel_order.specs.Order.{order_of}
 use Rattle.yds_trace.specs.Views.{asked_read}

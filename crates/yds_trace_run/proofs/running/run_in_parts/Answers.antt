@@ -1,5 +1,5 @@
 use Rattle.yds_model.proofs.Common.{◌≡◌, [], Result, Ok, Err, subst}
-use Rattle.yds_model.specs.declared.status.Status.TheVariants as statuses
+use Rattle.base.specs.declared.status.Status.TheVariants as statuses
 use Rattle.yds_trace.specs.Views.{asked_read}
 use Rattle.yds_trace_bounds.specs.Bounds.{asked_from}
 use Rattle.yds_trace_parts.specs.declared.halt.Halt.{Halt as HaltKept}

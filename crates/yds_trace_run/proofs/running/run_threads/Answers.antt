@@ -1,5 +1,5 @@
 use Rattle.yds_model.proofs.Common.{◌≡◌, [], Result, Ok, Err, subst}
-use Rattle.yds_model.specs.declared.status.Status.TheVariants as statuses
+use Rattle.base.specs.declared.status.Status.TheVariants as statuses
 use Rattle.yds_trace_threads.specs.declared.halt.Halt.{Halt}
 use Rattle.yds_trace_threads.specs.declared.halt.Halt.TheVariants as halts
 use Rattle.yds_trace_files.specs.Unread.{Unread, unread_read}

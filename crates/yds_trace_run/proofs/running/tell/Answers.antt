@@ -1,6 +1,6 @@
 use Rattle.yds_model.proofs.Common.{◌≡◌, ◌∙◌, ◌<◌, ℕ, List, length, Bool, Option, Some, None, Err, subst, refl, ap, lt-ltb, if◌then◌else◌}
-use Rattle.yds_model.specs.declared.status.Status.TheVariants as statuses
-use Rattle.yds_model.specs.declared.limits.TheConstants.{MAX_INPUT}
+use Rattle.base.specs.declared.status.Status.TheVariants as statuses
+use Rattle.base.specs.declared.limits.TheConstants.{MAX_INPUT}
 use Rattle.yds_kernel.specs.Parts.{or_else}
 use Rattle.yds_trace_document.specs.declared.fault.DocumentFault.{DocumentFault}
 use Rattle.yds_trace_document.specs.Settled.{settled_of}

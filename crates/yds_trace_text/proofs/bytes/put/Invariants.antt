@@ -1,4 +1,4 @@
-use Rattle.yds_model.proofs.Common.{◌≡◌, ◌++◌, take}
+use Rattle.base.proofs.Common.{◌≡◌, ◌++◌, take}
 use Rattle.yds_trace_text.specs.Text.{told}
 use Rattle.yds_trace_text.specs.Views.{pieces}
 use Rattle.yds_trace_text.proofs.bytes.put.Given as goal

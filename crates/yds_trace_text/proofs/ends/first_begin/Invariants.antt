@@ -1,4 +1,4 @@
-use Rattle.yds_model.proofs.Common.{◌≡◌, drop}
+use Rattle.base.proofs.Common.{◌≡◌, drop}
 use Rattle.yds_trace_text.specs.Text.{first_begin}
 use Rattle.yds_trace_text.proofs.ends.first_begin.Given as goal
 

@@ -1,4 +1,4 @@
-use Rattle.yds_model.proofs.Common.{◌≡◌, ◌++◌, take, flat_map}
+use Rattle.base.proofs.Common.{◌≡◌, ◌++◌, take, flat_map}
 use Rattle.yds_trace_document.specs.Views.{units_read, judged_list}
 use Rattle.yds_trace_text.specs.Text.{shown_comments}
 use Rattle.yds_trace_text.proofs.ends.put_all_shown.Given as goal

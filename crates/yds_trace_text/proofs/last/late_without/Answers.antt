@@ -1,4 +1,4 @@
-use Rattle.yds_model.proofs.Common.{◌∙◌, ◌++◌, ℕ, List, [], ap, ap₂, refl}
+use Rattle.base.proofs.Common.{◌∙◌, ◌++◌, ℕ, List, [], ap, ap₂, refl}
 use Rattle.yds_trace_text.specs.Text.{told}
 use Rattle.yds_trace_text.proofs.Read.{next_same}
 use Rattle.yds_trace_text.proofs.last.late_without.Goals as goal

@@ -1,4 +1,4 @@
-use Rattle.yds_model.proofs.Common.{◌≡◌, ◌∙◌, ◌++◌, ℕ, List, OnOk, ap, refl, sym, subst, codes, count_by, length, length-map, arith}
+use Rattle.base.proofs.Common.{◌≡◌, ◌∙◌, ◌++◌, ℕ, List, OnOk, ap, refl, sym, subst, codes, count_by, length, length-map, arith}
 use Rattle.yds_trace.specs.Document.{is_left_out}
 use Rattle.yds_trace_document.specs.declared.judged.Judged.{Judged as JudgedKept}
 use Rattle.yds_trace_document.specs.Views.{judged_read, written_read, written_list}

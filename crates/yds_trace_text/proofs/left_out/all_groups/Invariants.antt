@@ -1,4 +1,4 @@
-use Rattle.yds_model.proofs.Common.{◌≡◌, take, flat_map}
+use Rattle.base.proofs.Common.{◌≡◌, take, flat_map}
 use Rattle.yds_trace_text.specs.Text.{groups_of}
 use Rattle.yds_trace_text.specs.Views.{groups_read}
 use Rattle.yds_trace_text.proofs.Read.{paired}

@@ -1,4 +1,4 @@
-use Rattle.yds_model.proofs.Common.{◌∙◌, ◌-◌, map, ap, sym, rules, IsNonDecreasingBy-from_sort_by_key, answers_always}
+use Rattle.base.proofs.Common.{◌∙◌, ◌-◌, map, ap, sym, rules, IsNonDecreasingBy-from_sort_by_key, answers_always}
 use Rattle.yds_kernel.specs.declared.limits.TheConstants.{MAX_U64}
 use Rattle.yds_trace_document.proofs.Sorting.{stably_sorted, in_order_map}
 use Rattle.yds_trace_text.specs.declared.left_out.Group.{Group as GroupKept}

@@ -1,4 +1,4 @@
-use Rattle.yds_model.proofs.Common.{◌≡◌, take, filter}
+use Rattle.base.proofs.Common.{◌≡◌, take, filter}
 use Rattle.yds_trace_document.specs.Views.{judged_list}
 use Rattle.yds_trace_text.specs.Text.{is_left_out_for}
 use Rattle.yds_trace_text.proofs.left_out.left_out_for.Given as goal

@@ -1,4 +1,4 @@
-use Rattle.yds_model.proofs.Common.{◌≡◌, ◌++◌, take, map, filter}
+use Rattle.base.proofs.Common.{◌≡◌, ◌++◌, take, map, filter}
 use Rattle.yds_trace_document.specs.Views.{judged_list}
 use Rattle.yds_trace_text.specs.Text.{group_for, has_jobs}
 use Rattle.yds_trace_text.specs.Views.{groups_read}

@@ -1,4 +1,4 @@
-use Rattle.yds_model.proofs.Common.{◌≡◌, ◌++◌, take, map, flat_map}
+use Rattle.base.proofs.Common.{◌≡◌, ◌++◌, take, map, flat_map}
 use Rattle.yds_trace_document.specs.Views.{units_read, other_read}
 use Rattle.yds_trace_text.specs.Text.{other_comment}
 use Rattle.yds_trace_text.proofs.others.put_all_others.Given as goal

@@ -1,4 +1,4 @@
-use Rattle.yds_model.proofs.Common.{◌≡◌, take, map}
+use Rattle.base.proofs.Common.{◌≡◌, take, map}
 use Rattle.yds_trace_text.specs.Text.{shown_byte}
 use Rattle.yds_trace_text.proofs.others.shown_name.Given as goal
 

@@ -1,4 +1,4 @@
-use Rattle.yds_model.proofs.Common.{◌≡◌, ◌≤◌, length, drop}
+use Rattle.base.proofs.Common.{◌≡◌, ◌≤◌, length, drop}
 use Rattle.yds_trace_document.specs.Views.{written_list}
 use Rattle.yds_trace_text.specs.PartText.{last_deadline}
 use Rattle.yds_trace_text.proofs.part.last_deadline.Given as goal

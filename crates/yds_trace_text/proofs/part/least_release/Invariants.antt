@@ -1,4 +1,4 @@
-use Rattle.yds_model.proofs.Common.{◌≡◌, ◌≤◌, length, drop}
+use Rattle.base.proofs.Common.{◌≡◌, ◌≤◌, length, drop}
 use Rattle.yds_trace_document.specs.Views.{written_list}
 use Rattle.yds_trace_text.specs.PartText.{least_release}
 use Rattle.yds_trace_text.proofs.part.least_release.Given as goal

@@ -1,4 +1,4 @@
-use Rattle.yds_model.proofs.Common.{◌∙◌, ℕ, Bool, not, is_none, ap, sym, subst}
+use Rattle.base.proofs.Common.{◌∙◌, ℕ, Bool, not, is_none, ap, sym, subst}
 use Rattle.std.proofs.Math.Bool.{not-not}
 use Rattle.yds_trace.specs.Parts.{part_until}
 use Rattle.yds_trace.specs.Views.{asked_read}

@@ -1,4 +1,4 @@
-use Rattle.yds_model.proofs.Common.{◌≡◌, ◌∙◌, ◌+◌, ◌++◌, ℕ, List, OnOk, ap, refl, sym, subst, decimal, length-map}
+use Rattle.base.proofs.Common.{◌≡◌, ◌∙◌, ◌+◌, ◌++◌, ℕ, List, OnOk, ap, refl, sym, subst, decimal, length-map}
 use Rattle.yds_kernel.specs.Parts.{capped}
 use Rattle.yds_trace_document.specs.Views.{written_read}
 use Rattle.yds_trace_text.specs.Text.{comment}

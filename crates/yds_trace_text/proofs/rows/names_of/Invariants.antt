@@ -1,4 +1,4 @@
-use Rattle.yds_model.proofs.Common.{◌≡◌, take, map}
+use Rattle.base.proofs.Common.{◌≡◌, take, map}
 use Rattle.yds_trace_document.specs.Views.{written_list}
 use Rattle.yds_trace_text.specs.Text.{name_of}
 use Rattle.yds_trace_text.specs.Views.{names_read}

@@ -1,4 +1,4 @@
-use Rattle.yds_model.proofs.Common.{◌≡◌, ◌++◌, take, flat_map}
+use Rattle.base.proofs.Common.{◌≡◌, ◌++◌, take, flat_map}
 use Rattle.yds_trace_document.specs.Views.{written_list}
 use Rattle.yds_trace_text.specs.Text.{job_text}
 use Rattle.yds_trace_text.proofs.rows.put_jobs.Given as goal

@@ -1,4 +1,4 @@
-use Rattle.yds_model.proofs.Common.{◌≡◌, ◌++◌, take, flat_map}
+use Rattle.base.proofs.Common.{◌≡◌, ◌++◌, take, flat_map}
 use Rattle.yds_trace_document.specs.Views.{placed_list}
 use Rattle.yds_trace_text.specs.Text.{run_text}
 use Rattle.yds_trace_text.specs.Views.{names_read}

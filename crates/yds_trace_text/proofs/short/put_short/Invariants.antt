@@ -1,4 +1,4 @@
-use Rattle.yds_model.proofs.Common.{◌≡◌, ◌++◌, take, filter}
+use Rattle.base.proofs.Common.{◌≡◌, ◌++◌, take, filter}
 use Rattle.yds_trace.specs.WrittenTime.{is_short}
 use Rattle.yds_trace_document.specs.Views.{units_read}
 use Rattle.yds_trace_text.proofs.short.put_short.Given as goal

@@ -1,4 +1,4 @@
-use Rattle.yds_model.proofs.Common.{◌≡◌, take}
+use Rattle.base.proofs.Common.{◌≡◌, take}
 use Rattle.yds_trace_document.specs.Views.{units_read, judged_list}
 use Rattle.yds_trace_text.specs.Text.{short_stretches}
 use Rattle.yds_trace_text.proofs.short.short_stretches.Given as goal

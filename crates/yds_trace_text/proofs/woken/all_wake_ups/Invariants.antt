@@ -1,4 +1,4 @@
-use Rattle.yds_model.proofs.Common.{◌≡◌, take, sum_by}
+use Rattle.base.proofs.Common.{◌≡◌, take, sum_by}
 use Rattle.yds_kernel.specs.Parts.{capped}
 use Rattle.yds_trace_document.specs.Views.{judged_list}
 use Rattle.yds_trace_text.specs.Text.{wake_ups_of}

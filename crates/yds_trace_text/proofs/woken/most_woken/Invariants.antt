@@ -1,4 +1,4 @@
-use Rattle.yds_model.proofs.Common.{◌≡◌, drop, []}
+use Rattle.base.proofs.Common.{◌≡◌, drop, []}
 use Rattle.yds_trace_document.specs.Views.{judged_list}
 use Rattle.yds_trace_text.specs.Text.{most_woken}
 use Rattle.yds_trace_text.specs.Views.{name_or_none}

@@ -1,4 +1,4 @@
-use Rattle.yds_model.proofs.Common.{subst}
+use Rattle.base.proofs.Common.{subst}
 use Rattle.yds_trace.specs.Asked.{Asked}
 use Rattle.yds_trace_document.specs.Settled.{Settled, settled_of}
 use Rattle.yds_trace_document.specs.Views.{settled_read}

@@ -1,4 +1,4 @@
-use Rattle.yds_model.proofs.Common.{◌≡◌, ◌++◌, List, ℕ, OnOk, append_assoc, flat_map, refl, subst}
+use Rattle.base.proofs.Common.{◌≡◌, ◌++◌, List, ℕ, OnOk, append_assoc, flat_map, refl, subst}
 use Rattle.yds_trace.specs.Asked.{Asked}
 use Rattle.yds_trace.specs.Views.{asked_read}
 use Rattle.yds_trace_document.specs.Settled.{Settled}

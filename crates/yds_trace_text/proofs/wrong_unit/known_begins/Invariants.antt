@@ -1,4 +1,4 @@
-use Rattle.yds_model.proofs.Common.{◌≡◌, take}
+use Rattle.base.proofs.Common.{◌≡◌, take}
 use Rattle.yds_trace_document.specs.Views.{judged_list}
 use Rattle.yds_trace_text.specs.Text.{known_begins}
 use Rattle.yds_trace_text.proofs.wrong_unit.known_begins.Given as goal

@@ -1,4 +1,4 @@
-use Rattle.yds_model.proofs.Common.{◌≡◌, ◌++◌, take, flat_map}
+use Rattle.base.proofs.Common.{◌≡◌, ◌++◌, take, flat_map}
 use Rattle.yds_trace_text.specs.Text.{task_unit_comments}
 use Rattle.yds_trace_text.proofs.Read.{paired}
 use Rattle.yds_trace_text.proofs.wrong_unit.put_all_wrong_units.Given as goal

@@ -1,4 +1,4 @@
-use Rattle.yds_model.proofs.Common.{◌≡◌, ◌∙◌, ◌++◌, ℕ, List, OnOk, ap, refl, subst}
+use Rattle.base.proofs.Common.{◌≡◌, ◌∙◌, ◌++◌, ℕ, List, OnOk, ap, refl, subst}
 use Rattle.yds_trace_text.specs.Text.{comment}
 use Rattle.yds_trace_text.proofs.Read.{next_same}
 use Rattle.yds_trace_text.proofs.wrong_unit.put_distance.Goals as goal

@@ -1,4 +1,4 @@
-use Rattle.yds_model.proofs.Common.{◌∙◌, arith, refl, err_from_is_err_and}
+use Rattle.base.proofs.Common.{◌∙◌, arith, refl, err_from_is_err_and}
 use Rattle.yds_kernel_order.specs.Order.{said_in}
 use Rattle.yds_trace_reading.proofs.Giving.{counts_on, none_left, none_said}
 use Rattle.yds_trace_reading.proofs.Draining.{rest_same, rest_of}

@@ -1,4 +1,4 @@
-use Rattle.yds_model.proofs.Common.{◌≡◌}
+use Rattle.base.proofs.Common.{◌≡◌}
 use Rattle.yds_trace_threads.proofs.Passing.{IsAhead}
 use Rattle.yds_trace_threads.proofs.driver.read_table.Given as goal
 

@@ -1,4 +1,4 @@
-use Rattle.yds_model.proofs.Common.{◌≡◌, ◌∷◌, None, Some, subst}
+use Rattle.base.proofs.Common.{◌≡◌, ◌∷◌, None, Some, subst}
 use Rattle.yds_kernel.specs.Event.{Said}
 use Rattle.yds_trace_threads.specs.Faults.{said_fault}
 use Rattle.yds_trace_threads.specs.Kept.{IsTally}

@@ -1,4 +1,4 @@
-use Rattle.yds_model.proofs.Common.{arith, sym, take_all}
+use Rattle.base.proofs.Common.{arith, sym, take_all}
 use Rattle.yds_trace_threads.specs.declared.limits.TheConstants.{MOST_NAME}
 use Rattle.yds_trace_threads.proofs.kept.front_of.Goals as goal
 

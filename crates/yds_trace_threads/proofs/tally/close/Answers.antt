@@ -1,4 +1,4 @@
-use Rattle.yds_model.proofs.Common.{ℕ, subst, arith}
+use Rattle.base.proofs.Common.{ℕ, subst, arith}
 use Rattle.yds_trace_threads.specs.declared.threads.Threads.{Threads}
 use Rattle.yds_trace_threads.specs.Acts.{acts}
 use Rattle.yds_trace_threads.specs.Kept.{IsThreads}

@@ -1,4 +1,4 @@
-use Rattle.yds_model.proofs.Common.{List}
+use Rattle.base.proofs.Common.{List}
 use Rattle.yds_kernel.specs.Event.{Said}
 use Rattle.yds_trace_threads.specs.Acts.{acts}
 use Rattle.yds_trace_threads.specs.Kept.{IsThreads, IsProcessors, no_more}

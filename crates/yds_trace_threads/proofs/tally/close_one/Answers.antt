@@ -1,4 +1,4 @@
-use Rattle.yds_model.proofs.Common.{◌+◌, ◌∙◌, ℕ, Option, Some, subst, sym, ap, fun_ext, add-zero}
+use Rattle.base.proofs.Common.{◌+◌, ◌∙◌, ℕ, Option, Some, subst, sym, ap, fun_ext, add-zero}
 use Rattle.yds_trace_threads.specs.declared.act.Holder.{Holder}
 use Rattle.yds_trace.specs.Past.{last_time}
 use Rattle.yds_trace_threads.specs.declared.threads.Threads.{Threads}

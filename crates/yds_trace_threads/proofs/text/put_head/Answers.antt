@@ -1,4 +1,4 @@
-use Rattle.yds_model.proofs.Common.{◌≡◌, ◌∙◌, ◌++◌, List, ℕ, [], ◌∷◌, codes, decimal, sym, ap, append_assoc, append-nil}
+use Rattle.base.proofs.Common.{◌≡◌, ◌∙◌, ◌++◌, List, ℕ, [], ◌∷◌, codes, decimal, sym, ap, append_assoc, append-nil}
 use Rattle.yds_trace_threads.specs.Table.{told}
 use Rattle.yds_trace_threads.proofs.text.put_head.Goals as goal
 

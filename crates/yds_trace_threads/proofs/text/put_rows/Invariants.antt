@@ -1,4 +1,4 @@
-use Rattle.yds_model.proofs.Common.{◌≡◌, ◌++◌, take, map, flat_map}
+use Rattle.base.proofs.Common.{◌≡◌, ◌++◌, take, map, flat_map}
 use Rattle.yds_trace_threads.specs.Table.{row_line}
 use Rattle.yds_trace_threads.specs.Kept.{row_read}
 use Rattle.yds_trace_threads.proofs.text.put_rows.Given as goal

@@ -1,4 +1,4 @@
-use Rattle.yds_model.proofs.Common.{◌≡◌, ◌++◌, take, map}
+use Rattle.base.proofs.Common.{◌≡◌, ◌++◌, take, map}
 use Rattle.yds_trace_threads.specs.Table.{shown}
 use Rattle.yds_trace_threads.proofs.text.put_shown.Given as goal
 

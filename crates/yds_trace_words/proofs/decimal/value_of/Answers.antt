@@ -1,4 +1,4 @@
-use Rattle.yds_model.proofs.Common.{◌≡◌, ◌+◌, ◌*◌, ◌-◌, ◌^◌, ◌≤◌, ℕ, take, get_or, true, arith, rules, digit_value, digits_value, pow-le-pow_right, common_steps, digits_value_more, is_digit, digit_range}
+use Rattle.base.proofs.Common.{◌≡◌, ◌+◌, ◌*◌, ◌-◌, ◌^◌, ◌≤◌, ℕ, take, get_or, true, arith, rules, digit_value, digits_value, pow-le-pow_right, common_steps, digits_value_more, is_digit, digit_range}
 use Rattle.std.proofs.lemmas.Grind.{pow_more}
 use Rattle.yds_trace_words.proofs.decimal.value_of.Goals as goal
 

@@ -1,4 +1,4 @@
-use Rattle.yds_model.proofs.Common.{◌≡◌, ◌<◌, ◌^◌, take, digits_value}
+use Rattle.base.proofs.Common.{◌≡◌, ◌<◌, ◌^◌, take, digits_value}
 use Rattle.yds_trace_words.proofs.decimal.value_of.Given as goal
 
 abbrev pub invariant-loop-byte : goal.invariant-loop-byte

@@ -1,4 +1,4 @@
-use Rattle.yds_model.proofs.Common.{◌≡◌, ◌++◌, length}
+use Rattle.base.proofs.Common.{◌≡◌, ◌++◌, length}
 use Rattle.yds_trace_words.specs.Letters.{letters_of}
 use Rattle.yds_trace_words.proofs.letter.letters.Given as goal
 

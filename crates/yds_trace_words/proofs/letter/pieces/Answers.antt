@@ -1,4 +1,4 @@
-use Rattle.yds_model.proofs.Common.{◌≡◌, List, MatchOption, true, false, subst, map, map-append}
+use Rattle.base.proofs.Common.{◌≡◌, List, MatchOption, true, false, subst, map, map-append}
 use Rattle.std.specs.Borrow.{Bor}
 use Rattle.std.specs.List.{slice_split, list_any, after_first}
 use Rattle.yds_trace_words.specs.declared.letter.Letter.{Letter}

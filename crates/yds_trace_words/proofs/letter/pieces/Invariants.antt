@@ -1,4 +1,4 @@
-use Rattle.yds_model.proofs.Common.{◌≡◌, ◌++◌, length}
+use Rattle.base.proofs.Common.{◌≡◌, ◌++◌, length}
 use Rattle.std.specs.List.{slice_split}
 use Rattle.yds_trace_words.specs.Letters.{is_at}
 use Rattle.yds_trace_words.specs.declared.letter.Sign.TheVariants as signs

@@ -1,4 +1,4 @@
-use Rattle.yds_model.proofs.Common.{◌≡◌, ◌+◌, drop, take, false}
+use Rattle.base.proofs.Common.{◌≡◌, ◌+◌, drop, take, false}
 use Rattle.std.specs.List.{list_any, position_or_len}
 use Rattle.yds_trace_words.specs.Letters.{is_at}
 use Rattle.yds_trace_words.proofs.letter.split_at.Given as goal

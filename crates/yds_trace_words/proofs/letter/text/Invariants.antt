@@ -1,4 +1,4 @@
-use Rattle.yds_model.proofs.Common.{◌≡◌, take}
+use Rattle.base.proofs.Common.{◌≡◌, take}
 use Rattle.yds_trace_words.specs.Letters.{text_of}
 use Rattle.yds_trace_words.proofs.letter.text.Given as goal
 

@@ -1,4 +1,4 @@
-use Rattle.yds_model.proofs.Common.{ℕ, List, map, sym, subst, Result, Ok, Err}
+use Rattle.base.proofs.Common.{ℕ, List, map, sym, subst, Result, Ok, Err}
 use Rattle.std.specs.Result.{IfOk}
 use Rattle.yds_trace_words.specs.declared.fault.NoRequest.{NoRequest}
 use Rattle.yds_trace_words.specs.declared.setting.Setting.{Setting as SettingKept}

@@ -1,4 +1,4 @@
-use Rattle.yds_model.proofs.Common.{◌≡◌, ◌++◌, length}
+use Rattle.base.proofs.Common.{◌≡◌, ◌++◌, length}
 use Rattle.yds_trace_words.specs.Words.{files_of}
 use Rattle.yds_trace_words.specs.Views.{words_of, names_read}
 use Rattle.yds_trace_words.proofs.setting.files.Given as goal

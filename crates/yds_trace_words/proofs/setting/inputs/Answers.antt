@@ -1,4 +1,4 @@
-use Rattle.yds_model.proofs.Common.{◌≡◌, ℕ, List, [], ◌∷◌, false, map, length, refl, subst}
+use Rattle.base.proofs.Common.{◌≡◌, ℕ, List, [], ◌∷◌, false, map, length, refl, subst}
 use Rattle.std.proofs.Common.{rules}
 use Rattle.std.specs.Prelude.{◌==◌}
 use Rattle.std.specs.Borrow.{Bor}

@@ -1,4 +1,4 @@
-use Rattle.yds_model.proofs.Common.{◌≡◌, drop, map}
+use Rattle.base.proofs.Common.{◌≡◌, drop, map}
 use Rattle.yds_trace_words.specs.Words.{other_than}
 use Rattle.yds_trace_words.specs.Views.{setting_read}
 use Rattle.yds_trace_words.proofs.setting.other_than.Given as goal

@@ -1,4 +1,4 @@
-use Rattle.yds_model.proofs.Common.{◌∙◌, map, map-append, ap, sym}
+use Rattle.base.proofs.Common.{◌∙◌, map, map-append, ap, sym}
 use Rattle.std.specs.String.{string_bytes}
 use Rattle.yds_trace_words.specs.Words.{word_of}
 use Rattle.yds_trace_words.specs.Views.{words_of, setting_read}

@@ -1,4 +1,4 @@
-use Rattle.yds_model.proofs.Common.{◌≡◌, map, length}
+use Rattle.base.proofs.Common.{◌≡◌, map, length}
 use Rattle.yds_trace_words.specs.Words.{settings_of}
 use Rattle.yds_trace_words.specs.Views.{words_of, setting_read}
 use Rattle.yds_trace_words.proofs.Settings.{ahead}

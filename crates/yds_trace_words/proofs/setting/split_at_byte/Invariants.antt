@@ -1,6 +1,6 @@
-use Rattle.yds_model.proofs.Common.{◌≡◌, ◌+◌, ◌==◌, drop, false}
+use Rattle.base.proofs.Common.{◌≡◌, ◌+◌, ◌==◌, drop, false}
 use Rattle.std.specs.List.{list_any, position_or_len}
-use Rattle.yds_model.proofs.Common.{take}
+use Rattle.base.proofs.Common.{take}
 use Rattle.yds_trace_words.proofs.setting.split_at_byte.Given as goal
 
 abbrev pub invariant-loop-index : goal.invariant-loop-index

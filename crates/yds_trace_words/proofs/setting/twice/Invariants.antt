@@ -1,4 +1,4 @@
-use Rattle.yds_model.proofs.Common.{◌≡◌, map, length}
+use Rattle.base.proofs.Common.{◌≡◌, map, length}
 use Rattle.yds_trace_words.specs.Words.{given_twice}
 use Rattle.yds_trace_words.specs.Views.{setting_read}
 use Rattle.yds_trace_words.proofs.setting.twice.Given as goal

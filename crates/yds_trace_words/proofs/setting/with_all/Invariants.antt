@@ -1,4 +1,4 @@
-use Rattle.yds_model.proofs.Common.{◌≡◌, ◌++◌, take}
+use Rattle.base.proofs.Common.{◌≡◌, ◌++◌, take}
 use Rattle.yds_trace_words.specs.Views.{words_of, names_read}
 use Rattle.yds_trace_words.proofs.setting.with_all.Given as goal
 

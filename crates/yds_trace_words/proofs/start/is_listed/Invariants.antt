@@ -1,4 +1,4 @@
-use Rattle.yds_model.proofs.Common.{◌≡◌, drop, map}
+use Rattle.base.proofs.Common.{◌≡◌, drop, map}
 use Rattle.std.specs.List.{list_any}
 use Rattle.yds_trace.specs.Views.{speed_read}
 use Rattle.yds_trace_words.specs.Start.{is_of}

@@ -1,4 +1,4 @@
-use Rattle.yds_model.proofs.Common.{◌≡◌, ◌+◌, map, length}
+use Rattle.base.proofs.Common.{◌≡◌, ◌+◌, map, length}
 use Rattle.yds_trace.specs.Views.{speed_read}
 use Rattle.yds_trace_words.specs.Start.{twice_from}
 use Rattle.yds_trace_words.proofs.start.repeated.Given as goal

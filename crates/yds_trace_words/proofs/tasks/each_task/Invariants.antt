@@ -1,4 +1,4 @@
-use Rattle.yds_model.proofs.Common.{◌≡◌, ◌+◌, drop, map}
+use Rattle.base.proofs.Common.{◌≡◌, ◌+◌, drop, map}
 use Rattle.yds_trace.specs.Views.{task_read}
 use Rattle.yds_trace_words.specs.Tasks.{tasks_from}
 use Rattle.yds_trace_words.proofs.Listed.{ahead}

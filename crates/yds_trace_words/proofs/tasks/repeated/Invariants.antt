@@ -1,4 +1,4 @@
-use Rattle.yds_model.proofs.Common.{◌≡◌, ◌+◌, map, length}
+use Rattle.base.proofs.Common.{◌≡◌, ◌+◌, map, length}
 use Rattle.yds_trace.specs.Views.{task_read}
 use Rattle.yds_trace_words.specs.Tasks.{different_from}
 use Rattle.yds_trace_words.proofs.tasks.repeated.Given as goal

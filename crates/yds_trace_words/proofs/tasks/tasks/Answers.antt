@@ -1,4 +1,4 @@
-use Rattle.yds_model.proofs.Common.{◌∙◌, List, ap, subst, map}
+use Rattle.base.proofs.Common.{◌∙◌, List, ap, subst, map}
 use Rattle.std.specs.Borrow.{Bor}
 use Rattle.std.specs.List.{slice_split}
 use Rattle.yds_trace_words.specs.declared.letter.Letter.{Letter}

@@ -1,4 +1,4 @@
-use Rattle.yds_model.proofs.Common.{◌≡◌, ◌≤◌, ◌++◌, ◌∙◌, List, ℕ, inl, inr, ap, sym, map, min, take, length, arith, take_all, cases_lt}
+use Rattle.base.proofs.Common.{◌≡◌, ◌≤◌, ◌++◌, ◌∙◌, List, ℕ, inl, inr, ap, sym, map, min, take, length, arith, take_all, cases_lt}
 use Rattle.yds_trace_words.specs.Texts.{shown}
 use Rattle.yds_trace_words.proofs.texts.push_shown.Goals as goal
 

@@ -1,4 +1,4 @@
-use Rattle.yds_model.proofs.Common.{◌≡◌, ◌++◌, take, map}
+use Rattle.base.proofs.Common.{◌≡◌, ◌++◌, take, map}
 use Rattle.yds_trace_words.specs.Texts.{shown}
 use Rattle.yds_trace_words.proofs.texts.push_shown.Given as goal
 

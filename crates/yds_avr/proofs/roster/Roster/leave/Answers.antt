@@ -1,6 +1,6 @@
 use Rattle.yds_model.proofs.Common.{◌-◌, arith, ap, get_or_default}
 use Rattle.std.proofs.lemmas.List.Sorted.{IsNonDecreasingBy-take}
-use Rattle.yds_model.specs.declared.limits.TheConstants.{MAX_TIME}
+use Rattle.base.specs.declared.limits.TheConstants.{MAX_TIME}
 use Rattle.yds_avr.specs.Roster.{no_rate}
 use Rattle.yds_avr.specs.declared.rate.Rate.{Rate}
 use Rattle.yds_avr.proofs.Standing.{due_behind, none_due, some_leave}

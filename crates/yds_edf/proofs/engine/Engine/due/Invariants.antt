@@ -1,5 +1,5 @@
 use Rattle.yds_model.proofs.Common.{◌≡◌}
-use Rattle.yds_model.specs.Numbers.{sum_below}
+use Rattle.base.specs.Numbers.{sum_below}
 use Rattle.yds_edf.proofs.DueBy.{due_of}
 use Rattle.yds_edf.proofs.engine.Engine.due.Given as goal
 

@@ -1,5 +1,5 @@
 use Rattle.yds_model.proofs.Common.{◌≡◌, ◌<◌, ◌∷◌, [], ◌++◌, None, Some, false, Bool, List, Bor, ℕ, if◌then◌else◌, sym, ap, ◌∙◌, subst, length, list_any, bytes_eq, map-append, length-map, IsJob, Job}
-use Rattle.yds_model.specs.declared.limits.TheConstants.{MAX_JOBS}
+use Rattle.base.specs.declared.limits.TheConstants.{MAX_JOBS}
 use Rattle.yds_instance.specs.Named.{Named, number_of}
 use Rattle.yds_instance.proofs.Names.{named_pushed, number_of_none, number_of_some, place_of_none, added_none, added_some, texts}
 use Rattle.yds_instance.proofs.instance.Instance.put.Goals as goal

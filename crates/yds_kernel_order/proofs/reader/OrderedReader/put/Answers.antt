@@ -1,4 +1,4 @@
-use Rattle.yds_model.proofs.Common.{ℕ, ◌≡◌, ◌<◌, ◌^◌, refl, sym, ◌∙◌, arith, subst, true}
+use Rattle.base.proofs.Common.{ℕ, ◌≡◌, ◌<◌, ◌^◌, refl, sym, ◌∙◌, arith, subst, true}
 use Rattle.yds_kernel.specs.Views.{said_read}
 use Rattle.yds_kernel_order.specs.Ring.{Places}
 use Rattle.yds_kernel_order.specs.Ordering.{Ordering}

@@ -1,4 +1,4 @@
-use Rattle.yds_model.proofs.Common.{arith}
+use Rattle.base.proofs.Common.{arith}
 use Rattle.yds_kernel_order.proofs.Holding.{first_given}
 use Rattle.yds_kernel_order.proofs.ring.Ring.give.Goals as goal
 

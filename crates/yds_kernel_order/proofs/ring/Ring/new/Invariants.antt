@@ -1,4 +1,4 @@
-use Rattle.yds_model.proofs.Common.{◌≡◌, vec_len}
+use Rattle.base.proofs.Common.{◌≡◌, vec_len}
 use Rattle.yds_kernel_order.proofs.ring.Ring.new.Given as goal
 
 -- a place was made by each round

@@ -1,4 +1,4 @@
-use Rattle.yds_model.proofs.Common.{ℕ, ◌≡◌, ◌≤◌, ◌+◌, List, sym, ap, ◌∙◌, arith, subst, set, length, length-set}
+use Rattle.base.proofs.Common.{ℕ, ◌≡◌, ◌≤◌, ◌+◌, List, sym, ap, ◌∙◌, arith, subst, set, length, length-set}
 use Rattle.yds_kernel.specs.Event.{Event, Stamped}
 use Rattle.yds_kernel.specs.Views.{event_read}
 use Rattle.yds_kernel_order.specs.declared.limits.TheConstants.{MAX_PASSED}

@@ -1,4 +1,4 @@
-use Rattle.yds_model.proofs.Common.{◌≤◌, ◌∙◌, sym}
+use Rattle.base.proofs.Common.{◌≤◌, ◌∙◌, sym}
 use Rattle.yds_kernel_order.specs.declared.limits.TheConstants.{MAX_PASSED}
 use Rattle.yds_kernel_order.proofs.Holding.{loss_places, waiting_len}
 use Rattle.yds_kernel_order.proofs.ring.Ring.place_loss.Goals as goal

@@ -1,4 +1,4 @@
-use Rattle.yds_model.proofs.Common.{◌+◌, sym}
+use Rattle.base.proofs.Common.{◌+◌, sym}
 use Rattle.yds_kernel_order.proofs.Places.{length-held_from}
 use Rattle.yds_kernel_order.proofs.ring.Ring.waiting.Goals as goal
 

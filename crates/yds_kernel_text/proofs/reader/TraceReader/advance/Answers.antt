@@ -1,4 +1,4 @@
-use Rattle.yds_model.proofs.Common.{◌≢◌, ℕ, ◌+◌, ◌<◌, length, drop, All, refl, sym, ◌∙◌, arith, rules, subst, length-drop, common_steps}
+use Rattle.base.proofs.Common.{◌≢◌, ℕ, ◌+◌, ◌<◌, length, drop, All, refl, sym, ◌∙◌, arith, rules, subst, length-drop, common_steps}
 use Rattle.std.proofs.KnownBytes.{Keeps-trans}
 use Rattle.yds_kernel_text.specs.declared.advance.Advance.TheVariants as advances
 use Rattle.yds_kernel_text.specs.Reading.{unread}

@@ -1,4 +1,4 @@
-use Rattle.yds_model.proofs.Common.{◌≡◌, ◌-◌, length, refl, arith}
+use Rattle.base.proofs.Common.{◌≡◌, ◌-◌, length, refl, arith}
 use Rattle.yds_kernel_text.proofs.Buffer.{range_len, range_rest}
 use Rattle.yds_kernel_text.proofs.reader.TraceReader.skip.Goals as goal
 

@@ -1,4 +1,4 @@
-use Rattle.yds_model.proofs.Common.{ℕ, ◌≡◌, ◌+◌, ◌-◌, ◌≤◌, length, take, drop, refl, sym, ap, ◌∙◌, arith, without_return}
+use Rattle.base.proofs.Common.{ℕ, ◌≡◌, ◌+◌, ◌-◌, ◌≤◌, length, take, drop, refl, sym, ap, ◌∙◌, arith, without_return}
 use Rattle.yds_kernel_text.proofs.Buffer.{range_len, range_front, range_rest, front_of_range}
 use Rattle.yds_kernel_text.proofs.reader.TraceReader.take_line.Goals as goal
 

@@ -1,4 +1,4 @@
-use Rattle.yds_model.proofs.Common.{ℕ, ◌+◌, length, refl, sym, ap, ◌∙◌}
+use Rattle.base.proofs.Common.{ℕ, ◌+◌, length, refl, sym, ap, ◌∙◌}
 use Rattle.yds_kernel_text.proofs.Given.{counts_same, counts_kept, counts_taken, counts_on}
 use Rattle.yds_kernel_text.proofs.Passing.{passing_begins, passing_fits, passing_more, passing_ends, passing_stops}
 use Rattle.yds_kernel_text.proofs.reader.TraceReader.take_long.Goals as goal

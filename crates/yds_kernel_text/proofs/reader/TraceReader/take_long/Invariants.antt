@@ -1,4 +1,4 @@
-use Rattle.yds_model.proofs.Common.{◌≡◌, ◌-◌, ◌^◌}
+use Rattle.base.proofs.Common.{◌≡◌, ◌-◌, ◌^◌}
 use Rattle.yds_kernel_text.specs.Advancing.{Counts}
 use Rattle.yds_kernel_text.proofs.Passing.{Passing}
 use Rattle.yds_kernel_text.proofs.reader.TraceReader.take_long.Given as goal

@@ -1,4 +1,4 @@
-use Rattle.yds_model.proofs.Common.{◌∙◌, refl, ap, subst, Contains}
+use Rattle.base.proofs.Common.{◌∙◌, refl, ap, subst, Contains}
 use Rattle.yds_port.specs.Memory.{SinkState}
 use Rattle.yds_port.proofs.memory_sink.MemorySinkSink.flush.Goals as goal
 

@@ -1,4 +1,4 @@
-use Rattle.yds_model.proofs.Common.{◌∙◌, refl, ap, subst, inl, inr, arith, length, Contains}
+use Rattle.base.proofs.Common.{◌∙◌, refl, ap, subst, inl, inr, arith, length, Contains}
 use Rattle.yds_port.specs.Memory.{SinkState}
 use Rattle.yds_port.proofs.memory_sink.MemorySinkSink.write.Goals as goal
 use Rattle.yds_port.proofs.memory_sink.MemorySinkSink.write.Goals.{then-count-eq0-via-then-count-eq0, then-count-eq0-via-else-count-eq0+then-is_failing}

@@ -1,4 +1,4 @@
-use Rattle.yds_model.proofs.Common.{ap, sym, ◌∙◌, arith, common_steps}
+use Rattle.base.proofs.Common.{ap, sym, ◌∙◌, arith, common_steps}
 use Rattle.yds_port.specs.Memory.{SourceState}
 use Rattle.yds_port.proofs.Read.{Consumes-copied}
 use Rattle.yds_port.proofs.memory_source.MemorySourceSource.read.Goals as goal

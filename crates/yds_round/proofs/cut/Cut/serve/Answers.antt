@@ -1,5 +1,5 @@
 use Rattle.yds_model.proofs.Common.{◌≡◌, ◌+◌, ◌≤◌, ap, ◌∙◌, arith, length, get_or, length-append}
-use Rattle.yds_model.specs.declared.limits.TheConstants.{MAX_SLOTS}
+use Rattle.base.specs.declared.limits.TheConstants.{MAX_SLOTS}
 use Rattle.yds_slots.specs.Schedule.{WrittenSchedule}
 use Rattle.yds_timetable.specs.Shares.{JobShare}
 use Rattle.yds_round.specs.Written.{fast_course, slow_course, listed}

@@ -1,4 +1,4 @@
-use Rattle.yds_model.specs.declared.limits.TheConstants.{MAX_SLOT_WORK}
+use Rattle.base.specs.declared.limits.TheConstants.{MAX_SLOT_WORK}
 use Rattle.yds_round.proofs.Pieces.{greatest_fits, piece_kept}
 use Rattle.yds_round.proofs.cut.Cut.slow_slot.Goals as goal
 

@@ -1,4 +1,5 @@
-use Rattle.yds_model.proofs.Common.{◌≡◌, ◌++◌, ◌∷◌, [], List, ap, ◌∙◌, arith, Point, AreRising, hull_is_computed}
+use Rattle.yds_model.proofs.Common.{◌≡◌, ◌++◌, ◌∷◌, [], List, ap, ◌∙◌, arith, Point, AreRising}
+use Rattle.model_lemmas.proofs.HullOf.{hull_is_computed}
 use Rattle.yds_table.proofs.PushedPoint.{rising_pushed, kept_pushed}
 use Rattle.yds_table.proofs.table.Table.push.Goals as goal
 

@@ -1,5 +1,5 @@
 use Rattle.yds_model.proofs.Common.{◌≡◌, ◌∙◌, ◌∷◌, ◌<◌, true, length, ap, sym, arith, List, is_some, length-map, err_from_is_err_and, Task}
-use Rattle.yds_model.specs.declared.limits.TheConstants.{MAX_TASKS}
+use Rattle.base.specs.declared.limits.TheConstants.{MAX_TASKS}
 use Rattle.yds_text.specs.Read.{field_read}
 use Rattle.yds_tasks.specs.Read.{task_read}
 use Rattle.yds_tasks.proofs.Told.{passed_on, task_refused, task_added}

@@ -1,4 +1,4 @@
-use Rattle.yds_model.proofs.Common.{◌∙◌, sym, refl}
+use Rattle.base.proofs.Common.{◌∙◌, sym, refl}
 use Rattle.yds_kernel.specs.Views.{thread_read}
 use Rattle.yds_trace.specs.Past.{up_to}
 use Rattle.yds_trace.proofs.counted.Counted.check_stayed.Goals as goal

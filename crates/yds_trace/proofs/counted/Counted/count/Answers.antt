@@ -1,4 +1,4 @@
-use Rattle.yds_model.proofs.Common.{◌≡◌, ◌∙◌, ◌∷◌, false, sym, refl}
+use Rattle.base.proofs.Common.{◌≡◌, ◌∙◌, ◌∷◌, false, sym, refl}
 use Rattle.yds_kernel.specs.Event.{Stamped}
 use Rattle.yds_kernel.specs.Views.{event_read, thread_read}
 use Rattle.yds_trace.specs.Past.{up_to, is_first_switch}

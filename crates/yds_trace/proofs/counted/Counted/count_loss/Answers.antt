@@ -1,4 +1,4 @@
-use Rattle.yds_model.proofs.Common.{◌≡◌, ◌∙◌, true, false, refl, sym, ap}
+use Rattle.base.proofs.Common.{◌≡◌, ◌∙◌, true, false, refl, sym, ap}
 use Rattle.yds_trace.specs.Asked.{is_within_to}
 use Rattle.yds_trace.specs.Past.{lost_since}
 use Rattle.yds_trace.specs.Views.{start_read, asked_read}

@@ -1,4 +1,4 @@
-use Rattle.yds_model.proofs.Common.{◌∙◌, arith}
+use Rattle.base.proofs.Common.{◌∙◌, arith}
 use Rattle.yds_trace.proofs.Counting.{followed_lost}
 use Rattle.yds_trace.proofs.counted.Counted.lose.Goals as goal
 

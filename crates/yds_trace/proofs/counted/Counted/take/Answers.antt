@@ -1,4 +1,4 @@
-use Rattle.yds_model.proofs.Common.{◌≡◌, ◌∙◌, ◌∷◌, ◌<◌, ℕ, List, length, get_or, vec_len, refl, ap, arith}
+use Rattle.base.proofs.Common.{◌≡◌, ◌∙◌, ◌∷◌, ◌<◌, ℕ, List, length, get_or, vec_len, refl, ap, arith}
 use Rattle.yds_kernel.specs.Event.{Said, Stamped}
 use Rattle.yds_kernel.specs.Views.{event_read}
 use Rattle.yds_trace.specs.declared.followed.Followed.{Followed}

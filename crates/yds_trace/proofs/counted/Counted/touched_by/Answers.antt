@@ -1,4 +1,4 @@
-use Rattle.yds_model.proofs.Common.{◌≡◌, ◌∙◌, true, false, sym, arith}
+use Rattle.base.proofs.Common.{◌≡◌, ◌∙◌, true, false, sym, arith}
 use Rattle.yds_trace.specs.Asked.{Asked}
 use Rattle.yds_trace.specs.Faults.{touches}
 use Rattle.yds_trace.specs.Views.{asked_read}

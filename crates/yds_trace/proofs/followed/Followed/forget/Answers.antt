@@ -1,4 +1,4 @@
-use Rattle.yds_model.proofs.Common.{refl}
+use Rattle.base.proofs.Common.{refl}
 use Rattle.yds_trace.proofs.followed.Followed.forget.Goals as goal
 
 pub returns : goal.returns

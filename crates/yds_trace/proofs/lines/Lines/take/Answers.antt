@@ -1,4 +1,4 @@
-use Rattle.yds_model.proofs.Common.{◌∙◌, ◌||◌, Bool, is_some, arith, refl, sym, ap, ap₂}
+use Rattle.base.proofs.Common.{◌∙◌, ◌||◌, Bool, is_some, arith, refl, sym, ap, ap₂}
 use Rattle.yds_kernel.specs.Views.{event_read, happening_read}
 use Rattle.yds_trace.specs.declared.step.Whose.{Whose}
 use Rattle.yds_trace.specs.Asked.{is_number}

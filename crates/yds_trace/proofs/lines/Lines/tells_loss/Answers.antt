@@ -1,4 +1,4 @@
-use Rattle.yds_model.proofs.Common.{◌∙◌, ℕ, ap}
+use Rattle.base.proofs.Common.{◌∙◌, ℕ, ap}
 use Rattle.yds_trace.specs.Asked.{is_within_to}
 use Rattle.yds_trace.proofs.lines.Lines.tells_loss.Goals as goal
 

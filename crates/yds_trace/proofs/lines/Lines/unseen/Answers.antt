@@ -1,4 +1,4 @@
-use Rattle.yds_model.proofs.Common.{◌≡◌, ◌∙◌, ℕ, not, is_some, arith, ap}
+use Rattle.base.proofs.Common.{◌≡◌, ◌∙◌, ℕ, not, is_some, arith, ap}
 use Rattle.std.specs.List.{position_from}
 use Rattle.std.proofs.lemmas.Iterator.Adapters.{position_from-zero}
 use Rattle.yds_trace.specs.Faults.{pid_before}

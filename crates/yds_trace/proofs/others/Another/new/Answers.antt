@@ -1,4 +1,4 @@
-use Rattle.yds_model.proofs.Common.{◌∙◌, ℕ, List, ap}
+use Rattle.base.proofs.Common.{◌∙◌, ℕ, List, ap}
 use Rattle.yds_kernel.specs.Event.{Thread}
 use Rattle.yds_trace.specs.declared.limits.TheConstants.{MAX_OTHER_NAME}
 use Rattle.yds_trace.proofs.Spans.{first_bytes}

@@ -1,4 +1,4 @@
-use Rattle.yds_model.proofs.Common.{refl}
+use Rattle.base.proofs.Common.{refl}
 use Rattle.yds_trace.proofs.Spans.{others_forget}
 use Rattle.yds_trace.proofs.others.Others.forget.Goals as goal
 

@@ -1,4 +1,4 @@
-use Rattle.yds_model.proofs.Common.{◌∙◌, ◌∷◌, ap, option_map}
+use Rattle.base.proofs.Common.{◌∙◌, ◌∷◌, ap, option_map}
 use Rattle.yds_kernel.specs.Event.{Stamped}
 use Rattle.yds_kernel.specs.Views.{event_read}
 use Rattle.yds_trace.specs.Others.{who_has, other_of}

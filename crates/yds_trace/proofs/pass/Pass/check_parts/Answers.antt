@@ -1,4 +1,4 @@
-use Rattle.yds_model.proofs.Common.{◌≡◌, subst}
+use Rattle.base.proofs.Common.{◌≡◌, subst}
 use Rattle.yds_kernel.specs.Views.{said_read}
 use Rattle.yds_trace.specs.Asked.{Asked}
 use Rattle.yds_trace.specs.Kept.{IsLines, IsCounted}

@@ -1,4 +1,4 @@
-use Rattle.yds_model.proofs.Common.{◌≡◌, ◌∙◌, ℕ, sym, ap, subst, map, get_or, arith}
+use Rattle.base.proofs.Common.{◌≡◌, ◌∙◌, ℕ, sym, ap, subst, map, get_or, arith}
 use Rattle.yds_trace.specs.Asked.{Asked}
 use Rattle.yds_trace.specs.Past.{up_to}
 use Rattle.yds_trace.specs.Document.{share_of}

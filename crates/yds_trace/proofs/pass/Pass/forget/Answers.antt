@@ -1,4 +1,4 @@
-use Rattle.yds_model.proofs.Common.{◌∙◌, sym, ap, arith}
+use Rattle.base.proofs.Common.{◌∙◌, sym, ap, arith}
 use Rattle.yds_trace.specs.Asked.{Asked}
 use Rattle.yds_trace.specs.Past.{up_to}
 use Rattle.yds_trace.proofs.Forgetting.{followed_forgets}

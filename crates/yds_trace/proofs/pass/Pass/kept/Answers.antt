@@ -1,4 +1,4 @@
-use Rattle.yds_model.proofs.Common.{◌∙◌, List, sum_by, arith, ap}
+use Rattle.base.proofs.Common.{◌∙◌, List, sum_by, arith, ap}
 use Rattle.yds_kernel.specs.Parts.{capped}
 use Rattle.yds_trace.specs.declared.followed.Followed.{Followed}
 use Rattle.yds_trace.specs.Asked.{on}

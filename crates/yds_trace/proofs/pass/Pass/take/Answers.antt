@@ -1,5 +1,5 @@
 use Rattle.std.specs.Prelude.{OnOk}
-use Rattle.yds_model.proofs.Common.{◌≡◌, ◌∷◌, Result, Ok, Err, arith}
+use Rattle.base.proofs.Common.{◌≡◌, ◌∷◌, Result, Ok, Err, arith}
 use Rattle.yds_kernel.specs.Views.{said_read}
 use Rattle.yds_trace.specs.Kept.{IsStanding, IsAtBehind}
 use Rattle.yds_trace.proofs.pass.Pass.take.Goals as goal

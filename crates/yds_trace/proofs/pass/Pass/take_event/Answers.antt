@@ -1,4 +1,4 @@
-use Rattle.yds_model.proofs.Common.{◌∙◌, List, map, refl, ap}
+use Rattle.base.proofs.Common.{◌∙◌, List, map, refl, ap}
 use Rattle.yds_kernel.specs.Views.{happening_read}
 use Rattle.yds_trace.specs.declared.asked.Task.{Task}
 use Rattle.yds_trace.specs.Finding.{first_found, second_found, whose_found}

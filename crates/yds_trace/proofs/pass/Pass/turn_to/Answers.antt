@@ -1,4 +1,4 @@
-use Rattle.yds_model.proofs.Common.{ap}
+use Rattle.base.proofs.Common.{ap}
 use Rattle.yds_trace.specs.Asked.{on}
 use Rattle.yds_trace.specs.Past.{up_to}
 use Rattle.yds_trace.proofs.OnProcessor.{lines_on, counted_on}

@@ -1,4 +1,4 @@
-use Rattle.yds_model.proofs.Common.{◌≡◌, ◌∙◌, ℕ, true, false, nat_lt, refl, sym, ap}
+use Rattle.base.proofs.Common.{◌≡◌, ◌∙◌, ℕ, true, false, nat_lt, refl, sym, ap}
 use Rattle.yds_trace.specs.Past.{has_switched}
 use Rattle.yds_trace.proofs.past.Past.is_new.Goals as goal
 

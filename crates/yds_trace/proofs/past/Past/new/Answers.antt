@@ -1,4 +1,4 @@
-use Rattle.yds_model.proofs.Common.{◌≡◌, List, map, ap, subst, refl}
+use Rattle.base.proofs.Common.{◌≡◌, List, map, ap, subst, refl}
 use Rattle.yds_trace.specs.declared.asked.StartSpeed.{StartSpeed as StartSpeedKept}
 use Rattle.yds_trace.specs.declared.past.Told.{Told}
 use Rattle.yds_trace.specs.Kept.{TellsSpeeds}

@@ -1,4 +1,4 @@
-use Rattle.yds_model.proofs.Common.{ap}
+use Rattle.base.proofs.Common.{ap}
 use Rattle.yds_trace.specs.declared.step.Step.TheVariants as steps
 use Rattle.yds_trace.proofs.past.Past.step.Goals as goal
 

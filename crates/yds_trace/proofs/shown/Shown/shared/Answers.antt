@@ -1,4 +1,4 @@
-use Rattle.yds_model.proofs.Common.{◌∙◌, ap, length, map, refl, arith}
+use Rattle.base.proofs.Common.{◌∙◌, ap, length, map, refl, arith}
 use Rattle.yds_trace.specs.Views.{asked_read, span_read}
 use Rattle.yds_trace.proofs.Shares.{shown_shared, shared_all}
 use Rattle.yds_trace.proofs.shown.Shown.shared.Goals as goal

@@ -1,4 +1,4 @@
-use Rattle.yds_model.proofs.Common.{◌∙◌, ◌-◌, Bool, ap}
+use Rattle.base.proofs.Common.{◌∙◌, ◌-◌, Bool, ap}
 use Rattle.yds_kernel.specs.Parts.{capped}
 use Rattle.yds_trace.specs.declared.tally.Pause.{Pause}
 use Rattle.yds_trace.specs.Past.{last_time}

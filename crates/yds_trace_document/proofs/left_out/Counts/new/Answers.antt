@@ -1,4 +1,4 @@
-use Rattle.yds_model.proofs.Common.{◌≡◌, ◌∙◌, ℕ, List, count_by, sym}
+use Rattle.base.proofs.Common.{◌≡◌, ◌∙◌, ℕ, List, count_by, sym}
 use Rattle.std.proofs.Math.Path.{fun_ext}
 use Rattle.yds_trace.specs.declared.reason.Reason.{Reason}
 use Rattle.yds_trace.specs.declared.reason.Reason.TheVariants as reasons

@@ -1,4 +1,4 @@
-use Rattle.yds_model.proofs.Common.{◌≡◌, refl, subst}
+use Rattle.base.proofs.Common.{◌≡◌, refl, subst}
 use Rattle.std.proofs.Common.{rules}
 use Rattle.yds_port.specs.declared.source.Taken.{Taken}
 use Rattle.yds_port.specs.declared.source.Taken.TheVariants as taken

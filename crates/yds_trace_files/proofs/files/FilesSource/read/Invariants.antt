@@ -1,4 +1,4 @@
-use Rattle.yds_model.proofs.Common.{length}
+use Rattle.base.proofs.Common.{length}
 use Rattle.yds_trace_files.proofs.Reading.{Goes}
 use Rattle.yds_trace_files.proofs.files.FilesSource.read.Given as goal
 

@@ -1,4 +1,4 @@
-use Rattle.yds_model.proofs.Common.{sym}
+use Rattle.base.proofs.Common.{sym}
 use Rattle.yds_trace.specs.Kept.{told_to_forget}
 use Rattle.yds_trace_parts.proofs.Taking.{last_sound, end_halted, whole_halted}
 use Rattle.yds_trace_parts.proofs.telling.Telling.end.Goals as goal

@@ -1,4 +1,4 @@
-use Rattle.yds_model.proofs.Common.{List, ℕ, ◌∷◌, arith, sym, subst, err_from_is_err_and}
+use Rattle.base.proofs.Common.{List, ℕ, ◌∷◌, arith, sym, subst, err_from_is_err_and}
 use Rattle.yds_kernel.specs.Views.{said_read}
 use Rattle.yds_trace.specs.Kept.{told_to_forget}
 use Rattle.yds_trace_parts.specs.Telling.{Adds}

@@ -1,4 +1,4 @@
-use Rattle.yds_model.proofs.Common.{refl, sym, subst, ℕ, err_from_is_err_and}
+use Rattle.base.proofs.Common.{refl, sym, subst, ℕ, err_from_is_err_and}
 use Rattle.yds_kernel.specs.Views.{said_read}
 use Rattle.yds_trace.specs.Kept.{told_to_forget}
 use Rattle.yds_trace.specs.Parts.{next_processor}

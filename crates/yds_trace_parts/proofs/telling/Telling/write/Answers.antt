@@ -1,4 +1,4 @@
-use Rattle.yds_model.proofs.Common.{◌≡◌, ℕ, List, ◌∷◌, None, refl, sym, ap, subst, arith, le_refl, length, err_from_is_err_and}
+use Rattle.base.proofs.Common.{◌≡◌, ℕ, List, ◌∷◌, None, refl, sym, ap, subst, arith, le_refl, length, err_from_is_err_and}
 use Rattle.yds_trace.specs.Asked.{Asked, on}
 use Rattle.yds_trace.specs.Kept.{IsAtBehind, told_to_forget}
 use Rattle.yds_trace.specs.Shown.{IsShown}

@@ -1,4 +1,4 @@
-use Rattle.yds_model.proofs.Common.{◌∙◌, List, None, sym, subst, err_from_is_err_and}
+use Rattle.base.proofs.Common.{◌∙◌, List, None, sym, subst, err_from_is_err_and}
 use Rattle.yds_trace.specs.Kept.{told_to_forget}
 use Rattle.yds_trace_parts.specs.declared.processors.Processor.{Processor}
 use Rattle.yds_trace_parts.specs.Telling.{IsHaltFor, last_at, AreLast, cuts_of, NoneEndsBefore}

@@ -1,4 +1,4 @@
-use Rattle.yds_model.proofs.Common.{◌≡◌, ◌∙◌, ◌-◌, ℕ, List, map, take, length, sym, ap, ap₂, map-map}
+use Rattle.base.proofs.Common.{◌≡◌, ◌∙◌, ◌-◌, ℕ, List, map, take, length, sym, ap, ap₂, map-map}
 use Rattle.yds_trace_threads.specs.declared.limits.TheConstants.{MOST_THREADS}
 use Rattle.yds_trace_threads.specs.Acts.{acts}
 use Rattle.yds_trace_threads.specs.Threads.{threads_of}

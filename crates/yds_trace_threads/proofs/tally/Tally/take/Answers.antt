@@ -1,4 +1,4 @@
-use Rattle.yds_model.proofs.Common.{◌∷◌, sym, subst}
+use Rattle.base.proofs.Common.{◌∷◌, sym, subst}
 use Rattle.yds_kernel.specs.declared.event.Said.{Said}
 use Rattle.yds_kernel.specs.Views.{said_read}
 use Rattle.yds_trace_threads.specs.declared.tally.Tally.{Tally}

@@ -7,8 +7,8 @@ use Rattle.std.proofs.lemmas.Nat.Gcd.{dvd-zero, dvd_refl, le_of_dvd, same_from_I
 use Rattle.std.proofs.Math.Nat.{div-mul_cancel, div-one, dvd-mul_left_of_dvd, dvd-add_iff_left, one-dvd, eq_of_mul-eq-mul_left, eq_of_mul-eq-mul_right}
 use Rattle.yds_model.specs.Scale.{Fraction, numerator, of_whole, of_parts}
 use Rattle.yds_model.specs.Divisor.{common_divisor, in_lowest_terms, IsLowest}
-use Rattle.yds_model.proofs.Divisor.{divisor_is_greatest, divisor_positive, divisor_times, lowest_terms_are_one}
-use Rattle.yds_model.proofs.Fractions.{factors}
+use Rattle.fraction_lemmas.proofs.Divisor.{divisor_is_greatest, divisor_positive, divisor_times, lowest_terms_are_one}
+use Rattle.fraction_lemmas.proofs.Fractions.{factors}
 
 -- the fraction has the value num/den
 pub record HasValue (num den : ℕ) (x : Fraction) : Type 0 where

@@ -5,7 +5,7 @@ use Rattle.std.proofs.lemmas.Bool.{lt-leb, le-leb}
 use Rattle.std.proofs.lemmas.List.Sums.{sum_by_push}
 use Rattle.yds_model.specs.Job.{Job}
 use Rattle.yds_model.specs.Confined.{window_is_within, work_within, released_work}
-use Rattle.yds_model.proofs.Sums.{sum_by_same}
+use Rattle.base.proofs.Sums.{sum_by_same}
 
 -- # An interval
 

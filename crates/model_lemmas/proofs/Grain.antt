@@ -12,7 +12,7 @@ use Rattle.std.proofs.Math.Nat.{le_refl, le-max_left, le-max_right, one-dvd, div
 use Rattle.yds_model.specs.Scale.{at_scale, numerator}
 use Rattle.yds_model.specs.Slot.{WrittenSlot, IsDivided, IsScale, slots_at, work_given, no_written_slot, written_slot_at}
 use Rattle.yds_model.specs.Audit.{grain_of, parts_given, AreSlots}
-use Rattle.yds_model.proofs.Fractions.{value-den}
+use Rattle.fraction_lemmas.proofs.Fractions.{value-den}
 
 -- the greatest denominator of the job's works, and of the one that was greatest so far
 abbrev grain_from : ℕ → ℕ → List WrittenSlot → ℕ

@@ -1,6 +1,6 @@
 -- Sums over the numbers below n: what they are made of, how two of them compare, and sums over a list as such sums.
 use Rattle.yds_model.proofs.Common.{◌≡◌, ◌≢◌, ℕ, zero, suc, ◌+◌, ◌*◌, ◌<◌, ◌≤◌, List, [], ◌∷◌, refl, arith, inl, inr, ap, cond, ◌==◌, sum_by, All, sum_by-cons, All-head, All-tail, cases_eq, eq-eqb, ne_eqb, length, get_or, ◌∙◌, sym, Bool, filter, range_with_len, filter_step}
-use Rattle.yds_model.specs.Numbers.{sum_below}
+use Rattle.base.specs.Numbers.{sum_below}
 
 -- equal terms, equal sums
 pub sum_below_same : (n : ℕ) (f g : ℕ → ℕ) → ((k : ℕ) → k < n → f k ≡ g k) → sum_below n f ≡ sum_below n g

@@ -5,8 +5,8 @@ use Rattle.std.proofs.lemmas.Bool.{cases_lt}
 use Rattle.std.proofs.Math.Nat.{mul-lt-mul_of_pos_left, lt_of_mul-lt-mul_left, mul-le-mul_left}
 use Rattle.yds_model.specs.HullLaws.{HullExists}
 use Rattle.yds_model.specs.Table.{Point, IsAbove, IsConvex, GoesOn, IsHullOf}
-use Rattle.yds_model.proofs.Hull.{RisesFrom, rises_from, rises_below, next_rises, hull_rises, convex_tail}
-use Rattle.yds_model.proofs.HullOf.{hull_is_computed}
+use Rattle.model_lemmas.proofs.Hull.{RisesFrom, rises_from, rises_below, next_rises, hull_rises, convex_tail}
+use Rattle.model_lemmas.proofs.HullOf.{hull_is_computed}
 
 -- # Points above lines
 

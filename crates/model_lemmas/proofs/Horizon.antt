@@ -5,14 +5,14 @@ use Rattle.std.specs.List.{All, sum_by, fold}
 use Rattle.std.proofs.lemmas.List.Sums.{sum_by-cons}
 use Rattle.std.proofs.lemmas.List.Elements.{All-tail, All-head}
 use Rattle.std.proofs.lemmas.Bool.{cases_eq}
-use Rattle.std.proofs.lemmas.Bool.Decides.{nat_tests}
+use Rattle.base.proofs.Sums.{part_own, part_other}
 use Rattle.std.proofs.Math.Nat.{mul-le-mul_right}
-use Rattle.yds_model.specs.declared.limits.TheConstants.{MAX_TIME, MAX_WORK}
+use Rattle.base.specs.declared.limits.TheConstants.{MAX_TIME, MAX_WORK}
 use Rattle.yds_model.specs.Job.{Job, job_at, IsJob}
 use Rattle.yds_model.specs.Slot.{WholeSlot, work_given}
 use Rattle.yds_model.specs.Feasible.{RunFrom, IsFeasibleAt}
 use Rattle.yds_model.specs.Energy.{last_deadline, first_release, horizon, busy, idle}
-use Rattle.yds_model.proofs.Runs.{run_later}
+use Rattle.model_lemmas.proofs.Runs.{run_later}
 
 -- # The work of all slots
 
@@ -26,14 +26,6 @@ given_none : (n : ℕ) → given_below [] n ≡ 0
 unfolding given_below
 given_none zero = refl
 given_none (suc n) = omega (arith, given_none n)
-
--- a slot's part of its own job's work is its work
-pub part_own : (number job work : ℕ) → number ≡ job → (if number == job then work else 0) ≡ work
-part_own number job work same = grind (arith, nat_tests)
-
--- and of another job's nothing
-pub part_other : (number job work : ℕ) → (number ≡ job → ⊥) → (if number == job then work else 0) ≡ 0
-part_other number job work other = grind (arith, nat_tests)
 
 -- one slot more gives a job that part
 given-cons : (slot : WholeSlot) (slots : List WholeSlot) (n : ℕ) →

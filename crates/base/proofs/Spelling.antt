@@ -8,7 +8,7 @@ use Rattle.std.proofs.lemmas.Str.{IsUtf8-from_ascii}
 use Rattle.std.proofs.lemmas.Str.Parse.{digit_from_value}
 use Rattle.std.proofs.lemmas.Str.Ascii.{IsAscii-nil, IsAscii-cons}
 use Rattle.std.proofs.lemmas.List.Elements.{All-nil, All-cons, All-weaker}
-use Rattle.yds_model.specs.Spelling.{is_digit, is_number, number_at, is_visible, is_name}
+use Rattle.base.specs.Spelling.{is_digit, is_number, number_at, is_visible, is_name}
 
 -- visible bytes are ASCII
 visible_ascii : (text : List ℕ) → list_all is_visible text ≡ true → IsAscii text

@@ -5,7 +5,7 @@ use Rattle.std.proofs.lemmas.Nat.Gcd.{IsGcd-from_zero, IsGcd-from_mod, same_from
 use Rattle.std.proofs.Math.Nat.{mul-zero, mod-lt, mod-eq_of_lt, div-add-mod, mul-add-mod_self_left, mul-lt-mul_of_pos_left, mul-pos, div-mul_cancel, dvd-mul_left, dvd-mul_right, dvd_of_mul-dvd-mul_left, mul-dvd-mul_right, eq_of_mul-eq-mul_right}
 use Rattle.yds_model.specs.Divisor.{divisor_within, common_divisor, common_multiple}
 use Rattle.yds_model.specs.DivisorLaws.{DivisorIsGreatest, MultipleIsLeast, LowestTermsAreOne}
-use Rattle.yds_model.proofs.Fractions.{den_positive}
+use Rattle.fraction_lemmas.proofs.Fractions.{den_positive}
 
 -- the remainder of t times two numbers
 mod_times : (t a b : ℕ) → 1 ≤ b → (t * a) % (t * b) ≡ t * (a % b)

@@ -11,7 +11,7 @@ use Rattle.yds_model.specs.Scale.{Fraction, at_scale}
 use Rattle.yds_model.specs.Slot.{WrittenSlot, WholeSlot, IsDivided, IsScale, IsSolid, AtEachScale, slot_at_scale, slots_at, work_given}
 use Rattle.yds_model.specs.Feasible.{RunFrom, IsInWindow, IsFeasibleAt}
 use Rattle.yds_model.specs.Excess.{excess}
-use Rattle.yds_model.proofs.Fractions.{den_positive}
+use Rattle.fraction_lemmas.proofs.Fractions.{den_positive}
 use Rattle.yds_model.specs.ScaleLaws.{ScaleKeepsFeasible, ScaleMultipliesExcess, OneScaleDecides, ScaleExists}
 
 -- the slot in parts that are k times as fine

@@ -4,7 +4,7 @@ use Rattle.std.specs.List.{prefix_len, position_or_len, join_with_byte, AllByRec
 use Rattle.std.proofs.lemmas.Bool.{cases_Bool}
 use Rattle.std.proofs.lemmas.List.Folds.{length-prefix_len}
 use Rattle.std.proofs.lemmas.List.Elements.{All-nil, All-cons, All-head, All-tail, All-append}
-use Rattle.yds_model.specs.Lines.{Line, in_front, Field, lines_from, without_return, is_blank, joined, fields_from}
+use Rattle.base.specs.Lines.{Line, in_front, Field, lines_from, without_return, is_blank, joined, fields_from}
 
 -- ---- lines
 

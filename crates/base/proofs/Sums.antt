@@ -1,9 +1,11 @@
--- Sums over a list: of sums, of multiples, of what a function makes, and of terms that are compared one by one.
-use Rattle.std.proofs.Common.{◌≡◌, ℕ, ◌+◌, ◌*◌, ◌≤◌, List, [], ◌∷◌, map, refl, arith}
+-- Sums over a list: of sums, of multiples, of what a function makes, of terms that are compared one by one, and of those of one number.
+use Rattle.std.proofs.Common.{◌≡◌, ℕ, ◌+◌, ◌*◌, ◌≤◌, ◌==◌, List, [], ◌∷◌, map, refl, arith}
+use Rattle.std.specs.Prelude.{if◌then◌else◌}
 use Rattle.std.specs.List.{All, sum_by}
 use Rattle.std.proofs.lemmas.List.Sums.{sum_by-cons}
 use Rattle.std.proofs.lemmas.List.Elements.{All-tail}
 use Rattle.std.proofs.Math.Nat.{mul-add}
+use Rattle.std.proofs.lemmas.Bool.Decides.{nat_tests}
 
 -- a sum of sums is the sum of the two
 pub sum_by-add : {X : Type 0} (f g : X → ℕ) (xs : List X) → sum_by (λ x. f x + g x) xs ≡ sum_by f xs + sum_by g xs
@@ -37,3 +39,11 @@ pub sum_by_zero : {X : Type 0} (f : X → ℕ) (xs : List X) → All (λ x. f x 
 sum_by_zero f [] h = refl
 sum_by_zero f (x ∷ xs) h =
     simp sum_by-cons (omega (arith, h 0 x (omega arith), sum_by_zero f xs (All-tail (λ y. f y ≡ 0) x xs h)))
+
+-- the part of a sum over one number's own elements: an element of this number counts
+pub part_own : (number other part : ℕ) → number ≡ other → (if number == other then part else 0) ≡ part
+part_own number other part same = grind (arith, nat_tests)
+
+-- and one of another number doesn't
+pub part_other : (number other part : ℕ) → (number ≡ other → ⊥) → (if number == other then part else 0) ≡ 0
+part_other number other part apart = grind (arith, nat_tests)

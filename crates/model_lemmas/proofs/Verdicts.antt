@@ -5,7 +5,7 @@ use Rattle.std.specs.List.{All}
 use Rattle.std.proofs.lemmas.List.{length-map}
 use Rattle.std.proofs.lemmas.List.Elements.{All-from_get_or, All-map}
 use Rattle.std.proofs.Math.Nat.{one-dvd, eq_of_mul-eq-mul_left}
-use Rattle.yds_model.specs.Numbers.{Each}
+use Rattle.base.specs.Numbers.{Each}
 use Rattle.yds_model.specs.Job.{Job, job_at}
 use Rattle.yds_model.specs.Scale.{IsAtMost}
 use Rattle.yds_model.specs.Slot.{WrittenSlot, WholeSlot, IsDivided, IsScale, slot_at_scale, slots_at, work_given, no_slot, no_written_slot, written_slot_at}
@@ -13,10 +13,10 @@ use Rattle.yds_model.specs.Feasible.{IsInWindow, IsFeasibleAt, IsFeasible}
 use Rattle.yds_model.specs.Table.{Point}
 use Rattle.yds_model.specs.Audit.{grain_of, parts_given, IsOnTable, release_of, deadline_of, Stands, GetsItsWork, AllStand, AreSlots}
 use Rattle.yds_model.specs.AuditLaws.{VerdictIsExact, TableVerdictIsExact}
-use Rattle.yds_model.proofs.Fractions.{order_of_values, at_most_of_values}
-use Rattle.yds_model.proofs.Scale.{scale_exists}
-use Rattle.yds_model.proofs.Grain.{grain_positive, given_scaled}
-use Rattle.yds_model.proofs.Runs.{slot_read, run_from_places, run_forward, run_after}
+use Rattle.fraction_lemmas.proofs.Fractions.{order_of_values, at_most_of_values}
+use Rattle.model_lemmas.proofs.Scale.{scale_exists}
+use Rattle.model_lemmas.proofs.Grain.{grain_positive, given_scaled}
+use Rattle.model_lemmas.proofs.Runs.{slot_read, run_from_places, run_forward, run_after}
 
 -- a work in parts of a grain and at a scale is the same multiple of both
 given_from_parts : (grain given scale parts work : ℕ) → 1 ≤ grain → grain * given ≡ scale * parts → parts ≡ work * grain → given ≡ work * scale

@@ -4,12 +4,12 @@ use Rattle.std.proofs.Common.{ℕ, zero, suc, ◌<◌, ◌≤◌, List, [], ◌�
 use Rattle.std.specs.List.{All, AllPairs}
 use Rattle.std.proofs.lemmas.List.Elements.{All-nil, All-cons, All-append, All-weaker, Contains-get_or}
 use Rattle.std.proofs.lemmas.List.Kept.{AllPairs-cons}
-use Rattle.yds_model.specs.Numbers.{Each}
+use Rattle.base.specs.Numbers.{Each}
 use Rattle.yds_model.specs.Job.{Job, job_at}
 use Rattle.yds_model.specs.Piece.{Piece, IsForward, AreApart, PiecesFrom, IsConfined}
 use Rattle.yds_model.specs.Level.{Level, no_level, level_at, all_members, all_pieces}
 use Rattle.yds_model.specs.Proper.{PiecesStand, IsWindowCovered, AreLevels}
-use Rattle.yds_model.proofs.Lists.{Any-append_left, AllPairs-append, flat_map-take}
+use Rattle.base.proofs.Lists.{Any-append_left, AllPairs-append, flat_map-take}
 
 -- pieces that lie one after another all begin at the start or later
 pub pieces_begin : (start : ℕ) (pieces : List Piece) → PiecesFrom start pieces → All (λ piece. start ≤ piece.from) pieces

@@ -1,7 +1,7 @@
 -- Numbers in lists, as often as they are counted: one that stands once among all members is a member of one level.
 use Rattle.std.proofs.Common.{◌≡◌, ℕ, zero, suc, ◌+◌, ◌<◌, ◌≤◌, ◌==◌, List, [], ◌∷◌, ◌++◌, length, get_or, refl, sym, ap, arith, eq-eqb, cond, Contains}
 use Rattle.std.proofs.lemmas.List.Sums.{sum_by-append, get_or-le-sum_by}
-use Rattle.yds_model.specs.Numbers.{count}
+use Rattle.base.specs.Numbers.{count}
 use Rattle.yds_model.specs.Level.{Level, level_at, all_members}
 
 -- a number that stands in a list is counted

@@ -1,7 +1,7 @@
 -- The exit status of the program, for each way in which a run may end.
 use Rattle.std.specs.Prelude.{ℕ}
-use Rattle.yds_model.specs.declared.status.Status.{Status}
-use Rattle.yds_model.specs.declared.status.Status.TheVariants as statuses
+use Rattle.base.specs.declared.status.Status.{Status}
+use Rattle.base.specs.declared.status.Status.TheVariants as statuses
 
 abbrev pub status_code : Status → ℕ
 status_code statuses.Done = 0

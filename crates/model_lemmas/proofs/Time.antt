@@ -5,13 +5,13 @@ use Rattle.std.proofs.lemmas.List.Sums.{sum_by-cons, get_or-le-sum_by}
 use Rattle.std.proofs.lemmas.List.Elements.{All-tail, All-contains}
 use Rattle.std.proofs.lemmas.Bool.{cases_lt}
 use Rattle.std.proofs.Math.Nat.{mul-add, mul-sub, le-div_iff_mul-le, div-lt_iff_lt-mul}
-use Rattle.yds_model.specs.Numbers.{count, AreDifferent}
+use Rattle.base.specs.Numbers.{count, AreDifferent}
 use Rattle.yds_model.specs.Job.{Job, job_at}
 use Rattle.yds_model.specs.Slot.{WholeSlot}
 use Rattle.yds_model.specs.Feasible.{RunFrom, IsInWindow}
 use Rattle.yds_model.specs.Piece.{Piece, Covers, IsConfined, total_length}
-use Rattle.yds_model.proofs.Sums.{sum_by-mul, sum_by_same, sum_by_at_most, sum_by_zero}
-use Rattle.yds_model.proofs.Lists.{counted_contains}
+use Rattle.base.proofs.Sums.{sum_by-mul, sum_by_same, sum_by_at_most, sum_by_zero}
+use Rattle.base.proofs.Lists.{counted_contains}
 
 -- how much of an interval lies before `now`
 abbrev pub before : ℕ → ℕ → ℕ → ℕ

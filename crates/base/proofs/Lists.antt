@@ -8,7 +8,7 @@ use Rattle.std.proofs.lemmas.List.Kept.{AllPairs-cons}
 use Rattle.std.proofs.lemmas.List.Sums.{sum_by-cons}
 use Rattle.std.proofs.lemmas.Bool.{cases_eq, cases_lt, ne_eqb}
 use Rattle.std.specs.Prelude.{cond}
-use Rattle.yds_model.specs.Numbers.{count}
+use Rattle.base.specs.Numbers.{count}
 
 -- one more number in a list is counted by one more
 pub count-cons : (number x : ℕ) (xs : List ℕ) → count number (x ∷ xs) ≡ cond (number == x) 1 0 + count number xs

@@ -1,5 +1,6 @@
--- The lines of an input, and the fields of a line.
-use Rattle.std.specs.Prelude.{ℕ, ◌+◌, List, [], ◌∷◌, map, Bool, ◌==◌, ◌||◌, if◌then◌else◌}
+-- The lines of an input, the fields of a line, and the line that fields make.
+use Rattle.std.specs.Prelude.{ℕ, ◌+◌, List, [], ◌∷◌, ◌++◌, map, Bool, ◌==◌, ◌||◌, if◌then◌else◌}
+use Rattle.std.specs.List.{join_with_byte}
 
 -- a line of an input: its number, from 1, the place of its first byte in the input, from 0, and its bytes
 pub record Line : Type 0 where
@@ -56,3 +57,7 @@ fields_from column (byte ∷ bytes) =
 
 abbrev pub fields_of : List ℕ → List Field
 fields_of text = fields_from 1 text
+
+-- these fields as one line, with a space between them and a line feed at its end
+abbrev pub line : List (List ℕ) → List ℕ
+line fields = join_with_byte 32 fields ++ 10 ∷ []

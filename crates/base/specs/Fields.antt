@@ -2,8 +2,8 @@
 -- tasks are read by the same words.
 use Rattle.std.specs.Prelude.{ℕ, ◌+◌, ◌-◌, List, [], length, Result, Ok, Err, Bool, nat_lt, ◌==◌, if◌then◌else◌}
 use Rattle.std.specs.List.{slice_index_or}
-use Rattle.yds_model.specs.declared.number_fault.NumberFault.{NumberFault}
-use Rattle.yds_model.specs.Lines.{Field}
+use Rattle.base.specs.declared.number_fault.NumberFault.{NumberFault}
+use Rattle.base.specs.Lines.{Field}
 
 -- where an input is refused, and why; lines, and columns in bytes, count from 1
 pub record Fault (Reason : Type 0) : Type 0 where

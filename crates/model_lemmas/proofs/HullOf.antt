@@ -9,8 +9,8 @@ use Rattle.std.proofs.lemmas.List.{length-append, get_or_append_left}
 use Rattle.std.proofs.Math.Nat.{le_refl, mul-le-mul_left, le_of_mul-le-mul_left}
 use Rattle.yds_model.specs.HullLaws.{HullIsComputed}
 use Rattle.yds_model.specs.Table.{Point, point_at, IsAbove, GoesOn, is_left_out, hull_after}
-use Rattle.yds_model.proofs.Lists.{All-front, All-back}
-use Rattle.yds_model.proofs.Hull.{IsOver, RisesFrom, rises_from, hull_under}
+use Rattle.base.proofs.Lists.{All-front, All-back}
+use Rattle.model_lemmas.proofs.Hull.{IsOver, RisesFrom, rises_from, hull_under}
 
 -- # A point of the hull
 

@@ -1,6 +1,6 @@
 -- The first failure of tests is one: of stages that are tried in order, and of each stage's places.
 use Rattle.std.proofs.Common.{◌≡◌, ℕ, suc, ◌<◌, arith}
-use Rattle.yds_model.specs.Numbers.{Each}
+use Rattle.base.specs.Numbers.{Each}
 
 -- nothing lies below 0
 pub each_none : (P : ℕ → Type 0) → Each 0 P
