@@ -7,20 +7,23 @@
 #                       minute or two
 #   make run            plans the document EXAMPLE with the program unproved, says so, proves what
 #                       it is made of, builds it, and plans it again
-#   make test           the tests, without any proof, within minutes: the programs on each stored row
-#                       and trace, the tests of the crates and of the commands, and those of the pages
-#   make gate           the merge gate: every proof, test and stored run, the edits that a proof has to
-#                       refuse, and the checks that checks/gate.py lists; it needs gcc, libc6-dev and
-#                       g++, too. KEPT=FILE begins with what a gate elsewhere kept
-#   make edits          tries anew all edits that a proof has to refuse, over what `rt ci` has proved
-#                       here, before a release
+#   make test           the tests, without any proof: both programs on each stored row and trace, the
+#                       tests of the crates, of the commands, of the pages and of the checks; five
+#                       minutes on four idle processors, eight on two, 2 GB of memory for each and
+#                       1 GB of disk
+#   make gate           the merge gate: every proof, test and stored run, the edits that a proof has
+#                       to refuse, and the checks that checks/gate.py lists; 75 minutes on four
+#                       processors, 2 GB of memory for each and 15 GB of disk. KEPT=FILE begins with
+#                       what a gate elsewhere kept
 #   make kept           packs what the toolchain kept of this tree's gate, as build/kept.tar.gz
-#   make crate-seconds  writes packaging/crate-seconds, by which a first run tells how long it takes, of
-#                       what each crate took here
+#   make edits          tries all edits anew that a proof has to refuse, before a release, over what
+#                       the gate has proved here
+#   make crate-seconds  writes packaging/crate-seconds, by which a first run tells how long it takes,
+#                       of what each crate took here
 #   make built          fills build with the programs and the library, over what `rt ci` has proved
 #                       here, within some minutes
-#   make tools-check    the tests of the commands that need Python's own library alone; `make test` has
-#                       them, too
+#   make tools-check    the tests of the commands that need Python's own library alone; `make test`
+#                       has them, too
 #   make tools-test     their other tests, which need matplotlib, mypy, pytest and others: what
 #                       isn't there is left out, and named
 #   make check          the built programs answer every example and stored row byte for byte, within
@@ -71,8 +74,8 @@
 #                       send on, and the static program in an empty root; needs root and debootstrap
 #   make clean          removes what was built
 #
-# faults, fuzz, costly, library and bench-library need a C compiler (Debian: gcc and libc6-dev),
-# bench and library-test also one for C++ (g++), and library-test pkg-config and python3-venv.
+# gate, faults, fuzz, costly, library and bench-library need a C compiler (Debian: gcc and libc6-dev);
+# gate, bench and library-test also one for C++ (g++); library-test pkg-config and python3-venv, too.
 #
 # JOBS crates are proved side by side, each in up to 2 GB of memory. With LINK=dynamic the program
 # is the toolchain's own, which needs glibc. EXAMPLE, DOCUMENT and COMMAND are what `make run` and

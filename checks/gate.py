@@ -29,6 +29,7 @@ from runner import NOTHING, ROOT, Beside, Command, Result, in_words, lanes, name
 
 sys.path.insert(0, str(ROOT / "packaging"))
 
+import kept  # noqa: E402
 import prove  # noqa: E402
 
 # What needs no proof, in the order in which it is begun. A new check is a line here.
@@ -156,12 +157,9 @@ def main(words: Sequence[str]) -> int:
     print(f"gate: {forecast(STAGES)}", flush=True)
     if needs.free_disk(str(ROOT)) < needs.DISK:
         print(f"gate: {needs.free_disk(str(ROOT)):.0f} GB of disk are free, and it takes up to {needs.DISK}", flush=True)
-    if options.kept is not None:
-        import kept
-
-        if kept.main(["unpack", str(options.kept)]):
-            print("0 passed, 1 failed", flush=True)
-            return 1
+    if options.kept is not None and kept.main(["unpack", str(options.kept)]):
+        print("0 passed, 1 failed", flush=True)
+        return 1
     return run_stages(STAGES)
 
 

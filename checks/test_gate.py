@@ -6,6 +6,7 @@ The last line is 'N passed, M failed'.
 """
 
 import contextlib
+import hashlib
 import io
 import json
 import os
@@ -138,7 +139,7 @@ class SideBySide(WithGate):
         for name in ("one", "two"):
             at = lines.index(f"{name} begins")
             self.assertEqual(lines[at + 1], f"{name} goes on")
-            self.assertTrue(lines[at + 2].startswith(f"check {name}: 2 passed, 0 failed, 0 s; "), lines[at + 2])
+            self.assertRegex(lines[at + 2], rf"^check {name}: 2 passed, 0 failed, \d+ s; [12] of 2 done$")
         self.assertEqual((lines[-1], status), ("7 passed, 0 failed", 0))
 
     def test_one_fails_and_nothing_is_proved(self) -> None:
@@ -293,7 +294,7 @@ class Kept(WithCommands):
     def entry(self, crate: str, text: str, key: str = KEY, age: int = 0) -> Path:
         """An entry of a crate with one file, that is so many seconds old."""
         folder = self.folder / f"here/rattle-kept/proof-{crate}-{key}"
-        made = {"key": key, "files": [[f"rlib/{crate}.rlib/format", kept.hashlib.sha256(text.encode()).hexdigest()]]}
+        made = {"key": key, "files": [[f"rlib/{crate}.rlib/format", hashlib.sha256(text.encode()).hexdigest()]]}
         self.write(f"here/rattle-kept/{folder.name}/made.json", json.dumps(made))
         self.write(f"here/rattle-kept/{folder.name}/0", text)
         os.utime(folder, (time.time() - age,) * 2)
