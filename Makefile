@@ -9,12 +9,11 @@
 #                       it is made of, builds it, and plans it again
 #   make test           the tests, without any proof: both programs on each stored row and trace, the
 #                       tests of the crates, of the commands, of the pages and of the checks; five
-#                       minutes on four idle processors, eight on two, 2 GB of memory for each and
-#                       1 GB of disk
+#                       minutes on four idle processors, eight on two, with 2 GB of memory for each
 #   make gate           the merge gate: every proof, test and stored run, the edits that a proof has
 #                       to refuse, and the checks that checks/gate.py lists; 75 minutes on four
-#                       processors, 2 GB of memory for each and 15 GB of disk. KEPT=FILE begins with
-#                       what a gate elsewhere kept
+#                       processors, with 2 GB of memory for each and 15 GB of disk. KEPT=FILE begins
+#                       with what a gate elsewhere kept
 #   make kept           packs what the toolchain kept of this tree's gate, as build/kept.tar.gz
 #   make edits          tries all edits anew that a proof has to refuse, before a release, over what
 #                       the gate has proved here

@@ -68,7 +68,7 @@ STAGES = [
     Stage([BUILT], False, 240),
 ]
 
-_CRATE = re.compile(rb"^rt: (\w+) (?:proved$|is kept: )", re.MULTILINE)
+_CRATE = re.compile(rb"^rt: (\w+) (proved$|is kept: )")
 
 
 class Proofs:
@@ -80,6 +80,7 @@ class Proofs:
         expected = prove.expected_of(self.last, prove.read_seconds(prove.SHARED))
         self.progress = prove.Progress(graph, set(graph), expected)
         self.began = time.monotonic()
+        self.kept: set[str] = set()
         self.rest = b""
 
     def sink(self, told: bytes) -> None:
@@ -90,16 +91,18 @@ class Proofs:
             write_through(line + b"\n")
             found = _CRATE.match(line)
             if found:
-                now = time.monotonic() - self.began
-                self.progress.end(found[1].decode(), now)
+                now, crate = time.monotonic() - self.began, found[1].decode()
+                self.progress.end(crate, now)
+                self.kept.update([crate] if found[2] != b"proved" else [])
                 write_through(f"gate: {self.progress.line(now)}\n".encode())
 
     def end(self, passed: bool) -> None:
         """Writes the last line, if it has no end; and keeps how long each crate took that was proved."""
         write_through(self.rest)
         if passed:
+            took = {crate: each for crate, each in self.progress.took().items() if crate not in self.kept}
             prove.BUILD.mkdir(exist_ok=True)
-            prove.write_seconds(prove.KEPT, {**self.last, **self.progress.took()})
+            prove.write_seconds(prove.KEPT, {**self.last, **took})
 
 
 def prove_all() -> Result:

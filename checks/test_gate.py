@@ -25,6 +25,7 @@ sys.path[:0] = [str(ROOT / "checks"), str(ROOT / "packaging")]
 import gate  # noqa: E402
 import kept  # noqa: E402
 import needs  # noqa: E402
+import prove  # noqa: E402
 import runner  # noqa: E402
 import stored  # noqa: E402
 import tests as unproved  # noqa: E402
@@ -128,6 +129,20 @@ class InTurn(WithGate):
     def test_how_far_the_proofs_are(self) -> None:
         lines, _ = self.gate("echo rt: yds_model proved; echo rt: yds_port is kept: the same; echo rt: yds_port: no crate")
         self.assertEqual([line.partition(" of ")[0] for line in lines if " of " in line], ["gate: 1", "gate: 2"])
+
+
+class Seconds(InFolder):
+    """What the gate notes of how long each crate took."""
+
+    def test_what_was_kept_took_nothing(self) -> None:
+        seconds = self.write("crate-seconds", "yds_port 7.0\n")
+        with mock.patch.multiple(prove, KEPT=seconds, BUILD=self.folder), mock.patch.object(gate, "write_through"), \
+                mock.patch.object(gate.time, "monotonic", iter((0, 30, 60, 90)).__next__):
+            proofs = gate.Proofs()
+            proofs.sink(b"rt: yds_model proved\nrt: yds_po")
+            proofs.sink(b"rt is kept: the same\nrt: yds_fraction proved\n0 passed, 0 failed\n")
+            proofs.end(True)
+        self.assertEqual(prove.read_seconds(seconds), {"yds_model": 30, "yds_port": 7, "yds_fraction": 60})
 
 
 class SideBySide(WithGate):
