@@ -40,7 +40,7 @@ def files(folder: Path | None, parts: Sequence[str]) -> dict[str, Path]:
 
 
 def lay_out(folder: Path, found: dict[str, Path]) -> None:
-    """Makes what a reader has: the programs and the commands in bin, and in share what the pages' commands read. What is built is in built."""
+    """Makes what a reader has: the programs and the commands in bin, in share what the pages' commands read; in built what is built."""
     for name in ("bin", "share", "built"):
         (folder / name).mkdir()
     for name, place in found.items():

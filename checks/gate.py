@@ -54,7 +54,7 @@ BUILT: Command = (sys.executable, "checks/built.py")
 
 
 class Stage(NamedTuple):
-    """Commands, whether they run side by side, and the seconds that they take on four processors of 2.5 GHz where nothing is kept."""
+    """Commands, whether they run side by side, and the seconds that they take on four processors where nothing is kept."""
 
     commands: Sequence[Command]
     beside: bool
@@ -143,7 +143,8 @@ def run_stages(stages: Sequence[Stage]) -> int:
 def forecast(stages: Sequence[Stage]) -> str:
     """How long the gate takes here, where nothing is kept, by what it took on four processors."""
     minutes = sum(stage.seconds for stage in stages) * 4 / min(4, processors()) / 60
-    return f"about {minutes:.0f} minutes on {processors()} processors where nothing is kept, and less where rt ci kept what it proved"
+    less = "where nothing is kept, and less where rt ci kept what it proved"
+    return f"about {minutes:.0f} minutes on {processors()} processors {less}"
 
 
 def main(words: Sequence[str]) -> int:

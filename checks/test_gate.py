@@ -31,7 +31,14 @@ import stored  # noqa: E402
 import tests as unproved  # noqa: E402
 from test_checks import InFolder  # noqa: E402
 
-STAGES = "import sys; sys.path.insert(0, 'checks'); import gate; from gate import Stage; sys.exit(gate.run_stages([{}]))"
+STAGES = """
+import sys
+sys.path.insert(0, "checks")
+import gate
+from gate import Path, Stage
+gate.prove.BUILD, gate.prove.KEPT = Path({folder!r}), Path({folder!r}, "crate-seconds")
+sys.exit(gate.run_stages([{stages}]))
+"""
 IN_TURN = "Stage([gate.PROOFS], False, 0), Stage([('check',)], False, 0)"
 BESIDE = "Stage([('check', 'one'), ('check', 'two')], True, 0), Stage([gate.PROOFS], False, 0)"
 
@@ -60,7 +67,7 @@ class WithGate(WithCommands):
         for name, script in (("rt", proofs), ("check", check)):
             if script:
                 self.script(name, script)
-        lines, status = self.python(["-c", STAGES.format(stages)])
+        lines, status = self.python(["-c", STAGES.format(folder=str(self.folder), stages=stages)])
         return [line.rpartition(", ")[0] if line.endswith(" s") else line for line in lines if " processors" not in line], status
 
 
