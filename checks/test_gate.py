@@ -10,6 +10,7 @@ import hashlib
 import io
 import json
 import os
+import resource
 import subprocess
 import sys
 import tarfile
@@ -108,8 +109,8 @@ class InTurn(WithGate):
 
     def test_killed_while_what_it_began_holds_the_pipe(self) -> None:
         begun = time.monotonic()
-        lines, status = self.gate("sleep 60 & echo $! >" + str(self.folder / "number") + "; kill -9 $$")
-        self.assertLess(time.monotonic() - begun, 30)
+        lines, status = self.gate("sleep 600 & echo $! >" + str(self.folder / "number") + "; kill -9 $$")
+        self.assertLess(time.monotonic() - begun, 300)
         self.assertEqual((lines[-1], status), ("0 passed, 1 failed", 137))
         os.kill(int((self.folder / "number").read_text()), 15)
 
@@ -185,9 +186,9 @@ class Lacking(WithCommands):
         self.script("rt", f"touch {self.folder}/ran; echo 1 passed, 0 failed")
         for name in ("make", "bash", "awk", "diff", "cmp", "xargs", "ld", "ar", "objcopy", "nm", "readelf"):
             self.script(name, ":")
-        begun = time.monotonic()
+        before = resource.getrusage(resource.RUSAGE_CHILDREN).ru_utime
         lines, status = self.python(["checks/gate.py"], "/nowhere")
-        self.assertLess(time.monotonic() - begun, 5)
+        self.assertLess(resource.getrusage(resource.RUSAGE_CHILDREN).ru_utime - before, 1)
         told = [f"gate: the command '{name}' isn't here: on Debian: apt-get install {name}" for name in ("gcc", "g++")]
         self.assertEqual((lines, status), ([*told, "0 passed, 2 failed"], 1))
         self.assertFalse((self.folder / "ran").exists())
