@@ -7,12 +7,22 @@
 #                       minute or two
 #   make run            plans the document EXAMPLE with the program unproved, says so, proves what
 #                       it is made of, builds it, and plans it again
-#   make test           the gate: every proof, test, refused edit and stored run, and the checks
-#                       that checks/gate.py lists
+#   make test           the tests, without any proof: both programs on each stored row and trace, the
+#                       tests of the crates, of the commands, of the pages and of the checks; five
+#                       minutes on four idle processors, eight on two, with 2 GB of memory for each
+#   make gate           the merge gate: every proof, test and stored run, the edits that a proof has
+#                       to refuse, and the checks that checks/gate.py lists; 75 minutes on four
+#                       processors, with 2 GB of memory for each and 15 GB of disk. KEPT=FILE begins
+#                       with what a gate elsewhere kept
+#   make kept           packs what the toolchain kept of this tree's gate, as build/kept.tar.gz
+#   make edits          tries all edits anew that a proof has to refuse, before a release, over what
+#                       the gate has proved here
+#   make crate-seconds  writes packaging/crate-seconds, by which a first run tells how long it takes,
+#                       of what each crate took here
 #   make built          fills build with the programs and the library, over what `rt ci` has proved
 #                       here, within some minutes
-#   make tools-check    the tests of the commands that need Python's own library alone; the gate has
-#                       them, too
+#   make tools-check    the tests of the commands that need Python's own library alone; `make test`
+#                       has them, too
 #   make tools-test     their other tests, which need matplotlib, mypy, pytest and others: what
 #                       isn't there is left out, and named
 #   make check          the built programs answer every example and stored row byte for byte, within
@@ -63,8 +73,8 @@
 #                       send on, and the static program in an empty root; needs root and debootstrap
 #   make clean          removes what was built
 #
-# faults, fuzz, costly, library and bench-library need a C compiler (Debian: gcc and libc6-dev),
-# bench and library-test also one for C++ (g++), and library-test pkg-config and python3-venv.
+# gate, faults, fuzz, costly, library and bench-library need a C compiler (Debian: gcc and libc6-dev);
+# gate, bench and library-test also one for C++ (g++); library-test pkg-config and python3-venv, too.
 #
 # JOBS crates are proved side by side, each in up to 2 GB of memory. With LINK=dynamic the program
 # is the toolchain's own, which needs glibc. EXAMPLE, DOCUMENT and COMMAND are what `make run` and
@@ -87,12 +97,12 @@ DOCUMENTS ?= 100000
 TRACES ?= 1000
 LONG ?= 50
 # A variable that is exported before it is given a value is empty.
-export PREFIX DESTDIR LIBDIR INSTALLED DOCUMENT EXAMPLE
+export PREFIX DESTDIR LIBDIR INSTALLED DOCUMENT EXAMPLE KEPT
 
 LIBRARY := build/libyds.so
 LINKER_CACHE = test -n "$$DESTDIR" || ldconfig 2>/dev/null || echo "ldconfig, run by root, lets programs find libyds.so.1 there"
 
-.PHONY: all help run try trace test built tools-check tools-test check recipes faults fuzz traces planted record costly bench bench-trace bench-library library library-test wheel sdist install install-program install-tools install-pages install-library uninstall uninstall-program uninstall-tools uninstall-pages uninstall-library map deb dist check-build record-build packages-test clean tool
+.PHONY: all help run try trace test gate edits kept crate-seconds built tools-check tools-test check recipes faults fuzz traces planted record costly bench bench-trace bench-library library library-test wheel sdist install install-program install-tools install-pages install-library uninstall uninstall-program uninstall-tools uninstall-pages uninstall-library map deb dist check-build record-build packages-test clean tool
 
 all: $(BINARY) $(TRACER) build/proved
 
@@ -139,7 +149,19 @@ try: tool
 	@(cd crates/$(PROGRAM) && rt try $(PROGRAM) -- $(COMMAND)) <"$$DOCUMENT"
 
 test: tool
-	@python3 checks/gate.py
+	@python3 checks/tests.py
+
+gate:
+	@python3 checks/gate.py $(if $(KEPT),--kept "$$KEPT")
+
+edits: tool
+	@python3 checks/edits.py --all
+
+kept: tool
+	@python3 packaging/kept.py pack build/kept.tar.gz
+
+crate-seconds:
+	@python3 packaging/prove.py record
 
 built: tool
 	@python3 packaging/over.py programs build

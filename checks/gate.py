@@ -1,31 +1,42 @@
-"""gate.py: the merge gate, which is `make test`.
+"""gate.py: the merge gate (`make gate`).
 
-    python3 checks/gate.py
+    python3 checks/gate.py [--kept FILE]
 
-It runs `rt ci`, which proves and tries all crates, and then each of CHECKS, at the top of the repository. What they
-write is passed through as it comes. Each of them ends with the line 'N passed, M failed', and the gate's last line has
-the sums. It is one failure more where a command ends without such a line, or with a status that isn't 0 though nothing
-failed by its counts. The gate's status is 0 where nothing failed. Else it is that of the first command that failed, as
-a shell tells it, and 1 where that one ended with 0.
+It has stages, each of which is begun only if the one before it passed. What needs no proof comes first, since it fails
+within a minute or two and the proofs take most of an hour: the checks of the pages, of the tools and of their tests.
+Then `rt ci` proves all crates. Over what it has proved, the edits that a proof must refuse are tried, and what it has
+built is held against what is stored. The commands of the first stage run side by side. The others take all processors
+themselves, and what they write is passed through as it comes.
+
+What the gate needs and isn't there is named before anything is run. FILE has what `rt ci` kept elsewhere
+(packaging/kept.py).
+
+Each command ends with the line 'N passed, M failed' (runner.py), and the gate's last line has the sums. The gate's status
+is 0 where nothing failed. Else it is that of the first command that failed, as a shell tells it, and 1 where that one
+ended with 0.
 """
 
-import os
+import argparse
 import re
-import select
-import subprocess
 import sys
+import time
+from collections.abc import Sequence
 from pathlib import Path
-from typing import List, NamedTuple, Sequence, Tuple
+from typing import NamedTuple
 
-ROOT = Path(__file__).resolve().parent.parent
+import needs
+from runner import NOTHING, ROOT, Beside, Command, Result, in_words, lanes, name_of, processors, run, write_through
 
-Command = Sequence[str]
+sys.path.insert(0, str(ROOT / "packaging"))
 
-PROOFS: Command = ("rt", "ci")
+import kept  # noqa: E402
+import prove  # noqa: E402
 
-# The checks beside the proofs, in the order in which they run. A new one is a line here.
-CHECKS: List[Command] = [
+# What needs no proof, in the order in which it is begun. A new check is a line here.
+CHECKS: list[Command] = [
+    (sys.executable, "checks/tools.py"),
     (sys.executable, "checks/test_checks.py"),
+    (sys.executable, "checks/test_gate.py"),
     (sys.executable, "checks/test_prove.py"),
     (sys.executable, "docs/check.py"),
     (sys.executable, "docs/api.py", "--check"),
@@ -35,83 +46,126 @@ CHECKS: List[Command] = [
     (sys.executable, "checks/test_everywhere.py"),
     (sys.executable, "robustness/planted.py", "--check"),
     (sys.executable, "docs/uncalled.py", "--check"),
-    (sys.executable, "checks/tools.py"),
-    (sys.executable, "checks/built.py"),
 ]
 
-COUNTS = re.compile(rb"(\d+) passed, (\d+) failed\s*")
+PROOFS: Command = ("rt", "ci")
+EDITS: Command = (sys.executable, "checks/edits.py")
+BUILT: Command = (sys.executable, "checks/built.py")
 
 
-class Result(NamedTuple):
-    """How a command ended, or several of them."""
+class Stage(NamedTuple):
+    """Commands, whether they run side by side, and the seconds that they take on four processors where nothing is kept."""
 
-    passed: int
-    failed: int
-    status: int
-
-    def and_then(self, later: "Result") -> "Result":
-        """Both together: the status is that of the first that failed."""
-        return Result(self.passed + later.passed, self.failed + later.failed, self.status or later.status)
+    commands: Sequence[Command]
+    beside: bool
+    seconds: float
 
 
-def tell(command: Command, text: str) -> None:
-    """A line about a command, as one would type it."""
-    print("gate:", *("python3" if word == sys.executable else word for word in command), text, flush=True)
+STAGES = [
+    Stage(CHECKS, True, 60),
+    Stage([PROOFS], False, 3000),
+    Stage([EDITS], False, 600),
+    Stage([BUILT], False, 240),
+]
+
+_CRATE = re.compile(rb"^rt: (\w+) (proved$|is kept: )")
 
 
-def pass_through(process: "subprocess.Popen[bytes]") -> bytes:
-    """Passes through what a command writes, and gives the end of it.
+class Proofs:
+    """How far `rt ci` is, by the lines that it writes as a crate is done."""
 
-    What a command that was killed leaves behind may hold the pipe open. So a second of silence is its end, too.
-    """
-    assert process.stdout is not None
-    pipe, end = process.stdout.fileno(), b""
-    while True:
-        if select.select([pipe], [], [], 1)[0]:
-            told = os.read(pipe, 65536)
-            if not told:
-                return end
-            sys.stdout.buffer.write(told)
-            sys.stdout.buffer.flush()
-            end = (end + told)[-4096:]
-        elif process.poll() is not None:
-            return end
+    def __init__(self) -> None:
+        graph = prove.read_graph((ROOT / "crates.txt").read_text(encoding="utf-8"))
+        self.last = prove.read_seconds(prove.KEPT)
+        expected = prove.expected_of(self.last, prove.read_seconds(prove.SHARED))
+        self.progress = prove.Progress(graph, set(graph), expected)
+        self.began = time.monotonic()
+        self.kept: set[str] = set()
+        self.rest = b""
 
+    def sink(self, told: bytes) -> None:
+        """Passes through what it writes, and behind the line of a crate how many are done."""
+        whole, newline, rest = (self.rest + told).rpartition(b"\n")
+        self.rest = rest
+        for line in whole.splitlines() if newline else []:
+            write_through(line + b"\n")
+            found = _CRATE.match(line)
+            if found:
+                now, crate = time.monotonic() - self.began, found[1].decode()
+                self.progress.end(crate, now)
+                self.kept.update([crate] if found[2] != b"proved" else [])
+                write_through(f"gate: {self.progress.line(now)}\n".encode())
 
-def last_line(command: Command) -> Tuple[bytes, int]:
-    """Runs a command: the last line that it writes, and its status as a shell tells it."""
-    process = subprocess.Popen(command, cwd=ROOT, stdout=subprocess.PIPE)
-    lines = pass_through(process).splitlines()
-    status = process.wait()
-    return lines[-1] if lines else b"", status if status >= 0 else 128 - status
-
-
-def run(command: Command) -> Result:
-    """Runs a command, and reads its counts."""
-    try:
-        line, status = last_line(command)
-    except OSError as error:
-        tell(command, f"can't be run: {error.strerror}")
-        return Result(0, 1, 127)
-    counts = COUNTS.fullmatch(line)
-    if counts is None:
-        tell(command, f"ended with status {status} and without its counts")
-        return Result(0, 1, status or 1)
-    passed, failed = int(counts.group(1)), int(counts.group(2))
-    if status and not failed:
-        tell(command, f"ended with status {status}, though nothing failed by its counts")
-        return Result(passed, 1, status)
-    return Result(passed, failed, status or int(failed > 0))
+    def end(self, passed: bool) -> None:
+        """Writes the last line, if it has no end; and keeps how long each crate took that was proved."""
+        write_through(self.rest)
+        if passed:
+            took = {crate: each for crate, each in self.progress.took().items() if crate not in self.kept}
+            prove.BUILD.mkdir(exist_ok=True)
+            prove.write_seconds(prove.KEPT, {**self.last, **took})
 
 
-def run_all(commands: Sequence[Command]) -> int:
-    """Runs all commands, whether or not one fails, and tells the sums. Gives the gate's status."""
-    result = Result(0, 0, 0)
-    for command in commands:
-        result = result.and_then(run(command))
-    print(f"{result.passed} passed, {result.failed} failed", flush=True)
+def prove_all() -> Result:
+    """Runs `rt ci`."""
+    proofs = Proofs()
+    result = run(PROOFS, proofs.sink)
+    proofs.end(result.failed == 0)
+    return result
+
+
+def run_stage(stage: Stage) -> Result:
+    """Runs the commands of a stage, and tells how long each took."""
+    if stage.beside:
+        return Beside(stage.commands).run(lanes(1))
+    result = NOTHING
+    for command in stage.commands:
+        began = time.monotonic()
+        one = prove_all() if command == PROOFS else run(command)
+        print(f"gate: {name_of(command)}: {one.line()}, {in_words(time.monotonic() - began)}", flush=True)
+        result = result.and_then(one)
+    return result
+
+
+def run_stages(stages: Sequence[Stage]) -> int:
+    """Runs the stages up to the first that fails, names what is left out, and tells the sums. Gives the gate's status."""
+    result, began = NOTHING, time.monotonic()
+    for number, stage in enumerate(stages):
+        result = result.and_then(run_stage(stage))
+        left = [name_of(command) for later in stages[number + 1 :] for command in later.commands]
+        if result.failed and left:
+            print(f"gate: not tried, since what comes before it failed: {', '.join(left)}")
+            break
+    print(f"gate: {in_words(time.monotonic() - began)} on {processors()} processors")
+    print(result.line(), flush=True)
     return result.status
 
 
+def forecast(stages: Sequence[Stage]) -> str:
+    """How long the gate takes here, where nothing is kept, by what it took on four processors."""
+    minutes = sum(stage.seconds for stage in stages) * 4 / min(4, processors()) / 60
+    less = "where nothing is kept, and less where rt ci kept what it proved"
+    return f"about {minutes:.0f} minutes on {processors()} processors {less}"
+
+
+def main(words: Sequence[str]) -> int:
+    """Runs the gate. Gives its status."""
+    parser = argparse.ArgumentParser(prog="gate.py", allow_abbrev=False)
+    parser.add_argument("--kept", type=Path)
+    options = parser.parse_args(words)
+    lacking = needs.lacking()
+    for line in lacking:
+        print(f"gate: {line}")
+    if lacking:
+        print(f"0 passed, {len(lacking)} failed", flush=True)
+        return 1
+    print(f"gate: {forecast(STAGES)}", flush=True)
+    if needs.free_disk(str(ROOT)) < needs.DISK:
+        print(f"gate: {needs.free_disk(str(ROOT)):.0f} GB of disk are free, and it takes up to {needs.DISK}", flush=True)
+    if options.kept is not None and kept.main(["unpack", str(options.kept)]):
+        print("0 passed, 1 failed", flush=True)
+        return 1
+    return run_stages(STAGES)
+
+
 if __name__ == "__main__":
-    sys.exit(run_all([PROOFS, *CHECKS]))
+    sys.exit(main(sys.argv[1:]))

@@ -1,4 +1,4 @@
-"""test_checks.py: tries the gate with a stand-in for `rt`, the checks of the pages with faults that are planted.
+"""test_checks.py: tries the checks of the pages with faults that are planted, and what is said where nothing is built.
 
     python3 checks/test_checks.py
 
@@ -9,7 +9,6 @@ import os
 import subprocess
 import sys
 import tempfile
-import time
 import unittest
 from pathlib import Path
 from typing import List, Tuple
@@ -18,8 +17,6 @@ from unittest import mock
 ROOT = Path(__file__).resolve().parent.parent
 sys.path.insert(0, str(ROOT / "packaging"))
 import over  # noqa: E402
-
-RUN_ALL = "import sys; sys.path.insert(0, 'checks'); import gate; sys.exit(gate.run_all([gate.PROOFS, ('check',)]))"
 
 
 class InFolder(unittest.TestCase):
@@ -35,84 +32,6 @@ class InFolder(unittest.TestCase):
         path.parent.mkdir(parents=True, exist_ok=True)
         path.write_text(text, encoding="utf-8")
         return path
-
-
-class Gate(InFolder):
-    """What the gate answers to the proofs and to one check, both of them shell scripts."""
-
-    def gate(self, proofs: str, check: str = "echo 2 passed, 0 failed") -> Tuple[List[str], int]:
-        """The lines and the status. Without a script there is no such command."""
-        for name, script in (("rt", proofs), ("check", check)):
-            if script:
-                self.write(name, f"#!/bin/sh\n{script}\n").chmod(0o755)
-        environment = {**os.environ, "PATH": f"{self.folder}:/usr/bin:/bin", "PYTHONDONTWRITEBYTECODE": "1"}
-        done = subprocess.run(
-            [sys.executable, "-c", RUN_ALL], cwd=ROOT, env=environment, stdout=subprocess.PIPE, encoding="utf-8"
-        )
-        return done.stdout.splitlines(), done.returncode
-
-    def test_both_pass(self) -> None:
-        self.assertEqual(
-            self.gate("echo proving $1; echo 3 passed, 0 failed"),
-            (["proving ci", "3 passed, 0 failed", "2 passed, 0 failed", "5 passed, 0 failed"], 0),
-        )
-
-    def test_the_proofs_fail_and_the_check_still_runs(self) -> None:
-        lines, status = self.gate("echo 3 passed, 4 failed; exit 1")
-        self.assertEqual((lines[1:], status), (["2 passed, 0 failed", "5 passed, 4 failed"], 1))
-
-    def test_the_check_fails(self) -> None:
-        lines, status = self.gate("echo 3 passed, 0 failed", "echo 2 passed, 1 failed; exit 5")
-        self.assertEqual((lines[-1], status), ("5 passed, 1 failed", 5))
-
-    def test_the_status_is_that_of_the_first_failure(self) -> None:
-        lines, status = self.gate("echo 3 passed, 1 failed; exit 3", "echo 2 passed, 1 failed; exit 5")
-        self.assertEqual((lines[-1], status), ("5 passed, 2 failed", 3))
-
-    def test_a_failure_with_status_0_is_one(self) -> None:
-        lines, status = self.gate("echo 3 passed, 1 failed")
-        self.assertEqual((lines[-1], status), ("5 passed, 1 failed", 1))
-
-    def test_a_status_without_a_failure_is_one(self) -> None:
-        lines, status = self.gate("echo 3 passed, 0 failed; exit 4")
-        self.assertEqual(lines[1], "gate: rt ci ended with status 4, though nothing failed by its counts")
-        self.assertEqual((lines[-1], status), ("5 passed, 1 failed", 4))
-
-    def test_killed(self) -> None:
-        lines, status = self.gate("echo 3 passed; kill -9 $$")
-        self.assertEqual(lines[1], "gate: rt ci ended with status 137 and without its counts")
-        self.assertEqual((lines[-1], status), ("2 passed, 1 failed", 137))
-
-    def test_killed_after_its_counts(self) -> None:
-        lines, status = self.gate("echo 3 passed, 0 failed; kill -9 $$")
-        self.assertEqual((lines[-1], status), ("5 passed, 1 failed", 137))
-
-    def test_killed_while_what_it_began_holds_the_pipe(self) -> None:
-        begun = time.monotonic()
-        lines, status = self.gate("sleep 60 & echo $! >" + str(self.folder / "number") + "; kill -9 $$")
-        self.assertLess(time.monotonic() - begun, 30)
-        self.assertEqual((lines[-1], status), ("2 passed, 1 failed", 137))
-        os.kill(int((self.folder / "number").read_text()), 15)
-
-    def test_silent(self) -> None:
-        lines, status = self.gate(":")
-        self.assertEqual(lines[0], "gate: rt ci ended with status 0 and without its counts")
-        self.assertEqual((lines[-1], status), ("2 passed, 1 failed", 1))
-
-    def test_counts_that_arent_the_last_line(self) -> None:
-        for after in ("; echo more", "; echo", " now"):
-            with self.subTest(after):
-                lines, status = self.gate("echo 3 passed, 0 failed" + after)
-                self.assertEqual((lines[-1], status), ("2 passed, 1 failed", 1))
-
-    def test_a_last_line_without_its_end(self) -> None:
-        lines, status = self.gate("printf '3 passed, 0 failed'")
-        self.assertEqual((lines[-1], status), ("5 passed, 0 failed", 0))
-
-    def test_no_such_command(self) -> None:
-        lines, status = self.gate("echo 3 passed, 0 failed", "")
-        self.assertEqual(lines[1], "gate: check can't be run: No such file or directory")
-        self.assertEqual((lines[-1], status), ("3 passed, 1 failed", 127))
 
 
 class Built(InFolder):

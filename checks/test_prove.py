@@ -114,6 +114,14 @@ class Left(unittest.TestCase):
         self.assertEqual(said[3:], ["about 2 minutes", "about 30 minutes"])
 
 
+class SharedSeconds(unittest.TestCase):
+    """The list by which a first run tells how long it takes."""
+
+    def test_it_has_each_crate_and_no_other(self) -> None:
+        crates = prove.read_graph((ROOT / "crates.txt").read_text(encoding="utf-8"))
+        self.assertEqual(set(prove.read_seconds(prove.SHARED)), set(crates))
+
+
 class Runs(unittest.TestCase):
     """What is told of a stand-in for `rt`."""
 
@@ -134,7 +142,8 @@ class Runs(unittest.TestCase):
         rt.chmod(0o755)
         build = self.root / "build"
         said = io.StringIO()
-        with mock.patch.multiple(prove, ROOT=self.root, BUILD=build, LOG=build / "log"), \
+        places = {"ROOT": self.root, "BUILD": build, "LOG": build / "log", "KEPT": build / "crate-seconds"}
+        with mock.patch.multiple(prove, **places, SHARED=self.root / "packaging" / "crate-seconds"), \
                 mock.patch.dict(os.environ, PATH=f"{self.root}/bin:/usr/bin:/bin"), \
                 contextlib.redirect_stdout(said), contextlib.redirect_stderr(io.StringIO()):
             status = prove.main(words)
@@ -163,6 +172,15 @@ class Runs(unittest.TestCase):
     def test_what_can_not_be_tried_is_no_answer(self) -> None:
         lines, _ = self.run_with("echo job; test $1 != try", "program", "--example", "document")
         self.assertEqual(lines[1], "It could not be run unproved, as build/try.log says.")
+
+    def test_the_list_of_first_runs_is_written_once_all_crates_were_proved(self) -> None:
+        shared = self.root / "packaging" / "crate-seconds"
+        self.assertEqual(self.run_with(":", "record"), ([], 1))
+        self.assertFalse(shared.exists())
+        (self.root / "build" / "crate-seconds").write_text("yds_model 1.0\nyds_run 2.4\nyds_cli 3.6\nyds_other 4.0\nyds_gone 5.0\n")
+        self.assertEqual(self.run_with(":", "record"), ([], 0))
+        wanted = {"yds_model": 1, "yds_run": 2, "yds_cli": 4, "yds_other": 4}
+        self.assertEqual(prove.read_seconds(shared), wanted)
 
     def test_the_others(self) -> None:
         lines, _ = self.run_with("echo == base; echo == yds_other", "others")

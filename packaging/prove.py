@@ -4,12 +4,15 @@
     python3 packaging/prove.py trace [--jobs N]                       what the reader of traces is made of, and builds it
     python3 packaging/prove.py library                                the C library's own crate, and builds it
     python3 packaging/prove.py others [--jobs N]                      all other crates
+    python3 packaging/prove.py record                                 proves nothing: writes packaging/crate-seconds
 
 With an example it first tells what the program answers to `plan` of that document, unproved.
 
 Each line tells how many crates are done of how many, and about how long the others take. That goes by the seconds that
-each crate took in the last run, which are kept in build/crate-seconds. A first run goes by packaging/crate-seconds. Of
-such a list only the shares matter: the crates that are done tell the pace. What `rt` writes is kept in build/log.
+each crate took in the last run, which are kept in build/crate-seconds, also by the gate. A first run goes by
+packaging/crate-seconds, which `record` writes of them: it names each crate of crates.txt that was never proved here, and
+then it writes nothing and ends with 1. Of such a list only the shares matter: the crates that are done tell the pace.
+What `rt` writes is kept in build/log.
 """
 
 import argparse
@@ -24,6 +27,8 @@ from typing import Callable, Dict, Iterator, List, NamedTuple, Optional, Sequenc
 ROOT = Path(__file__).resolve().parent.parent
 BUILD = ROOT / "build"
 LOG = BUILD / "log"
+KEPT = BUILD / "crate-seconds"
+SHARED = ROOT / "packaging" / "crate-seconds"
 
 # The crate on which all others stand, and what they are made into.
 LOWEST, PROGRAM, TRACE, LIBRARY = "base", "yds_cli", "yds_trace_cli", "yds_c"
@@ -71,6 +76,20 @@ def read_seconds(path: Path) -> Seconds:
 def write_seconds(path: Path, seconds: Seconds) -> None:
     """Writes such a list."""
     path.write_text("".join(f"{name} {took:.1f}\n" for name, took in sorted(seconds.items())), encoding="utf-8")
+
+
+def record(graph: Graph, last: Seconds) -> int:
+    """Writes the list for first runs, of all crates as they took here. Gives the exit status."""
+    missing = sorted(set(graph) - set(last))
+    if missing:
+        print(f"prove.py: nothing is known of {' '.join(missing)}: make run, make trace and make prove them", file=sys.stderr)
+        return 1
+    head = (
+        f"# Seconds that each crate took, on {os.cpu_count()} processors, from when the crates below it were done. A first run goes by\n"
+        "# their shares: build/crate-seconds has those of this machine. `make crate-seconds` writes this list of them.\n"
+    )
+    SHARED.write_text(head + "".join(f"{crate} {last[crate]:.0f}\n" for crate in sorted(graph)), encoding="utf-8")
+    return 0
 
 
 def expected_of(last: Seconds, first: Seconds) -> Seconds:
@@ -242,7 +261,7 @@ def show_unproved(example: str) -> None:
 def main(words: Sequence[str]) -> int:
     """Proves what the words say. Gives the exit status."""
     parser = argparse.ArgumentParser(prog="prove.py", allow_abbrev=False)
-    parser.add_argument("what", choices=("program", "trace", "library", "others"))
+    parser.add_argument("what", choices=("program", "trace", "library", "others", "record"))
     parser.add_argument("--jobs", type=int, default=os.cpu_count() or 1)
     parser.add_argument("--example")
     options = parser.parse_args(words)
@@ -250,9 +269,10 @@ def main(words: Sequence[str]) -> int:
     if options.example is not None:
         show_unproved(options.example)
     graph = read_graph((ROOT / "crates.txt").read_text(encoding="utf-8"))
-    kept = BUILD / "crate-seconds"
-    last = read_seconds(kept)
-    expected = expected_of(last, read_seconds(ROOT / "packaging" / "crate-seconds"))
+    last = read_seconds(KEPT)
+    if options.what == "record":
+        return record(graph, last)
+    expected = expected_of(last, read_seconds(SHARED))
     progress = Progress(graph, crates_of(options.what, graph), expected)
     began = time.monotonic()
     try:
@@ -262,7 +282,7 @@ def main(words: Sequence[str]) -> int:
         ended = f"{' '.join(error.cmd)} ended with status {error.returncode}"
         print(f"{end}prove.py: {ended}; build/log has the rest", file=sys.stderr)
         return 1
-    write_seconds(kept, {**last, **progress.took()})
+    write_seconds(KEPT, {**last, **progress.took()})
     print(f"Proved {options.what} in {time.monotonic() - began:.0f} seconds.", flush=True)
     return 0
 
