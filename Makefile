@@ -155,7 +155,7 @@ gate:
 	@python3 checks/gate.py $(if $(KEPT),--kept "$$KEPT")
 
 edits: tool
-	@python3 checks/edits.py --all
+	@python3 checks/edits/edits.py --all
 
 kept: tool
 	@python3 packaging/kept.py pack build/kept.tar.gz

@@ -49,7 +49,7 @@ CHECKS: list[Command] = [
 ]
 
 PROOFS: Command = ("rt", "ci")
-EDITS: Command = (sys.executable, "checks/edits.py")
+EDITS: Command = (sys.executable, "checks/edits/edits.py")
 BUILT: Command = (sys.executable, "checks/built.py")
 
 

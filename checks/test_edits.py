@@ -99,7 +99,7 @@ class Edits(unittest.TestCase):
         self.folder = Path(folder.name)
         self.write("crates/low/src/lib.rt", CODE)
         self.write("crates/low/src/row.rt", ROW)
-        self.write("crates/low/must-fail/half.edit", EDIT)
+        self.write("crates/low/edits/half.edit", EDIT)
         self.write("docs/edits.md", "")
         shutil.copy(ROOT / "docs" / "edits.py", self.folder / "docs" / "edits.py")
         self.write_page()
@@ -126,7 +126,7 @@ class Edits(unittest.TestCase):
         return lines[:-1]
 
     def replace(self, old: str, new: str) -> None:
-        path = self.folder / "crates/low/must-fail/half.edit"
+        path = self.folder / "crates/low/edits/half.edit"
         text = path.read_text(encoding="utf-8")
         self.assertIn(old, text)
         path.write_text(text.replace(old, new), encoding="utf-8")
@@ -137,8 +137,8 @@ class Edits(unittest.TestCase):
     def test_the_page_has_each_public_clause(self) -> None:
         page = (self.folder / "docs/edits.md").read_text(encoding="utf-8")
         self.assertIn("Edits: 1. Public clauses: 4. Of these without an edit: 2.", page)
-        self.assertIn("| `length.value` | `half` |", page)
-        self.assertIn("| `Row::length` | `half` |", page)
+        self.assertIn("| `length.value` | `half` |  |", page)
+        self.assertIn("| `Row::length` | `half` |  |", page)
         self.assertIn("Without: `length.some`, `Row::comes.first`.", page)
         self.assertNotIn("`half`.", page)
 
@@ -149,51 +149,68 @@ class Edits(unittest.TestCase):
     def test_an_edit_that_says_nothing(self) -> None:
         self.replace("# breaks: Row::length\n# breaks: length.value\n", "")
         self.write_page()
-        self.assertEqual(self.faults(), ["crates/low/must-fail/half.edit: it has no line that says what it breaks"])
+        self.assertEqual(self.faults(), ["crates/low/edits/half.edit: it has no line that says what it breaks"])
 
     def test_a_clause_that_is_not_there(self) -> None:
         for said in ("length.none", "length", "Row::length.value", "other/length.value", "nothing"):
             with self.subTest(said):
-                self.write("crates/low/must-fail/half.edit", EDIT.replace("length.value", said))
+                self.write("crates/low/edits/half.edit", EDIT.replace("length.value", said))
                 self.write_page()
-                self.assertEqual(self.faults(), [f"crates/low/must-fail/half.edit: there is no clause {said}"])
+                self.assertEqual(self.faults(), [f"crates/low/edits/half.edit: there is no clause {said}"])
 
     def test_a_clause_of_another_crate(self) -> None:
         self.write("crates/high/src/lib.rt", CODE)
         self.replace("# breaks: length.value", "# breaks: high/length.value")
         self.write_page()
         self.assertEqual(self.faults(), [])
-        self.assertIn("| `length.value` | `low/half` |", (self.folder / "docs/edits.md").read_text(encoding="utf-8"))
+        self.assertIn("| `length.value` | `low/half` |  |", (self.folder / "docs/edits.md").read_text(encoding="utf-8"))
 
     def test_each_field_of_a_record_needs_an_edit(self) -> None:
         self.write("crates/yds_run/src/lib.rt", RUN)
         self.write("crates/yds_run/specs/Worth.antt", WORTH)
-        self.write("crates/yds_run/must-fail/last.edit", WORTH_EDIT)
+        self.write("crates/yds_run/edits/last.edit", WORTH_EDIT)
         self.write_page()
         self.assertEqual(self.faults(), [])
-        self.write("crates/yds_run/must-fail/last.edit", WORTH_EDIT.replace("# breaks: run.worth.accepted\n", ""))
+        self.write("crates/yds_run/edits/last.edit", WORTH_EDIT.replace("# breaks: run.worth.accepted\n", ""))
         self.write_page()
         self.assertEqual(self.faults(), ["crates/yds_run: no edit breaks run.worth.accepted"])
         for said in ("run.worth", "run.headline", "run.worth.read"):
             with self.subTest(said):
-                self.write("crates/yds_run/must-fail/last.edit", WORTH_EDIT + f"# breaks: {said}\n")
+                self.write("crates/yds_run/edits/last.edit", WORTH_EDIT + f"# breaks: {said}\n")
                 self.write_page()
-                self.assertEqual(self.faults(), [f"crates/yds_run/must-fail/last.edit: there is no clause {said}"])
+                self.assertEqual(self.faults(), [f"crates/yds_run/edits/last.edit: there is no clause {said}"])
 
     def test_an_old_text_that_stands_twice(self) -> None:
         self.replace("old: self.length", "old: ensures")
         found = "its old text stands 2 times in src/row.rt, and not once"
-        self.assertEqual(self.faults(), [f"crates/low/must-fail/half.edit: {found}"])
+        self.assertEqual(self.faults(), [f"crates/low/edits/half.edit: {found}"])
 
     def test_a_later_pair_reads_what_the_earlier_made(self) -> None:
         self.replace("# breaks: Row", "old: self.length / 2\nnew: self.length / 3\n# breaks: Row")
         self.assertEqual(self.faults(), [])
 
-    def test_too_many_edits(self) -> None:
-        for number in range(8):
-            self.write(f"crates/low/must-fail/half_{number}.edit", EDIT)
+    def test_what_a_call_asks_for_and_other_goals(self) -> None:
+        for said, faults in [
+            ("length asks half", []),
+            ("Row::length at invariant_of-result", []),
+            ("width asks half", ["crates/low/edits/half.edit: there is no clause width asks half"]),
+        ]:
+            with self.subTest(said):
+                self.write("crates/low/edits/half.edit", EDIT + f"# breaks: {said}\n")
+                self.write_page()
+                self.assertEqual(self.faults(), faults)
+        self.assertIn("| `width asks half` | `half` |  |", (self.folder / "docs/edits.md").read_text(encoding="utf-8"))
+
+    def test_what_follows_stands_in_a_column_of_its_own(self) -> None:
+        self.replace("# breaks: length.value", "# so: length.value")
         self.write_page()
-        self.assertEqual(self.faults(), ["crates/low: 9 edits, and at most 8 are wanted"])
+        self.assertEqual(self.faults(), [])
+        self.assertIn("| `length.value` |  | `half` |", (self.folder / "docs/edits.md").read_text(encoding="utf-8"))
+
+    def test_what_follows_has_to_be_there(self) -> None:
+        self.replace("# breaks: length.value", "# so: length.none")
+        self.write_page()
+        self.assertEqual(self.faults(), ["crates/low/edits/half.edit: there is no clause length.none"])
 
 
 def main() -> int:

@@ -1,20 +1,25 @@
-#!/usr/bin/env python3
-"""Writes docs/edits.md: which public clause is shown to say something by which edit that has to be refused.
+"""Writes docs/edits.md: at which public clause the prover refuses which edit, and which it isn't true for either.
 
-An edit is a file `crates/CRATE/must-fail/NAME.edit`: a wrong body, one changed line of code, that the check has to
-refuse. Its lines `# breaks: FUNCTION.CLAUSE` name the clauses that are false with it, as they stand in the contract. A
-clause without a name is its function's name alone, a method is `Type::method`, and a clause of another crate that is
-false too is `CRATE/FUNCTION.CLAUSE`. A clause in RECORDS is a record, and each of its fields stands for a clause of its
-own: `FUNCTION.CLAUSE.FIELD`. An example that is no function has the name by which it is declared.
+An edit is a file `crates/CRATE/edits/NAME.edit`: a wrong body, one changed line of code, that the check has to refuse.
+A line `# breaks:` names a goal that refuses it, which checks/edits/edits.py holds against what the prover says:
+
+    FUNCTION.CLAUSE       a clause of the function that is edited; FUNCTION alone where the clause has no name
+    FUNCTION asks CALLEE  what it has to show where it calls CALLEE
+    FUNCTION at GOAL      another goal of it, by the prover's name: what a loop or a type keeps, that a sum fits
+
+A goal that has several clauses at once is of each of them. A line `# so: FUNCTION.CLAUSE` names a clause that isn't
+true then either, of a function above. A method is `Type::method`. Of functions of one name the one that the root passes
+on has it alone, and another is `module::function`. A clause of another crate is `CRATE/FUNCTION.CLAUSE`. A clause in
+RECORDS is a record, and each of its fields stands for a clause of its own: `FUNCTION.CLAUSE.FIELD`. A law or an example
+that is no function has the name by which it is declared.
 
     python3 docs/edits.py            writes the page
     python3 docs/edits.py --check    says in a line each what is wrong, and then ends with 1
 
-The last line of a check is 'N passed, M failed': of edits, counts, clauses that need one, and the page.
+The last line of a check is 'N passed, M failed': of edits, clauses that need one, and the page.
 
-Wrong are: a page that isn't what would be written; an edit that has no such line, or names a clause that isn't there,
-or whose old text doesn't stand in its file once; a crate with too many edits; too many in all; and a clause of the
-functions in NEEDED that no edit breaks.
+Wrong are: a page that isn't what would be written; an edit that has no line `# breaks:`, or names a clause that isn't
+there, or whose old text doesn't stand in its file once; and a clause of the functions in NEEDED that no edit breaks.
 """
 import re
 import sys
@@ -24,46 +29,6 @@ from typing import Dict, Iterator, List, NamedTuple, Optional, Set, Tuple
 ROOT = Path(__file__).resolve().parent.parent
 PAGE = ROOT / "docs" / "edits.md"
 WIDTH = 120
-# Of all crates but the later ones, which bring theirs besides.
-MOST = 260
-LATER = [
-    "yds_group_runs",
-    "yds_kernel",
-    "yds_kernel_text",
-    "yds_kernel_order",
-    "yds_kernel_examples",
-    "yds_trace",
-    "yds_trace_laws",
-    "yds_trace_examples",
-    "yds_trace_document",
-    "yds_trace_text",
-    "yds_trace_again",
-    "yds_trace_whole",
-    "yds_trace_parts",
-    "yds_trace_bounds",
-    "yds_trace_words",
-    "yds_trace_files",
-    "yds_trace_reading",
-    "yds_trace_threads",
-    "yds_trace_run",
-    "yds_trace_cli",
-    "yds_answer_plans",
-    "yds_answer_verdicts",
-    "yds_answer_jobs",
-    "yds_answer_points",
-    "yds_callers",
-]
-MOST_OF_CRATE = 8
-MOST_OF = {
-    "yds_run": 12,
-    "yds_admit": 12,
-    "document_reader": 9,
-    "yds_kernel_order": 9,
-    "yds_trace_words": 11,
-    "yds_trace_reading": 10,
-    "yds_trace_parts": 9,
-    "yds_trace_run": 11,
-}
 NEEDED = [
     ("yds_plan", "plan"),
     ("yds_round", "round"),
@@ -83,6 +48,7 @@ FUNCTION = re.compile(r'^(\s*)(pub(?:\([^)]*\))? )?(?:const |unsafe |extern "C" 
 OWNER = re.compile(r"^(?:pub(?:\([^)]*\))? )?(impl|trait)\b\s*(.*)$")
 ENSURES = re.compile(r"^\s*ensures(?: (\w+))? \{")
 FIELD = re.compile(r"^  pub (\w+) :")
+OTHER_GOAL = re.compile(r"(\S+) (?:asks|at) \S.*")
 DECLARED = re.compile(r"^(?:pub |abbrev |record |data |mutual )*(\w+)\b", re.M)
 
 
@@ -100,6 +66,7 @@ class Edit(NamedTuple):
     crate: str
     name: str
     breaks: List[str]
+    so: List[str]
     faults: List[str]
 
 
@@ -191,6 +158,8 @@ def code_of(folder: Path) -> Dict[str, Function]:
                 it = it._replace(clauses=earlier.clauses + [c for c in it.clauses if c not in earlier.clauses])
             if not earlier or it.public or not earlier.public:
                 functions[it.name] = it
+            if "::" not in it.name:
+                functions[f"{path.stem}::{it.name}"] = it._replace(name=f"{path.stem}::{it.name}", public=False)
     return {name: with_fields(folder, it) for name, it in functions.items()}
 
 
@@ -246,16 +215,16 @@ def faults_of(folder: Path, text: str) -> List[str]:
 def edit_at(folder: Path, path: Path) -> Edit:
     """Reads an edit."""
     text = path.read_text(encoding="utf-8")
-    breaks = re.findall(r"^(?:# )?breaks: *(\S+) *$", text, re.M)
+    breaks, so = (re.findall(rf"^# {word}: *(.+?) *$", text, re.M) for word in ("breaks", "so"))
     faults = faults_of(folder, text)
     if not breaks:
         faults.append("it has no line that says what it breaks")
-    return Edit(folder.name, path.stem, breaks, faults)
+    return Edit(folder.name, path.stem, breaks, so, faults)
 
 
 def crate_at(folder: Path) -> Crate:
     """Reads a crate."""
-    edits = [edit_at(folder, it) for it in sorted((folder / "must-fail").glob("*.edit"))]
+    edits = [edit_at(folder, it) for it in sorted((folder / "edits").glob("*.edit"))]
     return Crate(folder.name, code_of(folder), declared_in(folder), edits)
 
 
@@ -271,9 +240,12 @@ def place_of(edit: Edit, said: str) -> Tuple[str, str]:
 
 
 def is_there(crates: Dict[str, Crate], crate: str, name: str) -> bool:
-    """Returns whether a crate has this clause, or declares this law or example."""
+    """Returns whether a crate has this clause, this function with such a goal, or declares this law or example."""
     if crate not in crates:
         return False
+    other = OTHER_GOAL.fullmatch(name)
+    if other:
+        return other.group(1) in crates[crate].functions
     function, dot, clause = name.partition(".")
     found = crates[crate].functions.get(function)
     if found:
@@ -281,15 +253,23 @@ def is_there(crates: Dict[str, Crate], crate: str, name: str) -> bool:
     return not dot and name in crates[crate].declared
 
 
-def shown(crates: Dict[str, Crate]) -> Dict[Tuple[str, str], List[str]]:
-    """Returns the edits that break each clause, by crate and clause."""
-    by: Dict[Tuple[str, str], List[str]] = {}
+class Shown(NamedTuple):
+    """The edits that the prover refuses at a clause, and those for which it isn't true either."""
+
+    refused: List[str]
+    follows: List[str]
+
+
+def shown(crates: Dict[str, Crate]) -> Dict[Tuple[str, str], Shown]:
+    """Returns the edits beside each clause, by crate and clause."""
+    by: Dict[Tuple[str, str], Shown] = {}
     for crate in crates.values():
         for edit in crate.edits:
-            for said in edit.breaks:
+            for said, is_refused in [*((it, True) for it in edit.breaks), *((it, False) for it in edit.so)]:
                 place = place_of(edit, said)
                 name = edit.name if place[0] == edit.crate else f"{edit.crate}/{edit.name}"
-                by.setdefault(place, []).append(name)
+                one = by.setdefault(place, Shown([], []))
+                (one.refused if is_refused else one.follows).append(name)
     return by
 
 
@@ -315,7 +295,12 @@ def counted(edits: int, clauses: int, without: int) -> str:
     return f"Edits: {edits}. Public clauses: {clauses}. Of these without an edit: {without}."
 
 
-def part_of(crate: Crate, by: Dict[Tuple[str, str], List[str]]) -> List[str]:
+def in_code(names: List[str]) -> str:
+    """Returns the names as code, with commas."""
+    return ", ".join(f"`{it}`" for it in names)
+
+
+def part_of(crate: Crate, by: Dict[Tuple[str, str], Shown]) -> List[str]:
     """Returns a crate's part of the page."""
     public = public_clauses(crate)
     rows = [c for c in public if (crate.name, c) in by]
@@ -324,8 +309,8 @@ def part_of(crate: Crate, by: Dict[Tuple[str, str], List[str]]) -> List[str]:
     lines = [f"## {crate.name}", ""]
     lines += [counted(len(crate.edits), len(public), len(without))]
     if rows:
-        lines += ["", "| clause | refused edits |", "| - | - |"]
-        lines += [f"| `{c}` | {', '.join(f'`{it}`' for it in by[crate.name, c])} |" for c in rows]
+        lines += ["", "| clause | refused at it | not true either with |", "| - | - | - |"]
+        lines += [f"| `{c}` | {in_code(by[crate.name, c].refused)} | {in_code(by[crate.name, c].follows)} |" for c in rows]
     if without:
         ends = ["," if it is not without[-1] else "." for it in without]
         lines += [""] + filled("Without:", [f"`{it}`{end}" for it, end in zip(without, ends)])
@@ -334,14 +319,19 @@ def part_of(crate: Crate, by: Dict[Tuple[str, str], List[str]]) -> List[str]:
 
 HEAD = """# Edits that have to be refused
 
-An edit is a wrong body: a changed line of code that turns what a function means. The check has to refuse it, and the
-gate tries each. So the clauses beside it say something: a body with this mistake isn't proved. Where a crate has laws
-or examples alone, the edit turns what they state.
+An edit is a wrong body: a changed line of code that turns what a function means. The check has to refuse it.
+`make edits` tries each; the gate tries those for which something changed that their refusal rests on, and twenty more
+(`checks/edits/edits.py`). So the clauses beside an edit say something: a body with this mistake isn't proved. Where a crate
+has laws or examples alone, the edit turns what they state.
 
-`docs/edits.py` writes this page from the lines `# breaks:` of the edits, and says of each public clause which of them
-make it false. Most are refused earlier: at the clause of a smaller function from which the public one follows, or at
-what a callee asks for. An edit of another crate that makes a clause false stands with its crate's name. Where a clause
-is a record, each of its fields has a row: `run.worth.headline` is a field of the clause `worth` of `run`.
+`docs/edits.py` writes this page from the lines `# breaks:` and `# so:` of the edits. *Refused at it* are those whose
+line `# breaks:` names the clause: the prover refuses them by a goal of this clause, and each trial holds the line
+against what it says. A row `FUNCTION asks CALLEE` is what the function has to show where it makes that call, and
+`FUNCTION at GOAL` another goal of it, by the prover's name: what a loop or a type keeps, or that a sum fits. *Not true
+either with* are those whose line `# so:` names it: the clause follows from the one that refuses. Such a line fails
+where the trial shows that the function is proved all the same, and else it is a claim. An edit of another crate stands
+with its crate's name. Where a clause is a record, each of its fields has a row: `run.worth.headline` is a field of the
+clause `worth` of `run`.
 
 A clause without an edit is proved like the others; no mistake is kept for it. Some of these say only what a type keeps,
 which no body can make false.
@@ -363,17 +353,9 @@ def tried_edits(crates: Dict[str, Crate]) -> Iterator[List[str]]:
     """Tells for each edit what is wrong with it."""
     for crate in crates.values():
         for edit in crate.edits:
-            at = f"crates/{crate.name}/must-fail/{edit.name}.edit"
-            missing = [it for it in edit.breaks if not is_there(crates, *place_of(edit, it))]
+            at = f"crates/{crate.name}/edits/{edit.name}.edit"
+            missing = [it for it in [*edit.breaks, *edit.so] if not is_there(crates, *place_of(edit, it))]
             yield [f"{at}: {it}" for it in edit.faults] + [f"{at}: there is no clause {it}" for it in missing]
-
-
-def tried_counts(crates: Dict[str, Crate]) -> Iterator[List[str]]:
-    """Tells for each crate, and for all together, whether there are too many edits."""
-    counts = [(f"crates/{it.name}", len(it.edits), MOST_OF.get(it.name, MOST_OF_CRATE)) for it in crates.values()]
-    counts.append(("crates", sum(len(it.edits) for it in crates.values() if it.name not in LATER), MOST))
-    for at, count, most in counts:
-        yield [f"{at}: {count} edits, and at most {most} are wanted"] if count > most else []
 
 
 def tried_needed(crates: Dict[str, Crate]) -> Iterator[List[str]]:
@@ -396,7 +378,7 @@ def tried_page(text: str) -> List[str]:
 
 def check(crates: Dict[str, Crate]) -> int:
     """Says what is wrong, and how much was looked at."""
-    tried = [*tried_edits(crates), *tried_counts(crates), *tried_needed(crates), tried_page(page(crates))]
+    tried = [*tried_edits(crates), *tried_needed(crates), tried_page(page(crates))]
     for faults in tried:
         for it in faults:
             print(it)

@@ -332,7 +332,7 @@ def try_program(top: Path, cases: Path) -> int:
     copy = top / "copy"
     needed = ["base", "yds_port", "yds_kernel", "yds_kernel_text"]
     for crate in needed:
-        left = shutil.ignore_patterns("out", "must-fail")
+        left = shutil.ignore_patterns("out", "edits")
         shutil.copytree(Path("crates") / crate, copy / "crates" / crate, ignore=left)
     lines = Path("crates.txt").read_text(encoding="utf-8").splitlines()
     listed = [line for line in lines if line.split(":")[0] in needed]

@@ -363,7 +363,7 @@ def lay_out(top: Path) -> Path:
         if crate in graph and crate not in needed:
             needed.add(crate)
             left += graph[crate]
-            shutil.copytree(Path("crates") / crate, top / "crates" / crate, ignore=shutil.ignore_patterns("out", "must-fail"))
+            shutil.copytree(Path("crates") / crate, top / "crates" / crate, ignore=shutil.ignore_patterns("out", "edits"))
     listed = [f"{crate}: {' '.join(graph[crate])}" for crate in needed]
     listed.append("trace_said: yds_port yds_trace_run anyhow")
     (top / "crates.txt").write_text("\n".join(listed) + "\n", encoding="utf-8")
