@@ -41,6 +41,7 @@ CHECKS: list[Command] = [
     (sys.executable, "docs/check.py"),
     (sys.executable, "docs/api.py", "--check"),
     (sys.executable, "checks/test_edits.py"),
+    (sys.executable, "checks/edits/test_rounds.py"),
     (sys.executable, "docs/edits.py", "--check"),
     (sys.executable, "checks/test_uncalled.py"),
     (sys.executable, "checks/test_everywhere.py"),
@@ -50,6 +51,7 @@ CHECKS: list[Command] = [
 
 PROOFS: Command = ("rt", "ci")
 EDITS: Command = (sys.executable, "checks/edits/edits.py")
+ROUNDS: Command = (sys.executable, "checks/edits/test_rounds.py", "--prover")
 BUILT: Command = (sys.executable, "checks/built.py")
 
 
@@ -64,7 +66,7 @@ class Stage(NamedTuple):
 STAGES = [
     Stage(CHECKS, True, 60),
     Stage([PROOFS], False, 3000),
-    Stage([EDITS], False, 600),
+    Stage([EDITS, ROUNDS], False, 600),
     Stage([BUILT], False, 240),
 ]
 

@@ -135,7 +135,7 @@ class InTurn(WithGate):
         self.assertEqual((lines[-1], status), ("3 passed, 1 failed", 127))
 
     def test_how_far_the_proofs_are(self) -> None:
-        lines, _ = self.gate("echo rt: yds_model proved; echo rt: yds_port is kept: the same; echo rt: yds_port: no crate")
+        lines, _ = self.gate("echo rt: base proved; echo rt: yds_port is kept: the same; echo rt: yds_port: no crate")
         self.assertEqual([line.partition(" of ")[0] for line in lines if " of " in line], ["gate: 1", "gate: 2"])
 
 
@@ -147,10 +147,10 @@ class Seconds(InFolder):
         with mock.patch.multiple(prove, KEPT=seconds, BUILD=self.folder), mock.patch.object(gate, "write_through"), \
                 mock.patch.object(gate.time, "monotonic", iter((0, 30, 60, 90)).__next__):
             proofs = gate.Proofs()
-            proofs.sink(b"rt: yds_model proved\nrt: yds_po")
-            proofs.sink(b"rt is kept: the same\nrt: yds_fraction proved\n0 passed, 0 failed\n")
+            proofs.sink(b"rt: base proved\nrt: yds_po")
+            proofs.sink(b"rt is kept: the same\nrt: yds_kernel proved\n0 passed, 0 failed\n")
             proofs.end(True)
-        self.assertEqual(prove.read_seconds(seconds), {"yds_model": 30, "yds_port": 7, "yds_fraction": 60})
+        self.assertEqual(prove.read_seconds(seconds), {"base": 30, "yds_port": 7, "yds_kernel": 60})
 
 
 class SideBySide(WithGate):

@@ -177,9 +177,9 @@ class Runs(unittest.TestCase):
         shared = self.root / "packaging" / "crate-seconds"
         self.assertEqual(self.run_with(":", "record"), ([], 1))
         self.assertFalse(shared.exists())
-        (self.root / "build" / "crate-seconds").write_text("yds_model 1.0\nyds_run 2.4\nyds_cli 3.6\nyds_other 4.0\nyds_gone 5.0\n")
+        (self.root / "build" / "crate-seconds").write_text("base 1.0\nyds_run 2.4\nyds_cli 3.6\nyds_other 4.0\nyds_gone 5.0\n")
         self.assertEqual(self.run_with(":", "record"), ([], 0))
-        wanted = {"yds_model": 1, "yds_run": 2, "yds_cli": 4, "yds_other": 4}
+        wanted = {"base": 1, "yds_run": 2, "yds_cli": 4, "yds_other": 4}
         self.assertEqual(prove.read_seconds(shared), wanted)
 
     def test_the_others(self) -> None:

@@ -321,8 +321,8 @@ HEAD = """# Edits that have to be refused
 
 An edit is a wrong body: a changed line of code that turns what a function means. The check has to refuse it.
 `make edits` tries each; the gate tries those for which something changed that their refusal rests on, and twenty more
-(`checks/edits/edits.py`). So the clauses beside an edit say something: a body with this mistake isn't proved. Where a crate
-has laws or examples alone, the edit turns what they state.
+(`checks/edits/edits.py`). So the clauses beside an edit say something: a body with this mistake isn't proved. Where a
+crate has laws or examples alone, the edit turns what they state.
 
 `docs/edits.py` writes this page from the lines `# breaks:` and `# so:` of the edits. *Refused at it* are those whose
 line `# breaks:` names the clause: the prover refuses them by a goal of this clause, and each trial holds the line

@@ -76,7 +76,7 @@ def was_put_back(crates: Path, below: Sequence[str]) -> bool:
 def copy_of(crates: Path, below: Sequence[str], folder: Path) -> Path:
     """A copy of these crates and of their lines of crates.txt, without what is built."""
     for name in below:
-        shutil.copytree(crates / name, folder / "crates" / name, ignore=shutil.ignore_patterns("out", "must-fail"))
+        shutil.copytree(crates / name, folder / "crates" / name, ignore=shutil.ignore_patterns("out", "edits"))
     lines = (ROOT / "crates.txt").read_text(encoding="utf-8").splitlines(keepends=True)
     (folder / "crates.txt").write_text("".join(line for line in lines if line.split(":")[0] in below), encoding="utf-8")
     shutil.copy(ROOT / "HANDLES", folder)

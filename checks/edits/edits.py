@@ -213,7 +213,8 @@ class Trying:
         missing = self.missing(name) if name in self.lines else [f"{name} in crates.txt"]
         if missing:
             why = f"{TOLD[UNKNOWN]}there is no library of {', '.join(missing)}; rt ci leaves it"
-            print(f"crates/{name}/edits: {why}", flush=True)
+            with self.lock:
+                print(f"crates/{name}/edits: {why}", flush=True)
             return [Outcome(it, UNKNOWN, "", why, [why]) for it in edits]
         return Trial(self, name, edits).run()
 
