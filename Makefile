@@ -6,14 +6,16 @@
 #   make try            runs the program on DOCUMENT with the words of COMMAND, unproved, after a
 #                       minute or two
 #   make run            plans the document EXAMPLE with the program unproved, says so, proves what
-#                       it is made of, builds it, and plans it again
+#                       it is made of, builds it, and plans it again; 16 minutes on four processors,
+#                       with 6 GB of disk
 #   make test           the tests, without any proof: both programs on each stored row and trace, the
-#                       tests of the crates, of the commands, of the pages and of the checks; five
-#                       minutes on four idle processors, eight on two, with 2 GB of memory for each
+#                       tests of the crates, of the commands, of the pages and of the checks; 3
+#                       minutes on four idle processors, with 2 GB of memory for each
 #   make gate           the merge gate: every proof, test and stored run, the edits that a proof has
-#                       to refuse, and the checks that checks/gate.py lists; 75 minutes on four
-#                       processors, with 2 GB of memory for each and 15 GB of disk. KEPT=FILE begins
-#                       with what a gate elsewhere kept
+#                       to refuse, and the checks that checks/gate.py lists; 4 minutes on four
+#                       processors where all was proved there before, and else it first tells about how
+#                       long it takes, with 2 GB of memory for each and up to 15 GB of disk. KEPT=FILE
+#                       begins with what a gate elsewhere kept
 #   make kept           packs what the toolchain kept of this tree's gate, as build/kept.tar.gz
 #   make edits          tries all edits anew that a proof has to refuse, before a release, over what
 #                       the gate has proved here

@@ -25,7 +25,7 @@ from typed import commands as commands_of  # noqa: E402
 
 BUILD = ROOT / "build"
 
-SECONDS = 240
+SECONDS = 155
 """What it takes on four processors of 2.5 GHz that have nothing else to do."""
 
 TRY = 2
