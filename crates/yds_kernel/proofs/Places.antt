@@ -1,12 +1,12 @@
 -- What stands at the first of a line's places, as a loop over the places looks for it.
-use Rattle.base.proofs.Common.{◌≡◌, ℕ, zero, suc, ◌+◌, ◌<◌, ◌≤◌, List, [], ◌∷◌, length, codes, get_or, take, drop, Bool, true, false, ◌==◌, ◌&&◌, ◌||◌, nat_le, if◌then◌else◌, Some, None, sym, ap, ◌∙◌, arith, refl, drop_more, drop_all, le_refl, ◌-◌, take_all, length-drop, length-take-le, get_or-take}
+use Rattle.base.proofs.Common.{◌≡◌, ℕ, zero, suc, ◌+◌, ◌<◌, ◌≤◌, List, [], ◌∷◌, length, codes, get_or, take, drop, Bool, true, false, ◌==◌, ◌&&◌, ◌||◌, nat_le, if◌then◌else◌, Option, Some, None, sym, ap, ◌∙◌, arith, refl, drop_more, drop_all, le_refl, ◌-◌, take_all, length-drop, length-take-le, get_or-take}
 use Rattle.std.specs.Str.{bytes_eq}
 use Rattle.memchr.specs.Find.{Nowhere, NoneBefore, Passes, is_byte}
 use Rattle.yds_kernel.specs.declared.mark.Mark.{Mark}
 use Rattle.yds_kernel.specs.declared.mark.Mark.TheVariants as marks
 use Rattle.yds_kernel.specs.Parts.{or_else, after}
 use Rattle.yds_kernel.specs.Stamp.{Stamp, stamp_at, first_stamp}
-use Rattle.yds_kernel.specs.Form.{Marked, marked, placed, first_byte, first_marked, leaves, comes, wakes, short, short_leaves, short_comes}
+use Rattle.yds_kernel.specs.Form.{Marked, marked, placed, first_byte, first_marked, last_marked, leaves, comes, wakes, short, short_leaves, short_comes}
 use Rattle.yds_kernel.specs.Line.{opens, opens_somewhere}
 
 -- the bytes from a place on, as a slice has them
@@ -132,6 +132,40 @@ marks_at at mark bytes i found within nowhere some = marks_from at mark bytes i 
 pub marks_after : (at : ℕ) (mark : Mark) (bytes : List ℕ) (i : ℕ) → i < length bytes → Nowhere (Passes (is_byte (first_byte mark)) bytes) 0 i → marked mark (drop i bytes) ≡ None →
     first_marked at mark bytes ≡ first_marked (at + i + 1) mark (drop (i + 1) bytes)
 marks_after at mark bytes i within nowhere none = marks_from at mark bytes i (omega arith) nowhere ∙ mark_more (at + i) mark bytes i within none
+
+-- ---- the last one
+
+last_step : (at : ℕ) (mark : Mark) (bytes : List ℕ) (i : ℕ) → i < length bytes →
+    last_marked at mark (drop i bytes) ≡ or_else (last_marked (at + 1) mark (drop (i + 1) bytes)) (placed at (marked mark (drop i bytes)))
+unfolding last_marked
+last_step at mark bytes i within =
+    ap (last_marked at mark) (drop_more bytes i 0 within)
+    ∙ ap (λ found. or_else (last_marked (at + 1) mark (drop (i + 1) bytes)) (placed at found)) (ap (marked mark) (sym (drop_more bytes i 0 within)))
+
+-- behind the last byte there is none
+pub last_behind : (at : ℕ) (mark : Mark) (bytes : List ℕ) → last_marked at mark (drop (length bytes) bytes) ≡ None
+unfolding last_marked
+last_behind at mark bytes = ap (last_marked at mark) (drop_all (length bytes) bytes (le_refl (length bytes)))
+
+-- Behind this place there is none. So it is the last one, where it is one.
+pub last_here : (at : ℕ) (mark : Mark) (bytes : List ℕ) (i : ℕ) (found : Option Marked) → i < length bytes →
+    last_marked (at + 1) mark (drop (i + 1) bytes) ≡ None → marked mark (drop i bytes) ≡ found → last_marked at mark (drop i bytes) ≡ placed at found
+last_here at mark bytes i found within none is =
+    last_step at mark bytes i within
+    ∙ ap (λ behind. or_else behind (placed at (marked mark (drop i bytes)))) none
+    ∙ ap (placed at) is
+
+-- what is the last from a place on, is the last of all
+pub last_from : (at : ℕ) (mark : Mark) (bytes : List ℕ) (i : ℕ) (found : ℕ × Marked) → i ≤ length bytes →
+    last_marked (at + i) mark (drop i bytes) ≡ Some found → last_marked at mark bytes ≡ Some found
+last_from at mark bytes zero found within some = ap (λ (place : ℕ). last_marked place mark bytes) (omega arith) ∙ some
+last_from at mark bytes (suc i) found within some =
+    let next : i + 1 ≡ suc i = omega arith in
+    let place : at + i + 1 ≡ at + suc i = omega arith in
+    let behind : last_marked (at + i + 1) mark (drop (i + 1) bytes) ≡ Some found =
+    ap (λ (n : ℕ). last_marked n mark (drop (i + 1) bytes)) place ∙ ap (λ (n : ℕ). last_marked (at + suc i) mark (drop n bytes)) next ∙ some in
+    last_from at mark bytes i found (omega arith)
+    (last_step (at + i) mark bytes i (omega arith) ∙ ap (λ found. or_else found (placed (at + i) (marked mark (drop i bytes)))) behind)
 
 -- # Processors
 

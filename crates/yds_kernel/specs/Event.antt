@@ -1,5 +1,5 @@
 -- What an event of a trace is.
-use Rattle.std.specs.Prelude.{ℕ, List}
+use Rattle.std.specs.Prelude.{ℕ, List, Bool}
 use Rattle.yds_kernel.specs.declared.state.State.{State}
 use Rattle.yds_kernel.specs.declared.loss.Since.{Since}
 
@@ -11,8 +11,8 @@ pub record Thread : Type 0 where
 pub data Happening : Type 0 where
   -- who leaves the processor, in which state, and who comes
   Switch : (previous : Thread) → (state : State) → (next : Thread) → Happening
-  -- who is woken
-  WakeUp : (thread : Thread) → Happening
+  -- who is woken; whether this starts the wake-up, or tells that it was done
+  WakeUp : (thread : Thread) → (starts : Bool) → Happening
   -- a processor's new speed, in kilohertz
   Speed : (processor khz : ℕ) → Happening
   -- events of the processor were lost

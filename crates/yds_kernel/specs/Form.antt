@@ -2,7 +2,8 @@
 --
 -- Two spellings of a text are read: that of the kernel and perf, `prev_comm=NAME prev_pid=PID ..`, and the short one that
 -- trace-cmd makes of it, `NAME:PID [PRIORITY] STATE ==> ..`. A name may hold anything, so it ends at the first place behind which
--- a whole mark stands, as ` prev_pid=PID prev_prio=PRIORITY prev_state=STATE ==> next_comm=`.
+-- a whole mark stands, as ` prev_pid=PID prev_prio=PRIORITY prev_state=STATE ==> next_comm=`; in a wake-up, behind whose name no other
+-- stands, at the last one.
 use Rattle.std.specs.Prelude.{ℕ, ◌+◌, List, [], ◌∷◌, codes, take, Bool, false, not, ◌==◌, ◌&&◌, ◌||◌, if◌then◌else◌, Option, Some, None}
 use Rattle.std.specs.List.{list_all}
 use Rattle.std.specs.Str.{bytes_eq}
@@ -26,9 +27,9 @@ bare_name word = elim (or_else (after (codes "sched:") word) (or_else (after (co
   | None ↦ word
 ]
 
-abbrev pub is_wake_up : List ℕ → Bool
-is_wake_up name =
-    bytes_eq name (codes "sched_waking:") || bytes_eq name (codes "sched_wakeup:") || bytes_eq name (codes "sched_wakeup_new:")
+-- A wake-up has two halves: that a thread is about to be woken, and that it has been.
+abbrev pub is_woken : List ℕ → Bool
+is_woken name = bytes_eq name (codes "sched_wakeup:") || bytes_eq name (codes "sched_wakeup_new:")
 
 abbrev pub is_marker : List ℕ → Bool
 is_marker name = bytes_eq name (codes "tracing_mark_write:") || bytes_eq name (codes "print:") || bytes_eq name (codes "bprint:")
@@ -36,10 +37,11 @@ is_marker name = bytes_eq name (codes "tracing_mark_write:") || bytes_eq name (c
 abbrev pub kind_of_name : List ℕ → Kind
 kind_of_name name =
     if bytes_eq name (codes "sched_switch:") then kinds.Switch
-    else (if is_wake_up name then kinds.WakeUp
+    else (if bytes_eq name (codes "sched_waking:") then kinds.Waking
+    else (if is_woken name then kinds.Woken
     else (if bytes_eq name (codes "cpu_frequency:") then kinds.Speed
     else (if bytes_eq name (codes "PERF_RECORD_LOST") then kinds.Loss
-    else (if is_marker name then kinds.Marker else kinds.Other))))
+    else (if is_marker name then kinds.Marker else kinds.Other)))))
 
 abbrev pub kind_of : List ℕ → Kind
 kind_of word = kind_of_name (bare_name word)
@@ -65,15 +67,24 @@ abbrev pub is_state : List ℕ → Bool
 is_state [] = false
 is_state (first ∷ more) = (is_state_letter first && list_all is_state_byte more) || is_state_number (first ∷ more)
 
--- R, D, what begins with them, what ends with a plus, and the numbers 0, 2 and 256: preempted, or waiting for a disk
+-- X, Z, x, what begins with them, and the numbers 16 and 32: it is over
+abbrev pub is_over : List ℕ → Bool
+is_over [] = false
+is_over (first ∷ more) =
+    (first == 88) || (first == 90) || (first == 120) || bytes_eq (first ∷ more) (codes "16") || bytes_eq (first ∷ more) (codes "32")
+
+-- R, D, T, t, what begins with them, what ends with a plus, and the numbers 0, 2, 4, 8 and 256: preempted, waiting for a disk, stopped or traced
 abbrev pub goes_on : List ℕ → Bool
 goes_on [] = false
 goes_on (first ∷ more) =
-    (first == 82) || (first == 68) || (last_byte (first ∷ more) == 43)
-    || bytes_eq (first ∷ more) (codes "0") || bytes_eq (first ∷ more) (codes "2") || bytes_eq (first ∷ more) (codes "256")
+    (first == 82) || (first == 68) || (first == 84) || (first == 116) || (last_byte (first ∷ more) == 43)
+    || bytes_eq (first ∷ more) (codes "0") || bytes_eq (first ∷ more) (codes "2") || bytes_eq (first ∷ more) (codes "4")
+    || bytes_eq (first ∷ more) (codes "8") || bytes_eq (first ∷ more) (codes "256")
 
 abbrev pub state_of : List ℕ → State
-state_of text = if not (is_state text) then states.Unknown else (if goes_on text then states.GoesOn else states.Sleeps)
+state_of text =
+    if not (is_state text) then states.Unknown
+    else (if is_over text then states.Exits else (if goes_on text then states.GoesOn else states.Sleeps))
 
 -- # Marks behind a name
 
@@ -171,6 +182,11 @@ unfoldable pub first_marked : ℕ → Mark → List ℕ → Option (ℕ × Marke
 first_marked place mark [] = None
 first_marked place mark (byte ∷ bytes) = or_else (placed place (marked mark (byte ∷ bytes))) (first_marked (place + 1) mark bytes)
 
+-- the last place at which the mark stands, where these bytes begin at `place`
+unfoldable pub last_marked : ℕ → Mark → List ℕ → Option (ℕ × Marked)
+last_marked place mark [] = None
+last_marked place mark (byte ∷ bytes) = or_else (last_marked (place + 1) mark bytes) (placed place (marked mark (byte ∷ bytes)))
+
 -- a thread's name, up to its mark
 pub record Named : Type 0 where
   pub thread : Thread
@@ -196,15 +212,15 @@ switch_in text = elim (after (codes "prev_comm=") text) [
   | None ↦ switch_by marks.ShortLeaves marks.ShortComes text
 ]
 
-unfoldable pub woken_by : Mark → List ℕ → Option Happening
-woken_by mark text = do
-  woken ← thread_at mark text
-  Some (WakeUp woken.thread)
+unfoldable pub woken_by : Mark → Bool → List ℕ → Option Happening
+woken_by mark starts text = do
+  found ← last_marked 0 mark text
+  Some (WakeUp (record { name = take found.0 text; pid = found.1.pid }) starts)
 
-unfoldable pub wake_up_in : List ℕ → Option Happening
-wake_up_in text = elim (after (codes "comm=") text) [
-  | Some names ↦ woken_by marks.Wakes names
-  | None ↦ woken_by marks.ShortWakes text
+unfoldable pub wake_up_in : Bool → List ℕ → Option Happening
+wake_up_in starts text = elim (after (codes "comm=") text) [
+  | Some names ↦ woken_by marks.Wakes starts names
+  | None ↦ woken_by marks.ShortWakes starts text
 ]
 
 -- `state=KHZ cpu_id=CPU`

@@ -23,7 +23,8 @@ known reason None = Err reason
 
 abbrev pub happening_of : Kind → List ℕ → Result Happening Reason
 happening_of kinds.Switch text = known reasons.UnknownSwitch (switch_in text)
-happening_of kinds.WakeUp text = known reasons.UnknownWakeUp (wake_up_in text)
+happening_of kinds.Waking text = known reasons.UnknownWakeUp (wake_up_in true text)
+happening_of kinds.Woken text = known reasons.UnknownWakeUp (wake_up_in false text)
 happening_of kinds.Speed text = known reasons.UnknownSpeed (speed_in text)
 happening_of kinds.Loss text = Ok Loss
 happening_of kinds.Marker text = Ok Marker
@@ -108,7 +109,8 @@ short_line line = elim (first_stamp line) [
 -- whether the name is one of those that are read
 abbrev pub matters : Kind → Bool
 matters kinds.Switch = true
-matters kinds.WakeUp = true
+matters kinds.Waking = true
+matters kinds.Woken = true
 matters kinds.Speed = true
 matters kinds.Loss = true
 matters kinds.Marker = false

@@ -42,7 +42,7 @@ named_read named = record { thread = thread_read named.thread; state = named.sta
 
 abbrev pub happening_read : HappeningRead → Happening
 happening_read (happenings.Switch previous state next) = Switch (thread_read previous) state (thread_read next)
-happening_read (happenings.WakeUp thread) = WakeUp (thread_read thread)
+happening_read (happenings.WakeUp thread starts) = WakeUp (thread_read thread) starts
 happening_read (happenings.Speed processor khz) = Speed processor khz
 happening_read happenings.Loss = Loss
 happening_read happenings.Marker = Marker

@@ -22,7 +22,11 @@ pub enum Happening<'a> {
         next: Thread<'a>,
     },
     /// A thread is woken.
-    WakeUp(Thread<'a>),
+    WakeUp {
+        thread: Thread<'a>,
+        /// Whether this starts the wake-up, or tells that it was done.
+        starts: bool,
+    },
     /// A processor's new speed, in kilohertz.
     Speed {
         processor: u64,

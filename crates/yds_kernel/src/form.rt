@@ -36,6 +36,22 @@ fn first_marked(mark: Mark, bytes: &[u8]) -> Option<(usize, Marked<'_>)>
     None
 }
 
+/// The last place at which the mark stands, and what it says.
+#[inline(always)]
+fn last_marked(mark: Mark, bytes: &[u8]) -> Option<(usize, Marked<'_>)>
+    ensures value { Reads (λ x. (x.0, marked_read x.1)) result (spec.last_marked 0 mark bytes.now) }
+    ensures within { IfSome result (λ x. x.0 ≤ length bytes.now) }
+{
+    let mut place = bytes.len();
+    while place > 0 {
+        place -= 1;
+        if let Some(marked) = mark.at(&bytes[place..]) {
+            return Some((place, marked));
+        }
+    }
+    None
+}
+
 /// The thread whose name ends at the first mark of this kind.
 #[inline(always)]
 #[tactic(auto, unfolding(crate::specs::Form::thread_at))]
@@ -83,22 +99,26 @@ pub(crate) fn switch_in(text: &[u8]) -> Option<Happening<'_>>
 
 #[inline(always)]
 #[tactic(auto, unfolding(crate::specs::Form::woken_by))]
-fn woken_by(mark: Mark, text: &[u8]) -> Option<Happening<'_>>
-    ensures { Reads happening_read result (spec.woken_by mark text.now) }
+fn woken_by(mark: Mark, starts: bool, text: &[u8]) -> Option<Happening<'_>>
+    ensures { Reads happening_read result (spec.woken_by mark starts text.now) }
 {
-    let woken = thread_at(mark, text)?;
-    Some(Happening::WakeUp(woken.thread))
+    let (place, marked) = last_marked(mark, text)?;
+    let thread = Thread {
+        name: &text[..place],
+        pid: marked.pid,
+    };
+    Some(Happening::WakeUp { thread, starts })
 }
 
 /// The wake-up that this text is.
 #[inline(always)]
 #[tactic(auto, unfolding(crate::specs::Form::wake_up_in))]
-pub(crate) fn wake_up_in(text: &[u8]) -> Option<Happening<'_>>
-    ensures { Reads happening_read result (spec.wake_up_in text.now) }
+pub(crate) fn wake_up_in(starts: bool, text: &[u8]) -> Option<Happening<'_>>
+    ensures { Reads happening_read result (spec.wake_up_in starts text.now) }
 {
     match after(text, b"comm=") {
-        Some(names) => woken_by(Mark::Wakes, names),
-        None => woken_by(Mark::ShortWakes, text),
+        Some(names) => woken_by(Mark::Wakes, starts, names),
+        None => woken_by(Mark::ShortWakes, starts, text),
     }
 }
 

@@ -1,6 +1,6 @@
 //! The kinds of event, by their names.
 ghost use Rattle.std.specs.Prelude.{◌≡◌, true};
-ghost use Rattle.yds_kernel.specs.Form.{bare_name, is_marker, is_wake_up, kind_of, kind_of_name};
+ghost use Rattle.yds_kernel.specs.Form.{bare_name, is_marker, is_woken, kind_of, kind_of_name};
 ghost use Rattle.yds_kernel.specs.Line.{matters};
 
 use crate::parts::{after, begins};
@@ -9,7 +9,10 @@ use crate::parts::{after, begins};
 #[derive(Clone, Copy)]
 pub(crate) enum Kind {
     Switch,
-    WakeUp,
+    /// A thread is about to be woken.
+    Waking,
+    /// It has been.
+    Woken,
     Speed,
     Loss,
     Marker,
@@ -25,10 +28,10 @@ impl Kind {
             return Kind::Switch;
         }
         if is_name(word, b"sched_waking:") {
-            return Kind::WakeUp;
+            return Kind::Waking;
         }
         if is_name(word, b"sched_wakeup:") {
-            return Kind::WakeUp;
+            return Kind::Woken;
         }
         Kind::of_name(bare_name(word))
     }
@@ -39,8 +42,10 @@ impl Kind {
     {
         if name == b"sched_switch:".as_slice() {
             Kind::Switch
-        } else if is_wake_up(name) {
-            Kind::WakeUp
+        } else if name == b"sched_waking:".as_slice() {
+            Kind::Waking
+        } else if is_woken(name) {
+            Kind::Woken
         } else if name == b"cpu_frequency:".as_slice() {
             Kind::Speed
         } else if name == b"PERF_RECORD_LOST".as_slice() {
@@ -57,7 +62,7 @@ impl Kind {
         ensures { result ≡ matters self }
     {
         match self {
-            Kind::Switch | Kind::WakeUp | Kind::Speed | Kind::Loss => true,
+            Kind::Switch | Kind::Waking | Kind::Woken | Kind::Speed | Kind::Loss => true,
             Kind::Marker | Kind::Other => false,
         }
     }
@@ -87,12 +92,10 @@ fn bare_name(word: &[u8]) -> &[u8]
     }
 }
 
-fn is_wake_up(name: &[u8]) -> bool
-    ensures { result ≡ is_wake_up name.now }
+fn is_woken(name: &[u8]) -> bool
+    ensures { result ≡ is_woken name.now }
 {
-    name == b"sched_waking:".as_slice()
-        || name == b"sched_wakeup:".as_slice()
-        || name == b"sched_wakeup_new:".as_slice()
+    name == b"sched_wakeup:".as_slice() || name == b"sched_wakeup_new:".as_slice()
 }
 
 fn is_marker(name: &[u8]) -> bool

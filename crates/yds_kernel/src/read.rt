@@ -112,7 +112,8 @@ fn happening(kind: Kind, text: &[u8]) -> Result<Happening<'_>, Reason>
 {
     match kind {
         Kind::Switch => known(Reason::UnknownSwitch, switch_in(text)),
-        Kind::WakeUp => known(Reason::UnknownWakeUp, wake_up_in(text)),
+        Kind::Waking => known(Reason::UnknownWakeUp, wake_up_in(true, text)),
+        Kind::Woken => known(Reason::UnknownWakeUp, wake_up_in(false, text)),
         Kind::Speed => known(Reason::UnknownSpeed, speed_in(text)),
         Kind::Loss => Ok(Happening::Loss),
         Kind::Marker => Ok(Happening::Marker),

@@ -1,15 +1,17 @@
 //! The states in which a thread leaves its processor.
 ghost use Rattle.std.specs.Prelude.{◌≡◌};
 ghost use Rattle.std.specs.List.{list_all};
-ghost use Rattle.yds_kernel.specs.Form.{state_of, is_state, goes_on, is_state_letter, is_state_byte, is_state_number};
+ghost use Rattle.yds_kernel.specs.Form.{state_of, is_state, is_over, goes_on, is_state_letter, is_state_byte, is_state_number};
 
 /// In which state a thread leaves its processor.
 #[derive(Clone, Copy, Debug, PartialEq, Eq)]
 pub enum State {
-    /// Its job goes on: it was preempted, or waits for a disk.
+    /// Its job goes on: it was preempted, waits for a disk, or is stopped or traced.
     GoesOn,
-    /// It sleeps, waits to be woken, or ends.
+    /// It sleeps.
     Sleeps,
+    /// It is over.
+    Exits,
     /// A state that the kernel doesn't have.
     Unknown,
 }
@@ -32,6 +34,8 @@ impl State {
     {
         if !is_state(text) {
             State::Unknown
+        } else if is_over(text) {
+            State::Exits
         } else if goes_on(text) {
             State::GoesOn
         } else {
@@ -98,6 +102,22 @@ fn is_state_number(text: &[u8]) -> bool
         || text == b"256".as_slice()
 }
 
+/// Whether a thread that leaves in this state is over.
+fn is_over(text: &[u8]) -> bool
+    ensures { result ≡ is_over text.now }
+{
+    match text {
+        [] => false,
+        [first, ..] => {
+            *first == b'X'
+                || *first == b'Z'
+                || *first == b'x'
+                || text == b"16".as_slice()
+                || text == b"32".as_slice()
+        }
+    }
+}
+
 /// Whether a thread that leaves in this state goes on with its job.
 fn goes_on(text: &[u8]) -> bool
     ensures { result ≡ goes_on text.now }
@@ -107,9 +127,13 @@ fn goes_on(text: &[u8]) -> bool
         [first, ..] => {
             *first == b'R'
                 || *first == b'D'
+                || *first == b'T'
+                || *first == b't'
                 || text[text.len() - 1] == b'+'
                 || text == b"0".as_slice()
                 || text == b"2".as_slice()
+                || text == b"4".as_slice()
+                || text == b"8".as_slice()
                 || text == b"256".as_slice()
         }
     }

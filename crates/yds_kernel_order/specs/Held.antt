@@ -11,7 +11,7 @@ event_held processor time happening = Stamped (record { processor = processor; t
 abbrev pub said_held : What → ℕ → ℕ → List ℕ → List ℕ → Said
 said_held (what.Switch previous state next) processor time first second =
     event_held processor time (Switch (record { name = first; pid = previous }) state (record { name = second; pid = next }))
-said_held (what.WakeUp pid) processor time first second = event_held processor time (WakeUp (record { name = first; pid = pid }))
+said_held (what.WakeUp pid starts) processor time first second = event_held processor time (WakeUp (record { name = first; pid = pid }) starts)
 said_held (what.Speed of khz) processor time first second = event_held processor time (Speed of khz)
 said_held what.Loss processor time first second = event_held processor time Loss
 said_held what.Marker processor time first second = event_held processor time Marker

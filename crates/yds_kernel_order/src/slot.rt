@@ -21,7 +21,10 @@ pub(crate) enum What {
         state: State,
         next: u64,
     },
-    WakeUp(u64),
+    WakeUp {
+        thread: u64,
+        starts: bool,
+    },
     Speed {
         processor: u64,
         khz: u64,
@@ -110,10 +113,13 @@ impl Slot {
                     pid: next,
                 },
             },
-            What::WakeUp(pid) => Happening::WakeUp(Thread {
-                name: &self.first[..self.first_len],
-                pid,
-            }),
+            What::WakeUp { thread, starts } => Happening::WakeUp {
+                thread: Thread {
+                    name: &self.first[..self.first_len],
+                    pid: thread,
+                },
+                starts,
+            },
             What::Speed { processor, khz } => Happening::Speed { processor, khz },
             What::Loss => Happening::Loss,
             What::Marker => Happening::Marker,
@@ -169,10 +175,13 @@ impl Slot {
                     next: next.pid,
                 }
             }
-            Happening::WakeUp(thread) => {
+            Happening::WakeUp { thread, starts } => {
                 keep_name(&mut self.first, thread.name)?;
                 self.first_len = thread.name.len();
-                What::WakeUp(thread.pid)
+                What::WakeUp {
+                    thread: thread.pid,
+                    starts: *starts,
+                }
             }
             Happening::Speed { processor, khz } => What::Speed {
                 processor: *processor,
