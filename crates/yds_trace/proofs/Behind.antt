@@ -8,11 +8,12 @@ use Rattle.yds_trace.specs.declared.job.End.{End}
 use Rattle.yds_trace.specs.declared.job.End.TheVariants as ends
 use Rattle.yds_trace.specs.declared.job.Leaving.{Leaving}
 use Rattle.yds_trace.specs.declared.job.Standing.{Standing}
+use Rattle.yds_trace.specs.declared.job.Woken.{Woken}
 use Rattle.yds_trace.specs.declared.step.Step.{Step}
 use Rattle.yds_trace.specs.declared.step.Step.TheVariants as steps
 use Rattle.yds_trace.specs.Asked.{Asked}
 use Rattle.yds_trace.specs.Document.{began_before}
-use Rattle.yds_trace.specs.Jobs.{Job, Known, began, reopened, woken_after, counted, woken_jobs, awake_jobs, running_jobs, changed_last, ended, missing, ran, left_unseen, vanished, stands_on, passed_by, comes, has_no_switch, begun_at_most, begun_by, stretch_of, left_from, left_in, leaves, wakes_up, speeds, lost_job, lost_earlier, lost_jobs, loses, left_if, after_switch, known_after}
+use Rattle.yds_trace.specs.Jobs.{Job, Known, began, reopened, woken_after, counted, woken_jobs, awake_jobs, went_on, back_jobs, come_jobs, running_jobs, changed_last, ended, exits, missing, ran, left_unseen, vanished, stands_on, passed_by, comes, has_no_switch, begun_at_most, begun_by, stretch_of, left_from, left_in, leaves, woken_at, wakes_up, speeds, lost_job, lost_earlier, lost_jobs, loses, left_if, after_switch, known_after}
 use Rattle.yds_trace.specs.Kept.{behind, KeepsLast, AreForgotten, IsFollowed}
 use Rattle.yds_trace.specs.Views.{known_read}
 use Rattle.yds_trace.specs.Steps.{stepped}
@@ -99,6 +100,35 @@ awake_split time = acts (awake_jobs time) (λ job jobs forgotten.
     (began time false (job ∷ (jobs ++ forgotten))) (began time false (job ∷ jobs)) refl (record { is = refl; last = tt }) (record { is = refl; last = tt }))
     (λ last. record { is = refl; last = tt }))
 
+-- Its thread comes back: the last job goes on, or another one begins, or the last one is lost.
+slept_split : (forgotten : List Job) (slept : Option ℕ) (time end : ℕ) (job : Job) (jobs : List Job) →
+    Split forgotten
+    (elim slept [ None ↦ went_on end job ∷ (jobs ++ forgotten) | Some first ↦ began time false (lost_job first job ∷ (jobs ++ forgotten)) ])
+    (elim slept [ None ↦ went_on end job ∷ jobs | Some first ↦ began time false (lost_job first job ∷ jobs) ])
+slept_split forgotten None time end job jobs = record { is = refl; last = tt }
+slept_split forgotten (Some first) time end job jobs = record { is = refl; last = tt }
+
+back_split : (apart time end : ℕ) (started : Option ℕ) (job : Job) (jobs forgotten : List Job) →
+    Split forgotten (back_jobs apart time end started job (jobs ++ forgotten)) (back_jobs apart time end started job jobs)
+back_split apart time end None job jobs forgotten = slept_split forgotten job.slept time end job jobs
+back_split apart time end (Some woken) job jobs forgotten = woken_after_split apart woken job jobs forgotten
+
+come_split : (apart time : ℕ) (woken : Woken) (forgotten whole kept : List Job) → Split forgotten whole kept →
+    Split forgotten (come_jobs apart time woken whole) (come_jobs apart time woken kept)
+come_split apart time woken = acts (come_jobs apart time woken) (λ job jobs forgotten.
+    split_end forgotten job.end (job ∷ (jobs ++ forgotten)) (job ∷ jobs)
+    (λ end. if woken.seen then back_jobs apart time end woken.started job (jobs ++ forgotten) else began time false (job ∷ (jobs ++ forgotten)))
+    (λ end. if woken.seen then back_jobs apart time end woken.started job jobs else began time false (job ∷ jobs))
+    (λ last goes_on. if goes_on then reopened job ∷ (jobs ++ forgotten) else began time false (job ∷ (jobs ++ forgotten)))
+    (λ last goes_on. if goes_on then reopened job ∷ jobs else began time false (job ∷ jobs))
+    (λ last. began time false (job ∷ (jobs ++ forgotten))) (λ last. began time false (job ∷ jobs))
+    (record { is = refl; last = tt })
+    (λ end. split_if forgotten woken.seen woken.seen (back_jobs apart time end woken.started job (jobs ++ forgotten)) (back_jobs apart time end woken.started job jobs)
+    (began time false (job ∷ (jobs ++ forgotten))) (began time false (job ∷ jobs)) refl (back_split apart time end woken.started job jobs forgotten) (record { is = refl; last = tt }))
+    (λ last goes_on. split_if forgotten goes_on goes_on (reopened job ∷ (jobs ++ forgotten)) (reopened job ∷ jobs)
+    (began time false (job ∷ (jobs ++ forgotten))) (began time false (job ∷ jobs)) refl (record { is = refl; last = tt }) (record { is = refl; last = tt }))
+    (λ last. record { is = refl; last = tt }))
+
 running_split : (apart time : ℕ) (forgotten whole kept : List Job) → Split forgotten whole kept →
     Split forgotten (running_jobs apart time whole) (running_jobs apart time kept)
 running_split apart time = acts (running_jobs apart time) (λ job jobs forgotten.
@@ -135,7 +165,7 @@ pub record IsBehind (forgotten : List Job) (whole kept : Known) : Type 0 where
   pub is : whole ≡ behind forgotten kept
   pub last : KeepsLast kept.jobs forgotten
 
-of_jobs : (forgotten whole kept : List Job) (on : Option Standing) (woken : Bool) → Split forgotten whole kept →
+of_jobs : (forgotten whole kept : List Job) (on : Option Standing) (woken : Woken) → Split forgotten whole kept →
     IsBehind forgotten (record { jobs = whole; on = on; woken = woken }) (record { jobs = kept; on = on; woken = woken })
 of_jobs forgotten whole kept on woken split =
     record { is = ap (λ (jobs : List Job). record { jobs = jobs; on = on; woken = woken }) split.is; last = split.last }
@@ -156,11 +186,11 @@ known_if : (forgotten : List Job) (b : Bool) (whole kept other_whole other_kept 
 known_if forgotten true whole kept other_whole other_kept split other = split
 known_if forgotten false whole kept other_whole other_kept split other = other
 
-vanished_on : (forgotten : List Job) (wakes : Bool) (on : Option Standing) (jobs : List Job) (woken : Bool) → KeepsLast jobs forgotten →
+vanished_on : (forgotten : List Job) (wakes : Bool) (on : Option Standing) (jobs : List Job) (woken : Woken) → KeepsLast jobs forgotten →
     IsBehind forgotten (vanished wakes (record { jobs = jobs ++ forgotten; on = on; woken = woken })) (vanished wakes (record { jobs = jobs; on = on; woken = woken }))
 vanished_on forgotten wakes None jobs woken last = record { is = refl; last = last }
 vanished_on forgotten wakes (Some standing) jobs woken last =
-    of_jobs forgotten _ _ None woken (changed_split (left_unseen standing.came (wakes && not woken)) forgotten (jobs ++ forgotten) jobs (kept_jobs forgotten jobs last))
+    of_jobs forgotten _ _ None (record woken { started = None }) (changed_split (left_unseen standing.came (wakes && not woken.came)) forgotten (jobs ++ forgotten) jobs (kept_jobs forgotten jobs last))
 
 vanished_behind : (forgotten : List Job) (wakes : Bool) (kept : Known) → KeepsLast kept.jobs forgotten →
     IsBehind forgotten (vanished wakes (behind forgotten kept)) (vanished wakes kept)
@@ -176,10 +206,16 @@ comes_behind : (forgotten : List Job) (apart : ℕ) (wakes : Bool) (processor ti
     IsBehind forgotten (comes apart wakes processor time (behind forgotten kept)) (comes apart wakes processor time kept)
 comes_behind forgotten apart wakes processor time kept last =
     let gone : Split forgotten (vanished wakes (behind forgotten kept)).jobs (vanished wakes kept).jobs = jobs_of forgotten _ _ (vanished_behind forgotten wakes kept last) in
-    of_jobs forgotten _ _ (Some (record { processor = processor; came = time; since = time })) false
-    (split_if forgotten wakes wakes (awake_jobs time (vanished wakes (behind forgotten kept)).jobs) (awake_jobs time (vanished wakes kept).jobs)
+    let same : (vanished wakes (behind forgotten kept)).woken ≡ (vanished wakes kept).woken =
+    ap (λ (known : Known). known.woken) (vanished_behind forgotten wakes kept last).is in
+    of_jobs forgotten _ _ (Some (record { processor = processor; came = time; since = time })) (record { came = false; started = None; seen = true })
+    (split_if forgotten wakes wakes (come_jobs apart time (vanished wakes (behind forgotten kept)).woken (vanished wakes (behind forgotten kept)).jobs)
+    (come_jobs apart time (vanished wakes kept).woken (vanished wakes kept).jobs)
     (running_jobs apart time (vanished wakes (behind forgotten kept)).jobs) (running_jobs apart time (vanished wakes kept).jobs) refl
-    (awake_split time forgotten _ _ gone) (running_split apart time forgotten _ _ gone))
+    (subst (λ (woken : Woken). Split forgotten (come_jobs apart time woken (vanished wakes (behind forgotten kept)).jobs)
+    (come_jobs apart time (vanished wakes kept).woken (vanished wakes kept).jobs)) (sym same)
+    (come_split apart time (vanished wakes kept).woken forgotten _ _ gone))
+    (running_split apart time forgotten _ _ gone))
 
 here_split : (forgotten : List Job) (leaving : Leaving) (on : Option Standing) (jobs : List Job) → KeepsLast jobs forgotten →
     Split forgotten (elim on [ None ↦ jobs ++ forgotten | Some standing ↦ changed_last (ran (stretch_of leaving standing.since)) (jobs ++ forgotten) ])
@@ -212,19 +248,20 @@ left_in_split : (forgotten : List Job) (wakes : Bool) (state : State) (time : �
     Split forgotten (left_in wakes state time whole) (left_in wakes state time kept)
 left_in_split forgotten wakes states.GoesOn time whole kept split = split
 left_in_split forgotten wakes states.Sleeps time whole kept split = changed_split (ended time) forgotten whole kept split
+left_in_split forgotten wakes states.Exits time whole kept split = changed_split (exits time) forgotten whole kept split
 left_in_split forgotten wakes states.Unknown time whole kept split = changed_split (left_unseen time wakes) forgotten whole kept split
 
 leaves_behind : (forgotten : List Job) (wakes : Bool) (state : State) (leaving : Leaving) (kept : Known) → KeepsLast kept.jobs forgotten →
     IsBehind forgotten (leaves wakes state leaving (behind forgotten kept)) (leaves wakes state leaving kept)
 leaves_behind forgotten wakes state leaving kept last =
-    of_jobs forgotten _ _ None false (left_in_split forgotten wakes state leaving.time _ _ (left_from_split forgotten wakes leaving kept last))
+    of_jobs forgotten _ _ None _ (left_in_split forgotten wakes state leaving.time _ _ (left_from_split forgotten wakes leaving kept last))
 
-wakes_behind : (forgotten : List Job) (apart time : ℕ) (kept : Known) → KeepsLast kept.jobs forgotten →
-    IsBehind forgotten (wakes_up apart time (behind forgotten kept)) (wakes_up apart time kept)
-wakes_behind forgotten apart time kept last =
-    of_jobs forgotten _ _ kept.on true (woken_split apart time kept.woken forgotten _ _ (kept_jobs forgotten kept.jobs last))
+wakes_behind : (forgotten : List Job) (apart : ℕ) (starts : Bool) (time : ℕ) (kept : Known) → KeepsLast kept.jobs forgotten →
+    IsBehind forgotten (wakes_up apart starts time (behind forgotten kept)) (wakes_up apart starts time kept)
+wakes_behind forgotten apart starts time kept last =
+    of_jobs forgotten _ _ kept.on _ (woken_split apart (woken_at starts time kept.woken.started) kept.woken.came forgotten _ _ (kept_jobs forgotten kept.jobs last))
 
-speeds_on : (forgotten : List Job) (processor time : ℕ) (khz : Option ℕ) (on : Option Standing) (jobs : List Job) (woken : Bool) → KeepsLast jobs forgotten →
+speeds_on : (forgotten : List Job) (processor time : ℕ) (khz : Option ℕ) (on : Option Standing) (jobs : List Job) (woken : Woken) → KeepsLast jobs forgotten →
     IsBehind forgotten (speeds processor time khz (record { jobs = jobs ++ forgotten; on = on; woken = woken }))
     (speeds processor time khz (record { jobs = jobs; on = on; woken = woken }))
 speeds_on forgotten processor time khz None jobs woken last = record { is = refl; last = last }
@@ -247,21 +284,21 @@ switch_behind forgotten apart wakes left came state leaving kept last =
 -- the forgotten jobs after an event
 abbrev pub forgotten_after : Step → List Job → List Job
 forgotten_after (steps.Switch state leaving) forgotten = forgotten
-forgotten_after (steps.WakeUp time) forgotten = forgotten
+forgotten_after (steps.WakeUp time starts) forgotten = forgotten
 forgotten_after (steps.Speed processor time khz) forgotten = forgotten
 forgotten_after (steps.Loss since) forgotten = map (lost_earlier since) forgotten
 forgotten_after steps.Nothing forgotten = forgotten
 
 pub lost_behind : (forgotten : List Job) (time : ℕ) (kept : Known) → KeepsLast kept.jobs forgotten →
     IsBehind (map (lost_earlier time) forgotten) (loses time (behind forgotten kept)) (loses time kept)
-lost_behind forgotten time kept last = of_jobs (map (lost_earlier time) forgotten) _ _ None false (lost_split time kept.jobs forgotten last)
+lost_behind forgotten time kept last = of_jobs (map (lost_earlier time) forgotten) _ _ None _ (lost_split time kept.jobs forgotten last)
 
 -- What an event is to the whole it is to what is kept.
 pub stepped_behind : (forgotten : List Job) (apart : ℕ) (wakes first second : Bool) (step : Step) (kept : Known) → KeepsLast kept.jobs forgotten →
     IsBehind (forgotten_after step forgotten) (stepped apart wakes first second step (behind forgotten kept)) (stepped apart wakes first second step kept)
 stepped_behind forgotten apart wakes first second (steps.Switch state leaving) kept last = switch_behind forgotten apart wakes first second state leaving kept last
-stepped_behind forgotten apart wakes first second (steps.WakeUp time) kept last =
-    known_if forgotten (first && wakes) _ _ _ _ (wakes_behind forgotten apart time kept last) (record { is = refl; last = last })
+stepped_behind forgotten apart wakes first second (steps.WakeUp time starts) kept last =
+    known_if forgotten (first && wakes) _ _ _ _ (wakes_behind forgotten apart starts time kept last) (record { is = refl; last = last })
 stepped_behind forgotten apart wakes first second (steps.Speed processor time khz) kept last =
     speeds_on forgotten processor time khz kept.on kept.jobs kept.woken last
 stepped_behind forgotten apart wakes first second (steps.Loss since) kept last = lost_behind forgotten since kept last
@@ -285,14 +322,14 @@ lost_are_forgotten time boundary forgotten count before are = record {
 pub are_forgotten_after : (step : Step) (boundary : ℕ) (forgotten : List Job) (count : ℕ) (before : Bool) → AreForgotten boundary forgotten count before →
     AreForgotten boundary (forgotten_after step forgotten) count before
 are_forgotten_after (steps.Switch state leaving) boundary forgotten count before are = are
-are_forgotten_after (steps.WakeUp time) boundary forgotten count before are = are
+are_forgotten_after (steps.WakeUp time starts) boundary forgotten count before are = are
 are_forgotten_after (steps.Speed processor time khz) boundary forgotten count before are = are
 are_forgotten_after (steps.Loss since) boundary forgotten count before are = lost_are_forgotten since boundary forgotten count before are
 are_forgotten_after steps.Nothing boundary forgotten count before are = are
 
 pub forgotten_reverse : (step : Step) (forgotten : List Job) → forgotten_after step (reverse forgotten) ≡ reverse (forgotten_after step forgotten)
 forgotten_reverse (steps.Switch state leaving) forgotten = refl
-forgotten_reverse (steps.WakeUp time) forgotten = refl
+forgotten_reverse (steps.WakeUp time starts) forgotten = refl
 forgotten_reverse (steps.Speed processor time khz) forgotten = refl
 forgotten_reverse (steps.Loss since) forgotten = map_reverse (lost_earlier since) forgotten
 forgotten_reverse steps.Nothing forgotten = refl

@@ -7,6 +7,8 @@ use Rattle.yds_trace.specs.declared.limits.TheConstants.{MAX_TOUCHES}
 use Rattle.yds_trace.specs.declared.fault.Cause.{Cause}
 use Rattle.yds_trace.specs.declared.fault.Cause.TheVariants as causes
 use Rattle.yds_trace.specs.declared.followed.Followed.{Followed}
+use Rattle.yds_trace.specs.declared.job.Standing.{Standing}
+use Rattle.yds_trace.specs.declared.job.Woken.{Woken}
 use Rattle.yds_trace.specs.declared.step.Step.{Step}
 use Rattle.yds_trace.specs.declared.step.Whose.{Whose}
 use Rattle.yds_trace.specs.Asked.{Task, Asked, task_at, task_of, is_number}
@@ -38,8 +40,8 @@ stepped_is : (asked : Asked) (number : ℕ) (past : List Said) (event : Event) (
 stepped_is asked number past event (Switch previous state next) known =
     ap₂ (λ (left came : Bool). after_switch (task_at asked number).apart (wakes_of asked) left came state (leaving_after asked.start past event) known)
     (is_some_if (is_number number (task_of asked.tasks previous)) previous.pid) (is_some_if (is_number number (task_of asked.tasks next)) next.pid)
-stepped_is asked number past event (WakeUp thread) known =
-    ap (λ (mine : Bool). if mine && wakes_of asked then wakes_up (task_at asked number).apart event.time known else known)
+stepped_is asked number past event (WakeUp thread starts) known =
+    ap (λ (mine : Bool). if mine && wakes_of asked then wakes_up (task_at asked number).apart starts event.time known else known)
     (is_some_if (is_number number (task_of asked.tasks thread)) thread.pid)
 stepped_is asked number past event (Speed processor khz) known = refl
 stepped_is asked number past event Loss known = refl
@@ -54,7 +56,7 @@ pid_is : (asked : Asked) (number : ℕ) (happening : Happening) (before : Option
     or_else (pid_of number (second_in asked.tasks happening)) (or_else (pid_of number (first_in asked.tasks happening)) before)
     ≡ or_else (pid_in asked number happening) before
 pid_is asked number (Switch previous state next) before = or_else_assoc _ _ before
-pid_is asked number (WakeUp thread) before = refl
+pid_is asked number (WakeUp thread starts) before = refl
 pid_is asked number (Speed processor khz) before = refl
 pid_is asked number Loss before = refl
 pid_is asked number Marker before = refl
@@ -136,6 +138,20 @@ open_behind : (jobs forgotten : List Job) → KeepsLast jobs forgotten → has_o
 open_behind [] forgotten none = ap has_open_job none
 open_behind (job ∷ jobs) forgotten last = refl
 
+-- What is said of a thread by its last job alone is said of what is kept.
+pub said_of_last : {A : Type 0} (say : Known → A) → ((job : Job) (jobs others : List Job) (on : Option Standing) (woken : Woken) →
+    say (record { jobs = job ∷ (jobs ++ others); on = on; woken = woken }) ≡ say (record { jobs = job ∷ jobs; on = on; woken = woken })) →
+    (asked : Asked) (counting : List Said) (boundary number : ℕ) (followed : Followed) → IsFollowed asked counting boundary number followed →
+    say (known_read followed.known) ≡ say (known_after asked number counting)
+said_of_last say same asked counting boundary number followed is =
+    sym (by (jobs_listed followed.known.jobs.items) (reverse is.forgotten) is.last) ∙ ap say is.known
+  where
+    by : (jobs forgotten : List Job) → KeepsLast jobs forgotten →
+        say (record { jobs = jobs ++ forgotten; on = followed.known.on; woken = followed.known.woken })
+        ≡ say (record { jobs = jobs; on = followed.known.on; woken = followed.known.woken })
+    by [] forgotten none = ap (λ (jobs : List Job). say (record { jobs = jobs; on = followed.known.on; woken = followed.known.woken })) none
+    by (job ∷ jobs) forgotten last = same job jobs forgotten followed.known.on followed.known.woken
+
 waiting_is : (asked : Asked) (counting : List Said) (boundary number : ℕ) (followed : Followed) → IsFollowed asked counting boundary number followed →
     is_waiting (known_after asked number counting) ≡ is_waiting (known_read followed.known)
 waiting_is asked counting boundary number followed is =
@@ -164,7 +180,7 @@ touches_in : (asked : Asked) (counting : List Said) (boundary : ℕ) (event : Ev
 touches_in asked counting boundary event (Switch previous state next) kept many each =
     ap (λ (waits : Bool). is_some (task_of asked.tasks previous) || is_some (task_of asked.tasks next) || (is_some asked.others && waits))
     (waits_is asked counting boundary kept many each)
-touches_in asked counting boundary event (WakeUp thread) kept many each = refl
+touches_in asked counting boundary event (WakeUp thread starts) kept many each = refl
 touches_in asked counting boundary event (Speed processor khz) kept many each =
     sym (runs_on_is asked counting boundary processor 0 asked.tasks kept many (at_number asked counting boundary kept each))
 touches_in asked counting boundary event Loss kept many each = refl

@@ -6,6 +6,7 @@ use Rattle.yds_kernel.specs.Parts.{capped}
 use Rattle.yds_trace.specs.declared.followed.Followed.{Followed}
 use Rattle.yds_trace.specs.declared.job.Job.{Job as JobKept}
 use Rattle.yds_trace.specs.declared.job.Standing.{Standing}
+use Rattle.yds_trace.specs.declared.job.Woken.{Woken}
 use Rattle.yds_trace.specs.declared.job.Stretch.{Stretch}
 use Rattle.yds_trace.specs.declared.kept.Kept.{Kept as Amount}
 use Rattle.yds_trace.specs.declared.others.Others.{Others as OthersKept}
@@ -91,7 +92,7 @@ changed_sum : (g : Job → ℕ) (more : ℕ) (stretch : Stretch) (jobs : List Jo
 changed_sum g more stretch [] each = omega arith
 changed_sum g more stretch (job ∷ jobs) each = omega (arith, sum_by-cons g (ran stretch job) jobs, sum_by-cons g job jobs, each job)
 
-closed_sum : (g : Job → ℕ) (more until : ℕ) (start : Start) (counting : List Said) (on : Option Standing) (jobs : List Job) (woken : Bool) →
+closed_sum : (g : Job → ℕ) (more until : ℕ) (start : Start) (counting : List Said) (on : Option Standing) (jobs : List Job) (woken : Woken) →
     ((stretch : Stretch) (job : Job) → g (ran stretch job) ≤ g job + more) →
     sum_by g (closed_at until start counting (record { jobs = jobs; on = on; woken = woken })) ≤ sum_by g jobs + (if is_some on then more else 0)
 closed_sum g more until start counting None jobs woken each = omega arith

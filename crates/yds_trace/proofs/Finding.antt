@@ -18,7 +18,7 @@ position_map f p xs =
 
 pub first_is : (tasks : List Task) (happening : Happening) → whose_found (first_found tasks happening) ≡ first_in tasks happening
 first_is tasks (Switch previous state next) = refl
-first_is tasks (WakeUp thread) = refl
+first_is tasks (WakeUp thread starts) = refl
 first_is tasks (Speed processor khz) = refl
 first_is tasks Loss = refl
 first_is tasks Marker = refl
@@ -26,7 +26,7 @@ first_is tasks Other = refl
 
 pub second_is : (tasks : List Task) (happening : Happening) → whose_found (second_found tasks happening) ≡ second_in tasks happening
 second_is tasks (Switch previous state next) = refl
-second_is tasks (WakeUp thread) = refl
+second_is tasks (WakeUp thread starts) = refl
 second_is tasks (Speed processor khz) = refl
 second_is tasks Loss = refl
 second_is tasks Marker = refl

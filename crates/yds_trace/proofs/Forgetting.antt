@@ -5,6 +5,7 @@ use Rattle.yds_kernel.specs.Event.{Said}
 use Rattle.yds_trace.specs.declared.followed.Followed.{Followed}
 use Rattle.yds_trace.specs.declared.job.Job.{Job as JobKept}
 use Rattle.yds_trace.specs.declared.job.Standing.{Standing}
+use Rattle.yds_trace.specs.declared.job.Woken.{Woken}
 use Rattle.yds_trace.specs.Asked.{Asked}
 use Rattle.yds_trace.specs.Jobs.{Job}
 use Rattle.yds_trace.specs.Document.{began_before}
@@ -64,7 +65,7 @@ followed_forgets asked counting before boundary number was now later is forgets 
     let within : forgets.count ≤ length items = count_within items forgets.count forgets.last in
     record {
       forgotten = is.forgotten ++ more;
-      known = ap₂ (λ (jobs : List JobKept) (woken : Bool). behind (reverse (is.forgotten ++ more)) (record { jobs = jobs_listed jobs; on = now.known.on; woken = woken }))
+      known = ap₂ (λ (jobs : List JobKept) (woken : Woken). behind (reverse (is.forgotten ++ more)) (record { jobs = jobs_listed jobs; on = now.known.on; woken = woken }))
           forgets.jobs forgets.woken
           ∙ ap (λ (on : Option Standing). record { jobs = jobs_listed (drop forgets.count items) ++ reverse (is.forgotten ++ more); on = on; woken = was.known.woken }) forgets.on
           ∙ ap (λ (jobs : List Job). record { jobs = jobs; on = was.known.on; woken = was.known.woken }) (listed_apart items is.forgotten forgets.count)

@@ -1,12 +1,13 @@
 -- A line changes the parts behind two cuts where it changes those behind one of them.
-use Rattle.base.proofs.Common.{◌≡◌, ◌∙◌, ℕ, ◌<◌, ◌≤◌, List, max, Bool, true, false, not, ◌&&◌, ◌||◌, nat_lt, is_some, refl, ap, ap₂, arith, lt-ltb}
+use Rattle.base.proofs.Common.{◌≡◌, ◌∙◌, ℕ, ◌<◌, ◌≤◌, List, max, Bool, true, false, not, ◌&&◌, ◌||◌, nat_lt, Option, Some, None, is_some, refl, ap, ap₂, arith, lt-ltb}
 use Rattle.std.proofs.lemmas.Bool.{ltb-true, ltb-false, le-ltb}
 use Rattle.yds_kernel.specs.declared.loss.Since.TheVariants as since
 use Rattle.yds_kernel.specs.Event.{Happening, Switch, WakeUp, Speed, Loss, Marker, Other, Event, Said, Stamped, Lost, Nothing}
 use Rattle.yds_trace.specs.declared.cut.Cut.{Cut}
-use Rattle.yds_trace.specs.Asked.{Asked, task_of}
+use Rattle.yds_trace.specs.Asked.{Asked, task_of, is_before_to}
+use Rattle.yds_trace.specs.Jobs.{Known, known_after}
 use Rattle.yds_trace.specs.Past.{is_loss, lost_since, has_switched, whole_since, up_to}
-use Rattle.yds_trace.specs.Parts.{later, reaches_back, was_there_before, changes_parts}
+use Rattle.yds_trace.specs.Parts.{last_begin, later, reaches_back, was_there_before, has_ended, sleeps_before, came_back, changes_parts}
 
 before_by : (time a b : ℕ) (first second : Bool) → nat_lt time a ≡ first → nat_lt time b ≡ second → nat_lt time (max a b) ≡ (first || second)
 before_by time a b true second first_is second_is = lt-ltb time (max a b) (let early : time < a = ltb-true time a first_is in omega (arith, early))
@@ -27,6 +28,11 @@ ands_either true true p q = refl
 ands_either true false p q = refl
 ands_either false y p q = refl
 
+behind_ands : (x y p q r s : Bool) → (x && y && (p && q && (r || s))) ≡ ((x && y && (p && q && r)) || (x && y && (p && q && s)))
+behind_ands true true p q r s = ands_either p q r s
+behind_ands true false p q r s = refl
+behind_ands false y p q r s = refl
+
 crossed : (p q r s : Bool) → ((p || q) || (r || s)) ≡ ((p || r) || (q || s))
 crossed true q r s = refl
 crossed false true true s = refl
@@ -40,11 +46,32 @@ there_either asked past cut other event (Switch previous state next) =
     (before_either (whole_since event.time (up_to asked.to past)) cut.boundary other.boundary)
     ∙ ands_either (is_some (task_of asked.tasks previous)) (not (has_switched event.processor (up_to asked.to past)))
     (nat_lt (whole_since event.time (up_to asked.to past)) cut.boundary) (nat_lt (whole_since event.time (up_to asked.to past)) other.boundary)
-there_either asked past cut other event (WakeUp thread) = refl
+there_either asked past cut other event (WakeUp thread starts) = refl
 there_either asked past cut other event (Speed processor khz) = refl
 there_either asked past cut other event Loss = refl
 there_either asked past cut other event Marker = refl
 there_either asked past cut other event Other = refl
+
+back_if : (asked : Asked) (past : List Said) (a b : ℕ) (event : Event) (found : Option ℕ) →
+    (elim found as (λ _. Bool) [ None ↦ false | Some number ↦ is_before_to asked.to event.time && not asked.begin_at_run && sleeps_before (max a b) (known_after asked number (up_to asked.to past)) ])
+    ≡ ((elim found as (λ _. Bool) [ None ↦ false | Some number ↦ is_before_to asked.to event.time && not asked.begin_at_run && sleeps_before a (known_after asked number (up_to asked.to past)) ])
+    || (elim found as (λ _. Bool) [ None ↦ false | Some number ↦ is_before_to asked.to event.time && not asked.begin_at_run && sleeps_before b (known_after asked number (up_to asked.to past)) ]))
+back_if asked past a b event None = refl
+back_if asked past a b event (Some number) =
+    let known : Known = known_after asked number (up_to asked.to past) in
+    ap (λ (early : Bool). is_before_to asked.to event.time && not asked.begin_at_run && (known.woken.seen && has_ended known.jobs && early))
+    (before_either (last_begin known.jobs) a b)
+    ∙ behind_ands (is_before_to asked.to event.time) (not asked.begin_at_run) known.woken.seen (has_ended known.jobs)
+    (nat_lt (last_begin known.jobs) a) (nat_lt (last_begin known.jobs) b)
+
+back_either : (asked : Asked) (past : List Said) (cut other : Cut) (event : Event) (happening : Happening) →
+    came_back asked past (later cut other) event happening ≡ (came_back asked past cut event happening || came_back asked past other event happening)
+back_either asked past cut other event (Switch previous state next) = back_if asked past cut.boundary other.boundary event (task_of asked.tasks next)
+back_either asked past cut other event (WakeUp thread starts) = refl
+back_either asked past cut other event (Speed processor khz) = refl
+back_either asked past cut other event Loss = refl
+back_either asked past cut other event Marker = refl
+back_either asked past cut other event Other = refl
 
 pub later_changes : (asked : Asked) (past : List Said) (cut other : Cut) (said : Said) →
     changes_parts asked past (later cut other) said ≡ (changes_parts asked past cut said || changes_parts asked past other said)
@@ -52,8 +79,12 @@ later_changes asked past cut other (Stamped event) =
     let time : ℕ = lost_since event.processor since.ItsLastLine past in
     ap₂ (λ (lost there : Bool). lost || there)
     (ap (λ (early : Bool). is_loss event.happening && early) (before_either time cut.decided other.decided)
-    ∙ and_either (is_loss event.happening) (reaches_back cut time) (reaches_back other time)) (there_either asked past cut other event event.happening)
+    ∙ and_either (is_loss event.happening) (reaches_back cut time) (reaches_back other time))
+    (ap₂ (λ (there back : Bool). there || back) (there_either asked past cut other event event.happening) (back_either asked past cut other event event.happening)
+    ∙ crossed (was_there_before asked past cut event event.happening) (was_there_before asked past other event event.happening)
+    (came_back asked past cut event event.happening) (came_back asked past other event event.happening))
     ∙ crossed (is_loss event.happening && reaches_back cut time) (is_loss event.happening && reaches_back other time)
-    (was_there_before asked past cut event event.happening) (was_there_before asked past other event event.happening)
+    (was_there_before asked past cut event event.happening || came_back asked past cut event event.happening)
+    (was_there_before asked past other event event.happening || came_back asked past other event event.happening)
 later_changes asked past cut other (Lost processor reach) = before_either (lost_since processor reach past) cut.decided other.decided
 later_changes asked past cut other Nothing = refl

@@ -1,5 +1,5 @@
 -- What is known of the tasks doesn't depend on the processor that is asked for: only why a job isn't written as it stands does.
-use Rattle.base.proofs.Common.{◌≡◌, ◌∙◌, ℕ, suc, ◌+◌, ◌<◌, ◌≤◌, List, [], ◌∷◌, reverse, length, filter, Bool, true, false, ◌&&◌, ◌||◌, nat_lt, nat_le, if◌then◌else◌, Option, Some, None, is_some, All-weaker, refl, sym, ap, ap₂, arith, ltb-false, le-ltb}
+use Rattle.base.proofs.Common.{◌≡◌, ◌∙◌, ℕ, suc, ◌+◌, ◌<◌, ◌≤◌, List, [], ◌∷◌, reverse, length, filter, Bool, true, false, not, ◌&&◌, ◌||◌, nat_lt, nat_le, if◌then◌else◌, Option, Some, None, is_some, All-weaker, refl, sym, ap, ap₂, arith, ltb-false, le-ltb}
 use Rattle.yds_kernel.specs.Parts.{or_else}
 use Rattle.yds_kernel.specs.Event.{Thread, Happening, Switch, WakeUp, Speed, Loss, Marker, Other, Event, Said, Stamped, Lost, Nothing}
 use Rattle.yds_trace.specs.declared.counted.Counted.{Counted}
@@ -13,12 +13,13 @@ use Rattle.yds_trace.specs.declared.others.Others.{Others as OthersKept}
 use Rattle.yds_trace.specs.declared.shown.Shown.{Shown}
 use Rattle.yds_trace.specs.declared.shown.ShownTask.{ShownTask}
 use Rattle.yds_trace.specs.Asked.{Task, Asked, on, task_at, task_of, is_before_to}
-use Rattle.yds_trace.specs.Past.{last_time, is_first_switch, up_to}
+use Rattle.yds_trace.specs.Past.{last_time, lost_since, is_loss, is_first_switch, up_to}
+use Rattle.yds_kernel.specs.declared.loss.Since.TheVariants as since
 use Rattle.yds_trace.specs.Jobs.{Job, Known, stands_on, after_event, loses, known_after}
 use Rattle.yds_trace.specs.Late.{last_asked}
 use Rattle.yds_trace.specs.Document.{Judged, closed, jobs_of, began_before}
-use Rattle.yds_trace.specs.Faults.{pid_in, pid_before, is_another, is_two_tasks, thread_fault, first_thread_fault, state_fault, both_fault, happening_fault, is_torn, stamped_fault, place_fault, runs_on, touches, touched, length_fault, said_fault, numbered, first_fault, wakes_task, has_wake_up}
-use Rattle.yds_trace.specs.Parts.{last_begin, last_begin_of, is_over, is_settled, may_write, changes_parts}
+use Rattle.yds_trace.specs.Faults.{pid_in, pid_before, is_another, is_two_tasks, has_exited, thread_fault, first_thread_fault, state_fault, is_unwoken, needs_wake_ups, unwoken_fault, both_fault, happening_fault, is_torn, stamped_fault, place_fault, runs_on, touches, touched, length_fault, said_fault, numbered, first_fault, wakes_task, has_wake_up}
+use Rattle.yds_trace.specs.Parts.{last_begin, last_begin_of, is_over, is_settled, may_write, reaches_back, was_there_before, sleeps_before, came_back, changes_parts}
 use Rattle.yds_trace.specs.Kept.{IsFollowed, AreOthers, IsCounted, IsLines}
 use Rattle.yds_trace.specs.Others.{Span, Spans, is_waiting, one_waits, any_waits, who_has, other_of, in_the_way, ended_at, spans_by, spans_after, spans_on, others_of, goes_behind, others_from}
 use Rattle.yds_trace.specs.Shown.{IsShownTask, IsShown}
@@ -136,7 +137,7 @@ touches_on : (asked : Asked) (processor : ℕ) (past : List Said) (happening : H
     touches (on processor asked) past happening ≡ touches asked past happening
 touches_on asked processor past (Switch previous state next) =
     ap (λ (waits : Bool). is_some (task_of asked.tasks previous) || is_some (task_of asked.tasks next) || (is_some asked.others && waits)) (any_waits_on asked processor past)
-touches_on asked processor past (WakeUp thread) = refl
+touches_on asked processor past (WakeUp thread starts) = refl
 touches_on asked processor past (Speed there khz) = runs_on_on asked processor past there 0 asked.tasks
 touches_on asked processor past Loss = refl
 touches_on asked processor past Marker = refl
@@ -157,16 +158,31 @@ another_on : (asked : Asked) (processor : ℕ) (counting : List Said) (pid : ℕ
 another_on asked processor counting pid None = refl
 another_on asked processor counting pid (Some number) = ap (is_another pid) (pid_before_on asked processor number counting)
 
+over_on : (asked : Asked) (processor : ℕ) (counting : List Said) (found : Option ℕ) →
+    (elim found as (λ _. Bool) [ None ↦ false | Some number ↦ has_exited (known_after (on processor asked) number counting).jobs ])
+    ≡ (elim found as (λ _. Bool) [ None ↦ false | Some number ↦ has_exited (known_after asked number counting).jobs ])
+over_on asked processor counting None = refl
+over_on asked processor counting (Some number) = ap (λ (known : Known). has_exited known.jobs) (known_after_on asked processor number counting)
+
+unwoken_on : (asked : Asked) (processor : ℕ) (counting : List Said) (found : Option ℕ) →
+    (elim found as (λ _. Option Cause) [ None ↦ None | Some number ↦ if needs_wake_ups asked && is_unwoken (known_after (on processor asked) number counting) then Some causes.NotWoken else None ])
+    ≡ (elim found as (λ _. Option Cause) [ None ↦ None | Some number ↦ if needs_wake_ups asked && is_unwoken (known_after asked number counting) then Some causes.NotWoken else None ])
+unwoken_on asked processor counting None = refl
+unwoken_on asked processor counting (Some number) =
+    ap {B = Option Cause} (λ (known : Known). if needs_wake_ups asked && is_unwoken known then Some causes.NotWoken else None)
+    (known_after_on asked processor number counting)
+
 thread_fault_on : (asked : Asked) (processor : ℕ) (counting : List Said) (thread : Thread) →
     thread_fault (on processor asked) counting thread ≡ thread_fault asked counting thread
 thread_fault_on asked processor counting thread =
-    ap {B = Option Cause} (λ (another : Bool). if is_two_tasks asked.tasks thread then Some causes.TwoTasks else (if another then Some causes.TwoThreads else None))
-    (another_on asked processor counting thread.pid (task_of asked.tasks thread))
+    ap₂ {C = Option Cause} (λ (another over : Bool). if is_two_tasks asked.tasks thread then Some causes.TwoTasks
+    else (if another then Some causes.TwoThreads else (if over then Some causes.Exited else None)))
+    (another_on asked processor counting thread.pid (task_of asked.tasks thread)) (over_on asked processor counting (task_of asked.tasks thread))
 
 first_thread_fault_on : (asked : Asked) (processor : ℕ) (counting : List Said) (happening : Happening) →
     first_thread_fault (on processor asked) counting happening ≡ first_thread_fault asked counting happening
 first_thread_fault_on asked processor counting (Switch previous state next) = thread_fault_on asked processor counting previous
-first_thread_fault_on asked processor counting (WakeUp thread) = refl
+first_thread_fault_on asked processor counting (WakeUp thread starts) = refl
 first_thread_fault_on asked processor counting (Speed there khz) = refl
 first_thread_fault_on asked processor counting Loss = refl
 first_thread_fault_on asked processor counting Marker = refl
@@ -175,9 +191,13 @@ first_thread_fault_on asked processor counting Other = refl
 happening_fault_on : (asked : Asked) (processor : ℕ) (counting : List Said) (happening : Happening) →
     happening_fault (on processor asked) counting happening ≡ happening_fault asked counting happening
 happening_fault_on asked processor counting (Switch previous state next) =
-    ap₂ (λ (left came : Option Cause). or_else left (or_else (state_fault asked previous state) (or_else came (both_fault asked previous next))))
+    ap₂ (λ (left came : Option Cause). or_else left (or_else (state_fault asked previous state)
+    (or_else came (or_else (both_fault asked previous next) (unwoken_fault (on processor asked) counting next)))))
     (thread_fault_on asked processor counting previous) (thread_fault_on asked processor counting next)
-happening_fault_on asked processor counting (WakeUp thread) = thread_fault_on asked processor counting thread
+    ∙ ap (λ (unwoken : Option Cause). or_else (thread_fault asked counting previous) (or_else (state_fault asked previous state)
+    (or_else (thread_fault asked counting next) (or_else (both_fault asked previous next) unwoken))))
+    (unwoken_on asked processor counting (task_of asked.tasks next))
+happening_fault_on asked processor counting (WakeUp thread starts) = thread_fault_on asked processor counting thread
 happening_fault_on asked processor counting (Speed there khz) = refl
 happening_fault_on asked processor counting Loss = refl
 happening_fault_on asked processor counting Marker = refl
@@ -208,9 +228,30 @@ first_fault_on asked processor (said ∷ past) =
     ap₂ (λ before (fault : Option Cause). or_else before (numbered (length past + 1) fault)) (first_fault_on asked processor past)
     (said_fault_on asked processor past said)
 
+back_on : (asked : Asked) (processor : ℕ) (past : List Said) (boundary : ℕ) (event : Event) (found : Option ℕ) →
+    (elim found as (λ _. Bool) [ None ↦ false | Some number ↦ is_before_to asked.to event.time && not asked.begin_at_run
+      && sleeps_before boundary (known_after (on processor asked) number (up_to asked.to past)) ])
+    ≡ (elim found as (λ _. Bool) [ None ↦ false | Some number ↦ is_before_to asked.to event.time && not asked.begin_at_run
+      && sleeps_before boundary (known_after asked number (up_to asked.to past)) ])
+back_on asked processor past boundary event None = refl
+back_on asked processor past boundary event (Some number) =
+    ap (λ (known : Known). is_before_to asked.to event.time && not asked.begin_at_run && sleeps_before boundary known)
+    (known_after_on asked processor number (up_to asked.to past))
+
+came_back_on : (asked : Asked) (processor : ℕ) (past : List Said) (cut : Cut) (event : Event) (happening : Happening) →
+    came_back (on processor asked) past cut event happening ≡ came_back asked past cut event happening
+came_back_on asked processor past cut event (Switch previous state next) = back_on asked processor past cut.boundary event (task_of asked.tasks next)
+came_back_on asked processor past cut event (WakeUp thread starts) = refl
+came_back_on asked processor past cut event (Speed there khz) = refl
+came_back_on asked processor past cut event Loss = refl
+came_back_on asked processor past cut event Marker = refl
+came_back_on asked processor past cut event Other = refl
+
 pub changes_parts_on : (asked : Asked) (processor : ℕ) (past : List Said) (cut : Cut) (said : Said) →
     changes_parts (on processor asked) past cut said ≡ changes_parts asked past cut said
-changes_parts_on asked processor past cut (Stamped event) = refl
+changes_parts_on asked processor past cut (Stamped event) =
+    ap (λ (back : Bool). (is_loss event.happening && reaches_back cut (lost_since event.processor since.ItsLastLine past))
+    || (was_there_before asked past cut event event.happening || back)) (came_back_on asked processor past cut event event.happening)
 changes_parts_on asked processor past cut (Lost other reach) = refl
 changes_parts_on asked processor past cut Nothing = refl
 

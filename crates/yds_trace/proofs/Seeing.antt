@@ -22,7 +22,7 @@ pub seen_more : (asked : Asked) (number : ℕ) (happening : Happening) (rest : O
     ≡ (is_number number (second_in asked.tasks happening).number || (is_number number (first_in asked.tasks happening).number || is_some rest))
 seen_more asked number (Switch previous state next) rest =
     of_two (is_number number (task_of asked.tasks next)) (is_number number (task_of asked.tasks previous)) next.pid previous.pid rest
-seen_more asked number (WakeUp thread) rest = of_one (is_number number (task_of asked.tasks thread)) thread.pid rest
+seen_more asked number (WakeUp thread starts) rest = of_one (is_number number (task_of asked.tasks thread)) thread.pid rest
 seen_more asked number (Speed processor khz) rest = refl
 seen_more asked number Loss rest = refl
 seen_more asked number Marker rest = refl

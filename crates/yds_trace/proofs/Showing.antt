@@ -4,6 +4,7 @@ use Rattle.std.proofs.lemmas.List.{reverse-reverse}
 use Rattle.yds_kernel.specs.Event.{Said}
 use Rattle.yds_trace.specs.declared.followed.Followed.{Followed}
 use Rattle.yds_trace.specs.declared.job.Standing.{Standing}
+use Rattle.yds_trace.specs.declared.job.Woken.{Woken}
 use Rattle.yds_trace.specs.declared.job.Stretch.{Stretch}
 use Rattle.yds_trace.specs.declared.shown.ShownTask.{ShownTask}
 use Rattle.yds_trace.specs.Asked.{Start, Asked}
@@ -21,7 +22,7 @@ use Rattle.yds_trace.proofs.Behind.{Split, changed_split, kept_jobs, suc_not_zer
 
 -- # Closed jobs
 
-closed_on : (until : ℕ) (start : Start) (counting : List Said) (on : Option Standing) (jobs forgotten : List Job) (woken : Bool) → KeepsLast jobs forgotten →
+closed_on : (until : ℕ) (start : Start) (counting : List Said) (on : Option Standing) (jobs forgotten : List Job) (woken : Woken) → KeepsLast jobs forgotten →
     closed_at until start counting (record { jobs = jobs ++ forgotten; on = on; woken = woken })
     ≡ closed_at until start counting (record { jobs = jobs; on = on; woken = woken }) ++ forgotten
 closed_on until start counting None jobs forgotten woken last = refl
@@ -58,7 +59,7 @@ first_ran stretch (job ∷ jobs) =
     ∙ first_behind (reverse jobs) (ran stretch job) job refl
     ∙ ap began_before (sym (reverse-append (job ∷ []) jobs))
 
-first_closed : (until : ℕ) (start : Start) (counting : List Said) (on : Option Standing) (jobs : List Job) (woken : Bool) →
+first_closed : (until : ℕ) (start : Start) (counting : List Said) (on : Option Standing) (jobs : List Job) (woken : Woken) →
     began_before (reverse (closed_at until start counting (record { jobs = jobs; on = on; woken = woken }))) ≡ began_before (reverse jobs)
 first_closed until start counting None jobs woken = refl
 first_closed until start counting (Some standing) jobs woken =

@@ -19,7 +19,7 @@ pub came_more : (tasks : List Task) (processor : ℕ) (event : Event) (happening
     came_by processor event happening came before ≡ unlisted tasks (has_it processor event happening who)
 came_more tasks processor event (Switch previous state next) who before came second told is was =
     who_came tasks (event.processor == processor) next who before came (told next is) was
-came_more tasks processor event (WakeUp thread) who before came second told is was = was
+came_more tasks processor event (WakeUp thread starts) who before came second told is was = was
 came_more tasks processor event (Speed there khz) who before came second told is was = was
 came_more tasks processor event Loss who before came second told is was = refl
 came_more tasks processor event Marker who before came second told is was = was

@@ -10,7 +10,8 @@ use Rattle.yds_trace.specs.declared.fault.Cause.{Cause}
 use Rattle.yds_trace.specs.declared.fault.Cause.TheVariants as causes
 use Rattle.yds_trace.specs.Asked.{Task, Asked, task_of, is_number, is_numbered, is_named, is_before_to, is_within_to, is_behind_from}
 use Rattle.yds_trace.specs.Past.{last_time, lost_since, is_loss, is_first_switch, up_to}
-use Rattle.yds_trace.specs.Jobs.{stands_on, known_after}
+use Rattle.yds_trace.specs.declared.job.End.TheVariants as ends
+use Rattle.yds_trace.specs.Jobs.{Job, Known, stands_on, known_after}
 use Rattle.yds_trace.specs.Others.{any_waits}
 
 -- # Which thread a task is
@@ -20,7 +21,7 @@ pid_if asked number thread = if is_number number (task_of asked.tasks thread) th
 
 abbrev pub pid_in : Asked → ℕ → Happening → Option ℕ
 pid_in asked number (Switch previous state next) = or_else (pid_if asked number next) (pid_if asked number previous)
-pid_in asked number (WakeUp thread) = pid_if asked number thread
+pid_in asked number (WakeUp thread starts) = pid_if asked number thread
 pid_in asked number _ = None
 
 -- the thread that was the task of this number last
@@ -48,14 +49,27 @@ is_another_thread asked counting thread = elim (task_of asked.tasks thread) [
   | Some number ↦ is_another thread.pid (pid_before asked number counting)
 ]
 
+abbrev pub has_exited : List Job → Bool
+has_exited [] = false
+has_exited (job ∷ jobs) = job.exited
+
+-- the task's thread was over before, in the lines that count
+abbrev pub is_over : Asked → List Said → Thread → Bool
+is_over asked counting thread = elim (task_of asked.tasks thread) [
+  | None ↦ false
+  | Some number ↦ has_exited (known_after asked number counting).jobs
+]
+
 abbrev pub thread_fault : Asked → List Said → Thread → Option Cause
 thread_fault asked counting thread =
     if is_two_tasks asked.tasks thread then Some causes.TwoTasks
-    else (if is_another_thread asked counting thread then Some causes.TwoThreads else None)
+    else (if is_another_thread asked counting thread then Some causes.TwoThreads
+    else (if is_over asked counting thread then Some causes.Exited else None))
 
 abbrev pub is_unknown : State → Bool
 is_unknown states.GoesOn = false
 is_unknown states.Sleeps = false
+is_unknown states.Exits = false
 is_unknown states.Unknown = true
 
 -- what the thread that leaves is refused for
@@ -65,6 +79,33 @@ first_thread_fault asked counting _ = None
 
 abbrev pub state_fault : Asked → Thread → State → Option Cause
 state_fault asked thread state = if is_some (task_of asked.tasks thread) && is_unknown state then Some causes.UnknownState else None
+
+-- ---- wake-ups that aren't recorded
+
+-- The last job has ended, and it went on behind a sleep before.
+abbrev pub slept_before : List Job → Bool
+slept_before [] = false
+slept_before (job ∷ jobs) = elim job.end [
+  | ends.Open ↦ false
+  | ends.Ended end ↦ is_some job.slept
+  | ends.Unseen last goes_on ↦ false
+  | ends.Lost last ↦ false
+]
+
+-- Its thread left to sleep twice in one job, and no wake-up ended either sleep.
+abbrev pub is_unwoken : Known → Bool
+is_unwoken known = known.woken.seen && is_none known.woken.started && slept_before known.jobs
+
+-- Jobs begin at wake-ups, and the trace is to be whole.
+abbrev pub needs_wake_ups : Asked → Bool
+needs_wake_ups asked = not asked.cut_losses && not asked.begin_at_run
+
+-- what a thread that comes is refused for then
+abbrev pub unwoken_fault : Asked → List Said → Thread → Option Cause
+unwoken_fault asked counting thread = elim (task_of asked.tasks thread) [
+  | None ↦ None
+  | Some number ↦ if needs_wake_ups asked && is_unwoken (known_after asked number counting) then Some causes.NotWoken else None
+]
 
 -- # Losses
 
@@ -98,7 +139,7 @@ runs_on asked past processor number (task ∷ tasks) =
 abbrev pub touches : Asked → List Said → Happening → Bool
 touches asked past (Switch previous state next) =
     is_some (task_of asked.tasks previous) || is_some (task_of asked.tasks next) || (is_some asked.others && any_waits asked past)
-touches asked past (WakeUp thread) = is_some (task_of asked.tasks thread)
+touches asked past (WakeUp thread starts) = is_some (task_of asked.tasks thread)
 touches asked past (Speed processor khz) = runs_on asked past processor 0 asked.tasks
 touches asked past _ = false
 
@@ -135,8 +176,9 @@ both_fault asked previous next = elim (task_of asked.tasks previous) [
 abbrev pub happening_fault : Asked → List Said → Happening → Option Cause
 happening_fault asked counting (Switch previous state next) =
     or_else (thread_fault asked counting previous)
-    (or_else (state_fault asked previous state) (or_else (thread_fault asked counting next) (both_fault asked previous next)))
-happening_fault asked counting (WakeUp thread) = thread_fault asked counting thread
+    (or_else (state_fault asked previous state)
+    (or_else (thread_fault asked counting next) (or_else (both_fault asked previous next) (unwoken_fault asked counting next))))
+happening_fault asked counting (WakeUp thread starts) = thread_fault asked counting thread
 happening_fault asked counting _ = None
 
 -- what an event not after `to` is refused for
@@ -203,7 +245,7 @@ unseen_from asked past number (task ∷ tasks) =
     if is_none (pid_before asked number past) then Some number else unseen_from asked past (number + 1) tasks
 
 abbrev pub wakes_task : Asked → Happening → Bool
-wakes_task asked (WakeUp thread) = is_some (task_of asked.tasks thread)
+wakes_task asked (WakeUp thread starts) = is_some (task_of asked.tasks thread)
 wakes_task asked _ = false
 
 -- a wake-up of a task is among the lines

@@ -19,7 +19,7 @@ none_found = record { numbered = None; named = None; pid = 0 }
 -- who leaves, or is woken
 abbrev pub first_found : List Task → Happening → Found
 first_found tasks (Switch previous state next) = found tasks previous
-first_found tasks (WakeUp thread) = found tasks thread
+first_found tasks (WakeUp thread starts) = found tasks thread
 first_found tasks _ = none_found
 
 -- who comes

@@ -44,7 +44,7 @@ pub record IsTaken (apart : ℕ) (wakes : Bool) (first second : Option ℕ) (ste
 -- Of a thread on which processor it tells something, though that neither leaves, nor comes, nor is woken.
 abbrev pub place_of : Step → Place
 place_of (steps.Switch state leaving) = places.On leaving.processor
-place_of (steps.WakeUp time) = places.Nowhere
+place_of (steps.WakeUp time starts) = places.Nowhere
 place_of (steps.Speed processor time khz) = places.On processor
 place_of (steps.Loss since) = places.Everywhere
 place_of steps.Nothing = places.Nowhere
@@ -116,7 +116,7 @@ some_waits tasks = list_any (λ followed. is_waiting (known_read followed.known)
 -- An event tells of one of these tasks; where it is told who was in the way, each switch does while a job waits.
 abbrev pub touches_by : Bool → Whose → Whose → Step → List Followed → Bool
 touches_by others first second (steps.Switch state leaving) tasks = is_some first.number || is_some second.number || (others && some_waits tasks)
-touches_by others first second (steps.WakeUp time) tasks = is_some first.number
+touches_by others first second (steps.WakeUp time starts) tasks = is_some first.number
 touches_by others first second (steps.Speed processor time khz) tasks = list_any (λ followed. stands_on processor followed.known.on) tasks
 touches_by others first second (steps.Loss since) tasks = false
 touches_by others first second steps.Nothing tasks = false

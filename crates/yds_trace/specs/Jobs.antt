@@ -1,8 +1,9 @@
 -- The jobs of a task: when each began and ended, and where its thread ran, by the lines of a trace.
 --
--- A job begins where its thread is woken, and ends where that leaves a processor to sleep. Preemption and waiting for a disk go on with it.
--- Of a job whose begin or end the trace doesn't show it is said what is known.
-use Rattle.std.specs.Prelude.{ℕ, ◌+◌, List, [], ◌∷◌, map, min, length, Bool, true, false, not, ◌==◌, ◌&&◌, nat_lt, if◌then◌else◌, Option, Some, None, is_none}
+-- A job begins where its thread is woken, and ends where that leaves a processor to sleep, or is over. Being preempted, waiting for a disk,
+-- being stopped or traced go on with it. Who comes without a wake-up hasn't slept. Of a job whose begin or end the trace doesn't show it is
+-- said what is known.
+use Rattle.std.specs.Prelude.{ℕ, ◌+◌, List, [], ◌∷◌, map, min, length, Bool, true, false, not, ◌==◌, ◌&&◌, nat_lt, if◌then◌else◌, Option, Some, None, is_none, unwrap_or}
 use Rattle.yds_kernel.specs.declared.state.State.{State}
 use Rattle.yds_kernel.specs.declared.state.State.TheVariants as states
 use Rattle.yds_kernel.specs.declared.loss.Since.TheVariants as since
@@ -13,6 +14,7 @@ use Rattle.yds_trace.specs.declared.job.End.TheVariants as ends
 use Rattle.yds_trace.specs.declared.job.Stretch.{Stretch}
 use Rattle.yds_trace.specs.declared.job.Standing.{Standing}
 use Rattle.yds_trace.specs.declared.job.Leaving.{Leaving}
+use Rattle.yds_trace.specs.declared.job.Woken.{Woken}
 use Rattle.yds_trace.specs.Asked.{Asked, task_at, is_of}
 use Rattle.yds_trace.specs.Past.{lost_since, whole_since, has_switched, speed_after}
 
@@ -27,6 +29,10 @@ pub record Job : Type 0 where
   pub wake_ups : ℕ
   -- a switch of its thread is missing, so not all that it ran is known
   pub switch_missing : Bool
+  -- its thread left to sleep at this time, and came back without a wake-up: it hasn't slept
+  pub slept : Option ℕ
+  -- its thread was over with it
+  pub exited : Bool
   -- it ran on several processors, and these are its stretches on one of them
   pub shared : Bool
 
@@ -36,17 +42,31 @@ pub record Known : Type 0 where
   pub jobs : List Job
   -- where it runs
   pub on : Option Standing
-  -- whether a wake-up came after its last switch
-  pub woken : Bool
+  -- the wake-ups since its last switch
+  pub woken : Woken
+
+-- nothing was seen of it, since the trace's begin or since events were lost
+abbrev pub not_seen : Woken
+not_seen = record { came = false; started = None; seen = false }
 
 abbrev pub unknown : Known
-unknown = record { jobs = []; on = None; woken = false }
+unknown = record { jobs = []; on = None; woken = not_seen }
 
 -- # A job begins, goes on, or ends
 
 abbrev pub new_job : ℕ → Bool → Job
 new_job time certain =
-    record { begin = time; begin_known = certain; end = ends.Open; stretches = []; wake_ups = 0; switch_missing = false; shared = false }
+    record {
+      begin = time;
+      begin_known = certain;
+      end = ends.Open;
+      stretches = [];
+      wake_ups = 0;
+      switch_missing = false;
+      slept = None;
+      exited = false;
+      shared = false;
+    }
 
 abbrev pub began : ℕ → Bool → List Job → List Job
 began time certain jobs = new_job time certain ∷ jobs
@@ -86,6 +106,39 @@ awake_jobs time (job ∷ jobs) = elim job.end [
   | ends.Lost last ↦ began time false (job ∷ jobs)
 ]
 
+-- Events were lost after this time: a job that was open then, or ended since, has no known end.
+abbrev pub lost_end : ℕ → End → End
+lost_end time ends.Open = ends.Lost time
+lost_end time (ends.Ended end) = if nat_lt time end then ends.Lost time else ends.Ended end
+lost_end time (ends.Unseen last goes_on) = ends.Lost (min time last)
+lost_end time (ends.Lost last) = ends.Lost (min time last)
+
+abbrev pub lost_job : ℕ → Job → Job
+lost_job time job = record job { end = lost_end time job.end }
+
+-- open again, where its thread left to sleep, and didn't
+abbrev pub went_on : ℕ → Job → Job
+went_on time job = record job { end = ends.Open; slept = Some time }
+
+-- Its thread left to sleep at a time, and comes back. With a wake-up before it left, it was woken while it went to sleep: that counts as one behind
+-- it. Without one it hasn't slept. If that is so a second time, wake-ups aren't recorded, and from the first such sleep on nothing is known.
+abbrev pub back_jobs : ℕ → ℕ → ℕ → Option ℕ → Job → List Job → List Job
+back_jobs apart time end (Some woken) job jobs = woken_after apart woken job jobs
+back_jobs apart time end None job jobs = elim job.slept [
+  | None ↦ went_on end job ∷ jobs
+  | Some first ↦ began time false (lost_job first job ∷ jobs)
+]
+
+-- A thread comes. Where events were lost since its last switch, it may have slept in between.
+abbrev pub come_jobs : ℕ → ℕ → Woken → List Job → List Job
+come_jobs apart time woken [] = began time false []
+come_jobs apart time woken (job ∷ jobs) = elim job.end [
+  | ends.Open ↦ job ∷ jobs
+  | ends.Ended end ↦ if woken.seen then back_jobs apart time end woken.started job jobs else began time false (job ∷ jobs)
+  | ends.Unseen last goes_on ↦ if goes_on then reopened job ∷ jobs else began time false (job ∷ jobs)
+  | ends.Lost last ↦ began time false (job ∷ jobs)
+]
+
 -- The same where jobs begin at their first run: what is open goes on, and else a job begins here as by a wake-up. Of a thread's first run in the
 -- trace, and of its first after a loss or a missing switch, it isn't known whether the job ran before.
 abbrev pub running_jobs : ℕ → ℕ → List Job → List Job
@@ -105,6 +158,9 @@ changed_last change (job ∷ jobs) = change job ∷ jobs
 abbrev pub ended : ℕ → Job → Job
 ended time job = record job { end = ends.Ended time }
 
+abbrev pub exits : ℕ → Job → Job
+exits time job = record job { end = ends.Ended time; exited = true }
+
 abbrev pub missing : Job → Job
 missing job = record job { switch_missing = true }
 
@@ -122,9 +178,9 @@ abbrev pub vanished : Bool → Known → Known
 vanished wakes known = elim known.on [
   | None ↦ known
   | Some standing ↦ record {
-    jobs = changed_last (left_unseen standing.came (wakes && not known.woken)) known.jobs;
+    jobs = changed_last (left_unseen standing.came (wakes && not known.woken.came)) known.jobs;
     on = None;
-    woken = known.woken;
+    woken = record known.woken { started = None };
   }
 ]
 
@@ -139,9 +195,10 @@ passed_by wakes processor known = if stands_on processor known.on then vanished 
 -- it comes to a processor, at a time
 abbrev pub comes : ℕ → Bool → ℕ → ℕ → Known → Known
 comes apart wakes processor time known = record {
-  jobs = if wakes then awake_jobs time (vanished wakes known).jobs else running_jobs apart time (vanished wakes known).jobs;
+  jobs = if wakes then come_jobs apart time (vanished wakes known).woken (vanished wakes known).jobs
+      else running_jobs apart time (vanished wakes known).jobs;
   on = Some (record { processor = processor; came = time; since = time });
-  woken = false;
+  woken = record { came = false; started = None; seen = true };
 }
 
 -- Nothing was seen of the thread's switches since the trace's begin, or since events were lost.
@@ -180,27 +237,38 @@ left_from wakes leaving known =
     then changed_last (ran (stretch_of leaving leaving.whole_since)) (begun_by leaving.whole_since known.jobs)
     else changed_last missing (awake_jobs leaving.time (vanished wakes known).jobs))
 
--- Who is preempted or waits for a disk goes on with its job, and who sleeps ends it. In a state that the kernel doesn't have, which is a fault of
--- the trace for a listed thread, nothing is known of its end.
+-- Who is preempted, waits for a disk, is stopped or traced goes on with its job, and who sleeps or is over ends it. In a state that the kernel
+-- doesn't have, which is a fault of the trace for a listed thread, nothing is known of its end.
 abbrev pub left_in : Bool → State → ℕ → List Job → List Job
 left_in wakes states.GoesOn time jobs = jobs
 left_in wakes states.Sleeps time jobs = changed_last (ended time) jobs
+left_in wakes states.Exits time jobs = changed_last (exits time) jobs
 left_in wakes states.Unknown time jobs = changed_last (left_unseen time wakes) jobs
+
+-- A wake-up that was started while it ran isn't done yet where it goes to sleep.
+abbrev pub left_started : State → Bool → Option ℕ → Option ℕ
+left_started states.Sleeps stands started = if stands then started else None
+left_started _ stands started = None
 
 abbrev pub leaves : Bool → State → Leaving → Known → Known
 leaves wakes state leaving known = record {
   jobs = left_in wakes state leaving.time (left_from wakes leaving known);
   on = None;
-  woken = false;
+  woken = record { came = false; started = left_started state (stands_on leaving.processor known.on) known.woken.started; seen = true };
 }
 
 -- # Other events
 
-abbrev pub wakes_up : ℕ → ℕ → Known → Known
-wakes_up apart time known = record {
-  jobs = woken_jobs apart time known.woken known.jobs;
+-- A thread is awake from when its wake-up was started. A line that tells that one was done, which was started before, is its second half.
+abbrev pub woken_at : Bool → ℕ → Option ℕ → ℕ
+woken_at true time started = time
+woken_at false time started = unwrap_or started time
+
+abbrev pub wakes_up : ℕ → Bool → ℕ → Known → Known
+wakes_up apart starts time known = record {
+  jobs = woken_jobs apart (woken_at starts time known.woken.started) known.woken.came known.jobs;
   on = known.on;
-  woken = true;
+  woken = record { came = true; started = if starts then Some time else None; seen = known.woken.seen };
 }
 
 -- the speed of its processor changes: what it ran at the speed before is a stretch
@@ -213,16 +281,6 @@ speeds processor time khz known = elim known.on [
     woken = known.woken;
   } else known
 ]
-
--- Events were lost after this time: a job that was open then, or ended since, has no known end.
-abbrev pub lost_end : ℕ → End → End
-lost_end time ends.Open = ends.Lost time
-lost_end time (ends.Ended end) = if nat_lt time end then ends.Lost time else ends.Ended end
-lost_end time (ends.Unseen last goes_on) = ends.Lost (min time last)
-lost_end time (ends.Lost last) = ends.Lost (min time last)
-
-abbrev pub lost_job : ℕ → Job → Job
-lost_job time job = record job { end = lost_end time job.end }
 
 -- Of a job behind which another one has begun, what was known of its end before the loss stays.
 abbrev pub lost_before : ℕ → End → End
@@ -240,7 +298,7 @@ abbrev pub loses : ℕ → Known → Known
 loses time known = record {
   jobs = lost_jobs time known.jobs;
   on = None;
-  woken = false;
+  woken = not_seen;
 }
 
 -- # The lines of a trace
@@ -271,8 +329,8 @@ abbrev pub after_event : Asked → ℕ → List Said → Event → Happening →
 after_event asked number past event (Switch previous state next) known =
     after_switch (task_at asked number).apart (not asked.begin_at_run) (is_of asked number previous) (is_of asked number next) state
     (leaving_at asked past event) known
-after_event asked number past event (WakeUp thread) known =
-    if is_of asked number thread && not asked.begin_at_run then wakes_up (task_at asked number).apart event.time known else known
+after_event asked number past event (WakeUp thread starts) known =
+    if is_of asked number thread && not asked.begin_at_run then wakes_up (task_at asked number).apart starts event.time known else known
 after_event asked number past event (Speed processor khz) known =
     speeds processor event.time (speed_after asked.start processor past) known
 after_event asked number past event Loss known = loses (lost_since event.processor since.ItsLastLine past) known

@@ -47,7 +47,7 @@ pub record IsPast (start : Start) (past : List Said) (kept : PastKept) : Type 0 
 
 -- what is known of a thread, with the forgotten jobs before those that are kept, all of them the last one first
 abbrev pub behind : List Job → Known → Known
-behind forgotten known = record { jobs = known.jobs ++ forgotten; on = known.on; woken = known.woken }
+behind forgotten known = record known { jobs = known.jobs ++ forgotten }
 
 -- The last job is kept, where any is forgotten.
 abbrev pub KeepsLast : List Job → List Job → Type 0

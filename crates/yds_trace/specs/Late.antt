@@ -3,7 +3,7 @@ use Rattle.std.specs.Prelude.{ℕ, ◌+◌, ◌-◌, List, min, Bool, true, fals
 use Rattle.yds_kernel.specs.Event.{Said}
 use Rattle.yds_trace.specs.declared.job.End.{End}
 use Rattle.yds_trace.specs.declared.job.End.TheVariants as ends
-use Rattle.yds_trace.specs.Asked.{Task, Asked}
+use Rattle.yds_trace.specs.Asked.{Task, Asked, is_behind_from}
 use Rattle.yds_trace.specs.Past.{last_time}
 use Rattle.yds_trace.specs.Jobs.{Job}
 
@@ -29,16 +29,16 @@ is_open (ends.Ended end) = false
 is_open (ends.Unseen since goes_on) = true
 is_open (ends.Lost since) = true
 
--- The deadline lies within what is asked for: after `from`, and not after the end. What is due just at `from` is of the time before it.
-abbrev pub is_judged : Option ℕ → ℕ → ℕ → Bool
-is_judged None last deadline = nat_le deadline last
-is_judged (Some from) last deadline = nat_lt from deadline && nat_le deadline last
+-- It was open behind `from`, and its deadline isn't after the end of what is asked for.
+abbrev pub is_judged : Option ℕ → ℕ → ℕ → ℕ → Bool
+is_judged from last deadline shown = is_behind_from from shown && nat_le deadline last
 
 -- A job is late where it ended after its deadline, or hadn't ended when that came: by the time from the deadline to its end, or to where
--- it was last seen open. `None` where that isn't known of it.
+-- it was last seen open. `None` where that isn't known of it. What ended by `from` is of the time before it.
 abbrev pub late_by : Option ℕ → ℕ → ℕ → End → Option ℕ
 late_by from last deadline end =
-    if is_judged from last deadline && (nat_lt deadline (shown_until last end) || ((deadline == shown_until last end) && is_open end))
+    if is_judged from last deadline (shown_until last end)
+    && (nat_lt deadline (shown_until last end) || ((deadline == shown_until last end) && is_open end))
     then Some (shown_until last end - deadline)
     else None
 

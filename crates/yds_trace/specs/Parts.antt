@@ -13,9 +13,9 @@ use Rattle.yds_trace.specs.declared.fault.Cause.TheVariants as causes
 use Rattle.yds_trace.specs.declared.job.End.{End}
 use Rattle.yds_trace.specs.declared.job.End.TheVariants as ends
 use Rattle.yds_trace.specs.declared.limits.TheConstants.{LOOK_EVERY, PART_JOBS, PART_STRETCHES, PART_OTHERS, WAITING_JOBS, WAITING_STRETCHES, WAITING_OTHERS}
-use Rattle.yds_trace.specs.Asked.{Asked, task_at, task_of, on}
+use Rattle.yds_trace.specs.Asked.{Asked, task_at, task_of, on, is_before_to}
 use Rattle.yds_trace.specs.Past.{last_time, lost_since, is_loss, whole_since, has_switched, up_to}
-use Rattle.yds_trace.specs.Jobs.{Job, known_after}
+use Rattle.yds_trace.specs.Jobs.{Job, Known, known_after}
 use Rattle.yds_trace.specs.Late.{last_asked}
 use Rattle.yds_trace.specs.Document.{Judged, all_judged, has_run_on, stands}
 use Rattle.yds_trace.specs.Faults.{has_wake_up}
@@ -208,10 +208,32 @@ was_there_before asked past cut event (Switch previous state next) =
     && nat_lt (whole_since event.time (up_to asked.to past)) cut.boundary
 was_there_before asked past cut event _ = false
 
+abbrev pub has_ended : List Job → Bool
+has_ended [] = false
+has_ended (job ∷ jobs) = elim job.end [
+  | ends.Open ↦ false
+  | ends.Ended end ↦ true
+  | ends.Unseen last goes_on ↦ false
+  | ends.Lost last ↦ false
+]
+
+-- Its last job began before those that wait, and its thread left to sleep, without a wake-up since.
+abbrev pub sleeps_before : ℕ → Known → Bool
+sleeps_before boundary known = known.woken.seen && has_ended known.jobs && nat_lt (last_begin known.jobs) boundary
+
+-- Such a thread comes. So the job goes on, or another one began before that end.
+abbrev pub came_back : Asked → List Said → Cut → Event → Happening → Bool
+came_back asked past cut event (Switch previous state next) = elim (task_of asked.tasks next) [
+  | None ↦ false
+  | Some number ↦ is_before_to asked.to event.time && not asked.begin_at_run
+      && sleeps_before cut.boundary (known_after asked number (up_to asked.to past))
+]
+came_back asked past cut event _ = false
+
 abbrev pub changes_parts : Asked → List Said → Cut → Said → Bool
 changes_parts asked past cut (Stamped event) =
     (is_loss event.happening && reaches_back cut (lost_since event.processor since.ItsLastLine past))
-    || was_there_before asked past cut event event.happening
+    || (was_there_before asked past cut event event.happening || came_back asked past cut event event.happening)
 changes_parts asked past cut (Lost processor reach) = reaches_back cut (lost_since processor reach past)
 changes_parts asked past cut Nothing = false
 

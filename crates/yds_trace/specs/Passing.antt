@@ -7,7 +7,7 @@ use Rattle.yds_trace.specs.declared.refused.Refused.{Refused}
 use Rattle.yds_trace.specs.declared.refused.Refused.TheVariants as refusals
 use Rattle.yds_trace.specs.Asked.{Start}
 use Rattle.yds_trace.specs.Past.{speed_after}
-use Rattle.yds_trace.specs.Jobs.{Job, Known, changed_last, ran}
+use Rattle.yds_trace.specs.Jobs.{Job, Known, changed_last, not_seen, ran}
 
 -- It is refused for this fault, and for no other. Memory may be wanting at any line.
 abbrev pub IsRefusedFor : Option Cause → Refused → Type 0
@@ -33,4 +33,4 @@ closed_at until start counting known = elim known.on [
 
 -- a thread that stands there, with these jobs
 abbrev pub standing_on : Option Standing → List Job → Known
-standing_on on jobs = record { jobs = jobs; on = on; woken = false }
+standing_on on jobs = record { jobs = jobs; on = on; woken = not_seen }

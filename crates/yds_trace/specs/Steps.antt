@@ -21,7 +21,7 @@ leaving_after start past event = record {
 
 abbrev pub step_in : Start → List Said → Event → Happening → Step
 step_in start past event (Switch previous state next) = steps.Switch state (leaving_after start past event)
-step_in start past event (WakeUp thread) = steps.WakeUp event.time
+step_in start past event (WakeUp thread starts) = steps.WakeUp event.time starts
 step_in start past event (Speed processor khz) = steps.Speed processor event.time (speed_after start processor past)
 step_in start past event Loss = steps.Loss (lost_since event.processor since.ItsLastLine past)
 step_in start past event Marker = steps.Nothing
@@ -33,7 +33,7 @@ step_of start past event = step_in start past event event.happening
 -- what is known of a thread after it, where it is the one that leaves or is woken, or the one that comes
 abbrev pub stepped : ℕ → Bool → Bool → Bool → Step → Known → Known
 stepped apart wakes first second (steps.Switch state leaving) known = after_switch apart wakes first second state leaving known
-stepped apart wakes first second (steps.WakeUp time) known = if first && wakes then wakes_up apart time known else known
+stepped apart wakes first second (steps.WakeUp time starts) known = if first && wakes then wakes_up apart starts time known else known
 stepped apart wakes first second (steps.Speed processor time khz) known = speeds processor time khz known
 stepped apart wakes first second (steps.Loss since) known = loses since known
 stepped apart wakes first second steps.Nothing known = known
@@ -49,7 +49,7 @@ whose tasks thread = record { number = task_of tasks thread; pid = thread.pid }
 -- who leaves, or is woken
 abbrev pub first_in : List Task → Happening → Whose
 first_in tasks (Switch previous state next) = whose tasks previous
-first_in tasks (WakeUp thread) = whose tasks thread
+first_in tasks (WakeUp thread starts) = whose tasks thread
 first_in tasks _ = nobody
 
 -- who comes

@@ -25,6 +25,8 @@ job_read job = record {
   stretches = reverse job.stretches.items;
   wake_ups = job.wake_ups;
   switch_missing = job.switch_missing;
+  slept = job.slept;
+  exited = job.exited;
   shared = job.shared;
 }
 

@@ -1,11 +1,12 @@
 //! What a line, or a whole trace, is refused for.
 ghost use Rattle.std.specs.Prelude.{◌≡◌, List};
 ghost use Rattle.yds_kernel.specs.Event as trace;
-ghost use Rattle.yds_kernel.specs.Views.{event_read, said_read};
+ghost use Rattle.yds_kernel.specs.declared.state.State.{State};
+ghost use Rattle.yds_kernel.specs.Views.{event_read, said_read, thread_read};
 ghost use Rattle.yds_trace.specs.Faults as spec;
 ghost use Rattle.yds_trace.specs.Finding.{first_found, second_found};
 ghost use Rattle.yds_trace.specs.Kept.{IsCounted, IsLines};
-ghost use Rattle.yds_trace.specs.Parts.{changes_parts, part_fault};
+ghost use Rattle.yds_trace.specs.Parts.{came_back, changes_parts, part_fault, was_there_before};
 ghost use Rattle.yds_trace.specs.Passing.{fault_in};
 ghost use Rattle.yds_trace.specs.Past.{up_to};
 ghost use Rattle.yds_trace.specs.Views.{asked_read};
@@ -18,7 +19,7 @@ use crate::find::{Found, find};
 use crate::limits::{MAX_PROCESSOR, MAX_TIME};
 use crate::lines::Lines;
 use crate::within::is_before_to;
-use yds_kernel::{Event, Happening, Said, Since};
+use yds_kernel::{Event, Happening, Said, Since, Thread};
 
 /// What an event is refused for, whatever stands before it.
 pub(crate) fn check_place(event: &Event<'_>) -> Result<(), Cause>
@@ -73,7 +74,8 @@ fn check_threads(
     if event.time < lines.past.last {
         return Err(Cause::TimeGoesBack);
     }
-    counted.check(&event.happening, first, second)
+    let needs_wake_ups = !asked.cut_losses && !asked.begin_at_run;
+    counted.check(needs_wake_ups, &event.happening, first, second)
 }
 
 /// What an event is refused for by the lines before it, but for how many of them tell of the tasks.
@@ -161,13 +163,51 @@ fn changes_by(asked: &Asked, lines: &Lines, counted: &Counted, event: &Event<'_>
         Happening::Loss => {
             lines.past.lost_since(event.processor, Since::ItsLastLine) < cut.decided
         }
-        Happening::Switch { previous, .. } => {
-            counted
-                .past
-                .is_new(event.processor, event.time, cut.boundary)
-                && find(&asked.tasks, previous).whose().number.is_some()
+        Happening::Switch { previous, next, .. } => {
+            was_there(asked, counted, event, previous, cut)
+                || comes_back(asked, counted, event, next, cut)
         }
-        Happening::WakeUp(_) | Happening::Speed { .. } | Happening::Marker | Happening::Other =>
+        Happening::WakeUp { .. } | Happening::Speed { .. } | Happening::Marker | Happening::Other =>
             false,
+    }
+}
+
+/// Whether a listed thread leaves a processor that it may have had since before the parts that wait.
+fn was_there(
+    asked: &Asked,
+    counted: &Counted,
+    event: &Event<'_>,
+    previous: Thread<'_>,
+    cut: Cut,
+) -> bool
+    ensures { (past : List trace.Said) → IsCounted (asked_read asked.now) (up_to asked.now.to past) counted.now
+        → (state : State) (next : trace.Thread)
+        → result ≡ was_there_before (asked_read asked.now) past cut (event_read event.now) (trace.Switch (thread_read previous.entry) state next) }
+{
+    counted
+        .past
+        .is_new(event.processor, event.time, cut.boundary)
+        && find(&asked.tasks, previous).whose().number.is_some()
+}
+
+/// Whether a listed thread comes behind a sleep without a wake-up since, whose last job began before the parts that wait.
+fn comes_back(
+    asked: &Asked,
+    counted: &Counted,
+    event: &Event<'_>,
+    next: Thread<'_>,
+    cut: Cut,
+) -> bool
+    ensures { (past : List trace.Said) → IsCounted (asked_read asked.now) (up_to asked.now.to past) counted.now
+        → (previous : trace.Thread) (state : State)
+        → result ≡ came_back (asked_read asked.now) past cut (event_read event.now) (trace.Switch previous state (thread_read next.entry)) }
+{
+    match find(&asked.tasks, next).whose().number {
+        Some(number) => {
+            is_before_to(asked.to, event.time)
+                && !asked.begin_at_run
+                && counted.sleeps_before(number, cut.boundary)
+        }
+        None => false,
     }
 }

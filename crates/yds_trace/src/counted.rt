@@ -6,10 +6,12 @@ ghost use Rattle.yds_trace.specs.Asked as asking;
 ghost use Rattle.yds_trace.specs.Faults as spec;
 ghost use Rattle.yds_trace.specs.Finding.{found, first_found, second_found};
 ghost use Rattle.yds_trace.specs.Following.{some_waits, spans_at, touches_by};
+ghost use Rattle.yds_trace.specs.Jobs.{known_after};
 ghost use Rattle.yds_trace.specs.Kept.{AreOthersOf, IsCounted, IsLines};
 ghost use Rattle.yds_trace.specs.Others.{any_waits};
 ghost use Rattle.yds_trace.specs.Past.{last_time, up_to, counts as spec_counts};
 ghost use Rattle.yds_trace.specs.Steps.{first_in, second_in, step_of};
+ghost use Rattle.yds_trace.specs.Parts.{sleeps_before};
 ghost use Rattle.yds_trace.specs.Passing.{IsRefusedFor, fault_in};
 ghost use Rattle.yds_trace.specs.Views.{asked_read, span_read, task_read};
 
@@ -17,6 +19,7 @@ use crate::asked::Asked;
 use crate::fault::Cause;
 use crate::find::Found;
 use crate::followed::{Followed, any_waits, follow, lose_each, runs_on, take_each};
+use crate::jobs::has_exited;
 use crate::limits::MAX_TOUCHES;
 use crate::lines::Lines;
 use crate::others::{Others, Span};
@@ -187,6 +190,51 @@ impl Counted {
         }
     }
 
+    /// Whether the thread of this task was over before.
+    fn has_exited(&self, number: usize) -> bool
+        ensures { (asked : asking.Asked) (counting : List trace.Said) → IsCounted asked counting self.now → number < length asked.tasks
+            → result ≡ spec.has_exited (known_after asked number counting).jobs }
+    {
+        match self.tasks.get(number) {
+            Some(followed) => has_exited(&followed.known.jobs),
+            None => false,
+        }
+    }
+
+    /// Whether the thread of this task comes behind a second sleep without a wake-up.
+    fn is_unwoken(&self, number: usize) -> bool
+        ensures { (asked : asking.Asked) (counting : List trace.Said) → IsCounted asked counting self.now → number < length asked.tasks
+            → result ≡ spec.is_unwoken (known_after asked number counting) }
+    {
+        match self.tasks.get(number) {
+            Some(followed) => followed.known.is_unwoken(),
+            None => false,
+        }
+    }
+
+    /// Whether the thread of this task left to sleep, without a wake-up since, and its last job began before this time.
+    pub(crate) fn sleeps_before(&self, number: usize, boundary: u64) -> bool
+        ensures { (asked : asking.Asked) (counting : List trace.Said) → IsCounted asked counting self.now → number < length asked.tasks
+            → result ≡ sleeps_before boundary (known_after asked number counting) }
+    {
+        match self.tasks.get(number) {
+            Some(followed) => followed.known.sleeps_before(boundary),
+            None => false,
+        }
+    }
+
+    /// What a thread that comes is refused for, where its wake-ups aren't recorded.
+    fn check_woken(&self, needed: bool, thread: Found) -> Result<(), Cause>
+        ensures { (asked : asking.Asked) (counting : List trace.Said) (named : trace.Thread) → IsCounted asked counting self.now
+            → needed ≡ spec.needs_wake_ups asked → thread ≡ found asked.tasks named
+            → fault_in result ≡ spec.unwoken_fault asked counting named }
+    {
+        match thread.whose().number {
+            Some(number) if needed && self.is_unwoken(number) => Err(Cause::NotWoken),
+            Some(_) | None => Ok(()),
+        }
+    }
+
     /// What a thread is refused for.
     fn check_thread(&self, thread: Found) -> Result<(), Cause>
         ensures { (asked : asking.Asked) (counting : List trace.Said) (named : trace.Thread) → IsCounted asked counting self.now
@@ -198,6 +246,7 @@ impl Counted {
         match thread.whose().number {
             Some(number) => match self.pid(number) {
                 Some(pid) if pid != thread.pid => Err(Cause::TwoThreads),
+                Some(_) | None if self.has_exited(number) => Err(Cause::Exited),
                 Some(_) | None => Ok(()),
             },
             None => Ok(()),
@@ -207,11 +256,13 @@ impl Counted {
     /// What an event not after `to` is refused for: its threads, and the state of who leaves.
     pub(crate) fn check(
         &self,
+        needs_wake_ups: bool,
         happening: &Happening<'_>,
         first: Found,
         second: Found,
     ) -> Result<(), Cause>
         ensures { (asked : asking.Asked) (counting : List trace.Said) → IsCounted asked counting self.now
+            → needs_wake_ups ≡ spec.needs_wake_ups asked
             → first ≡ first_found asked.tasks (happening_read happening.now)
             → second ≡ second_found asked.tasks (happening_read happening.now)
             → fault_in result ≡ spec.happening_fault asked counting (happening_read happening.now) }
@@ -223,9 +274,10 @@ impl Counted {
                     return Err(Cause::UnknownState);
                 }
                 self.check_thread(second)?;
-                check_both(first, second)
+                check_both(first, second)?;
+                self.check_woken(needs_wake_ups, second)
             }
-            Happening::WakeUp(_) => self.check_thread(first),
+            Happening::WakeUp { .. } => self.check_thread(first),
             Happening::Speed { .. } | Happening::Loss | Happening::Marker | Happening::Other => {
                 Ok(())
             }
@@ -243,7 +295,7 @@ impl Counted {
                 self.check_thread(first)
             }
             Happening::Switch { .. }
-            | Happening::WakeUp(_)
+            | Happening::WakeUp { .. }
             | Happening::Speed { .. }
             | Happening::Loss
             | Happening::Marker
@@ -292,7 +344,7 @@ impl Counted {
                 self.take(alloc, asked, &stayed, first, first)
             }
             Happening::Switch { .. }
-            | Happening::WakeUp(_)
+            | Happening::WakeUp { .. }
             | Happening::Speed { .. }
             | Happening::Loss
             | Happening::Marker
@@ -387,7 +439,7 @@ fn counts(to: u64, lines: &Lines, event: &Event<'_>) -> bool
     match event.happening {
         Happening::Loss => lines.past.lost_since(event.processor, Since::ItsLastLine) < to,
         Happening::Switch { .. }
-        | Happening::WakeUp(_)
+        | Happening::WakeUp { .. }
         | Happening::Speed { .. }
         | Happening::Marker
         | Happening::Other => event.time <= to,

@@ -15,6 +15,8 @@ pub enum Cause {
     UnknownState,
     /// A task that is given by its name is another thread than before.
     TwoThreads,
+    /// The thread of a task was over before.
+    Exited,
     /// A thread is one task by its number and another one by its name.
     TwoTasks,
     /// More than `MAX_TOUCHES` lines tell of the tasks.
@@ -25,6 +27,8 @@ pub enum Cause {
     Unseen(usize),
     /// No wake-up of a task is in the trace, and jobs are to begin at wake-ups.
     NoWakeUp,
+    /// A task's thread comes behind a sleep without a wake-up, for the second time in one job.
+    NotWoken,
     /// It changes what is known of jobs that stand in a part which was written.
     PartWritten,
 }

@@ -94,7 +94,7 @@ pub(crate) fn find_first(tasks: &[Task], happening: &Happening<'_>) -> Found
 {
     match happening {
         Happening::Switch { previous, .. } => find(tasks, *previous),
-        Happening::WakeUp(thread) => find(tasks, *thread),
+        Happening::WakeUp { thread, .. } => find(tasks, *thread),
         Happening::Speed { .. } | Happening::Loss | Happening::Marker | Happening::Other => {
             Found::NONE
         }
@@ -108,7 +108,7 @@ pub(crate) fn find_second(tasks: &[Task], happening: &Happening<'_>) -> Found
 {
     match happening {
         Happening::Switch { next, .. } => find(tasks, *next),
-        Happening::WakeUp(_)
+        Happening::WakeUp { .. }
         | Happening::Speed { .. }
         | Happening::Loss
         | Happening::Marker

@@ -41,6 +41,26 @@ pub struct Standing {
     pub since: u64,
 }
 
+/// What is known of a thread's wake-ups since its last switch.
+#[derive(Clone, Copy, Debug, PartialEq, Eq)]
+pub struct Woken {
+    /// Whether one came since then.
+    pub came: bool,
+    /// When one was started since it came to a processor, of which no line tells since that it was done.
+    pub started: Option<u64>,
+    /// Whether a switch of it was seen since events were lost.
+    pub seen: bool,
+}
+
+impl Woken {
+    /// Of a thread of which nothing was seen.
+    pub(crate) const NOT_SEEN: Woken = Woken {
+        came: false,
+        started: None,
+        seen: false,
+    };
+}
+
 /// A thread leaves a processor.
 #[derive(Clone, Copy, Debug, PartialEq, Eq)]
 pub struct Leaving {
@@ -120,6 +140,10 @@ pub struct Job {
     pub wake_ups: u64,
     /// A switch of its thread is missing, so not all that it ran is known.
     pub switch_missing: bool,
+    /// Its thread left to sleep at this time, and came back without a wake-up: it hasn't slept.
+    pub slept: Option<u64>,
+    /// Its thread was over with it.
+    pub exited: bool,
     /// It ran on several processors, and these are its stretches on one of them.
     pub shared: bool,
 }
@@ -136,8 +160,27 @@ impl Job {
             stretches: Vec::new(alloc),
             wake_ups: 0,
             switch_missing: false,
+            slept: None,
+            exited: false,
             shared: false,
         }
+    }
+
+    /// Open again: its thread left to sleep at this time, and didn't.
+    pub(crate) fn went_on(mut self, time: u64) -> Job
+        ensures { job_read result ≡ spec.went_on time (job_read self) }
+    {
+        self.end = End::Open;
+        self.slept = Some(time);
+        self
+    }
+
+    /// Where events were lost after this time.
+    pub(crate) fn lost(mut self, time: u64) -> Job
+        ensures { job_read result ≡ spec.lost_job time (job_read self) }
+    {
+        self.end = self.end.lost(time);
+        self
     }
 
     /// Open again.
@@ -189,6 +232,8 @@ impl Job {
             stretches,
             wake_ups: self.wake_ups,
             switch_missing: self.switch_missing,
+            slept: self.slept,
+            exited: self.exited,
             shared: self.shared,
         })
     }

@@ -6,10 +6,11 @@ ghost use Rattle.yds_trace.specs.Document.{began_before};
 ghost use Rattle.yds_trace.specs.Following.{stretches_in};
 ghost use Rattle.yds_trace.specs.Jobs as spec;
 ghost use Rattle.yds_trace.specs.Others.{has_open_job};
-ghost use Rattle.yds_trace.specs.Parts.{last_begin};
+ghost use Rattle.yds_trace.specs.Faults.{has_exited, slept_before};
+ghost use Rattle.yds_trace.specs.Parts.{has_ended, last_begin};
 ghost use Rattle.yds_trace.specs.Views.{job_read, jobs_listed};
 
-use crate::job::{End, Job, Stretch};
+use crate::job::{End, Job, Stretch, Woken};
 use base::Memory;
 use std::alloc::Global;
 
@@ -128,6 +129,68 @@ fn awake_after(alloc: Global, time: u64, job: Job, jobs: &mut Vec<Job>) -> Resul
     }
 }
 
+/// The thread comes, where jobs begin at wake-ups.
+#[tactic(auto, using(crate::proofs::Listed::jobs_listed_push))]
+pub(crate) fn come(
+    alloc: Global,
+    apart: u64,
+    time: u64,
+    woken: Woken,
+    jobs: &mut Vec<Job>,
+) -> Result<(), Memory>
+    ensures { OnOk result (jobs_listed jobs.new.items ≡ spec.come_jobs apart time woken (jobs_listed jobs.old.items)) }
+{
+    match jobs.pop() {
+        Some(job) => come_after(alloc, apart, time, woken, job, jobs),
+        None => begin(alloc, time, false, jobs),
+    }
+}
+
+fn come_after(
+    alloc: Global,
+    apart: u64,
+    time: u64,
+    woken: Woken,
+    job: Job,
+    jobs: &mut Vec<Job>,
+) -> Result<(), Memory>
+    ensures { OnOk result (jobs_listed jobs.new.items ≡ spec.come_jobs apart time woken (job_read job ∷ jobs_listed jobs.old.items)) }
+{
+    match job.end {
+        End::Ended(end) if woken.seen => {
+            come_back(alloc, apart, time, end, woken.started, job, jobs)
+        }
+        End::Open => put(job, jobs),
+        End::Unseen { goes_on: true, .. } => put(job.reopened(), jobs),
+        End::Unseen { goes_on: false, .. } | End::Ended(_) | End::Lost(_) => {
+            put(job, jobs)?;
+            begin(alloc, time, false, jobs)
+        }
+    }
+}
+
+/// Its thread left to sleep at the end, and comes back; perhaps a wake-up was started before it left.
+fn come_back(
+    alloc: Global,
+    apart: u64,
+    time: u64,
+    end: u64,
+    started: Option<u64>,
+    job: Job,
+    jobs: &mut Vec<Job>,
+) -> Result<(), Memory>
+    ensures { OnOk result (jobs_listed jobs.new.items ≡ spec.back_jobs apart time end started (job_read job) (jobs_listed jobs.old.items)) }
+{
+    match (started, job.slept) {
+        (Some(woken), _) => wake_again(alloc, apart, woken, job, jobs),
+        (None, None) => put(job.went_on(end), jobs),
+        (None, Some(first)) => {
+            put(job.lost(first), jobs)?;
+            begin(alloc, time, false, jobs)
+        }
+    }
+}
+
 /// The thread runs, where jobs begin at their first run.
 #[tactic(auto, using(crate::proofs::Listed::jobs_listed_push))]
 pub(crate) fn start_running(
@@ -169,6 +232,16 @@ pub(crate) fn end_last(time: u64, jobs: &mut Vec<Job>)
 {
     if let Some(job) = jobs.last_mut() {
         job.end = End::Ended(time);
+    }
+}
+
+/// The last job ends, and its thread is over.
+pub(crate) fn exit_last(time: u64, jobs: &mut Vec<Job>)
+    ensures { jobs_listed jobs.new.items ≡ spec.changed_last (spec.exits time) (jobs_listed jobs.old.items) }
+{
+    if let Some(job) = jobs.last_mut() {
+        job.end = End::Ended(time);
+        job.exited = true;
     }
 }
 
@@ -248,6 +321,42 @@ pub(crate) fn has_open_job(jobs: &Vec<Job>) -> bool
             End::Open => true,
             End::Ended(_) | End::Unseen { .. } | End::Lost(_) => false,
         },
+        None => false,
+    }
+}
+
+/// Whether the last job has ended.
+pub(crate) fn has_ended(jobs: &Vec<Job>) -> bool
+    ensures { result ≡ has_ended (jobs_listed jobs.now.items) }
+{
+    match jobs.last() {
+        Some(job) => match job.end {
+            End::Ended(_) => true,
+            End::Open | End::Unseen { .. } | End::Lost(_) => false,
+        },
+        None => false,
+    }
+}
+
+/// Whether the last job has ended, and went on behind a sleep before.
+pub(crate) fn slept_before(jobs: &Vec<Job>) -> bool
+    ensures { result ≡ slept_before (jobs_listed jobs.now.items) }
+{
+    match jobs.last() {
+        Some(job) => match job.end {
+            End::Ended(_) => job.slept.is_some(),
+            End::Open | End::Unseen { .. } | End::Lost(_) => false,
+        },
+        None => false,
+    }
+}
+
+/// Whether the thread was over with the last job.
+pub(crate) fn has_exited(jobs: &Vec<Job>) -> bool
+    ensures { result ≡ has_exited (jobs_listed jobs.now.items) }
+{
+    match jobs.last() {
+        Some(job) => job.exited,
         None => false,
     }
 }

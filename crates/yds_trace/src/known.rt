@@ -1,13 +1,15 @@
 //! What is known of a task's thread: the state that is kept from event to event.
 ghost use Rattle.std.specs.Prelude.{◌≡◌, OnOk};
 ghost use Rattle.yds_trace.specs.Jobs as spec;
+ghost use Rattle.yds_trace.specs.Faults.{is_unwoken};
+ghost use Rattle.yds_trace.specs.Parts.{sleeps_before};
 ghost use Rattle.yds_trace.specs.Steps.{stepped};
 ghost use Rattle.yds_trace.specs.Views.{jobs_listed, known_read};
 
-use crate::job::{Job, Leaving, Standing, Stretch, Turn};
+use crate::job::{Job, Leaving, Standing, Stretch, Turn, Woken};
 use crate::jobs::{
-    begin, begin_by, end_last, find_awake, has_no_switch, lose_all, mark_last, run_last,
-    start_running, unsee_last, wake,
+    begin, begin_by, come, end_last, exit_last, find_awake, has_ended, has_no_switch, last_begin,
+    lose_all, mark_last, run_last, slept_before, start_running, unsee_last, wake,
 };
 use crate::step::Step;
 use base::Memory;
@@ -21,8 +23,8 @@ pub struct Known {
     pub jobs: Vec<Job>,
     /// Where it runs.
     pub on: Option<Standing>,
-    /// Whether a wake-up came after its last switch.
-    pub woken: bool,
+    /// The wake-ups since its last switch.
+    pub woken: Woken,
 }
 
 impl Known {
@@ -33,7 +35,7 @@ impl Known {
         Known {
             jobs: Vec::new(alloc),
             on: None,
-            woken: false,
+            woken: Woken::NOT_SEEN,
         }
     }
 
@@ -86,7 +88,9 @@ impl Known {
                 };
                 self.switch(alloc, apart, wakes, turn)
             }
-            Step::WakeUp { time } if first && wakes => self.wake(alloc, apart, time),
+            Step::WakeUp { time, starts } if first && wakes => {
+                self.wake(alloc, apart, starts, time)
+            }
             Step::Speed {
                 processor,
                 time,
@@ -105,8 +109,9 @@ impl Known {
         ensures { known_read self.new ≡ spec.vanished wakes (known_read self.old) }
     {
         if let Some(standing) = self.on {
-            unsee_last(standing.came, wakes && !self.woken, &mut self.jobs);
+            unsee_last(standing.came, wakes && !self.woken.came, &mut self.jobs);
             self.on = None;
+            self.woken.started = None;
         }
     }
 
@@ -132,7 +137,7 @@ impl Known {
     {
         self.vanish(wakes);
         if wakes {
-            find_awake(alloc, time, &mut self.jobs)?;
+            come(alloc, apart, time, self.woken, &mut self.jobs)?;
         } else {
             start_running(alloc, apart, time, &mut self.jobs)?;
         }
@@ -141,16 +146,28 @@ impl Known {
             came: time,
             since: time,
         });
-        self.woken = false;
+        self.woken = Woken {
+            came: false,
+            started: None,
+            seen: true,
+        };
         Ok(())
     }
 
-    /// It is woken.
-    pub fn wake(&mut self, alloc: Global, apart: u64, time: u64) -> Result<(), Memory>
-        ensures { OnOk result (known_read self.new ≡ spec.wakes_up apart time (known_read self.old)) }
+    /// It is woken: a wake-up is started, or was done.
+    pub fn wake(
+        &mut self,
+        alloc: Global,
+        apart: u64,
+        starts: bool,
+        time: u64,
+    ) -> Result<(), Memory>
+        ensures { OnOk result (known_read self.new ≡ spec.wakes_up apart starts time (known_read self.old)) }
     {
-        wake(alloc, apart, time, self.woken, &mut self.jobs)?;
-        self.woken = true;
+        let begin = woken_at(starts, time, self.woken.started);
+        wake(alloc, apart, begin, self.woken.came, &mut self.jobs)?;
+        self.woken.came = true;
+        self.woken.started = starts.then_some(time);
         Ok(())
     }
 
@@ -160,7 +177,7 @@ impl Known {
     {
         lose_all(time, &mut self.jobs);
         self.on = None;
-        self.woken = false;
+        self.woken = Woken::NOT_SEEN;
     }
 
     /// The speed of a processor changes, from this one.
@@ -203,14 +220,24 @@ impl Known {
     ) -> Result<(), Memory>
         ensures { OnOk result (known_read self.new ≡ spec.leaves wakes state leaving (known_read self.old)) }
     {
+        let started = if stands_on(leaving.processor, self.on) {
+            self.woken.started
+        } else {
+            None
+        };
         self.leave_from(alloc, wakes, leaving)?;
         match state {
             State::GoesOn => {}
             State::Sleeps => end_last(leaving.time, &mut self.jobs),
+            State::Exits => exit_last(leaving.time, &mut self.jobs),
             State::Unknown => unsee_last(leaving.time, wakes, &mut self.jobs),
         }
         self.on = None;
-        self.woken = false;
+        self.woken = Woken {
+            came: false,
+            started: if state == State::Sleeps { started } else { None },
+            seen: true,
+        };
         Ok(())
     }
 
@@ -230,6 +257,32 @@ impl Known {
         find_awake(alloc, leaving.time, &mut self.jobs)?;
         mark_last(&mut self.jobs);
         Ok(())
+    }
+}
+
+impl Known {
+    /// Whether it left to sleep twice in one job, and no wake-up ended either sleep.
+    pub(crate) fn is_unwoken(&self) -> bool
+        ensures { result ≡ is_unwoken (known_read self.now) }
+    {
+        self.woken.seen && self.woken.started.is_none() && slept_before(&self.jobs)
+    }
+
+    /// Whether its last job began before this time, and it left to sleep, without a wake-up since.
+    pub(crate) fn sleeps_before(&self, boundary: u64) -> bool
+        ensures { result ≡ sleeps_before boundary (known_read self.now) }
+    {
+        self.woken.seen && has_ended(&self.jobs) && last_begin(&self.jobs) < boundary
+    }
+}
+
+/// Since when a thread is awake, of whose wake-up a line of this time tells.
+fn woken_at(starts: bool, time: u64, started: Option<u64>) -> u64
+    ensures { result ≡ spec.woken_at starts time started }
+{
+    match started {
+        Some(before) if !starts => before,
+        Some(_) | None => time,
     }
 }
 

@@ -103,7 +103,7 @@ impl Lines {
                 self.past.lost_since(event.processor, Since::ItsLastLine),
             ),
             Happening::Switch { .. }
-            | Happening::WakeUp(_)
+            | Happening::WakeUp { .. }
             | Happening::Speed { .. }
             | Happening::Marker
             | Happening::Other => false,
@@ -124,7 +124,7 @@ impl Lines {
             → result ≡ has_wake_up asked (Stamped (event_read event.now) ∷ past) }
     {
         match event.happening {
-            Happening::WakeUp(_) => first.number.is_some() || self.woken,
+            Happening::WakeUp { .. } => first.number.is_some() || self.woken,
             Happening::Switch { .. }
             | Happening::Speed { .. }
             | Happening::Loss

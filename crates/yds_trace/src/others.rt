@@ -267,7 +267,7 @@ fn hold(
         }
         Happening::Loss => *holder = None,
         Happening::Switch { .. }
-        | Happening::WakeUp(_)
+        | Happening::WakeUp { .. }
         | Happening::Speed { .. }
         | Happening::Marker
         | Happening::Other => {}

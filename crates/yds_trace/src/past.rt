@@ -151,7 +151,7 @@ impl Past {
                 put_at(&mut self.told, processor, told, Told::nothing(self.untold))?;
             }
             Happening::Loss => self.forget(),
-            Happening::WakeUp(_) | Happening::Marker | Happening::Other => {}
+            Happening::WakeUp { .. } | Happening::Marker | Happening::Other => {}
         }
         Ok(())
     }
@@ -228,7 +228,10 @@ impl Past {
                 state,
                 leaving: self.leaving(event),
             },
-            Happening::WakeUp(_) => Step::WakeUp { time: event.time },
+            Happening::WakeUp { starts, .. } => Step::WakeUp {
+                time: event.time,
+                starts,
+            },
             Happening::Speed { processor, .. } => Step::Speed {
                 processor,
                 time: event.time,

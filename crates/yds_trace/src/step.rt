@@ -22,6 +22,8 @@ pub(crate) enum Step {
     /// A thread is woken.
     WakeUp {
         time: u64,
+        /// Whether the wake-up starts, or was done.
+        starts: bool,
     },
     /// The speed of a processor changes, from this one in kilohertz, where it is known.
     Speed {

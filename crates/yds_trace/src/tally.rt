@@ -122,7 +122,7 @@ fn lacks_switch(
             let unseen = came_unseen(past.came(event.processor), first);
             unseen && is_asked_for(from, to, event.time)
         }
-        Happening::WakeUp(_)
+        Happening::WakeUp { .. }
         | Happening::Speed { .. }
         | Happening::Loss
         | Happening::Marker
@@ -148,7 +148,7 @@ fn is_marked(from: Option<u64>, to: Option<u64>, event: &Event<'_>) -> bool
     match event.happening {
         Happening::Marker => is_asked_for(from, to, event.time),
         Happening::Switch { .. }
-        | Happening::WakeUp(_)
+        | Happening::WakeUp { .. }
         | Happening::Speed { .. }
         | Happening::Loss
         | Happening::Other => false,

@@ -31,7 +31,7 @@ at = line_of 0
 
 -- it is woken, comes, and sleeps
 abbrev lines : List Said
-lines = reverse (at 1000 (WakeUp thread) ∷ at 1020 (Switch idle states.GoesOn thread) ∷ at 1040 (Switch thread states.Sleeps idle) ∷ [])
+lines = reverse (at 1000 (WakeUp thread true) ∷ at 1020 (Switch idle states.GoesOn thread) ∷ at 1040 (Switch thread states.Sleeps idle) ∷ [])
 
 -- A unit of time is 10 nanoseconds, one of speed 1 kilohertz.
 abbrev asked : Asked
@@ -85,7 +85,7 @@ empty_part_is_read = refl
 -- It runs on processor 0 until 1040, and goes on on processor 1.
 abbrev moved : List Said
 moved = reverse
-    (at 1000 (WakeUp thread) ∷ at 1020 (Switch idle states.GoesOn thread) ∷ at 1040 (Switch thread states.GoesOn idle) ∷ line_of 1 1045 (Switch idle states.GoesOn thread)
+    (at 1000 (WakeUp thread true) ∷ at 1020 (Switch idle states.GoesOn thread) ∷ at 1040 (Switch thread states.GoesOn idle) ∷ line_of 1 1045 (Switch idle states.GoesOn thread)
     ∷ line_of 1 1060 (Switch thread states.Sleeps idle) ∷ [])
 
 -- Of each processor, what it ran there is read under a name of its own.

@@ -38,11 +38,11 @@ a_strange_state_of_others = refl
 abbrev twin : Thread
 twin = record { name = codes "t"; pid = 8 }
 
-two_threads : fault asked (woken 10 ∷ line 0 12 (WakeUp twin) ∷ []) ≡ Some (2, causes.TwoThreads)
+two_threads : fault asked (woken 10 ∷ line 0 12 (WakeUp twin true) ∷ []) ≡ Some (2, causes.TwoThreads)
 two_threads = refl
 
 -- near miss: the task is given by its number
-one_by_its_number : fault (record asked { tasks = record task { thread = Numbered 7 } ∷ [] }) (woken 10 ∷ line 0 12 (WakeUp twin) ∷ []) ≡ None
+one_by_its_number : fault (record asked { tasks = record task { thread = Numbered 7 } ∷ [] }) (woken 10 ∷ line 0 12 (WakeUp twin true) ∷ []) ≡ None
 one_by_its_number = refl
 
 -- A thread is one task by its number, and another by its name.
@@ -65,7 +65,7 @@ twin_stayed = refl
 twin_came_later : fault (up_to 30) (woken 10 ∷ comes 0 12 ∷ sleeps 0 20 ∷ line 0 40 (Switch twin states.Sleeps idle) ∷ []) ≡ None
 twin_came_later = refl
 
-twin_woken_later : fault (up_to 30) (line 1 5 (WakeUp other) ∷ line 1 40 (WakeUp twin) ∷ sleeps 0 50 ∷ []) ≡ None
+twin_woken_later : fault (up_to 30) (line 1 5 (WakeUp other true) ∷ line 1 40 (WakeUp twin true) ∷ sleeps 0 50 ∷ []) ≡ None
 twin_woken_later = refl
 
 -- # Losses
@@ -123,7 +123,7 @@ four_touches : touches asked (woken 10 ∷ comes 0 12 ∷ speed 0 15 8 ∷ sleep
 four_touches = refl
 
 -- near misses: other threads, another processor, and its own where it doesn't run
-two_touches : touches asked (line 1 5 (WakeUp other) ∷ speed 0 6 8 ∷ comes 0 12 ∷ speed 1 15 8 ∷ other_leaves 1 20 ∷ marker 0 25 ∷ sleeps 0 40 ∷ []) ≡ 2
+two_touches : touches asked (line 1 5 (WakeUp other true) ∷ speed 0 6 8 ∷ comes 0 12 ∷ speed 1 15 8 ∷ other_leaves 1 20 ∷ marker 0 25 ∷ sleeps 0 40 ∷ []) ≡ 2
 two_touches = refl
 
 -- Many lines tell too much.
@@ -161,7 +161,7 @@ a_loss_after_to_at_the_end : whole (up_to 30) (woken 10 ∷ comes 0 12 ∷ marke
 a_loss_after_to_at_the_end = refl
 
 -- No line names a task.
-unseen : whole asked (marker 0 5 ∷ line 0 10 (WakeUp other) ∷ []) ≡ Some (2, causes.Unseen 0)
+unseen : whole asked (marker 0 5 ∷ line 0 10 (WakeUp other true) ∷ []) ≡ Some (2, causes.Unseen 0)
 unseen = refl
 
 the_second_unseen : whole (record asked { tasks = task ∷ record task { thread = Numbered 8 } ∷ [] }) (woken 10 ∷ []) ≡ Some (1, causes.Unseen 1)
@@ -172,7 +172,7 @@ seen_after_to : whole (up_to 30) (marker 0 5 ∷ woken 40 ∷ []) ≡ None
 seen_after_to = refl
 
 -- No wake-up of a task is there, and jobs are to begin at wake-ups.
-no_wake_up : whole asked (comes 0 12 ∷ line 0 20 (WakeUp other) ∷ sleeps 0 40 ∷ []) ≡ Some (3, causes.NoWakeUp)
+no_wake_up : whole asked (comes 0 12 ∷ line 0 20 (WakeUp other true) ∷ sleeps 0 40 ∷ []) ≡ Some (3, causes.NoWakeUp)
 no_wake_up = refl
 
 -- near miss: they are to begin at their first run

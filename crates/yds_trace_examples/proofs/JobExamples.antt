@@ -59,7 +59,7 @@ one_wake_up_twice : jobs asked (woken 10 ∷ woken 11 ∷ comes 0 12 ∷ sleeps 
 one_wake_up_twice = refl
 
 -- A thread that is new is woken the first time, and ends its last job when it exits.
-a_fork_and_an_exit : jobs asked (line 2 10 (WakeUp t) ∷ comes 0 12 ∷ line 0 40 (Switch t states.Sleeps other) ∷ other_leaves 0 50 ∷ []) ≡
+a_fork_and_an_exit : jobs asked (line 2 10 (WakeUp t true) ∷ comes 0 12 ∷ line 0 40 (Switch t states.Sleeps other) ∷ other_leaves 0 50 ∷ []) ≡
     job 10 (ends.Ended 40) (stretch 0 12 40 ∷ []) ∷ []
 a_fork_and_an_exit = refl
 
@@ -72,7 +72,7 @@ a_switch_first : jobs asked (comes 0 10 ∷ woken 10 ∷ sleeps 0 40 ∷ []) ≡
 a_switch_first = refl
 
 -- A marker of an application is nothing, and neither is another thread.
-a_marker : jobs asked (woken 10 ∷ comes 0 12 ∷ marker 0 20 ∷ line 0 30 (WakeUp other) ∷ sleeps 0 40 ∷ []) ≡
+a_marker : jobs asked (woken 10 ∷ comes 0 12 ∷ marker 0 20 ∷ line 0 30 (WakeUp other true) ∷ sleeps 0 40 ∷ []) ≡
     job 10 (ends.Ended 40) (stretch 0 12 40 ∷ []) ∷ []
 a_marker = refl
 

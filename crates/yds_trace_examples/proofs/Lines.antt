@@ -27,7 +27,7 @@ abbrev pub line : ℕ → ℕ → Happening → Said
 line processor time happening = Stamped (record { processor = processor; time = time; happening = happening })
 
 abbrev pub woken : ℕ → Said
-woken time = line 3 time (WakeUp t)
+woken time = line 3 time (WakeUp t true)
 
 -- it comes to the idle processor
 abbrev pub comes : ℕ → ℕ → Said

@@ -47,7 +47,7 @@ abbrev both_tasks : ℕ → Asked
 both_tasks apart = record asked { tasks = record task { apart = apart } ∷ other_task ∷ [] }
 
 abbrev other_woken : ℕ → Said
-other_woken time = line 3 time (WakeUp other)
+other_woken time = line 3 time (WakeUp other true)
 
 -- # Tests
 

@@ -43,7 +43,7 @@ pub begin_ends : (P : ℕ → Type 0) (happening : Happening) → EndsAt (HasBeg
 begin_ends P (Switch previous states.GoesOn next) = tt
 begin_ends P (Switch previous states.Sleeps next) = λ time job is. is
 begin_ends P (Switch previous states.Unknown next) = tt
-begin_ends P (WakeUp thread) = tt
+begin_ends P (WakeUp thread starts) = tt
 begin_ends P (Speed processor khz) = tt
 begin_ends P Loss = tt
 begin_ends P Marker = tt

@@ -160,7 +160,7 @@ event_few : (asked : Asked) (number : ℕ) (past : List Said) (event : Event) (h
     length (after_event asked number past event happening known).jobs ≤ n
 event_few asked number past event (Switch previous state next) n known few =
     switch_few (task_at asked number).apart (not asked.begin_at_run) (is_of asked number previous) (is_of asked number next) state (leaving_at asked past event) n known few
-event_few asked number past event (WakeUp thread) n known few =
+event_few asked number past event (WakeUp thread starts) n known few =
     if_known (is_of asked number thread && not asked.begin_at_run) n (wakes_up (task_at asked number).apart event.time known) known
     (woken_few (task_at asked number).apart event.time known.woken n known.jobs (omega (arith, few))) (omega (arith, few))
 event_few asked number past event (Speed processor khz) n known few =

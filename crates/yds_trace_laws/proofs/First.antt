@@ -101,7 +101,7 @@ is_lost_line to event past later counting = elim (cases_Bool (is_loss event.happ
 
 ends_at_loss : (P : Job → Type 0) (happening : Happening) → is_loss happening ≡ true → EndsAt P happening
 ends_at_loss P (Switch previous state next) loss = cc
-ends_at_loss P (WakeUp thread) loss = tt
+ends_at_loss P (WakeUp thread starts) loss = tt
 ends_at_loss P (Speed processor khz) loss = tt
 ends_at_loss P Loss loss = tt
 ends_at_loss P Marker loss = tt

@@ -42,7 +42,7 @@ Ends P states.Unknown = ⊤
 
 abbrev pub EndsAt : (Job → Type 0) → Happening → Type 0
 EndsAt P (Switch previous state next) = Ends P state
-EndsAt P (WakeUp thread) = ⊤
+EndsAt P (WakeUp thread starts) = ⊤
 EndsAt P (Speed processor khz) = ⊤
 EndsAt P Loss = ⊤
 EndsAt P Marker = ⊤
@@ -234,7 +234,7 @@ event_hold : (P : Job → Type 0) → IsKept P → (asked : Asked) (number : ℕ
 event_hold P kept asked number past event (Switch previous state next) known now ends each all =
     switch_hold P kept (task_at asked number).apart (not asked.begin_at_run) (is_of asked number previous) (is_of asked number next) state (leaving_at asked past event) known
     (now refl) (whole_allows P event.time past (now refl) each) ends all
-event_hold P kept asked number past event (WakeUp thread) known now ends each all =
+event_hold P kept asked number past event (WakeUp thread starts) known now ends each all =
     if_known P (is_of asked number thread && not asked.begin_at_run) (wakes_up (task_at asked number).apart event.time known) known
     (woken_hold P kept (task_at asked number).apart event.time known.woken known.jobs (now refl) all) all
 event_hold P kept asked number past event (Speed processor khz) known now ends each all =
@@ -258,7 +258,7 @@ if_allows P false past other each others = others
 
 stayed_allows : (P : Job → Type 0) (to processor : ℕ) (happening : Happening) → Allows P to → AllowsLine P (stayed to processor happening)
 stayed_allows P to processor (Switch previous state next) now = (λ none. now, tt)
-stayed_allows P to processor (WakeUp thread) now = tt
+stayed_allows P to processor (WakeUp thread starts) now = tt
 stayed_allows P to processor (Speed other khz) now = tt
 stayed_allows P to processor Loss now = tt
 stayed_allows P to processor Marker now = tt

@@ -76,7 +76,7 @@ unshared_ends : (happening : Happening) → EndsAt IsUnshared happening
 unshared_ends (Switch previous states.GoesOn next) = tt
 unshared_ends (Switch previous states.Sleeps next) = λ time job is. is
 unshared_ends (Switch previous states.Unknown next) = tt
-unshared_ends (WakeUp thread) = tt
+unshared_ends (WakeUp thread starts) = tt
 unshared_ends (Speed processor khz) = tt
 unshared_ends Loss = tt
 unshared_ends Marker = tt

@@ -526,8 +526,8 @@ woken_on false apart time known = refl
 after : (asked : Asked) (past : List Said) (event : Event) (happening : Happening) → AfterIt asked past event happening
 after asked past event (Switch previous state next) = switched asked past event previous state next
 after asked past event (Speed processor khz) = changed asked past event processor khz
-after asked past event (WakeUp thread) = λ old order.
-    quiet (λ n. known_after asked n past) (λ n. after_event asked n past event (WakeUp thread) (known_after asked n past)) (λ q. has_switched q past) (λ t. whole_since t past)
+after asked past event (WakeUp thread starts) = λ old order.
+    quiet (λ n. known_after asked n past) (λ n. after_event asked n past event (WakeUp thread starts) (known_after asked n past)) (λ q. has_switched q past) (λ t. whole_since t past)
     (λ t. whole_since event.time past) (λ t. AreBy t past) (λ t. (false ≡ false → event.time ≤ t) × AreBy t past) event.time old (order refl) (λ t. refl) (λ t by. by.0 refl)
     (λ n P all. woken_known P (is_of asked n thread && not asked.begin_at_run) (task_at asked n).apart event.time (known_after asked n past) all)
     (λ n. woken_on (is_of asked n thread && not asked.begin_at_run) (task_at asked n).apart event.time (known_after asked n past))
@@ -627,7 +627,7 @@ later_switch to event past counting is first =
   where
     no_loss : (happening : Happening) → is_switch happening ≡ true → is_loss happening ≡ false
     no_loss (Switch previous state next) switch = refl
-    no_loss (WakeUp thread) switch = cc
+    no_loss (WakeUp thread starts) switch = cc
     no_loss (Speed processor khz) switch = cc
     no_loss Loss switch = cc
     no_loss Marker switch = cc
@@ -635,7 +635,7 @@ later_switch to event past counting is first =
 
 stayed_by : (to processor time : ℕ) (happening : Happening) (counting : List Said) → to ≤ time → AreBy time counting → AreBy time (stayed to processor happening ∷ counting)
 stayed_by to processor time (Switch previous state next) counting within by = (λ loss. within, by)
-stayed_by to processor time (WakeUp thread) counting within by = by
+stayed_by to processor time (WakeUp thread starts) counting within by = by
 stayed_by to processor time (Speed other khz) counting within by = by
 stayed_by to processor time Loss counting within by = by
 stayed_by to processor time Marker counting within by = by
@@ -673,7 +673,7 @@ counted_by to time (Nothing ∷ past) goes within last = counted_by to time past
 
 stayed_in_order : (to processor : ℕ) (happening : Happening) (counting : List Said) → AreBy to counting → AreInOrder counting → AreInOrder (stayed to processor happening ∷ counting)
 stayed_in_order to processor (Switch previous state next) counting by order = (λ loss. by, order)
-stayed_in_order to processor (WakeUp thread) counting by order = order
+stayed_in_order to processor (WakeUp thread starts) counting by order = order
 stayed_in_order to processor (Speed other khz) counting by order = order
 stayed_in_order to processor Loss counting by order = order
 stayed_in_order to processor Marker counting by order = order

@@ -49,7 +49,7 @@ event_under bound asked number past event (Switch previous state next) known her
       on_under bound known.on event.processor event.time (is_of asked number next ≡ true) standing is.on (λ came. here)
       (switch_on (task_at asked number).apart (not asked.begin_at_run) (is_of asked number previous) (is_of asked number next) state (leaving_at asked past event) known standing now);
 }
-event_under bound asked number past event (WakeUp thread) known here is = record {
+event_under bound asked number past event (WakeUp thread starts) known here is = record {
   ran = woken_known (IsUnder bound) (is_of asked number thread && not asked.begin_at_run) (task_at asked number).apart event.time known is.ran;
   on = λ standing now.
       is.on standing (sym (woken_on (is_of asked number thread && not asked.begin_at_run) (task_at asked number).apart event.time known) ∙ now);
@@ -81,7 +81,7 @@ known_under bound asked number (Nothing ∷ past) tell = known_under bound asked
 
 stayed_under : (bound to processor : ℕ) (happening : Happening) → processor < bound → next_processor (stayed to processor happening) ≤ bound
 stayed_under bound to processor (Switch previous state next) here = omega (arith, here)
-stayed_under bound to processor (WakeUp thread) here = omega arith
+stayed_under bound to processor (WakeUp thread starts) here = omega arith
 stayed_under bound to processor (Speed other khz) here = omega arith
 stayed_under bound to processor Loss here = omega arith
 stayed_under bound to processor Marker here = omega arith

@@ -240,7 +240,7 @@ was_there : (asked : Asked) (past : List Said) (event : Event) (happening : Happ
 was_there asked past event (Switch previous state next) =
     and_false (is_some (task_of asked.tasks previous) && not (has_switched event.processor (up_to asked.to past))) (nat_lt (whole_since event.time (up_to asked.to past)) 0)
     (none_under (whole_since event.time (up_to asked.to past)))
-was_there asked past event (WakeUp thread) = refl
+was_there asked past event (WakeUp thread starts) = refl
 was_there asked past event (Speed processor khz) = refl
 was_there asked past event Loss = refl
 was_there asked past event Marker = refl

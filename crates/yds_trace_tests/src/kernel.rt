@@ -54,7 +54,10 @@ fn wake_ups_speeds_and_losses(rt: HostRuntime) {
         Ok(event(
             0,
             5_123_400_624_000,
-            Happening::WakeUp(thread(b"audio", 1202))
+            Happening::WakeUp {
+                thread: thread(b"audio", 1202),
+                starts: true,
+            }
         ))
     );
     let speed =

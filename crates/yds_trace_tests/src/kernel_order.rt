@@ -87,7 +87,7 @@ fn names_and_the_fault_behind_them_are_told(rt: HostRuntime) -> Result<(), Fail>
     assert_eq!(rt; reader.number(), 2);
     match reader.said() {
         Said::Event(event) => match event.happening {
-            Happening::WakeUp(thread) => assert_eq!(rt; thread.name, b"cd".as_slice()),
+            Happening::WakeUp { thread, .. } => assert_eq!(rt; thread.name, b"cd".as_slice()),
             _ => assert!(rt; false),
         },
         Said::Lost { .. } | Said::Nothing => assert!(rt; false),

@@ -21,7 +21,10 @@ fn line<'a>(processor: u64, time: u64, happening: Happening<'a>) -> Said<'a> {
 }
 
 fn woken(time: u64) -> Said<'static> {
-    line(3, time, Happening::WakeUp(thread(b"decode", 7)))
+    line(3, time, Happening::WakeUp {
+                thread: thread(b"decode", 7),
+                starts: true,
+            })
 }
 
 fn comes(processor: u64, time: u64) -> Said<'static> {
@@ -176,7 +179,10 @@ fn each_fault_of_a_line_is_told(rt: HostRuntime) -> Result<(), Fail> {
         (
             [
                 woken(10),
-                line(0, 20, Happening::WakeUp(thread(b"decode", 8))),
+                line(0, 20, Happening::WakeUp {
+                thread: thread(b"decode", 8),
+                starts: true,
+            }),
             ],
             Cause::TwoThreads,
         ),

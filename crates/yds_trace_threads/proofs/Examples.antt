@@ -59,11 +59,11 @@ lost_elsewhere = refl
 -- # Counts
 
 -- one wake-up on two lines
-woken_once : wake_ups_in (mine (at 0 91 (WakeUp seven) ∷ at 0 90 (WakeUp seven) ∷ [])) ≡ 1
+woken_once : wake_ups_in (mine (at 0 91 (WakeUp seven true) ∷ at 0 90 (WakeUp seven true) ∷ [])) ≡ 1
 woken_once = refl
 
 -- two, with a switch of the thread between them
-woken_twice : wake_ups_in (mine (at 0 160 (WakeUp seven) ∷ leaves 150 ∷ comes 100 ∷ at 0 90 (WakeUp seven) ∷ [])) ≡ 2
+woken_twice : wake_ups_in (mine (at 0 160 (WakeUp seven true) ∷ leaves 150 ∷ comes 100 ∷ at 0 90 (WakeUp seven true) ∷ [])) ≡ 2
 woken_twice = refl
 
 -- it came once; to leave is no coming
@@ -73,7 +73,7 @@ came_once = refl
 -- # Names and threads
 
 -- the last name
-renamed : name_of (mine (at 0 160 (WakeUp (record { name = codes "c"; pid = 7 })) ∷ comes 100 ∷ [])) ≡ codes "c"
+renamed : name_of (mine (at 0 160 (WakeUp (record { name = codes "c"; pid = 7 }) true) ∷ comes 100 ∷ [])) ≡ codes "c"
 renamed = refl
 
 -- in the order in which they come first, without the idle one
@@ -86,7 +86,7 @@ abbrev saying : List Said → Trace
 saying said = record { said = said; fault = None }
 
 abbrev woken : ℕ → Said
-woken time = at 0 time (WakeUp seven)
+woken time = at 0 time (WakeUp seven true)
 
 -- Two lines changed places: neither is refused.
 exchanged : line_fault (in_order (saying (woken 1001 ∷ woken 1000 ∷ []))) ≡ None

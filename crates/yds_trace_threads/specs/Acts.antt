@@ -42,7 +42,7 @@ act_of thread deed = if thread.pid == 0 then [] else record { thread = thread; d
 abbrev pub acts_at : Event → List Said → Happening → List Act
 acts_at event past (Switch previous state next) =
     act_of next deeds.Comes ++ act_of previous (deeds.Leaves (had previous.pid event.time (holder event.processor past)))
-acts_at event past (WakeUp thread) = act_of thread deeds.Wakes
+acts_at event past (WakeUp thread starts) = act_of thread deeds.Wakes
 acts_at event past _ = []
 
 -- what threads did in these lines

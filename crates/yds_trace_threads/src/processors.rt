@@ -75,7 +75,7 @@ impl Processors {
                 });
             }
             Happening::Loss => self.holders[processor] = None,
-            Happening::WakeUp(_) | Happening::Speed { .. } | Happening::Marker | Happening::Other =>
+            Happening::WakeUp { .. } | Happening::Speed { .. } | Happening::Marker | Happening::Other =>
                 {}
         }
         self.last = event.time;

@@ -71,7 +71,7 @@ impl Tally {
                 self.threads.take(alloc, previous, Deed::Leaves(time))?;
                 self.threads.take(alloc, next, Deed::Comes)?;
             }
-            Happening::WakeUp(thread) => self.threads.take(alloc, thread, Deed::Wakes)?,
+            Happening::WakeUp { thread, .. } => self.threads.take(alloc, thread, Deed::Wakes)?,
             Happening::Speed { .. } | Happening::Loss | Happening::Marker | Happening::Other => {}
         }
         self.processors.take(event);

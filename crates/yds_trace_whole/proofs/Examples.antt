@@ -23,7 +23,7 @@ abbrev line : ℕ → Happening → Said
 line = line_of 0
 
 abbrev woken : ℕ → Thread → Said
-woken time who = line time (WakeUp who)
+woken time who = line time (WakeUp who true)
 
 -- one thread goes to sleep, or is preempted, and another one comes
 abbrev sleeps : ℕ → Thread → Thread → Said

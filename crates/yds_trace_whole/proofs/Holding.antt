@@ -160,7 +160,7 @@ next_keeps asked counting boundary now number all event (Switch previous state n
     switch_keeps boundary now all (task_at asked number).apart (not asked.begin_at_run) (is_of asked number previous) (is_of asked number next) state
     (leaving_at asked counting event) (known_after asked number counting) (is.late refl) (is.by refl) (is.at refl) (is.whole refl)
     (λ mine first. is.left previous state next refl mine first) (λ other comes. is.ripe refl) keeps
-next_keeps asked counting boundary now number all event (WakeUp thread) is keeps =
+next_keeps asked counting boundary now number all event (WakeUp thread starts) is keeps =
     woken_keeps boundary now all (is_of asked number thread && not asked.begin_at_run) (task_at asked number).apart event.time (known_after asked number counting)
     (is.late refl) (is.by refl) (is.ripe refl) keeps
 next_keeps asked counting boundary now number all event (Speed processor khz) is keeps =
@@ -211,7 +211,7 @@ by_counting (Some end) event past P counts_it stays passes =
     switched (Switch previous state next) is both later =
         subst (λ (h : Happening). P (stayed end event.processor h ∷ up_to_time end past)) (sym is)
         (stays end previous state next refl later is (not-true (has_switched event.processor (up_to_time end past)) both.1))
-    switched (WakeUp thread) is both later = absurd (let no : false ≡ true = ap is_switch (sym is) ∙ both.0 in false≢true no)
+    switched (WakeUp thread starts) is both later = absurd (let no : false ≡ true = ap is_switch (sym is) ∙ both.0 in false≢true no)
     switched (Speed processor khz) is both later = absurd (let no : false ≡ true = ap is_switch (sym is) ∙ both.0 in false≢true no)
     switched Loss is both later = absurd (let no : false ≡ true = ap is_switch (sym is) ∙ both.0 in false≢true no)
     switched Marker is both later = absurd (let no : false ≡ true = ap is_switch (sym is) ∙ both.0 in false≢true no)

@@ -20,7 +20,7 @@ asked = asked_of (task_due 41 (codes "t") ∷ [])
 
 -- It is woken at 1000, comes at 1020, and sleeps at this time.
 abbrev ended_at : ℕ → List Said
-ended_at end = reverse (line_of 0 1000 (WakeUp t) ∷ line_of 0 1020 (Switch idle states.GoesOn t) ∷ line_of 0 end (Switch t states.Sleeps idle) ∷ [])
+ended_at end = reverse (line_of 0 1000 (WakeUp t true) ∷ line_of 0 1020 (Switch idle states.GoesOn t) ∷ line_of 0 end (Switch t states.Sleeps idle) ∷ [])
 
 abbrev part : ℕ → Part
 part end = made asked (ended_at end) no_cut None

@@ -152,7 +152,7 @@ this_some time o first is = ap (or_this time) is
 stayed_first : (to processor : ℕ) (happening : Happening) (counting : List Said) (first : ℕ) → first_stamp counting ≡ Some first →
     first_stamp (stayed to processor happening ∷ counting) ≡ Some first
 stayed_first to processor (Switch previous state next) counting first is = this_some to (first_stamp counting) first is
-stayed_first to processor (WakeUp thread) counting first is = is
+stayed_first to processor (WakeUp thread starts) counting first is = is
 stayed_first to processor (Speed other khz) counting first is = is
 stayed_first to processor Loss counting first is = is
 stayed_first to processor Marker counting first is = is
@@ -214,7 +214,7 @@ first_same to past within = by (first_stamp past) refl
 stayed_on : (to processor on : ℕ) (happening : Happening) (counting : List Said) → (on == processor) ≡ false →
     last_time_on processor (stayed to on happening ∷ counting) ≡ last_time_on processor counting
 stayed_on to processor on (Switch previous state next) counting other = ap (λ (b : Bool). if b then Some to else last_time_on processor counting) other
-stayed_on to processor on (WakeUp thread) counting other = refl
+stayed_on to processor on (WakeUp thread starts) counting other = refl
 stayed_on to processor on (Speed one khz) counting other = refl
 stayed_on to processor on Loss counting other = refl
 stayed_on to processor on Marker counting other = refl

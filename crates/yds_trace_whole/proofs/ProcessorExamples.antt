@@ -35,7 +35,7 @@ names_on processor past = map (λ one. one.name) (judged_in_parts (parts_of (on 
 -- From 1000 to 1040 a job runs on processor 0, and from 2000 to 2040 the next one on processor 1.
 abbrev one_each : List Said
 one_each = reverse
-    (line_of 0 1000 (WakeUp t) ∷ line_of 0 1020 comes ∷ line_of 0 1040 sleeps ∷ line_of 0 2000 (WakeUp t) ∷ line_of 1 2020 comes ∷ line_of 1 2040 sleeps ∷ line_of 0 2300 Marker ∷ [])
+    (line_of 0 1000 (WakeUp t true) ∷ line_of 0 1020 comes ∷ line_of 0 1040 sleeps ∷ line_of 0 2000 (WakeUp t true) ∷ line_of 1 2020 comes ∷ line_of 1 2040 sleeps ∷ line_of 0 2300 Marker ∷ [])
 
 -- Each has its own, under the name that it has in the whole trace; and the last part of each is written.
 first_on_0 : names_on 0 one_each ≡ codes "t.0" ∷ []
@@ -85,7 +85,7 @@ other_on_0 same = let release : 100 ≡ 0 = ap first_release same in cc release
 -- It runs on processor 0 until 1040, and goes on on processor 1 until 1160, 60 after its deadline.
 abbrev moved : List Said
 moved = reverse
-    (line_of 0 1000 (WakeUp t) ∷ line_of 0 1020 comes ∷ line_of 0 1040 (Switch t states.GoesOn idle) ∷ line_of 1 1050 comes ∷ line_of 1 1160 sleeps ∷ line_of 0 1300 Marker ∷ [])
+    (line_of 0 1000 (WakeUp t true) ∷ line_of 0 1020 comes ∷ line_of 0 1040 (Switch t states.GoesOn idle) ∷ line_of 1 1050 comes ∷ line_of 1 1160 sleeps ∷ line_of 0 1300 Marker ∷ [])
 
 -- Each processor has the late job, with the work 1 and without its runs.
 late_on_both : map (λ part. map (λ job. job.work) part.settled.document.jobs) (written_parts asked moved) ≡ (1 ∷ []) ∷ (1 ∷ []) ∷ []

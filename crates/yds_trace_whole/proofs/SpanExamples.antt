@@ -21,8 +21,8 @@ asked = record (asked_of (task_due 100 (codes "t") ∷ [])) { others = Some 0 }
 -- `x` runs. `t` is woken at 1000 and comes at 1020; it sleeps at 1040, and `x` goes on; at 2000 it is woken, and comes at 2030.
 abbrev lines : List Said
 lines = reverse
-    (line_of 0 990 (Switch idle states.GoesOn x) ∷ line_of 0 1000 (WakeUp t) ∷ line_of 0 1020 (Switch x states.GoesOn t) ∷ line_of 0 1040 (Switch t states.Sleeps x)
-    ∷ line_of 0 2000 (WakeUp t) ∷ line_of 0 2030 (Switch x states.GoesOn t) ∷ line_of 0 2050 (Switch t states.Sleeps idle) ∷ line_of 0 2300 Marker ∷ [])
+    (line_of 0 990 (Switch idle states.GoesOn x) ∷ line_of 0 1000 (WakeUp t true) ∷ line_of 0 1020 (Switch x states.GoesOn t) ∷ line_of 0 1040 (Switch t states.Sleeps x)
+    ∷ line_of 0 2000 (WakeUp t true) ∷ line_of 0 2030 (Switch x states.GoesOn t) ∷ line_of 0 2050 (Switch t states.Sleeps idle) ∷ line_of 0 2300 Marker ∷ [])
 
 abbrev span : ℕ → ℕ → Span
 span from to = record { name = codes "x"; pid = 9; from = from; to = to }

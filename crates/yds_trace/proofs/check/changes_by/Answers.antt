@@ -1,14 +1,11 @@
-use Rattle.base.proofs.Common.{◌≡◌, ◌∙◌, ℕ, nat_lt, is_some, List, map, sym, ap}
+use Rattle.base.proofs.Common.{◌≡◌, ◌∙◌, ◌||◌, ℕ, Bool, nat_lt, sym, ap}
 use Rattle.yds_kernel.specs.declared.loss.Since.TheVariants as since
-use Rattle.yds_kernel.specs.Views.{thread_read}
-use Rattle.yds_trace.specs.declared.asked.Task.{Task as TaskKept}
-use Rattle.yds_trace.specs.declared.find.Found.{Found}
-use Rattle.yds_trace.specs.declared.step.Whose.{Whose}
-use Rattle.yds_trace.specs.Asked.{task_of}
-use Rattle.yds_trace.specs.Finding.{found, whose_found}
-use Rattle.yds_trace.specs.Past.{lost_since, whole_since, has_switched, up_to}
-use Rattle.yds_trace.specs.Views.{start_read, asked_read, task_read}
-use Rattle.yds_trace.proofs.Written.{or_none, both_on, both_off}
+use Rattle.yds_kernel.specs.Event.{Switch}
+use Rattle.yds_kernel.specs.Views.{event_read, thread_read}
+use Rattle.yds_trace.specs.Parts.{came_back}
+use Rattle.yds_trace.specs.Past.{lost_since}
+use Rattle.yds_trace.specs.Views.{start_read, asked_read}
+use Rattle.yds_trace.proofs.Written.{or_none}
 use Rattle.yds_trace.proofs.check.changes_by.Goals as goal
 
 pub returns-in-Loss : goal.returns-in-Loss
@@ -16,23 +13,16 @@ returns-in-Loss c = λ past lines is.
     rw c.in-Loss.is (ap (λ (time : ℕ). nat_lt time c.args.cut.decided) (c.lost_since.ensures (start_read c.args.asked.now.start) past lines.times)
     ∙ or_none (nat_lt (lost_since c.args.event.now.processor since.ItsLastLine past) c.args.cut.decided))
 
-pub returns-then-is_new : goal.returns-then-is_new
-returns-then-is_new c = λ past lines is.
-    let same : c.is_some.result ≡ is_some (task_of (asked_read c.args.asked.now).tasks (thread_read c.in-Switch.previous)) =
-    c.is_some.ensures
-    ∙ ap (λ (whose : Whose). is_some whose.number) c.whose.ensures
-    ∙ ap (λ (tasks : Found). is_some (whose_found tasks).number) c.find.ensures
-    ∙ ap (λ (tasks : List TaskKept). is_some (whose_found (found (map task_read tasks) (thread_read c.in-Switch.previous))).number) c.deref.ensures.value in
-    rw c.in-Switch.is (same
-    ∙ both_on (is_some (task_of (asked_read c.args.asked.now).tasks (thread_read c.in-Switch.previous)))
-    (has_switched c.args.event.now.processor (up_to c.args.asked.now.to past))
-    (nat_lt (whole_since c.args.event.now.time (up_to c.args.asked.now.to past)) c.args.cut.boundary)
-    (sym (c.is_new.ensures (start_read c.args.asked.now.start) (up_to c.args.asked.now.to past) is.times) ∙ c.if-is_new.true))
+pub returns-then-was_there : goal.returns-then-was_there
+returns-then-was_there c = λ past lines is.
+    rw c.in-Switch.is (c.if-was_there.true
+    ∙ ap (λ (there : Bool). there || came_back (asked_read c.args.asked.now) past c.args.cut (event_read c.args.event.now)
+    (Switch (thread_read c.in-Switch.previous) c.in-Switch.state (thread_read c.in-Switch.next)))
+    (sym c.if-was_there.true ∙ c.was_there.ensures past is c.in-Switch.state (thread_read c.in-Switch.next)))
 
-pub returns-else-is_new : goal.returns-else-is_new
-returns-else-is_new c = λ past lines is.
-    rw c.in-Switch.is (c.if-is_new.false
-    ∙ both_off (is_some (task_of (asked_read c.args.asked.now).tasks (thread_read c.in-Switch.previous)))
-    (has_switched c.args.event.now.processor (up_to c.args.asked.now.to past))
-    (nat_lt (whole_since c.args.event.now.time (up_to c.args.asked.now.to past)) c.args.cut.boundary)
-    (sym (c.is_new.ensures (start_read c.args.asked.now.start) (up_to c.args.asked.now.to past) is.times) ∙ c.if-is_new.false))
+pub returns-else-was_there : goal.returns-else-was_there
+returns-else-was_there c = λ past lines is.
+    rw c.in-Switch.is (c.comes_back.ensures past is (thread_read c.in-Switch.previous) c.in-Switch.state
+    ∙ ap (λ (there : Bool). there || came_back (asked_read c.args.asked.now) past c.args.cut (event_read c.args.event.now)
+    (Switch (thread_read c.in-Switch.previous) c.in-Switch.state (thread_read c.in-Switch.next)))
+    (sym c.if-was_there.false ∙ c.was_there.ensures past is c.in-Switch.state (thread_read c.in-Switch.next)))

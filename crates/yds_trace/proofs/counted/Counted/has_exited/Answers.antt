@@ -1,0 +1,11 @@
+use Rattle.base.proofs.Common.{◌∙◌, refl}
+use Rattle.yds_trace.specs.Faults.{has_exited}
+use Rattle.yds_trace.specs.Jobs.{Known}
+use Rattle.yds_trace.proofs.Counting.{said_of_last}
+use Rattle.yds_trace.proofs.counted.Counted.has_exited.Goals as goal
+
+pub returns-in-Some : goal.returns-in-Some
+returns-in-Some c = λ asked counting is within.
+    c.has_exited.ensures
+    ∙ said_of_last (λ (known : Known). has_exited known.jobs) (λ job jobs others on woken. refl) asked counting c.args.self.now.boundary c.args.number c.in-Some.followed.now
+    (rw (c.in-Some.ensures.lookup.1, c.deref.ensures.value) (is.tasks c.args.number _ within))
