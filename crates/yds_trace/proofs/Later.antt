@@ -4,10 +4,10 @@ use Rattle.std.proofs.lemmas.Bool.{ltb-true, ltb-false, le-ltb}
 use Rattle.yds_kernel.specs.declared.loss.Since.TheVariants as since
 use Rattle.yds_kernel.specs.Event.{Happening, Switch, WakeUp, Speed, Loss, Marker, Other, Event, Said, Stamped, Lost, Nothing}
 use Rattle.yds_trace.specs.declared.cut.Cut.{Cut}
-use Rattle.yds_trace.specs.Asked.{Asked, task_of, is_before_to}
+use Rattle.yds_trace.specs.Asked.{Asked, task_of}
 use Rattle.yds_trace.specs.Jobs.{Known, known_after}
 use Rattle.yds_trace.specs.Past.{is_loss, lost_since, has_switched, whole_since, up_to}
-use Rattle.yds_trace.specs.Parts.{last_begin, later, reaches_back, was_there_before, has_ended, sleeps_before, came_back, changes_parts}
+use Rattle.yds_trace.specs.Parts.{last_begin, later, reaches_back, was_there_before, has_ended, sleeps_before, woken_before, is_known_so, wakes_at, came_back, changes_parts}
 
 before_by : (time a b : ℕ) (first second : Bool) → nat_lt time a ≡ first → nat_lt time b ≡ second → nat_lt time (max a b) ≡ (first || second)
 before_by time a b true second first_is second_is = lt-ltb time (max a b) (let early : time < a = ltb-true time a first_is in omega (arith, early))
@@ -28,11 +28,6 @@ ands_either true true p q = refl
 ands_either true false p q = refl
 ands_either false y p q = refl
 
-behind_ands : (x y p q r s : Bool) → (x && y && (p && q && (r || s))) ≡ ((x && y && (p && q && r)) || (x && y && (p && q && s)))
-behind_ands true true p q r s = ands_either p q r s
-behind_ands true false p q r s = refl
-behind_ands false y p q r s = refl
-
 crossed : (p q r s : Bool) → ((p || q) || (r || s)) ≡ ((p || r) || (q || s))
 crossed true q r s = refl
 crossed false true true s = refl
@@ -52,22 +47,39 @@ there_either asked past cut other event Loss = refl
 there_either asked past cut other event Marker = refl
 there_either asked past cut other event Other = refl
 
-back_if : (asked : Asked) (past : List Said) (a b : ℕ) (event : Event) (found : Option ℕ) →
-    (elim found as (λ _. Bool) [ None ↦ false | Some number ↦ is_before_to asked.to event.time && not asked.begin_at_run && sleeps_before (max a b) (known_after asked number (up_to asked.to past)) ])
-    ≡ ((elim found as (λ _. Bool) [ None ↦ false | Some number ↦ is_before_to asked.to event.time && not asked.begin_at_run && sleeps_before a (known_after asked number (up_to asked.to past)) ])
-    || (elim found as (λ _. Bool) [ None ↦ false | Some number ↦ is_before_to asked.to event.time && not asked.begin_at_run && sleeps_before b (known_after asked number (up_to asked.to past)) ]))
-back_if asked past a b event None = refl
-back_if asked past a b event (Some number) =
-    let known : Known = known_after asked number (up_to asked.to past) in
-    ap (λ (early : Bool). is_before_to asked.to event.time && not asked.begin_at_run && (known.woken.seen && has_ended known.jobs && early))
-    (before_either (last_begin known.jobs) a b)
-    ∙ behind_ands (is_before_to asked.to event.time) (not asked.begin_at_run) known.woken.seen (has_ended known.jobs)
-    (nat_lt (last_begin known.jobs) a) (nat_lt (last_begin known.jobs) b)
+-- what is known of a thread meets this behind the later of two boundaries
+so_either : (asked : Asked) (past : List Said) (first second both : Known → Bool) → ((known : Known) → both known ≡ (first known || second known)) → (found : Option ℕ) →
+    (elim found as (λ _. Bool) [ None ↦ false | Some number ↦ both (known_after asked number (up_to asked.to past)) ])
+    ≡ ((elim found as (λ _. Bool) [ None ↦ false | Some number ↦ first (known_after asked number (up_to asked.to past)) ])
+    || (elim found as (λ _. Bool) [ None ↦ false | Some number ↦ second (known_after asked number (up_to asked.to past)) ]))
+so_either asked past first second both each None = refl
+so_either asked past first second both each (Some number) = each (known_after asked number (up_to asked.to past))
+
+sleeps_either : (a b : ℕ) (known : Known) → sleeps_before (max a b) known ≡ (sleeps_before a known || sleeps_before b known)
+sleeps_either a b known =
+    ap (λ (early : Bool). known.woken.seen && has_ended known.jobs && early) (before_either (last_begin known.jobs) a b)
+    ∙ ands_either known.woken.seen (has_ended known.jobs) (nat_lt (last_begin known.jobs) a) (nat_lt (last_begin known.jobs) b)
+
+woken_either : (a b : ℕ) (known : Known) → woken_before (max a b) known ≡ (woken_before a known || woken_before b known)
+woken_either a b known =
+    ap (λ (sleeps : Bool). is_some known.woken.started && sleeps) (sleeps_either a b known)
+    ∙ and_either (is_some known.woken.started) (sleeps_before a known) (sleeps_before b known)
 
 back_either : (asked : Asked) (past : List Said) (cut other : Cut) (event : Event) (happening : Happening) →
     came_back asked past (later cut other) event happening ≡ (came_back asked past cut event happening || came_back asked past other event happening)
-back_either asked past cut other event (Switch previous state next) = back_if asked past cut.boundary other.boundary event (task_of asked.tasks next)
-back_either asked past cut other event (WakeUp thread starts) = refl
+back_either asked past cut other event (Switch previous state next) =
+    ap (λ (so : Bool). wakes_at asked event && so)
+    (so_either asked past (sleeps_before cut.boundary) (sleeps_before other.boundary) (sleeps_before (max cut.boundary other.boundary))
+    (sleeps_either cut.boundary other.boundary) (task_of asked.tasks next))
+    ∙ and_either (wakes_at asked event) (is_known_so asked past next (sleeps_before cut.boundary)) (is_known_so asked past next (sleeps_before other.boundary))
+back_either asked past cut other event (WakeUp thread starts) =
+    ap (λ (so : Bool). wakes_at asked event && (not starts && so))
+    (so_either asked past (woken_before cut.boundary) (woken_before other.boundary) (woken_before (max cut.boundary other.boundary))
+    (woken_either cut.boundary other.boundary) (task_of asked.tasks thread))
+    ∙ ap (λ (so : Bool). wakes_at asked event && so)
+    (and_either (not starts) (is_known_so asked past thread (woken_before cut.boundary)) (is_known_so asked past thread (woken_before other.boundary)))
+    ∙ and_either (wakes_at asked event) (not starts && is_known_so asked past thread (woken_before cut.boundary))
+    (not starts && is_known_so asked past thread (woken_before other.boundary))
 back_either asked past cut other event (Speed processor khz) = refl
 back_either asked past cut other event Loss = refl
 back_either asked past cut other event Marker = refl

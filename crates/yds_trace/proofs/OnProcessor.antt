@@ -19,7 +19,7 @@ use Rattle.yds_trace.specs.Jobs.{Job, Known, stands_on, after_event, loses, know
 use Rattle.yds_trace.specs.Late.{last_asked}
 use Rattle.yds_trace.specs.Document.{Judged, closed, jobs_of, began_before}
 use Rattle.yds_trace.specs.Faults.{pid_in, pid_before, is_another, is_two_tasks, has_exited, thread_fault, first_thread_fault, state_fault, is_unwoken, needs_wake_ups, unwoken_fault, both_fault, happening_fault, is_torn, stamped_fault, place_fault, runs_on, touches, touched, length_fault, said_fault, numbered, first_fault, wakes_task, has_wake_up}
-use Rattle.yds_trace.specs.Parts.{last_begin, last_begin_of, is_over, is_settled, may_write, reaches_back, was_there_before, sleeps_before, came_back, changes_parts}
+use Rattle.yds_trace.specs.Parts.{last_begin, last_begin_of, is_over, is_settled, may_write, reaches_back, was_there_before, sleeps_before, woken_before, wakes_at, came_back, changes_parts}
 use Rattle.yds_trace.specs.Kept.{IsFollowed, AreOthers, IsCounted, IsLines}
 use Rattle.yds_trace.specs.Others.{Span, Spans, is_waiting, one_waits, any_waits, who_has, other_of, in_the_way, ended_at, spans_by, spans_after, spans_on, others_of, goes_behind, others_from}
 use Rattle.yds_trace.specs.Shown.{IsShownTask, IsShown}
@@ -228,20 +228,18 @@ first_fault_on asked processor (said ∷ past) =
     ap₂ (λ before (fault : Option Cause). or_else before (numbered (length past + 1) fault)) (first_fault_on asked processor past)
     (said_fault_on asked processor past said)
 
-back_on : (asked : Asked) (processor : ℕ) (past : List Said) (boundary : ℕ) (event : Event) (found : Option ℕ) →
-    (elim found as (λ _. Bool) [ None ↦ false | Some number ↦ is_before_to asked.to event.time && not asked.begin_at_run
-      && sleeps_before boundary (known_after (on processor asked) number (up_to asked.to past)) ])
-    ≡ (elim found as (λ _. Bool) [ None ↦ false | Some number ↦ is_before_to asked.to event.time && not asked.begin_at_run
-      && sleeps_before boundary (known_after asked number (up_to asked.to past)) ])
-back_on asked processor past boundary event None = refl
-back_on asked processor past boundary event (Some number) =
-    ap (λ (known : Known). is_before_to asked.to event.time && not asked.begin_at_run && sleeps_before boundary known)
-    (known_after_on asked processor number (up_to asked.to past))
+so_on : (asked : Asked) (processor : ℕ) (past : List Said) (test : Known → Bool) (found : Option ℕ) →
+    (elim found as (λ _. Bool) [ None ↦ false | Some number ↦ test (known_after (on processor asked) number (up_to asked.to past)) ])
+    ≡ (elim found as (λ _. Bool) [ None ↦ false | Some number ↦ test (known_after asked number (up_to asked.to past)) ])
+so_on asked processor past test None = refl
+so_on asked processor past test (Some number) = ap test (known_after_on asked processor number (up_to asked.to past))
 
 came_back_on : (asked : Asked) (processor : ℕ) (past : List Said) (cut : Cut) (event : Event) (happening : Happening) →
     came_back (on processor asked) past cut event happening ≡ came_back asked past cut event happening
-came_back_on asked processor past cut event (Switch previous state next) = back_on asked processor past cut.boundary event (task_of asked.tasks next)
-came_back_on asked processor past cut event (WakeUp thread starts) = refl
+came_back_on asked processor past cut event (Switch previous state next) =
+    ap (λ (so : Bool). wakes_at asked event && so) (so_on asked processor past (sleeps_before cut.boundary) (task_of asked.tasks next))
+came_back_on asked processor past cut event (WakeUp thread starts) =
+    ap (λ (so : Bool). wakes_at asked event && (not starts && so)) (so_on asked processor past (woken_before cut.boundary) (task_of asked.tasks thread))
 came_back_on asked processor past cut event (Speed there khz) = refl
 came_back_on asked processor past cut event Loss = refl
 came_back_on asked processor past cut event Marker = refl

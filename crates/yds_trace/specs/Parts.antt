@@ -5,7 +5,7 @@
 use Rattle.std.specs.Prelude.{ℕ, zero, suc, ◌+◌, ◌%◌, List, [], ◌∷◌, ◌++◌, map, filter, length, sum_by, count_by, max, Bool, true, false, not, ◌==◌, ◌&&◌, ◌||◌, nat_lt, nat_le, if◌then◌else◌, Option, Some, None, is_some}
 use Rattle.std.specs.List.{list_any, list_all}
 use Rattle.yds_kernel.specs.declared.loss.Since.TheVariants as since
-use Rattle.yds_kernel.specs.Event.{Said, Stamped, Lost, Nothing, Event, Happening, Switch}
+use Rattle.yds_kernel.specs.Event.{Said, Stamped, Lost, Nothing, Event, Happening, Switch, WakeUp, Thread}
 use Rattle.yds_kernel.specs.Parts.{or_else, capped}
 use Rattle.yds_trace.specs.declared.cut.Cut.{Cut}
 use Rattle.yds_trace.specs.declared.fault.Cause.{Cause}
@@ -221,13 +221,26 @@ has_ended (job ∷ jobs) = elim job.end [
 abbrev pub sleeps_before : ℕ → Known → Bool
 sleeps_before boundary known = known.woken.seen && has_ended known.jobs && nat_lt (last_begin known.jobs) boundary
 
--- Such a thread comes. So the job goes on, or another one began before that end.
-abbrev pub came_back : Asked → List Said → Cut → Event → Happening → Bool
-came_back asked past cut event (Switch previous state next) = elim (task_of asked.tasks next) [
+-- And a wake-up was started before it left.
+abbrev pub woken_before : ℕ → Known → Bool
+woken_before boundary known = is_some known.woken.started && sleeps_before boundary known
+
+-- whether what is known of the task that the thread is meets a test
+abbrev pub is_known_so : Asked → List Said → Thread → (Known → Bool) → Bool
+is_known_so asked past thread test = elim (task_of asked.tasks thread) [
   | None ↦ false
-  | Some number ↦ is_before_to asked.to event.time && not asked.begin_at_run
-      && sleeps_before cut.boundary (known_after asked number (up_to asked.to past))
+  | Some number ↦ test (known_after asked number (up_to asked.to past))
 ]
+
+-- The event counts, and jobs begin at wake-ups.
+abbrev pub wakes_at : Asked → Event → Bool
+wakes_at asked event = is_before_to asked.to event.time && not asked.begin_at_run
+
+-- Such a thread comes, or that wake-up is done: its last job goes on, or another one began before that end.
+abbrev pub came_back : Asked → List Said → Cut → Event → Happening → Bool
+came_back asked past cut event (Switch previous state next) = wakes_at asked event && is_known_so asked past next (sleeps_before cut.boundary)
+came_back asked past cut event (WakeUp thread starts) =
+    wakes_at asked event && (not starts && is_known_so asked past thread (woken_before cut.boundary))
 came_back asked past cut event _ = false
 
 abbrev pub changes_parts : Asked → List Said → Cut → Said → Bool

@@ -1,12 +1,12 @@
 //! What a line, or a whole trace, is refused for.
-ghost use Rattle.std.specs.Prelude.{◌≡◌, List};
+ghost use Rattle.std.specs.Prelude.{◌≡◌, List, false};
 ghost use Rattle.yds_kernel.specs.Event as trace;
 ghost use Rattle.yds_kernel.specs.declared.state.State.{State};
 ghost use Rattle.yds_kernel.specs.Views.{event_read, said_read, thread_read};
 ghost use Rattle.yds_trace.specs.Faults as spec;
 ghost use Rattle.yds_trace.specs.Finding.{first_found, second_found};
 ghost use Rattle.yds_trace.specs.Kept.{IsCounted, IsLines};
-ghost use Rattle.yds_trace.specs.Parts.{came_back, changes_parts, part_fault, was_there_before};
+ghost use Rattle.yds_trace.specs.Parts.{came_back, changes_parts, part_fault, wakes_at, was_there_before};
 ghost use Rattle.yds_trace.specs.Passing.{fault_in};
 ghost use Rattle.yds_trace.specs.Past.{up_to};
 ghost use Rattle.yds_trace.specs.Views.{asked_read};
@@ -167,8 +167,10 @@ fn changes_by(asked: &Asked, lines: &Lines, counted: &Counted, event: &Event<'_>
             was_there(asked, counted, event, previous, cut)
                 || comes_back(asked, counted, event, next, cut)
         }
-        Happening::WakeUp { .. } | Happening::Speed { .. } | Happening::Marker | Happening::Other =>
-            false,
+        Happening::WakeUp { thread, starts } => {
+            !starts && is_woken_back(asked, counted, event, thread, cut)
+        }
+        Happening::Speed { .. } | Happening::Marker | Happening::Other => false,
     }
 }
 
@@ -202,12 +204,34 @@ fn comes_back(
         → (previous : trace.Thread) (state : State)
         → result ≡ came_back (asked_read asked.now) past cut (event_read event.now) (trace.Switch previous state (thread_read next.entry)) }
 {
-    match find(&asked.tasks, next).whose().number {
-        Some(number) => {
-            is_before_to(asked.to, event.time)
-                && !asked.begin_at_run
-                && counted.sleeps_before(number, cut.boundary)
+    wakes_at(asked, event)
+        && match find(&asked.tasks, next).whose().number {
+            Some(number) => counted.sleeps_before(number, cut.boundary),
+            None => false,
         }
-        None => false,
-    }
+}
+
+/// Whether the wake-up of a listed thread is done that was started before it left to sleep, and its last job began before the parts that wait.
+fn is_woken_back(
+    asked: &Asked,
+    counted: &Counted,
+    event: &Event<'_>,
+    thread: Thread<'_>,
+    cut: Cut,
+) -> bool
+    ensures { (past : List trace.Said) → IsCounted (asked_read asked.now) (up_to asked.now.to past) counted.now
+        → result ≡ came_back (asked_read asked.now) past cut (event_read event.now) (trace.WakeUp (thread_read thread.entry) false) }
+{
+    wakes_at(asked, event)
+        && match find(&asked.tasks, thread).whose().number {
+            Some(number) => counted.woken_before(number, cut.boundary),
+            None => false,
+        }
+}
+
+/// Whether an event counts, and jobs begin at wake-ups.
+fn wakes_at(asked: &Asked, event: &Event<'_>) -> bool
+    ensures { result ≡ wakes_at (asked_read asked.now) (event_read event.now) }
+{
+    is_before_to(asked.to, event.time) && !asked.begin_at_run
 }

@@ -11,7 +11,7 @@ ghost use Rattle.yds_trace.specs.Kept.{AreOthersOf, IsCounted, IsLines};
 ghost use Rattle.yds_trace.specs.Others.{any_waits};
 ghost use Rattle.yds_trace.specs.Past.{last_time, up_to, counts as spec_counts};
 ghost use Rattle.yds_trace.specs.Steps.{first_in, second_in, step_of};
-ghost use Rattle.yds_trace.specs.Parts.{sleeps_before};
+ghost use Rattle.yds_trace.specs.Parts.{sleeps_before, woken_before};
 ghost use Rattle.yds_trace.specs.Passing.{IsRefusedFor, fault_in};
 ghost use Rattle.yds_trace.specs.Views.{asked_read, span_read, task_read};
 
@@ -219,6 +219,17 @@ impl Counted {
     {
         match self.tasks.get(number) {
             Some(followed) => followed.known.sleeps_before(boundary),
+            None => false,
+        }
+    }
+
+    /// The same, where a wake-up was started before it left.
+    pub(crate) fn woken_before(&self, number: usize, boundary: u64) -> bool
+        ensures { (asked : asking.Asked) (counting : List trace.Said) → IsCounted asked counting self.now → number < length asked.tasks
+            → result ≡ woken_before boundary (known_after asked number counting) }
+    {
+        match self.tasks.get(number) {
+            Some(followed) => followed.known.woken_before(boundary),
             None => false,
         }
     }

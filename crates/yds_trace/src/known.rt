@@ -2,7 +2,7 @@
 ghost use Rattle.std.specs.Prelude.{◌≡◌, OnOk};
 ghost use Rattle.yds_trace.specs.Jobs as spec;
 ghost use Rattle.yds_trace.specs.Faults.{is_unwoken};
-ghost use Rattle.yds_trace.specs.Parts.{sleeps_before};
+ghost use Rattle.yds_trace.specs.Parts.{sleeps_before, woken_before};
 ghost use Rattle.yds_trace.specs.Steps.{stepped};
 ghost use Rattle.yds_trace.specs.Views.{jobs_listed, known_read};
 
@@ -155,13 +155,7 @@ impl Known {
     }
 
     /// It is woken: a wake-up is started, or was done.
-    pub fn wake(
-        &mut self,
-        alloc: Global,
-        apart: u64,
-        starts: bool,
-        time: u64,
-    ) -> Result<(), Memory>
+    pub fn wake(&mut self, alloc: Global, apart: u64, starts: bool, time: u64) -> Result<(), Memory>
         ensures { OnOk result (known_read self.new ≡ spec.wakes_up apart starts time (known_read self.old)) }
     {
         let begin = woken_at(starts, time, self.woken.started);
@@ -235,7 +229,11 @@ impl Known {
         self.on = None;
         self.woken = Woken {
             came: false,
-            started: if state == State::Sleeps { started } else { None },
+            started: if state == State::Sleeps {
+                started
+            } else {
+                None
+            },
             seen: true,
         };
         Ok(())
@@ -273,6 +271,13 @@ impl Known {
         ensures { result ≡ sleeps_before boundary (known_read self.now) }
     {
         self.woken.seen && has_ended(&self.jobs) && last_begin(&self.jobs) < boundary
+    }
+
+    /// The same, where a wake-up was started before it left.
+    pub(crate) fn woken_before(&self, boundary: u64) -> bool
+        ensures { result ≡ woken_before boundary (known_read self.now) }
+    {
+        self.woken.started.is_some() && self.sleeps_before(boundary)
     }
 }
 

@@ -15,7 +15,7 @@ use Rattle.yds_trace.specs.WrittenTime.{Units, written_time, runs_end}
 use Rattle.yds_trace.specs.Document.{named, Judged, judged, judged_of, judged_from, all_judged, began_before, jobs_of, shares_of, stands, written_end, written_name, written_runs}
 use Rattle.yds_trace_laws.proofs.Ordered.{filter-all, in_order-all, append-all, map-all}
 use Rattle.yds_trace_document.specs.Settled.{Settled, judged_by_task}
-use Rattle.yds_trace_text.specs.Text.{told, comment, nine_digits, six_digits, in_seconds, in_milliseconds, behind_point, counted, head_line, cycles, units_line, reason_text, behind_deadline, signed_time, window_text, how_late, without_runs_comment, late_kind, standing_comment, late_comment, first_begin, begin_later, end_comment, begins_comment, end_earlier, end_is_told, ends_comment, shown_comments, every_reason, is_left_out_for, first_name, last_name, Group, group_of, group_for, groups_of_task, has_jobs, groups_of, all_groups, most_first, one_left_out, some_left_out, group_comment, is_cut_off, cut_off_comment, left_out_comments, short_stretches, is_or_are, some_short, short_comment, length_of, wake_ups_of, most_woken, woken_comment, wake_up_comment, known_begins, mean_distance, distance_comment, unit_comment, deadline_comment, apart_comment, task_unit_comments, all_unit_comments, shown_byte, other_comment, left_out_text, its_or_their, late_without, without_runs_text, up_to_here, lack_comment, no_line_text, is_long, long_comment, pause_comment, tally_comments, last_line, comments_text}
+use Rattle.yds_trace_text.specs.Text.{told, comment, nine_digits, six_digits, in_seconds, in_milliseconds, behind_point, counted, head_line, cycles, units_line, reason_text, behind_deadline, signed_time, window_text, how_late, without_runs_comment, late_kind, standing_comment, late_comment, first_begin, begin_later, end_comment, begins_comment, end_earlier, end_is_told, ends_comment, standing_comments, exited_comment, slept_comment, thread_comments, shown_comments, every_reason, is_left_out_for, first_name, last_name, Group, group_of, group_for, groups_of_task, has_jobs, groups_of, all_groups, most_first, one_left_out, some_left_out, group_comment, is_cut_off, cut_off_comment, left_out_comments, short_stretches, is_or_are, some_short, short_comment, length_of, wake_ups_of, most_woken, woken_comment, wake_up_comment, known_begins, mean_distance, distance_comment, unit_comment, deadline_comment, apart_comment, task_unit_comments, all_unit_comments, shown_byte, other_comment, left_out_text, its_or_their, late_without, without_runs_text, up_to_here, lack_comment, no_line_text, is_long, long_comment, pause_comment, tally_comments, last_line, comments_text}
 use Rattle.yds_texts.proofs.Brought.{Leads, Leads-nil, Leads-append, Leads-comment}
 use Rattle.yds_trace_again.specs.Laws.{AreLabelled}
 use Rattle.yds_trace_again.proofs.Plain.{is_other, is_other_true, Plain, plain_all, plain_append, plain_told, plain_if, plain_drop, plain_decimal, name_plain}
@@ -175,10 +175,23 @@ ends_silent P units one name =
     (end_comment (codes "ends: ") (written_name one) (written_end units one.job.end)) []
     (end_silent P (codes "ends: ") (written_name one) (written_end units one.job.end) refl name) (Leads-nil P)
 
+named_silent : (P : List Entry → Type 0) (test : Bool) (what : List ℕ) (one : Judged) → Plain what → HasPlainName one →
+    Silent P (if test then comment (what ∷ written_name one ∷ []) else [])
+named_silent P test what one plain name =
+    silent_if P test (comment (what ∷ written_name one ∷ [])) [] (silent_comment P (what ∷ written_name one ∷ []) (plain, (name, tt))) (Leads-nil P)
+
+thread_silent : (P : List Entry → Type 0) (one : Judged) → HasPlainName one → Silent P (thread_comments one)
+thread_silent P one name =
+    silent_if P (is_left_out one) [] (exited_comment one ++ slept_comment one) (Leads-nil P)
+    (silent_both P (exited_comment one) (slept_comment one) (named_silent P one.job.exited (codes "exited: ") one refl name)
+    (named_silent P (is_some one.job.slept) (codes "went on behind a sleep without a wake-up: ") one refl name))
+
 shown_silent : (P : List Entry → Type 0) (units : Units) (one : Judged) → HasPlainName one → Silent P (shown_comments units one)
 shown_silent P units one name =
-    silent_if P (stands one) (begins_comment units one ++ ends_comment units one) []
-    (silent_both P (begins_comment units one) (ends_comment units one) (begins_silent P units one name) (ends_silent P units one name)) (Leads-nil P)
+    silent_both P (standing_comments units one) (thread_comments one)
+    (silent_if P (stands one) (begins_comment units one ++ ends_comment units one) []
+    (silent_both P (begins_comment units one) (ends_comment units one) (begins_silent P units one name) (ends_silent P units one name)) (Leads-nil P))
+    (thread_silent P one name)
 
 -- # Jobs that are left out
 

@@ -78,9 +78,9 @@ is_asked_for (Some reasons.BeforeFrom) = true
 is_asked_for (Some reasons.AfterTo) = true
 is_asked_for _ = false
 
--- A job that doesn't stand as it is, where that isn't for `from` or `to`, or where it is late.
+-- A job that doesn't stand as it is, where that isn't for `from` or `to`, or where it is late; or one with which its thread was over.
 abbrev pub is_missed : Judged → Bool
-is_missed judged = not (stands judged) && (is_some judged.late || not (is_asked_for judged.reason))
+is_missed judged = if stands judged then judged.job.exited else (is_some judged.late || not (is_asked_for judged.reason))
 
 -- # The first fault
 

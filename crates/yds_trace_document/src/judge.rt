@@ -56,12 +56,12 @@ fn is_open(end: End) -> bool
     }
 }
 
-/// Whether a deadline lies within what is asked for.
-fn is_judged(from: Option<u64>, last: u64, deadline: u64) -> bool
-    ensures { result ≡ spec.is_judged from last deadline }
+/// Whether a job that was open until this time was so behind `from`, and its deadline isn't after the end.
+fn is_judged(from: Option<u64>, last: u64, deadline: u64, shown: u64) -> bool
+    ensures { result ≡ spec.is_judged from last deadline shown }
 {
     match from {
-        Some(from) => from < deadline && deadline <= last,
+        Some(from) => from < shown && deadline <= last,
         None => deadline <= last,
     }
 }
@@ -71,7 +71,7 @@ fn late_by(from: Option<u64>, last: u64, deadline: u64, end: End) -> Option<u64>
     ensures { result ≡ spec.late_by from last deadline end }
 {
     let until = shown_until(last, end);
-    if is_judged(from, last, deadline)
+    if is_judged(from, last, deadline, until)
         && (deadline < until || (deadline == until && is_open(end)))
     {
         Some(until.saturating_sub(deadline))

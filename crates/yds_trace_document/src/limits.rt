@@ -265,12 +265,12 @@ fn first_missed(judged: &[Judged<'_>]) -> Option<usize>
     judged.iter().position(|one| is_missed(one))
 }
 
-/// Whether a job doesn't stand as it is, where that isn't for `from` or `to`, or where it is late.
+/// Whether a job doesn't stand as it is, where that isn't for `from` or `to`, or where it is late; or its thread was over with it.
 fn is_missed(judged: &Judged<'_>) -> bool
     ensures { result ≡ spec.is_missed (judged_read judged.now) }
 {
     match judged.reason {
-        None => false,
+        None => judged.job.exited,
         Some(Reason::BeforeFrom | Reason::AfterTo) => judged.late.is_some(),
         Some(_) => true,
     }

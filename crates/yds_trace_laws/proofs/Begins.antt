@@ -24,6 +24,7 @@ HasBegin P job = P job.begin
 pub begin_kept : (P : ℕ → Type 0) → IsKept (HasBegin P)
 begin_kept P = record {
   open_again = λ job is. is;
+  slept = λ time job is. is;
   woken = woken;
   torn = λ job is. is;
   longer = λ stretch job is. is;
@@ -42,6 +43,7 @@ begin_allowed P time now = record { new = λ certain. now; by = λ job is. now }
 pub begin_ends : (P : ℕ → Type 0) (happening : Happening) → EndsAt (HasBegin P) happening
 begin_ends P (Switch previous states.GoesOn next) = tt
 begin_ends P (Switch previous states.Sleeps next) = λ time job is. is
+begin_ends P (Switch previous states.Exits next) = λ time job is. is
 begin_ends P (Switch previous states.Unknown next) = tt
 begin_ends P (WakeUp thread starts) = tt
 begin_ends P (Speed processor khz) = tt

@@ -7,9 +7,10 @@ use Rattle.yds_trace.specs.declared.job.End.{End}
 use Rattle.yds_trace.specs.declared.job.End.TheVariants as ends
 use Rattle.yds_trace.specs.declared.job.Standing.{Standing}
 use Rattle.yds_trace.specs.declared.job.Leaving.{Leaving}
+use Rattle.yds_trace.specs.declared.job.Woken.{Woken}
 use Rattle.yds_trace.specs.Asked.{Asked, task_at, is_of}
 use Rattle.yds_trace.specs.Past.{is_first_switch, counts, stayed, up_to_time, up_to, speed_after}
-use Rattle.yds_trace.specs.Jobs.{Job, Known, began, reopened, woken_after, counted as counted_job, woken_jobs, awake_jobs, running_jobs, changed_last, ended, missing, ran, left_unseen, vanished, stands_on, passed_by, comes, has_no_switch, begun_by, begun_at_most, stretch_of, left_from, left_in, leaves, wakes_up, lost_earlier, lost_jobs, leaving_at, left_if, after_switch, after_event, known_after}
+use Rattle.yds_trace.specs.Jobs.{Job, Known, began, reopened, woken_after, counted as counted_job, woken_jobs, awake_jobs, went_on, back_jobs, come_jobs, running_jobs, changed_last, ended, exits, missing, ran, left_unseen, vanished, stands_on, passed_by, comes, has_no_switch, begun_by, begun_at_most, stretch_of, left_from, left_in, leaves, woken_at, left_started, wakes_up, lost_job, lost_earlier, lost_jobs, leaving_at, left_if, after_switch, after_event, known_after}
 use Rattle.yds_trace.specs.Late.{last_asked}
 use Rattle.yds_trace.specs.Document.{closed, jobs_of}
 
@@ -56,6 +57,24 @@ awake_few time n (job ∷ jobs) few =
     (λ last. began time false (job ∷ jobs)) (omega (arith, few)) (λ end. few)
     (λ last goes_on. if_few goes_on n (reopened job ∷ jobs) (began time false (job ∷ jobs)) (omega (arith, few)) few) (λ last. few)
 
+slept_few : (slept : Option ℕ) (time end n : ℕ) (job : Job) (jobs : List Job) → suc (suc (length jobs)) ≤ n →
+    length {A = Job} (elim slept [ None ↦ went_on end job ∷ jobs | Some first ↦ began time false (lost_job first job ∷ jobs) ]) ≤ n
+slept_few None time end n job jobs few = omega (arith, few)
+slept_few (Some first) time end n job jobs few = few
+
+back_few : (apart time end : ℕ) (started : Option ℕ) (n : ℕ) (job : Job) (jobs : List Job) → suc (suc (length jobs)) ≤ n →
+    length (back_jobs apart time end started job jobs) ≤ n
+back_few apart time end None n job jobs few = slept_few job.slept time end n job jobs few
+back_few apart time end (Some woken) n job jobs few = woken_after_few apart woken n job jobs few
+
+come_few : (apart time : ℕ) (woken : Woken) (n : ℕ) (jobs : List Job) → suc (length jobs) ≤ n → length (come_jobs apart time woken jobs) ≤ n
+come_few apart time woken n [] few = few
+come_few apart time woken n (job ∷ jobs) few =
+    by_end job.end n (job ∷ jobs) (λ end. if woken.seen then back_jobs apart time end woken.started job jobs else began time false (job ∷ jobs))
+    (λ last goes_on. if goes_on then reopened job ∷ jobs else began time false (job ∷ jobs)) (λ last. began time false (job ∷ jobs)) (omega (arith, few))
+    (λ end. if_few woken.seen n (back_jobs apart time end woken.started job jobs) (began time false (job ∷ jobs)) (back_few apart time end woken.started n job jobs few) few)
+    (λ last goes_on. if_few goes_on n (reopened job ∷ jobs) (began time false (job ∷ jobs)) (omega (arith, few)) few) (λ last. few)
+
 running_few : (apart time n : ℕ) (jobs : List Job) → suc (length jobs) ≤ n → length (running_jobs apart time jobs) ≤ n
 running_few apart time n [] few = few
 running_few apart time n (job ∷ jobs) few =
@@ -74,13 +93,13 @@ vanished_on : (wakes : Bool) (on : Option Standing) (n : ℕ) (known : Known) �
     (let after : Known = elim on [
       | None ↦ known
       | Some standing ↦ record {
-        jobs = changed_last (left_unseen standing.came (wakes && not known.woken)) known.jobs;
+        jobs = changed_last (left_unseen standing.came (wakes && not known.woken.came)) known.jobs;
         on = None;
-        woken = known.woken;
+        woken = record known.woken { started = None };
       }
     ] in length after.jobs ≤ n)
 vanished_on wakes None n known few = few
-vanished_on wakes (Some standing) n known few = changed_few (left_unseen standing.came (wakes && not known.woken)) n known.jobs few
+vanished_on wakes (Some standing) n known few = changed_few (left_unseen standing.came (wakes && not known.woken.came)) n known.jobs few
 
 vanished_few : (wakes : Bool) (n : ℕ) (known : Known) → length known.jobs ≤ n → length (vanished wakes known).jobs ≤ n
 vanished_few wakes n known few = vanished_on wakes known.on n known few
@@ -88,8 +107,8 @@ vanished_few wakes n known few = vanished_on wakes known.on n known few
 comes_few : (apart : ℕ) (wakes : Bool) (processor time n : ℕ) (known : Known) → suc (length known.jobs) ≤ n → length (comes apart wakes processor time known).jobs ≤ n
 comes_few apart wakes processor time n known few =
     let before : length (vanished wakes known).jobs ≤ length known.jobs = vanished_few wakes (length known.jobs) known (omega arith) in
-    if_few wakes n (awake_jobs time (vanished wakes known).jobs) (running_jobs apart time (vanished wakes known).jobs)
-    (awake_few time n (vanished wakes known).jobs (omega (arith, few, before))) (running_few apart time n (vanished wakes known).jobs (omega (arith, few, before)))
+    if_few wakes n (come_jobs apart time (vanished wakes known).woken (vanished wakes known).jobs) (running_jobs apart time (vanished wakes known).jobs)
+    (come_few apart time (vanished wakes known).woken n (vanished wakes known).jobs (omega (arith, few, before))) (running_few apart time n (vanished wakes known).jobs (omega (arith, few, before)))
 
 here_few : (leaving : Leaving) (on : Option Standing) (n : ℕ) (jobs : List Job) → length jobs ≤ n →
     length {A = Job} (elim on [ None ↦ jobs | Some standing ↦ changed_last (ran (stretch_of leaving standing.since)) jobs ]) ≤ n
@@ -115,6 +134,7 @@ left_from_few wakes leaving n known few =
 left_in_few : (wakes : Bool) (state : State) (time n : ℕ) (jobs : List Job) → length jobs ≤ n → length (left_in wakes state time jobs) ≤ n
 left_in_few wakes states.GoesOn time n jobs few = few
 left_in_few wakes states.Sleeps time n jobs few = changed_few (ended time) n jobs few
+left_in_few wakes states.Exits time n jobs few = changed_few (exits time) n jobs few
 left_in_few wakes states.Unknown time n jobs few = changed_few (left_unseen time wakes) n jobs few
 
 speeds_on : (processor time : ℕ) (khz : Option ℕ) (on : Option Standing) (n : ℕ) (known : Known) → length known.jobs ≤ n →
@@ -161,8 +181,8 @@ event_few : (asked : Asked) (number : ℕ) (past : List Said) (event : Event) (h
 event_few asked number past event (Switch previous state next) n known few =
     switch_few (task_at asked number).apart (not asked.begin_at_run) (is_of asked number previous) (is_of asked number next) state (leaving_at asked past event) n known few
 event_few asked number past event (WakeUp thread starts) n known few =
-    if_known (is_of asked number thread && not asked.begin_at_run) n (wakes_up (task_at asked number).apart event.time known) known
-    (woken_few (task_at asked number).apart event.time known.woken n known.jobs (omega (arith, few))) (omega (arith, few))
+    if_known (is_of asked number thread && not asked.begin_at_run) n (wakes_up (task_at asked number).apart starts event.time known) known
+    (woken_few (task_at asked number).apart (woken_at starts event.time known.woken.started) known.woken.came n known.jobs (omega (arith, few))) (omega (arith, few))
 event_few asked number past event (Speed processor khz) n known few =
     speeds_on processor event.time (speed_after asked.start processor past) known.on n known (omega (arith, few))
 event_few asked number past event Loss n known few = lost_few _ n known.jobs (omega (arith, few))

@@ -4,7 +4,7 @@ use Rattle.std.specs.Bool.{⊤}
 use Rattle.yds_kernel.specs.Event.{Happening, Switch, WakeUp, Speed, Loss, Marker, Other, Event, Said, Stamped, Lost, Nothing}
 use Rattle.yds_trace.specs.declared.job.End.{End}
 use Rattle.yds_trace.specs.declared.job.End.TheVariants as ends
-use Rattle.yds_trace.specs.Asked.{no_task, Asked, IsAsked, task_at}
+use Rattle.yds_trace.specs.Asked.{no_task, Asked, IsAsked, task_at, is_behind_from}
 use Rattle.yds_trace.specs.Past.{first_time, last_time, is_loss, counts, up_to}
 use Rattle.yds_trace.specs.Jobs.{Job, counted as counted_job, lost_end, lost_before}
 use Rattle.yds_trace.specs.Late.{last_asked, due, is_judged, is_open, lateness, late_by, shown_until}
@@ -141,6 +141,7 @@ still_lost false time last goes_on = tt
 still_kept : IsKept GoesOnStill
 still_kept = record {
   open_again = λ job is. tt;
+  slept = λ time job is. tt;
   woken = woken;
   torn = λ job is. is;
   longer = λ stretch job is. is;
@@ -193,15 +194,13 @@ late_judged : (b : Bool) (time : ℕ) → is_none (if b then Some time else None
 late_judged true time late = refl
 late_judged false time late = cc
 
-due_within : (from : Option ℕ) (last deadline : ℕ) → is_judged from last deadline ≡ true → deadline ≤ last
-due_within None last deadline judged = leb-true deadline last judged
-due_within (Some from) last deadline judged = leb-true deadline last (and_parts (nat_lt from deadline) (nat_le deadline last) judged).1
-
 late_within : (from : Option ℕ) (last deadline : ℕ) (end : End) → is_none (late_by from last deadline end) ≡ false → deadline ≤ last
 late_within from last deadline end late =
-    let known : (is_judged from last deadline && (nat_lt deadline (shown_until last end) || ((deadline == shown_until last end) && is_open end))) ≡ true =
-    late_judged (is_judged from last deadline && (nat_lt deadline (shown_until last end) || ((deadline == shown_until last end) && is_open end))) (shown_until last end - deadline) late in
-    due_within from last deadline (and_parts (is_judged from last deadline) (nat_lt deadline (shown_until last end) || ((deadline == shown_until last end) && is_open end)) known).0
+    let shown : ℕ = shown_until last end in
+    let known : (is_judged from last deadline shown && (nat_lt deadline shown || ((deadline == shown) && is_open end))) ≡ true =
+    late_judged (is_judged from last deadline shown && (nat_lt deadline shown || ((deadline == shown) && is_open end))) (shown - deadline) late in
+    leb-true deadline last (and_parts (is_behind_from from shown) (nat_le deadline last)
+    (and_parts (is_judged from last deadline shown) (nat_lt deadline shown || ((deadline == shown) && is_open end)) known).0).1
 
 last_within : (asked : Asked) (past : List Said) (to : ℕ) → asked.to ≡ Some to → last_asked asked past ≤ to
 last_within asked past to is =

@@ -102,7 +102,7 @@ some_if false x y given = cc
 -- one that ended late by so much
 by_after : (from : Option ℕ) (last due time by : ℕ) → late_by from last due (ends.Ended time) ≡ Some by → time - due ≡ by
 by_after from last due time by late =
-    some_if (is_judged from last due && (nat_lt due time || ((due == time) && false))) (time - due) by late
+    some_if (is_judged from last due time && (nat_lt due time || ((due == time) && false))) (time - due) by late
 
 -- The end of a late job that isn't hidden is in its last run, after the deadline.
 shows : (units : Units) (asked : Asked) (last : ℕ) (one : Judged) (by : ℕ) → 1 ≤ units.time → units.zero ≤ one.due → IsJudged asked last one →

@@ -60,6 +60,7 @@ IsUnshared job = job.shared ≡ false
 unshared_kept : IsKept IsUnshared
 unshared_kept = record {
   open_again = λ job is. is;
+  slept = λ time job is. is;
   woken = woken;
   torn = λ job is. is;
   longer = λ stretch job is. is;
@@ -75,6 +76,7 @@ unshared_kept = record {
 unshared_ends : (happening : Happening) → EndsAt IsUnshared happening
 unshared_ends (Switch previous states.GoesOn next) = tt
 unshared_ends (Switch previous states.Sleeps next) = λ time job is. is
+unshared_ends (Switch previous states.Exits next) = λ time job is. is
 unshared_ends (Switch previous states.Unknown next) = tt
 unshared_ends (WakeUp thread starts) = tt
 unshared_ends (Speed processor khz) = tt

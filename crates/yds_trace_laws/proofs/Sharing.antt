@@ -10,6 +10,7 @@ use Rattle.yds_trace.specs.declared.job.End.TheVariants as ends
 use Rattle.yds_trace.specs.declared.job.Stretch.{Stretch}
 use Rattle.yds_trace.specs.declared.job.Standing.{Standing}
 use Rattle.yds_trace.specs.declared.job.Leaving.{Leaving}
+use Rattle.yds_trace.specs.declared.job.Woken.{Woken}
 use Rattle.yds_trace.specs.Asked.{Asked, task_at, task_of, is_number, is_of, is_before_to}
 use Rattle.yds_trace.specs.declared.fault.Cause.{Cause}
 use Rattle.yds_trace.specs.declared.fault.Cause.TheVariants as causes
@@ -17,7 +18,7 @@ use Rattle.yds_trace.specs.Past.{last_time, is_loss, is_switch, whole_since, has
 use Rattle.yds_trace.specs.Faults.{first_fault, numbered, said_fault, stamped_fault, behind_fault, place_fault, length_fault, threads_fault, event_fault, stayed_fault, happening_fault, is_torn}
 use Rattle.yds_trace.specs.Late.{last_asked}
 use Rattle.yds_trace.specs.Document.{closed}
-use Rattle.yds_trace.specs.Jobs.{Job, Known, began, reopened, woken_after, counted as counted_job, woken_jobs, awake_jobs, running_jobs, changed_last, ended, missing, ran, left_unseen, vanished, stands_on, comes, has_no_switch, begun_by, begun_at_most, stretch_of, left_from, left_in, wakes_up, speeds, lost_earlier, lost_jobs, loses, leaving_at, left_if, after_switch, after_event, known_after}
+use Rattle.yds_trace.specs.Jobs.{Job, Known, began, reopened, woken_after, counted as counted_job, woken_jobs, awake_jobs, went_on, back_jobs, come_jobs, running_jobs, changed_last, ended, exits, missing, ran, left_unseen, vanished, stands_on, comes, has_no_switch, begun_by, begun_at_most, stretch_of, left_from, left_in, woken_at, wakes_up, speeds, lost_job, lost_earlier, lost_jobs, loses, leaving_at, left_if, after_switch, after_event, known_after}
 use Rattle.yds_trace_laws.specs.Sharing.{AreApart, EachStretch}
 use Rattle.yds_trace_laws.specs.Laws.{TasksHaveOwnTime}
 use Rattle.yds_trace_laws.proofs.Begins.{or_none, numbered_none}
@@ -77,6 +78,24 @@ awake_ran P time (job ∷ jobs) all =
     (λ last. began time false (job ∷ jobs)) all (λ end. (tt, all))
     (λ last goes_on. if_ran P goes_on (reopened job ∷ jobs) (began time false (job ∷ jobs)) all (tt, all)) (λ last. (tt, all))
 
+slept_ran : (P : Stretch → Type 0) (slept : Option ℕ) (time end : ℕ) (job : Job) (jobs : List Job) → Ran P (job ∷ jobs) →
+    Ran P (elim slept [ None ↦ went_on end job ∷ jobs | Some first ↦ began time false (lost_job first job ∷ jobs) ])
+slept_ran P None time end job jobs all = all
+slept_ran P (Some first) time end job jobs all = (tt, all)
+
+back_ran : (P : Stretch → Type 0) (apart time end : ℕ) (started : Option ℕ) (job : Job) (jobs : List Job) → Ran P (job ∷ jobs) →
+    Ran P (back_jobs apart time end started job jobs)
+back_ran P apart time end None job jobs all = slept_ran P job.slept time end job jobs all
+back_ran P apart time end (Some woken) job jobs all = woken_after_ran P apart woken job jobs all
+
+come_ran : (P : Stretch → Type 0) (apart time : ℕ) (woken : Woken) (jobs : List Job) → Ran P jobs → Ran P (come_jobs apart time woken jobs)
+come_ran P apart time woken [] all = (tt, tt)
+come_ran P apart time woken (job ∷ jobs) all =
+    by_end P job.end (job ∷ jobs) (λ end. if woken.seen then back_jobs apart time end woken.started job jobs else began time false (job ∷ jobs))
+    (λ last goes_on. if goes_on then reopened job ∷ jobs else began time false (job ∷ jobs)) (λ last. began time false (job ∷ jobs)) all
+    (λ end. if_ran P woken.seen (back_jobs apart time end woken.started job jobs) (began time false (job ∷ jobs)) (back_ran P apart time end woken.started job jobs all) (tt, all))
+    (λ last goes_on. if_ran P goes_on (reopened job ∷ jobs) (began time false (job ∷ jobs)) all (tt, all)) (λ last. (tt, all))
+
 running_ran : (P : Stretch → Type 0) (apart time : ℕ) (jobs : List Job) → Ran P jobs → Ran P (running_jobs apart time jobs)
 running_ran P apart time [] all = (tt, tt)
 running_ran P apart time (job ∷ jobs) all =
@@ -93,13 +112,13 @@ vanished_on : (P : Stretch → Type 0) (wakes : Bool) (on : Option Standing) (kn
     (let after : Known = elim on [
       | None ↦ known
       | Some standing ↦ record {
-        jobs = changed_last (left_unseen standing.came (wakes && not known.woken)) known.jobs;
+        jobs = changed_last (left_unseen standing.came (wakes && not known.woken.came)) known.jobs;
         on = None;
-        woken = known.woken;
+        woken = record known.woken { started = None };
       }
     ] in Ran P after.jobs)
 vanished_on P wakes None known all = all
-vanished_on P wakes (Some standing) known all = changed_ran P (left_unseen standing.came (wakes && not known.woken)) (λ job is. is) known.jobs all
+vanished_on P wakes (Some standing) known all = changed_ran P (left_unseen standing.came (wakes && not known.woken.came)) (λ job is. is) known.jobs all
 
 vanished_ran : (P : Stretch → Type 0) (wakes : Bool) (known : Known) → Ran P known.jobs → Ran P (vanished wakes known).jobs
 vanished_ran P wakes known all = vanished_on P wakes known.on known all
@@ -107,12 +126,13 @@ vanished_ran P wakes known all = vanished_on P wakes known.on known all
 comes_ran : (P : Stretch → Type 0) (apart : ℕ) (wakes : Bool) (processor time : ℕ) (known : Known) → Ran P known.jobs → Ran P (comes apart wakes processor time known).jobs
 comes_ran P apart wakes processor time known all =
     let before : Ran P (vanished wakes known).jobs = vanished_ran P wakes known all in
-    if_ran P wakes (awake_jobs time (vanished wakes known).jobs) (running_jobs apart time (vanished wakes known).jobs)
-    (awake_ran P time (vanished wakes known).jobs before) (running_ran P apart time (vanished wakes known).jobs before)
+    if_ran P wakes (come_jobs apart time (vanished wakes known).woken (vanished wakes known).jobs) (running_jobs apart time (vanished wakes known).jobs)
+    (come_ran P apart time (vanished wakes known).woken (vanished wakes known).jobs before) (running_ran P apart time (vanished wakes known).jobs before)
 
 left_in_ran : (P : Stretch → Type 0) (wakes : Bool) (state : State) (time : ℕ) (jobs : List Job) → Ran P jobs → Ran P (left_in wakes state time jobs)
 left_in_ran P wakes states.GoesOn time jobs all = all
 left_in_ran P wakes states.Sleeps time jobs all = changed_ran P (ended time) (λ job is. is) jobs all
+left_in_ran P wakes states.Exits time jobs all = changed_ran P (exits time) (λ job is. is) jobs all
 left_in_ran P wakes states.Unknown time jobs all = changed_ran P (left_unseen time wakes) (λ job is. is) jobs all
 
 earlier_ran : (P : Stretch → Type 0) (time : ℕ) (jobs : List Job) → Ran P jobs → Ran P (map (lost_earlier time) jobs)
@@ -225,9 +245,9 @@ vanished_off wakes known standing is = by known.on refl is
     by : (on : Option Standing) → known.on ≡ on → (let after : Known = elim on [
       | None ↦ known
       | Some standing ↦ record {
-        jobs = changed_last (left_unseen standing.came (wakes && not known.woken)) known.jobs;
+        jobs = changed_last (left_unseen standing.came (wakes && not known.woken.came)) known.jobs;
         on = None;
-        woken = known.woken;
+        woken = record known.woken { started = None };
       }
     ] in after.on) ≡ Some standing → ⊥
     by None off some = let both : None ≡ Some standing = sym off ∙ some in cc both
@@ -515,13 +535,14 @@ changed asked past event processor khz old order =
     (λ n x new. ap (λ (q : ℕ). has_switched q past) (sym new.there) ∙ old.switched n new.standing new.on)
     (λ n goes. ap (λ (q : ℕ). has_switched q past) (sym goes.2) ∙ old.switched n goes.0 goes.1)
 
-pub woken_known : (P : Stretch → Type 0) (b : Bool) (apart time : ℕ) (known : Known) → Ran P known.jobs → Ran P (if b then wakes_up apart time known else known).jobs
-woken_known P true apart time known all = woken_ran P apart time known.woken known.jobs all
-woken_known P false apart time known all = all
+pub woken_known : (P : Stretch → Type 0) (b : Bool) (apart : ℕ) (starts : Bool) (time : ℕ) (known : Known) → Ran P known.jobs →
+    Ran P (if b then wakes_up apart starts time known else known).jobs
+woken_known P true apart starts time known all = woken_ran P apart (woken_at starts time known.woken.started) known.woken.came known.jobs all
+woken_known P false apart starts time known all = all
 
-pub woken_on : (b : Bool) (apart time : ℕ) (known : Known) → (if b then wakes_up apart time known else known).on ≡ known.on
-woken_on true apart time known = refl
-woken_on false apart time known = refl
+pub woken_on : (b : Bool) (apart : ℕ) (starts : Bool) (time : ℕ) (known : Known) → (if b then wakes_up apart starts time known else known).on ≡ known.on
+woken_on true apart starts time known = refl
+woken_on false apart starts time known = refl
 
 after : (asked : Asked) (past : List Said) (event : Event) (happening : Happening) → AfterIt asked past event happening
 after asked past event (Switch previous state next) = switched asked past event previous state next
@@ -529,8 +550,8 @@ after asked past event (Speed processor khz) = changed asked past event processo
 after asked past event (WakeUp thread starts) = λ old order.
     quiet (λ n. known_after asked n past) (λ n. after_event asked n past event (WakeUp thread starts) (known_after asked n past)) (λ q. has_switched q past) (λ t. whole_since t past)
     (λ t. whole_since event.time past) (λ t. AreBy t past) (λ t. (false ≡ false → event.time ≤ t) × AreBy t past) event.time old (order refl) (λ t. refl) (λ t by. by.0 refl)
-    (λ n P all. woken_known P (is_of asked n thread && not asked.begin_at_run) (task_at asked n).apart event.time (known_after asked n past) all)
-    (λ n. woken_on (is_of asked n thread && not asked.begin_at_run) (task_at asked n).apart event.time (known_after asked n past))
+    (λ n P all. woken_known P (is_of asked n thread && not asked.begin_at_run) (task_at asked n).apart starts event.time (known_after asked n past) all)
+    (λ n. woken_on (is_of asked n thread && not asked.begin_at_run) (task_at asked n).apart starts event.time (known_after asked n past))
 after asked past event Marker = λ old order.
     quiet (λ n. known_after asked n past) (λ n. known_after asked n past) (λ q. has_switched q past) (λ t. whole_since t past) (λ t. whole_since event.time past) (λ t. AreBy t past)
     (λ t. (false ≡ false → event.time ≤ t) × AreBy t past) event.time old (order refl) (λ t. refl) (λ t by. by.0 refl) (λ n P all. all) (λ n. refl)

@@ -50,9 +50,9 @@ event_under bound asked number past event (Switch previous state next) known her
       (switch_on (task_at asked number).apart (not asked.begin_at_run) (is_of asked number previous) (is_of asked number next) state (leaving_at asked past event) known standing now);
 }
 event_under bound asked number past event (WakeUp thread starts) known here is = record {
-  ran = woken_known (IsUnder bound) (is_of asked number thread && not asked.begin_at_run) (task_at asked number).apart event.time known is.ran;
+  ran = woken_known (IsUnder bound) (is_of asked number thread && not asked.begin_at_run) (task_at asked number).apart starts event.time known is.ran;
   on = λ standing now.
-      is.on standing (sym (woken_on (is_of asked number thread && not asked.begin_at_run) (task_at asked number).apart event.time known) ∙ now);
+      is.on standing (sym (woken_on (is_of asked number thread && not asked.begin_at_run) (task_at asked number).apart starts event.time known) ∙ now);
 }
 event_under bound asked number past event (Speed processor khz) known here is = record {
   ran = speeds_ran (IsUnder bound) processor event.time (speed_after asked.start processor past) known is.ran

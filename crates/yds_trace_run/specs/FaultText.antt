@@ -39,11 +39,13 @@ cause_text causes.TimeGoesBack = codes "its time is before that of an earlier li
 cause_text causes.EventsLost = codes "events were lost before it; record with a larger buffer, choose --from and --to around it, or go on by --lost cut"
 cause_text causes.UnknownState = codes "a task leaves in a state that the kernel doesn't have; write the trace anew"
 cause_text causes.TwoThreads = codes "a task's name is that of another thread before; threads are renamed at their start, too: give the number, which stays, by PID=NAME:DEADLINE"
+cause_text causes.Exited = codes "a task's thread was over before, and its number is that of another thread now; choose --from and --to around it"
 cause_text causes.TwoTasks = codes "one thread is two tasks, by its number and by its name; leave one out"
 cause_text causes.TooLong = codes "more than 250000 lines tell of the tasks; choose a shorter time by --from and --to, or fewer tasks"
 cause_text causes.NoLine = codes "no line of a kernel's trace; write it as text, by trace-cmd report or perf script with cpu and time among its fields: a line has a processor as [001] and a time with a point as 12.345678: before its event's name"
 cause_text (causes.Unseen number) = codes "no line names task " ++ decimal (number + 1) ++ codes " of --tasks; write its name as the trace has it, a * isn't taken; --tasks '?' lists the threads of the trace"
 cause_text causes.NoWakeUp = codes "no wake-up of a task; record sched_waking too, or let jobs begin at their first run by --begin run"
+cause_text causes.NotWoken = codes "a task comes behind a sleep without a wake-up, twice in one job; record sched_waking, sched_wakeup and sched_wakeup_new, let jobs begin at their first run by --begin run, or go on by --lost cut"
 cause_text causes.PartWritten = codes "it changes jobs of a part that was written; choose --from and --to around it"
 
 -- # Documents
@@ -99,7 +101,7 @@ document_text (faults.SpeedTooCoarse place) = found_job place (codes ": it ran a
 document_text (faults.SpeedTooGreat place) = found_job place (codes ": it ran at a speed above 1000000 units; choose a greater unit by --khz")
 document_text (faults.NoJob left) = no_job_text left
 document_text faults.NoJobAnywhere = codes "no job can be written of any processor; choose one of them by --cpu, and the reason is told"
-document_text (faults.Missed place) = found_job place (codes ": it doesn't stand as it is, and --strict is given; leave that out, or choose --from and --to around the job")
+document_text (faults.Missed place) = found_job place (codes ": it doesn't stand as it is, or its thread was over with it, and --strict is given; leave that out, or choose --from and --to around the job")
 
 abbrev pub line_text : LineFault → List ℕ
 line_text (InForm fault) = codes "line " ++ decimal fault.line ++ codes ", column " ++ decimal fault.column ++ codes ": " ++ form_text fault.reason

@@ -116,6 +116,9 @@ fn push_cause(cause: Cause, line: &mut ArrayString<LINE_BYTES>)
         Cause::TwoThreads => line.push_str(
             "a task's name is that of another thread before; threads are renamed at their start, too: give the number, which stays, by PID=NAME:DEADLINE",
         ),
+        Cause::Exited => line.push_str(
+            "a task's thread was over before, and its number is that of another thread now; choose --from and --to around it",
+        ),
         Cause::TwoTasks => line.push_str(
             "one thread is two tasks, by its number and by its name; leave one out",
         ),
@@ -127,6 +130,9 @@ fn push_cause(cause: Cause, line: &mut ArrayString<LINE_BYTES>)
         ),
         Cause::NoWakeUp => line.push_str(
             "no wake-up of a task; record sched_waking too, or let jobs begin at their first run by --begin run",
+        ),
+        Cause::NotWoken => line.push_str(
+            "a task comes behind a sleep without a wake-up, twice in one job; record sched_waking, sched_wakeup and sched_wakeup_new, let jobs begin at their first run by --begin run, or go on by --lost cut",
         ),
         Cause::PartWritten => line.push_str(
             "it changes jobs of a part that was written; choose --from and --to around it",
@@ -190,7 +196,7 @@ fn push_document(fault: DocumentFault, line: &mut ArrayString<LINE_BYTES>)
         DocumentFault::Missed(place) => push_placed(
             "found job ",
             place,
-            ": it doesn't stand as it is, and --strict is given; leave that out, or choose --from and --to around the job",
+            ": it doesn't stand as it is, or its thread was over with it, and --strict is given; leave that out, or choose --from and --to around the job",
             line,
         ),
     }

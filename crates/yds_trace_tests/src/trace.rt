@@ -21,10 +21,14 @@ fn line<'a>(processor: u64, time: u64, happening: Happening<'a>) -> Said<'a> {
 }
 
 fn woken(time: u64) -> Said<'static> {
-    line(3, time, Happening::WakeUp {
-                thread: thread(b"decode", 7),
-                starts: true,
-            })
+    line(
+        3,
+        time,
+        Happening::WakeUp {
+            thread: thread(b"decode", 7),
+            starts: true,
+        },
+    )
 }
 
 fn comes(processor: u64, time: u64) -> Said<'static> {
@@ -179,10 +183,14 @@ fn each_fault_of_a_line_is_told(rt: HostRuntime) -> Result<(), Fail> {
         (
             [
                 woken(10),
-                line(0, 20, Happening::WakeUp {
-                thread: thread(b"decode", 8),
-                starts: true,
-            }),
+                line(
+                    0,
+                    20,
+                    Happening::WakeUp {
+                        thread: thread(b"decode", 8),
+                        starts: true,
+                    },
+                ),
             ],
             Cause::TwoThreads,
         ),

@@ -178,7 +178,7 @@ fn a_job_that_moved_is_shared_out(rt: HostRuntime) -> Result<(), Fail> {
         (
             "--tasks t:10 --cpu all --strict",
             Status::Refused,
-            b"# part 1 of processor 0: found job 1: it doesn't stand as it is, and --strict is given; leave that out, or choose --from and --to around the job\nfailed\n".as_slice(),
+            b"# part 1 of processor 0: found job 1: it doesn't stand as it is, or its thread was over with it, and --strict is given; leave that out, or choose --from and --to around the job\nfailed\n".as_slice(),
         ),
     ];
     for (line, status, want) in cases {

@@ -184,8 +184,24 @@ ends_comment units judged =
     then end_comment (codes "ends: ") (written_name judged) (written_end units judged.job.end) else []
 
 -- of a job that stands as it is
+abbrev pub standing_comments : Units → Judged → List ℕ
+standing_comments units judged = if stands judged then begins_comment units judged ++ ends_comment units judged else []
+
+-- its thread was over with it
+abbrev pub exited_comment : Judged → List ℕ
+exited_comment judged = if judged.job.exited then comment (codes "exited: " ∷ written_name judged ∷ []) else []
+
+-- its thread left to sleep within it, and didn't
+abbrev pub slept_comment : Judged → List ℕ
+slept_comment judged =
+    if is_some judged.job.slept then comment (codes "went on behind a sleep without a wake-up: " ∷ written_name judged ∷ []) else []
+
+-- of a job that isn't left out
+abbrev pub thread_comments : Judged → List ℕ
+thread_comments judged = if is_left_out judged then [] else exited_comment judged ++ slept_comment judged
+
 abbrev pub shown_comments : Units → Judged → List ℕ
-shown_comments units judged = if stands judged then begins_comment units judged ++ ends_comment units judged else []
+shown_comments units judged = standing_comments units judged ++ thread_comments judged
 
 -- # Jobs that are left out
 

@@ -1,5 +1,5 @@
-//! Comments on begins and ends of jobs that no run shows.
-ghost use Rattle.std.specs.Prelude.{◌≡◌, ◌++◌, OnOk, IfOk};
+//! Comments on begins and ends of jobs that no run shows, and on threads that were over, or left to sleep and didn't.
+ghost use Rattle.std.specs.Prelude.{◌≡◌, ◌++◌, ◌∷◌, [], OnOk, IfOk};
 ghost use Rattle.std.specs.List.{flat_map};
 ghost use Rattle.yds_trace.specs.Document as document;
 ghost use Rattle.yds_trace_document.specs.Views.{units_read, runs_read, judged_read, judged_list};
@@ -112,13 +112,13 @@ fn put_end(
 }
 
 /// The comments on a job's begin and end, if it stands as it is.
-fn put_shown(
+fn put_standing(
     alloc: Global,
     units: Units,
     judged: &Judged<'_>,
     text: &mut Vec<u8>,
 ) -> Result<(), Memory>
-    ensures { OnOk result (text.new.items ≡ text.old.items ++ spec.shown_comments (units_read units) (judged_read judged.now)) }
+    ensures { OnOk result (text.new.items ≡ text.old.items ++ spec.standing_comments (units_read units) (judged_read judged.now)) }
 {
     if judged.reason.is_some() {
         return Ok(());
@@ -128,7 +128,69 @@ fn put_shown(
     put_ends(alloc, units, judged, &runs, text)
 }
 
-/// The comments on the begins and ends of these jobs.
+/// A comment that names a job.
+fn put_named(
+    alloc: Global,
+    what: &[u8],
+    judged: &Judged<'_>,
+    text: &mut Vec<u8>,
+) -> Result<(), Memory>
+    ensures { OnOk result (text.new.items ≡ text.old.items ++ spec.comment (what.now ∷ document.written_name (judged_read judged.now) ∷ [])) }
+{
+    let name = judged.name.text(alloc)?;
+    put_comment(&[what, name.as_slice()], text)
+}
+
+/// The comment on a thread that was over with its job.
+fn put_exited(alloc: Global, judged: &Judged<'_>, text: &mut Vec<u8>) -> Result<(), Memory>
+    ensures { OnOk result (text.new.items ≡ text.old.items ++ spec.exited_comment (judged_read judged.now)) }
+{
+    if !judged.job.exited {
+        return Ok(());
+    }
+    put_named(alloc, b"exited: ", judged, text)
+}
+
+/// The comment on a thread that left to sleep within its job, and didn't.
+fn put_slept(alloc: Global, judged: &Judged<'_>, text: &mut Vec<u8>) -> Result<(), Memory>
+    ensures { OnOk result (text.new.items ≡ text.old.items ++ spec.slept_comment (judged_read judged.now)) }
+{
+    if judged.job.slept.is_none() {
+        return Ok(());
+    }
+    put_named(
+        alloc,
+        b"went on behind a sleep without a wake-up: ",
+        judged,
+        text,
+    )
+}
+
+/// The comments on the thread of a job that isn't left out.
+fn put_thread(alloc: Global, judged: &Judged<'_>, text: &mut Vec<u8>) -> Result<(), Memory>
+    ensures { OnOk result (text.new.items ≡ text.old.items ++ spec.thread_comments (judged_read judged.now)) }
+{
+    if judged.reason.is_some() && judged.late.is_none() {
+        return Ok(());
+    }
+    put_exited(alloc, judged, text)?;
+    put_slept(alloc, judged, text)
+}
+
+/// The comments on a job's begin and end, and on its thread.
+fn put_shown(
+    alloc: Global,
+    units: Units,
+    judged: &Judged<'_>,
+    text: &mut Vec<u8>,
+) -> Result<(), Memory>
+    ensures { OnOk result (text.new.items ≡ text.old.items ++ spec.shown_comments (units_read units) (judged_read judged.now)) }
+{
+    put_standing(alloc, units, judged, text)?;
+    put_thread(alloc, judged, text)
+}
+
+/// The comments on the begins, ends and threads of these jobs.
 pub(crate) fn put_all_shown(
     alloc: Global,
     units: Units,

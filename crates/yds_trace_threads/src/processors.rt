@@ -75,8 +75,10 @@ impl Processors {
                 });
             }
             Happening::Loss => self.holders[processor] = None,
-            Happening::WakeUp { .. } | Happening::Speed { .. } | Happening::Marker | Happening::Other =>
-                {}
+            Happening::WakeUp { .. }
+            | Happening::Speed { .. }
+            | Happening::Marker
+            | Happening::Other => {}
         }
         self.last = event.time;
         self.stamped = true;

@@ -35,3 +35,9 @@ returns-in-NoLine-clause-text c = c.push_str-in-NoLine.ensures.bytes ∙ ap (λ 
 
 pub returns-in-NoWakeUp-clause-text : goal.returns-in-NoWakeUp-clause-text
 returns-in-NoWakeUp-clause-text c = c.push_str-in-NoWakeUp.ensures.bytes ∙ ap (λ (fault : Cause). c.args.line.now.bytes ++ cause_text fault) (sym c.in-NoWakeUp.is)
+
+pub returns-in-Exited-clause-text : goal.returns-in-Exited-clause-text
+returns-in-Exited-clause-text c = c.push_str-in-Exited.ensures.bytes ∙ ap (λ (fault : Cause). c.args.line.now.bytes ++ cause_text fault) (sym c.in-Exited.is)
+
+pub returns-in-NotWoken-clause-text : goal.returns-in-NotWoken-clause-text
+returns-in-NotWoken-clause-text c = c.push_str-in-NotWoken.ensures.bytes ∙ ap (λ (fault : Cause). c.args.line.now.bytes ++ cause_text fault) (sym c.in-NotWoken.is)
