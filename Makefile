@@ -12,10 +12,10 @@
 #                       tests of the crates, of the commands, of the pages and of the checks; 3
 #                       minutes on four idle processors, with 2 GB of memory for each
 #   make gate           the merge gate: every proof, test and stored run, the edits that a proof has
-#                       to refuse, and the checks that checks/gate.py lists; 4 minutes on four
-#                       processors where all was proved there before, and else it first tells about how
-#                       long it takes, with 2 GB of memory for each and up to 15 GB of disk. KEPT=FILE
-#                       begins with what a gate elsewhere kept
+#                       to refuse, and the checks that checks/gate.py lists; 37 minutes on four
+#                       processors where nothing was proved there before, and 4 where all was, with
+#                       2 GB of memory for each; it leaves 3 GB of disk. KEPT=FILE begins with what
+#                       a gate elsewhere kept
 #   make kept           packs what the toolchain kept of this tree's gate, as build/kept.tar.gz
 #   make edits          tries all edits anew that a proof has to refuse, before a release, over what
 #                       the gate has proved here

@@ -63,10 +63,10 @@ class Stage(NamedTuple):
     seconds: float
 
 
-# Measured, but for that of `rt ci`: it is reckoned from the processor seconds of its parts.
+# Measured on four processors of 2.5 GHz.
 STAGES = [
     Stage(CHECKS, True, 20),
-    Stage([PROOFS], False, 2400),
+    Stage([PROOFS], False, 1980),
     Stage([EDITS, ROUNDS], False, 140),
     Stage([BUILT], False, 80),
 ]
