@@ -1,5 +1,5 @@
 -- What holds of each job of a trace: what no change of a job takes away, and each new job has.
-use Rattle.yds_model.proofs.Common.{◌≡◌, ℕ, ◌+◌, ◌&&◌, ◌==◌, List, [], ◌∷◌, map, reverse, Bool, true, false, not, nat_lt, if◌then◌else◌, Option, Some, None, is_none, refl, All, All-from_recursion}
+use Rattle.yds_model.proofs.Common.{◌≡◌, ℕ, ◌+◌, ◌&&◌, ◌==◌, List, [], ◌∷◌, map, reverse, Bool, true, false, not, nat_lt, if◌then◌else◌, Option, Some, None, is_none, refl, subst, All, All-from_recursion}
 use Rattle.std.specs.Bool.{⊤}
 use Rattle.std.specs.List.{AllByRecursion}
 use Rattle.yds_kernel.specs.declared.state.State.{State}

@@ -1,5 +1,5 @@
 -- What an event does to the jobs that are told: nothing, where these are settled. And what is known of each job's times stays so.
-use Rattle.yds_model.proofs.Common.{◌≡◌, ◌∙◌, ℕ, ◌+◌, ◌<◌, ◌≤◌, ◌⊎◌, inl, inr, ◌==◌, ◌&&◌, List, [], ◌∷◌, map, min, Bool, true, false, not, nat_lt, if◌then◌else◌, Option, Some, None, is_none, refl, sym, ap, subst, arith, ltb-true, le-ltb, le_refl, eqb-true, and_parts, length, cond_both, not-true}
+use Rattle.yds_model.proofs.Common.{◌≡◌, ◌∙◌, ℕ, ◌+◌, ◌<◌, ◌≤◌, ◌⊎◌, inl, inr, ◌==◌, ◌&&◌, List, [], ◌∷◌, map, min, Bool, true, false, not, nat_lt, if◌then◌else◌, Option, Some, None, is_none, refl, sym, ap, subst, arith, ltb-true, le-ltb, le_refl, eqb-true, and_parts, length, cond_both, not-true, unwrap_or}
 use Rattle.std.specs.List.{AllByRecursion}
 use Rattle.yds_kernel.specs.declared.state.State.{State}
 use Rattle.yds_kernel.specs.declared.state.State.TheVariants as states
@@ -8,7 +8,8 @@ use Rattle.yds_trace.specs.declared.job.End.TheVariants as ends
 use Rattle.yds_trace.specs.declared.job.Stretch.{Stretch}
 use Rattle.yds_trace.specs.declared.job.Standing.{Standing}
 use Rattle.yds_trace.specs.declared.job.Leaving.{Leaving}
-use Rattle.yds_trace.specs.Jobs.{Job, Known, new_job, began, reopened, woken_after, counted, woken_jobs, awake_jobs, running_jobs, changed_last, ended, missing, ran, left_unseen, vanished, stands_on, passed_by, comes, has_no_switch, begun_at_most, begun_by, stretch_of, left_from, left_in, leaves, wakes_up, speeds, lost_end, lost_job, lost_before, lost_earlier, lost_jobs, loses, after_switch}
+use Rattle.yds_trace.specs.declared.job.Woken.{Woken}
+use Rattle.yds_trace.specs.Jobs.{Job, Known, new_job, began, reopened, woken_after, counted, woken_jobs, awake_jobs, went_on, back_jobs, come_jobs, running_jobs, changed_last, ended, exits, missing, ran, left_unseen, vanished, stands_on, passed_by, comes, has_no_switch, begun_at_most, begun_by, stretch_of, left_from, left_in, leaves, not_seen, left_started, woken_at, wakes_up, speeds, lost_end, lost_job, lost_before, lost_earlier, lost_jobs, loses, after_switch}
 use Rattle.yds_trace_laws.proofs.Runs.{all_weaker}
 use Rattle.yds_trace_whole.proofs.Told.{Told, told, new_told, changed_told, AreAlike, alike_told, Each}
 
@@ -148,6 +149,30 @@ standing_free boundary standing [] left = tt
 standing_free boundary standing (job ∷ jobs) (inl free) = free
 standing_free boundary standing (job ∷ jobs) (inr done) = absurd done.1
 
+-- A job whose thread may have such a wake-up: it is open, or its end was seen.
+abbrev pub IsAwaited : Bool → End → Type 0
+IsAwaited seen ends.Open = Unit {0}
+IsAwaited seen (ends.Ended end) = seen ≡ true
+IsAwaited seen (ends.Unseen since goes_on) = ⊥
+IsAwaited seen (ends.Lost since) = ⊥
+
+abbrev pub IsLastAwaited : ℕ → Bool → List Job → Type 0
+IsLastAwaited at seen [] = ⊥
+IsLastAwaited at seen (job ∷ jobs) = (job.begin ≤ at) × IsAwaited seen job.end
+
+-- A wake-up that was started came by now, and the last job began before it.
+abbrev pub IsStarted : ℕ → Woken → List Job → Type 0
+IsStarted now woken jobs = (at : ℕ) → woken.started ≡ Some at → IsLastAwaited at woken.seen jobs × (at ≤ now)
+
+-- Where its thread comes behind a sleep of which all is told, the last job isn't before the boundary.
+abbrev pub IsBack : ℕ → Woken → List Job → Type 0
+IsBack boundary woken [] = Unit {0}
+IsBack boundary woken (job ∷ jobs) = (end : ℕ) → job.end ≡ ends.Ended end → woken.seen ≡ true → boundary ≤ job.begin
+
+pub free_back : (boundary : ℕ) (woken : Woken) (jobs : List Job) → IsFree boundary jobs → IsBack boundary woken jobs
+free_back boundary woken [] free = tt
+free_back boundary woken (job ∷ jobs) free = λ end is seen. free
+
 -- # The jobs of a task, where `all` are told
 
 pub record Keeps (boundary now : ℕ) (all : List Told) (known : Known) : Type 0 where
@@ -155,6 +180,7 @@ pub record Keeps (boundary now : ℕ) (all : List Told) (known : Known) : Type 0
   pub sound : AreSound now known.jobs
   pub last : IsLeft boundary known.on known.jobs
   pub stands : StandsBy now known.on known.jobs
+  pub started : IsStarted now known.woken known.jobs
 
 -- and the last one may change
 record Fresh (boundary now : ℕ) (all : List Told) (jobs : List Job) : Type 0 where
@@ -169,9 +195,33 @@ record Going (boundary now : ℕ) (all : List Told) (jobs : List Job) : Type 0 w
   free : IsFree boundary jobs
   last_open : IsLastOpen jobs
 
-fresh_keeps : (boundary now : ℕ) (all : List Told) (jobs : List Job) (woken : Bool) → Fresh boundary now all jobs →
+fresh_keeps : (boundary now : ℕ) (all : List Told) (jobs : List Job) (woken : Woken) → Fresh boundary now all jobs → IsStarted now woken jobs →
     Keeps boundary now all (record { jobs = jobs; on = None; woken = woken })
-fresh_keeps boundary now all jobs woken fresh = record { told = fresh.told; sound = fresh.sound; last = free_left boundary None jobs fresh.free; stands = tt }
+fresh_keeps boundary now all jobs woken fresh started =
+    record { told = fresh.told; sound = fresh.sound; last = free_left boundary None jobs fresh.free; stands = tt; started = started }
+
+-- no wake-up was started
+none_started : (now : ℕ) (seen : Bool) (jobs : List Job) (at : ℕ) → ◌≡◌ {A = Option ℕ} None (Some at) → IsLastAwaited at seen jobs × (at ≤ now)
+none_started now seen jobs at none = absurd (cc none)
+
+-- Of an open job, which began by now.
+going_started : (boundary now at : ℕ) (all : List Told) (seen : Bool) (jobs : List Job) → now ≤ at → Going boundary now all jobs → IsLastAwaited at seen jobs
+going_started boundary now at all seen [] on going = absurd going.last_open
+going_started boundary now at all seen (job ∷ jobs) on going = (omega (arith, on, going.sound.0.0), subst (IsAwaited seen) (sym going.last_open) tt)
+
+-- Where a wake-up was started, the last job isn't before the boundary, and nor is what the wake-up begins.
+pub started_free : (boundary now : ℕ) (woken : Woken) (on : Option Standing) (apart at : ℕ) (jobs : List Job) → woken.started ≡ Some at → IsStarted now woken jobs →
+    IsLeft boundary on jobs → IsBack boundary woken jobs → (boundary ≤ at) × IsRipe boundary apart at jobs
+started_free boundary now woken on apart at [] is started last back = absurd (started at is).0
+started_free boundary now woken on apart at (job ∷ jobs) is started last back =
+    let free : boundary ≤ job.begin = by job.end refl (started at is).0.1 last in (omega (arith, free, (started at is).0.0), inl free)
+  where
+    by : (end : End) → job.end ≡ end → IsAwaited woken.seen job.end → (boundary ≤ job.begin) ⊎ (IsDone job.end × IsOff on) → boundary ≤ job.begin
+    by end known awaited (inl free) = free
+    by ends.Open known awaited (inr done) = absurd (subst IsDone known done.0)
+    by (ends.Ended end) known awaited (inr done) = back end known (subst (IsAwaited woken.seen) known awaited)
+    by (ends.Unseen since goes_on) known awaited (inr done) = absurd (subst IsDone known done.0)
+    by (ends.Lost since) known awaited (inr done) = absurd (subst (IsAwaited woken.seen) known awaited)
 
 going_fresh : (boundary now : ℕ) (all : List Told) (jobs : List Job) → Going boundary now all jobs → Fresh boundary now all jobs
 going_fresh boundary now all jobs going = record { told = going.told; sound = going.sound; free = going.free }
@@ -359,6 +409,60 @@ module _ (boundary now : ℕ) (all : List Told) where
         (λ since goes_on unseen. new_going time false (job ∷ jobs) late by is sound)
         (λ since lost. new_going time false (job ∷ jobs) late by is sound)
 
+  -- # Who comes back
+
+  -- a job of which nothing more is known from the first of its sleeps on
+  slept_sound : (first end : ℕ) (job : Job) → job.end ≡ ends.Ended end → IsSound now job → IsSound now (lost_job first job)
+  slept_sound first end job is sound =
+      subst (λ (e : End). IsSound now (record job { end = lost_end first e })) (sym is) (by (nat_lt first end) refl)
+    where
+      before : end ≤ now
+      before = subst (IsSoundEnd now job.switch_missing) is sound.1
+
+      by : (b : Bool) → nat_lt first end ≡ b → IsSound now (record job { end = if b then ends.Lost first else ends.Ended end })
+      by true earlier =
+          let early : first < end = ltb-true first end earlier in
+          other_end now job job.switch_missing (ends.Lost first) sound (omega (arith, early, before)) (omega arith)
+      by false later = subst (λ (e : End). IsSound now (record job { end = e })) is sound
+
+  module _ (time : ℕ) (late : boundary ≤ time) (by : time ≤ now) where
+    slept_going : (slept : Option ℕ) (end : ℕ) (job : Job) (jobs : List Job) → job.end ≡ ends.Ended end → boundary ≤ job.begin →
+        told boundary (job ∷ jobs) ≡ all → AreSound now (job ∷ jobs) →
+        Going boundary now all (elim slept [ None ↦ went_on end job ∷ jobs | Some first ↦ began time false (lost_job first job ∷ jobs) ])
+    slept_going None end job jobs over free is sound =
+        record {
+          told = changed_told boundary job (went_on end job) jobs free free ∙ is;
+          sound = (other_end now job job.switch_missing ends.Open sound.0 tt (omega arith), sound.1);
+          free = free;
+          last_open = refl;
+        }
+    slept_going (Some first) end job jobs over free is sound =
+        new_going time false (lost_job first job ∷ jobs) late by (changed_told boundary job (lost_job first job) jobs free free ∙ is)
+        (slept_sound first end job over sound.0, sound.1)
+
+    back_going : (apart end : ℕ) (started : Option ℕ) (job : Job) (jobs : List Job) → job.end ≡ ends.Ended end → boundary ≤ job.begin →
+        ((at : ℕ) → started ≡ Some at → (job.begin ≤ at) × (at ≤ now)) → told boundary (job ∷ jobs) ≡ all → AreSound now (job ∷ jobs) →
+        Going boundary now all (back_jobs apart time end started job jobs)
+    back_going apart end None job jobs over free starts is sound = slept_going job.slept end job jobs over free is sound
+    back_going apart end (Some at) job jobs over free starts is sound =
+        woken_after_going at (omega (arith, free, (starts at refl).0)) (starts at refl).1 apart job jobs is sound (inl free)
+
+    come_going : (on : Option Standing) (apart : ℕ) (woken : Woken) (jobs : List Job) → told boundary jobs ≡ all → AreSound now jobs → IsLeft boundary on jobs →
+        IsStarted now woken jobs → IsBack boundary woken jobs → Going boundary now all (come_jobs apart time woken jobs)
+    come_going on apart woken [] is sound last starts back = new_going time false [] late by is sound
+    come_going on apart woken (job ∷ jobs) is sound last starts back =
+        by_end (Going boundary now all) job.end (job ∷ jobs)
+        (λ end. if woken.seen then back_jobs apart time end woken.started job jobs else began time false (job ∷ jobs))
+        (λ since goes_on. if goes_on then reopened job ∷ jobs else began time false (job ∷ jobs)) (λ since. began time false (job ∷ jobs))
+        (λ last_open. open_going on job jobs last_open is sound last)
+        (λ end is_ended. cond_both woken.seen (back_jobs apart time end woken.started job jobs) (began time false (job ∷ jobs)) (Going boundary now all)
+        (λ seen. back_going apart end woken.started job jobs is_ended (back end is_ended seen) (λ at begun. ((starts at begun).0.0, (starts at begun).1)) is sound)
+        (λ unknown. new_going time false (job ∷ jobs) late by is sound))
+        (λ since goes_on unseen. either (Going boundary now all) goes_on (reopened job ∷ jobs) (began time false (job ∷ jobs))
+        (reopened_going job jobs (undone on job (ends.Unseen since goes_on) unseen (λ done. done) last) is sound)
+        (new_going time false (job ∷ jobs) late by is sound))
+        (λ since lost. new_going time false (job ∷ jobs) late by is sound)
+
   -- # A thread's switches
 
   unseen_fresh : (came : ℕ) (goes_on : Bool) → came ≤ now → (jobs : List Job) → Fresh boundary now all jobs → Fresh boundary now all (changed_last (left_unseen came goes_on) jobs)
@@ -369,18 +473,19 @@ module _ (boundary now : ℕ) (all : List Told) where
       (let after : Known = elim on [
         | None ↦ known
         | Some standing ↦ record {
-          jobs = changed_last (left_unseen standing.came (wakes && not known.woken)) known.jobs;
+          jobs = changed_last (left_unseen standing.came (wakes && not known.woken.came)) known.jobs;
           on = None;
-          woken = known.woken;
+          woken = record known.woken { started = None };
         }
       ] in Keeps boundary now all after)
   vanished_on wakes None known keeps is = keeps
   vanished_on wakes (Some standing) known keeps is =
       let last : IsLeft boundary (Some standing) known.jobs = subst (λ (on : Option Standing). IsLeft boundary on known.jobs) is keeps.last in
       let stands : StandsBy now (Some standing) known.jobs = subst (λ (on : Option Standing). StandsBy now on known.jobs) is keeps.stands in
-      fresh_keeps boundary now all _ known.woken
-      (unseen_fresh standing.came (wakes && not known.woken) stands.0 known.jobs
+      fresh_keeps boundary now all _ (record known.woken { started = None })
+      (unseen_fresh standing.came (wakes && not known.woken.came) stands.0 known.jobs
       (record { told = keeps.told; sound = keeps.sound; free = standing_free boundary standing known.jobs last }))
+      (none_started now known.woken.seen _)
 
   vanished_keeps : (wakes : Bool) (known : Known) → Keeps boundary now all known → Keeps boundary now all (vanished wakes known)
   vanished_keeps wakes known keeps = vanished_on wakes known.on known keeps refl
@@ -394,20 +499,45 @@ module _ (boundary now : ℕ) (all : List Told) where
       (let after : Known = elim on [
         | None ↦ known
         | Some standing ↦ record {
-          jobs = changed_last (left_unseen standing.came (wakes && not known.woken)) known.jobs;
+          jobs = changed_last (left_unseen standing.came (wakes && not known.woken.came)) known.jobs;
           on = None;
-          woken = known.woken;
+          woken = record known.woken { started = None };
         }
       ] in IsRipe boundary apart time after.jobs)
   vanished_ripe_on apart time wakes None known keeps is ripe = ripe
   vanished_ripe_on apart time wakes (Some standing) known keeps is ripe =
       let last : IsLeft boundary (Some standing) known.jobs = subst (λ (on : Option Standing). IsLeft boundary on known.jobs) is keeps.last in
-      free_ripe boundary apart time (changed_last (left_unseen standing.came (wakes && not known.woken)) known.jobs)
-      (unseen_free standing.came (wakes && not known.woken) known.jobs (standing_free boundary standing known.jobs last))
+      free_ripe boundary apart time (changed_last (left_unseen standing.came (wakes && not known.woken.came)) known.jobs)
+      (unseen_free standing.came (wakes && not known.woken.came) known.jobs (standing_free boundary standing known.jobs last))
 
   vanished_ripe : (apart time : ℕ) (wakes : Bool) (known : Known) → Keeps boundary now all known → IsRipe boundary apart time known.jobs →
       IsRipe boundary apart time (vanished wakes known).jobs
   vanished_ripe apart time wakes known keeps ripe = vanished_ripe_on apart time wakes known.on known keeps refl ripe
+
+  -- One that isn't where it came to hasn't ended its job.
+  vanished_back_on : (wakes : Bool) (on : Option Standing) (known : Known) → IsBack boundary known.woken known.jobs →
+      (let after : Known = elim on [
+        | None ↦ known
+        | Some standing ↦ record {
+          jobs = changed_last (left_unseen standing.came (wakes && not known.woken.came)) known.jobs;
+          on = None;
+          woken = record known.woken { started = None };
+        }
+      ] in IsBack boundary after.woken after.jobs)
+  vanished_back_on wakes None known back = back
+  vanished_back_on wakes (Some standing) known back = by known.jobs
+    where
+      by : (jobs : List Job) → IsBack boundary (record known.woken { started = None }) (changed_last (left_unseen standing.came (wakes && not known.woken.came)) jobs)
+      by [] = tt
+      by (job ∷ jobs) = λ end is seen. absurd (cc is)
+
+  vanished_back : (wakes : Bool) (known : Known) → IsBack boundary known.woken known.jobs → IsBack boundary (vanished wakes known).woken (vanished wakes known).jobs
+  vanished_back wakes known back = vanished_back_on wakes known.on known back
+
+  passed_back : (wakes : Bool) (processor : ℕ) (known : Known) → IsBack boundary known.woken known.jobs →
+      IsBack boundary (passed_by wakes processor known).woken (passed_by wakes processor known).jobs
+  passed_back wakes processor known back =
+      either (λ (one : Known). IsBack boundary one.woken one.jobs) (stands_on processor known.on) (vanished wakes known) known (vanished_back wakes known back) back
 
   passed_keeps : (wakes : Bool) (processor : ℕ) (known : Known) → Keeps boundary now all known → Keeps boundary now all (passed_by wakes processor known)
   passed_keeps wakes processor known keeps =
@@ -425,19 +555,21 @@ module _ (boundary now : ℕ) (all : List Told) where
   last_by time (job ∷ jobs) at sound = omega (arith, at, sound.0.0)
 
   comes_keeps : (apart : ℕ) (wakes : Bool) (processor time : ℕ) (known : Known) → boundary ≤ time → time ≤ now → now ≤ time → Keeps boundary now all known →
-      IsRipe boundary apart time known.jobs → Keeps boundary now all (comes apart wakes processor time known)
-  comes_keeps apart wakes processor time known late by at keeps ripe =
+      IsRipe boundary apart time known.jobs → (wakes ≡ true → IsBack boundary known.woken known.jobs) → Keeps boundary now all (comes apart wakes processor time known)
+  comes_keeps apart wakes processor time known late by at keeps ripe back =
       let gone : Keeps boundary now all (vanished wakes known) = vanished_keeps wakes known keeps in
-      let going : Going boundary now all (if wakes then awake_jobs time (vanished wakes known).jobs else running_jobs apart time (vanished wakes known).jobs) =
-      either (Going boundary now all) wakes (awake_jobs time (vanished wakes known).jobs) (running_jobs apart time (vanished wakes known).jobs)
-      (awake_going time late by (vanished wakes known).on (vanished wakes known).jobs gone.told gone.sound gone.last)
-      (running_going time late by (vanished wakes known).on apart (vanished wakes known).jobs gone.told gone.sound gone.last
+      let going : Going boundary now all (if wakes then come_jobs apart time (vanished wakes known).woken (vanished wakes known).jobs else running_jobs apart time (vanished wakes known).jobs) =
+      cond_both wakes (come_jobs apart time (vanished wakes known).woken (vanished wakes known).jobs) (running_jobs apart time (vanished wakes known).jobs) (Going boundary now all)
+      (λ woken. come_going time late by (vanished wakes known).on apart (vanished wakes known).woken (vanished wakes known).jobs gone.told gone.sound gone.last gone.started
+      (vanished_back wakes known (back woken)))
+      (λ at_run. running_going time late by (vanished wakes known).on apart (vanished wakes known).jobs gone.told gone.sound gone.last
       (vanished_ripe apart time wakes known keeps ripe)) in
       record {
         told = going.told;
         sound = going.sound;
         last = free_left boundary (Some (record { processor = processor; came = time; since = time })) _ going.free;
         stands = (by, going.last_open, last_by time _ at going.sound, by);
+        started = none_started now true _;
       }
 
   -- It leaves: since when all is told of its processor is known.
@@ -478,7 +610,40 @@ module _ (boundary now : ℕ) (all : List Told) where
   left_in_fresh wakes states.GoesOn time jobs by at fresh = fresh
   left_in_fresh wakes states.Sleeps time jobs by at fresh =
       changed_fresh (ended time) (λ job late sound. (late, other_end now job job.switch_missing (ends.Ended time) sound by at)) jobs fresh
+  left_in_fresh wakes states.Exits time jobs by at fresh =
+      changed_fresh (exits time) (λ job late sound. (late, other_end now job job.switch_missing (ends.Ended time) sound by at)) jobs fresh
   left_in_fresh wakes states.Unknown time jobs by at fresh = unseen_fresh time wakes by jobs fresh
+
+  -- A wake-up that was started before it leaves is behind the last job's begin still.
+  ran_last : (at : ℕ) (seen : Bool) (leaving : Leaving) (on : Option Standing) (jobs : List Job) → IsLastAwaited at seen jobs →
+      IsLastAwaited at seen (elim on [ None ↦ jobs | Some standing ↦ changed_last (ran (stretch_of leaving standing.since)) jobs ])
+  ran_last at seen leaving None jobs last = last
+  ran_last at seen leaving (Some standing) [] last = absurd last
+  ran_last at seen leaving (Some standing) (job ∷ jobs) last = last
+
+  ended_last : (at time : ℕ) (seen : Bool) (jobs : List Job) → IsLastAwaited at seen jobs → IsLastAwaited at true (changed_last (ended time) jobs)
+  ended_last at time seen [] last = absurd last
+  ended_last at time seen (job ∷ jobs) last = (last.0, refl)
+
+  sleeps_started : (wakes : Bool) (leaving : Leaving) (known : Known) (b : Bool) → stands_on leaving.processor known.on ≡ b → IsStarted now known.woken known.jobs →
+      (at : ℕ) → (if b then known.woken.started else None) ≡ Some at → IsLastAwaited at true (changed_last (ended leaving.time) (left_from wakes leaving known)) × (at ≤ now)
+  sleeps_started wakes leaving known true there started at is = (
+    ended_last at leaving.time known.woken.seen (left_from wakes leaving known)
+        (subst (λ (stands : Bool). IsLastAwaited at known.woken.seen (if stands then (elim known.on [ None ↦ known.jobs | Some standing ↦ changed_last (ran (stretch_of leaving standing.since)) known.jobs ])
+        else (if is_none known.on && not leaving.has_switched && has_no_switch known.jobs
+        then changed_last (ran (stretch_of leaving leaving.whole_since)) (begun_by leaving.whole_since known.jobs)
+        else changed_last missing (awake_jobs leaving.time (vanished wakes known).jobs)))) (sym there)
+        (ran_last at known.woken.seen leaving known.on known.jobs (started at is).0)),
+    (started at is).1,
+  )
+  sleeps_started wakes leaving known false there started at is = absurd (cc is)
+
+  leaves_started : (wakes : Bool) (state : State) (leaving : Leaving) (known : Known) → IsStarted now known.woken known.jobs →
+      IsStarted now (leaves wakes state leaving known).woken (leaves wakes state leaving known).jobs
+  leaves_started wakes states.Sleeps leaving known started = sleeps_started wakes leaving known (stands_on leaving.processor known.on) refl started
+  leaves_started wakes states.GoesOn leaving known started = none_started now true _
+  leaves_started wakes states.Exits leaving known started = none_started now true _
+  leaves_started wakes states.Unknown leaving known started = none_started now true _
 
   leaves_fresh : (wakes : Bool) (state : State) (leaving : Leaving) (known : Known) → boundary ≤ leaving.time → leaving.time ≤ now → now ≤ leaving.time → leaving.whole_since ≤ now →
       (leaving.has_switched ≡ false → boundary ≤ leaving.whole_since) → Keeps boundary now all known → Fresh boundary now all (leaves wakes state leaving known).jobs
@@ -488,20 +653,24 @@ module _ (boundary now : ℕ) (all : List Told) where
   -- Who leaves, and who comes. Only where the thread comes that didn't leave just before, no wake-up may go on with its last job.
   pub switch_keeps : (apart : ℕ) (wakes left came : Bool) (state : State) (leaving : Leaving) (known : Known) → boundary ≤ leaving.time → leaving.time ≤ now →
       now ≤ leaving.time → leaving.whole_since ≤ now → (left ≡ true → leaving.has_switched ≡ false → boundary ≤ leaving.whole_since) →
-      (left ≡ false → came ≡ true → IsRipe boundary apart leaving.time known.jobs) → Keeps boundary now all known →
-      Keeps boundary now all (after_switch apart wakes left came state leaving known)
-  switch_keeps apart wakes true came state leaving known late by at since whole ripe keeps =
+      (left ≡ false → came ≡ true → IsRipe boundary apart leaving.time known.jobs) → (left ≡ false → came ≡ true → wakes ≡ true → IsBack boundary known.woken known.jobs) →
+      Keeps boundary now all known → Keeps boundary now all (after_switch apart wakes left came state leaving known)
+  switch_keeps apart wakes true came state leaving known late by at since whole ripe back keeps =
       let fresh : Fresh boundary now all (leaves wakes state leaving known).jobs = leaves_fresh wakes state leaving known late by at since (whole refl) keeps in
-      let gone : Keeps boundary now all (leaves wakes state leaving known) = fresh_keeps boundary now all (leaves wakes state leaving known).jobs false fresh in
+      let gone : Keeps boundary now all (leaves wakes state leaving known) =
+      fresh_keeps boundary now all (leaves wakes state leaving known).jobs (leaves wakes state leaving known).woken fresh
+      (leaves_started wakes state leaving known keeps.started) in
       either (Keeps boundary now all) came (comes apart wakes leaving.processor leaving.time (leaves wakes state leaving known)) (leaves wakes state leaving known)
       (comes_keeps apart wakes leaving.processor leaving.time (leaves wakes state leaving known) late by at gone
-      (free_ripe boundary apart leaving.time (leaves wakes state leaving known).jobs fresh.free)) gone
-  switch_keeps apart wakes false came state leaving known late by at since whole ripe keeps =
+      (free_ripe boundary apart leaving.time (leaves wakes state leaving known).jobs fresh.free)
+      (λ woken. free_back boundary (leaves wakes state leaving known).woken (leaves wakes state leaving known).jobs fresh.free)) gone
+  switch_keeps apart wakes false came state leaving known late by at since whole ripe back keeps =
       let gone : Keeps boundary now all (passed_by wakes leaving.processor known) = passed_keeps wakes leaving.processor known keeps in
       cond_both came (comes apart wakes leaving.processor leaving.time (passed_by wakes leaving.processor known)) (passed_by wakes leaving.processor known)
       (Keeps boundary now all)
       (λ comes_now. comes_keeps apart wakes leaving.processor leaving.time (passed_by wakes leaving.processor known) late by at gone
-      (passed_ripe apart leaving.time wakes leaving.processor known keeps (ripe refl comes_now)))
+      (passed_ripe apart leaving.time wakes leaving.processor known keeps (ripe refl comes_now))
+      (λ woken. passed_back wakes leaving.processor known (back refl comes_now woken)))
       (λ other. gone)
 
   -- # Other events
@@ -525,22 +694,53 @@ module _ (boundary now : ℕ) (all : List Told) where
       still true = stands
       still false = stands
 
-  wakes_keeps : (apart time : ℕ) (known : Known) → boundary ≤ time → time ≤ now → IsRipe boundary apart time known.jobs → Keeps boundary now all known →
-      Keeps boundary now all (wakes_up apart time known)
-  wakes_keeps apart time known late by ripe keeps =
-      let going : Going boundary now all (woken_jobs apart time known.woken known.jobs) =
-      woken_going time late by known.on apart known.woken known.jobs keeps.told keeps.sound keeps.last ripe in
+  -- What a wake-up begins at this time.
+  wakes_from : (apart begin : ℕ) (woken : Woken) (known : Known) → boundary ≤ begin → begin ≤ now → IsRipe boundary apart begin known.jobs →
+      (let jobs : List Job = woken_jobs apart begin known.woken.came known.jobs in IsStarted now woken jobs) → Keeps boundary now all known →
+      Keeps boundary now all (record { jobs = woken_jobs apart begin known.woken.came known.jobs; on = known.on; woken = woken })
+  wakes_from apart begin woken known late by ripe started keeps =
+      let going : Going boundary now all (woken_jobs apart begin known.woken.came known.jobs) =
+      woken_going begin late by known.on apart known.woken.came known.jobs keeps.told keeps.sound keeps.last ripe in
       record {
         told = going.told;
         sound = going.sound;
-        last = free_left boundary known.on (woken_jobs apart time known.woken known.jobs) going.free;
-        stands = woken_stands known.on apart time known.woken known.jobs keeps.stands;
+        last = free_left boundary known.on (woken_jobs apart begin known.woken.came known.jobs) going.free;
+        stands = woken_stands known.on apart begin known.woken.came known.jobs keeps.stands;
+        started = started;
       }
 
-  pub woken_keeps : (b : Bool) (apart time : ℕ) (known : Known) → boundary ≤ time → time ≤ now → IsRipe boundary apart time known.jobs → Keeps boundary now all known →
-      Keeps boundary now all (if b then wakes_up apart time known else known)
-  woken_keeps b apart time known late by ripe keeps =
-      either (Keeps boundary now all) b (wakes_up apart time known) known (wakes_keeps apart time known late by ripe keeps) keeps
+  wakes_keeps : (apart : ℕ) (starts : Bool) (time : ℕ) (known : Known) → boundary ≤ time → time ≤ now → now ≤ time → IsRipe boundary apart time known.jobs →
+      (starts ≡ false → (at : ℕ) → known.woken.started ≡ Some at → IsBack boundary known.woken known.jobs) →
+      Keeps boundary now all known → Keeps boundary now all (wakes_up apart starts time known)
+  wakes_keeps apart true time known late by at ripe back keeps =
+      wakes_from apart time (record { came = true; started = Some time; seen = known.woken.seen }) known late by ripe
+      (λ started is.
+      let same : time ≡ started = cc is in
+      subst (λ (when : ℕ). IsLastAwaited when known.woken.seen (woken_jobs apart time known.woken.came known.jobs) × (when ≤ now)) same (
+        going_started boundary now time all known.woken.seen (woken_jobs apart time known.woken.came known.jobs) at
+            (woken_going time late by known.on apart known.woken.came known.jobs keeps.told keeps.sound keeps.last ripe),
+        by,
+      )) keeps
+  wakes_keeps apart false time known late by at ripe back keeps = which known.woken.started refl
+    where
+      which : (started : Option ℕ) → known.woken.started ≡ started →
+          Keeps boundary now all (record {
+            jobs = woken_jobs apart (unwrap_or started time) known.woken.came known.jobs;
+            on = known.on;
+            woken = record { came = true; started = None; seen = known.woken.seen };
+          })
+      which None is = wakes_from apart time (record { came = true; started = None; seen = known.woken.seen }) known late by ripe (none_started now known.woken.seen _) keeps
+      which (Some begin) is =
+          let free : (boundary ≤ begin) × IsRipe boundary apart begin known.jobs =
+          started_free boundary now known.woken known.on apart begin known.jobs is keeps.started keeps.last (back refl begin is) in
+          wakes_from apart begin (record { came = true; started = None; seen = known.woken.seen }) known free.0 (keeps.started begin is).1 free.1
+          (none_started now known.woken.seen _) keeps
+
+  pub woken_keeps : (b : Bool) (apart : ℕ) (starts : Bool) (time : ℕ) (known : Known) → boundary ≤ time → time ≤ now → now ≤ time → IsRipe boundary apart time known.jobs →
+      (b ≡ true → starts ≡ false → (at : ℕ) → known.woken.started ≡ Some at → IsBack boundary known.woken known.jobs) →
+      Keeps boundary now all known → Keeps boundary now all (if b then wakes_up apart starts time known else known)
+  woken_keeps true apart starts time known late by at ripe back keeps = wakes_keeps apart starts time known late by at ripe (back refl) keeps
+  woken_keeps false apart starts time known late by at ripe back keeps = keeps
 
   ran_open : (stretch : Stretch) (jobs : List Job) → IsLastOpen jobs → IsLastOpen (changed_last (ran stretch) jobs)
   ran_open stretch [] last_open = last_open
@@ -570,8 +770,14 @@ module _ (boundary now : ℕ) (all : List Told) where
         sound = fresh.sound;
         last = free_left boundary (Some (record standing { since = time })) (changed_last (ran stretch) known.jobs) fresh.free;
         stands = (stands.0, ran_open stretch known.jobs stands.1, last_by time (changed_last (ran stretch) known.jobs) at fresh.sound, by);
+        started = λ at is. (still at known.jobs (keeps.started at is).0, (keeps.started at is).1);
       })
       keeps
+    where
+      still : (at : ℕ) (jobs : List Job) → IsLastAwaited at known.woken.seen jobs →
+          IsLastAwaited at known.woken.seen (changed_last (ran (record { processor = processor; from = standing.since; to = time; khz = khz })) jobs)
+      still at [] last = absurd last
+      still at (job ∷ jobs) last = last
 
   pub speeds_keeps : (processor time : ℕ) (khz : Option ℕ) (known : Known) → time ≤ now → now ≤ time → Keeps boundary now all known → Keeps boundary now all
       (speeds processor time khz known)
@@ -670,4 +876,5 @@ loses_keeps boundary now all since known by ends_known keeps = record {
   sound = lost_sound now since known.jobs by keeps.sound;
   last = lost_left boundary since known.on known.jobs keeps.last;
   stands = tt;
+  started = none_started now false _;
 }

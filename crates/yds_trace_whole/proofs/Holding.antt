@@ -1,5 +1,5 @@
 -- What holds of a task's jobs behind some lines whose parts end at a cut, and that one line more leaves it so, and changes nothing that is told.
-use Rattle.yds_model.proofs.Common.{◌≡◌, ◌∙◌, ℕ, ◌+◌, ◌<◌, ◌≤◌, ◌⊎◌, inl, inr, ◌&&◌, List, [], ◌∷◌, Bool, true, false, not, nat_lt, nat_le, if◌then◌else◌, Option, Some, None, is_some, refl, sym, ap, subst, arith, ltb-false, le-leb, cases_lt, and_parts, or_parts, true≢false, false≢true, min, cond_both, not-true}
+use Rattle.yds_model.proofs.Common.{◌≡◌, ◌∙◌, ℕ, ◌+◌, ◌<◌, ◌≤◌, ◌⊎◌, inl, inr, ◌&&◌, List, [], ◌∷◌, Bool, true, false, not, nat_lt, nat_le, if◌then◌else◌, Option, Some, None, is_some, refl, sym, ap, subst, arith, ltb-false, le-leb, cases_lt, and_parts, and_from, eqb-true, or_parts, true≢false, false≢true, min, cond_both, not-true}
 use Rattle.std.specs.List.{AllByRecursion}
 use Rattle.yds_kernel.specs.declared.state.State.{State}
 use Rattle.yds_kernel.specs.declared.state.State.TheVariants as states
@@ -16,12 +16,12 @@ use Rattle.yds_trace.specs.Asked.{Asked, task_at, task_of, is_number, is_of, is_
 use Rattle.yds_trace.specs.Past.{last_time, lost_since, is_loss, is_switch, whole_since, has_switched, counts, is_first_switch, stayed, up_to_time, up_to, speed_after}
 use Rattle.yds_trace.specs.Jobs.{Job, Known, leaving_at, after_event, known_after}
 use Rattle.yds_trace.specs.Late.{last_asked}
-use Rattle.yds_trace.specs.Parts.{reaches_back, was_there_before, changes_parts, part_fault}
+use Rattle.yds_trace.specs.Parts.{reaches_back, was_there_before, has_ended, last_begin, sleeps_before, woken_before, wakes_at, is_known_so, came_back, changes_parts, part_fault}
 use Rattle.yds_trace.proofs.UpTo.{up_to_lost}
 use Rattle.yds_trace_laws.proofs.Runs.{all_weaker}
 use Rattle.yds_trace_laws.proofs.Sharing.{AreBy, GoesOn, up_to_by, counts_by, later_switch}
 use Rattle.yds_trace_whole.proofs.Told.{Told, told, OfTold, Each, each_told, told_each}
-use Rattle.yds_trace_whole.proofs.Going.{later_sound, StandsBy, IsRipeEnd, IsRipe, Keeps, switch_keeps, woken_keeps, speeds_keeps, IsKnownBy, loses_keeps}
+use Rattle.yds_trace_whole.proofs.Going.{later_sound, StandsBy, IsRipeEnd, IsRipe, IsBack, Keeps, switch_keeps, woken_keeps, speeds_keeps, IsKnownBy, loses_keeps}
 use Rattle.yds_trace_whole.proofs.Lines.{until, beyond, until_goes_on, beyond_goes_on, beyond_reached, until_before, until_most, lost_by, lost_same, whole_by, counting_by, whole_from}
 
 -- # What holds
@@ -118,15 +118,19 @@ lost_kept asked past cut processor reach none =
 record IsKept (asked : Asked) (past : List Said) (cut : Cut) (event : Event) : Type 0 where
   loss : is_loss event.happening ≡ true → cut.decided ≤ lost_since event.processor since.ItsLastLine past
   there : was_there_before asked past cut event event.happening ≡ false
+  back : came_back asked past cut event event.happening ≡ false
 
 event_kept : (asked : Asked) (past : List Said) (cut : Cut) (event : Event) → part_fault asked past cut (Stamped event) ≡ None → IsKept asked past cut event
 event_kept asked past cut event none =
-    let neither = or_parts (is_loss event.happening && reaches_back cut (lost_since event.processor since.ItsLastLine past)) (was_there_before asked past cut event event.happening)
+    let neither = or_parts (is_loss event.happening && reaches_back cut (lost_since event.processor since.ItsLastLine past))
+    (was_there_before asked past cut event event.happening || came_back asked past cut event event.happening)
     (kept_for (changes_parts asked past cut (Stamped event)) none) in
+    let more = or_parts (was_there_before asked past cut event event.happening) (came_back asked past cut event event.happening) neither.1 in
     record {
       loss = λ is. reach_kept cut (lost_since event.processor since.ItsLastLine past)
           (subst (λ (b : Bool). (b && reaches_back cut (lost_since event.processor since.ItsLastLine past)) ≡ false) is neither.0);
-      there = neither.1;
+      there = more.0;
+      back = more.1;
     }
 
 -- A listed thread that leaves a processor, which hasn't switched, had no job before the parts' end.
@@ -138,6 +142,55 @@ there_since asked past cut event previous state next number none mine first =
     (subst (λ (b : Bool). (b && nat_lt (whole_since event.time (up_to asked.to past)) cut.boundary) ≡ false) (ap not first)
     (subst (λ (b : Bool). (b && not (has_switched event.processor (up_to asked.to past)) && nat_lt (whole_since event.time (up_to asked.to past)) cut.boundary) ≡ false)
     (listed asked number previous mine) none))
+
+-- What isn't so of the task that a thread is.
+not_so : (asked : Asked) (past : List Said) (number : ℕ) (thread : Thread) (test : Known → Bool) → is_known_so asked past thread test ≡ false →
+    is_of asked number thread ≡ true → test (known_after asked number (up_to asked.to past)) ≡ false
+not_so asked past number thread test none mine = by (task_of asked.tasks thread) none mine
+  where
+    by : (found : Option ℕ) → (elim found as (λ _. Bool) [ None ↦ false | Some other ↦ test (known_after asked other (up_to asked.to past)) ]) ≡ false →
+        is_number number found ≡ true → test (known_after asked number (up_to asked.to past)) ≡ false
+    by None none mine = cc mine
+    by (Some other) none mine =
+        let same : other ≡ number = eqb-true other number mine in
+        subst (λ (n : ℕ). test (known_after asked n (up_to asked.to past)) ≡ false) same none
+
+-- A thread that sleeps, without a wake-up since, has no job before the boundary.
+not_before : (boundary : ℕ) (known : Known) → sleeps_before boundary known ≡ false → IsBack boundary known.woken known.jobs
+not_before boundary known none = by known.jobs none
+  where
+    by : (jobs : List Job) → (known.woken.seen && has_ended jobs && nat_lt (last_begin jobs) boundary) ≡ false → IsBack boundary known.woken jobs
+    by [] none = tt
+    by (job ∷ jobs) none = λ end is seen.
+        let over : has_ended (job ∷ jobs) ≡ true = ap (λ (e : End). elim e as (λ _. Bool) [
+          | ends.Open ↦ false
+          | ends.Ended end ↦ true
+          | ends.Unseen last goes_on ↦ false
+          | ends.Lost last ↦ false
+        ]) is in
+        ltb-false job.begin boundary
+        (subst (λ (b : Bool). (b && nat_lt job.begin boundary) ≡ false) over
+        (subst (λ (b : Bool). (b && has_ended (job ∷ jobs) && nat_lt job.begin boundary) ≡ false) seen none))
+
+-- A listed thread that comes has no such job.
+back_kept : (asked : Asked) (past : List Said) (cut : Cut) (event : Event) (previous : Thread) (state : State) (next : Thread) (number : ℕ) →
+    came_back asked past cut event (Switch previous state next) ≡ false → is_before_to asked.to event.time ≡ true → not asked.begin_at_run ≡ true →
+    is_of asked number next ≡ true → IsBack cut.boundary (counted asked past number).woken (counted asked past number).jobs
+back_kept asked past cut event previous state next number none before wakes mine =
+    not_before cut.boundary (counted asked past number)
+    (not_so asked past number next (sleeps_before cut.boundary)
+    (subst (λ (b : Bool). (b && is_known_so asked past next (sleeps_before cut.boundary)) ≡ false) (and_from (is_before_to asked.to event.time) (not asked.begin_at_run) before wakes) none) mine)
+
+-- Nor has one whose wake-up is done that was started before it left to sleep.
+half_kept : (asked : Asked) (past : List Said) (cut : Cut) (event : Event) (thread : Thread) (number at : ℕ) →
+    came_back asked past cut event (WakeUp thread false) ≡ false → is_before_to asked.to event.time ≡ true → not asked.begin_at_run ≡ true →
+    is_of asked number thread ≡ true → (counted asked past number).woken.started ≡ Some at →
+    IsBack cut.boundary (counted asked past number).woken (counted asked past number).jobs
+half_kept asked past cut event thread number at none before wakes mine started =
+    not_before cut.boundary (counted asked past number)
+    (subst (λ (found : Option ℕ). (is_some found && sleeps_before cut.boundary (counted asked past number)) ≡ false) started
+    (not_so asked past number thread (woken_before cut.boundary)
+    (subst (λ (b : Bool). (b && is_known_so asked past thread (woken_before cut.boundary)) ≡ false) (and_from (is_before_to asked.to event.time) (not asked.begin_at_run) before wakes) none) mine))
 
 -- # One event among those that count
 
@@ -152,6 +205,10 @@ record IsNext (asked : Asked) (counting : List Said) (boundary now number : ℕ)
   ripe : is_loss happening ≡ false → IsRipe boundary (task_at asked number).apart event.time (known_after asked number counting).jobs
   left : (previous : Thread) (state : State) (next : Thread) → happening ≡ Switch previous state next → is_of asked number previous ≡ true →
       has_switched event.processor counting ≡ false → boundary ≤ whole_since event.time counting
+  back : (previous : Thread) (state : State) (next : Thread) → happening ≡ Switch previous state next → not asked.begin_at_run ≡ true → is_of asked number next ≡ true →
+      IsBack boundary (known_after asked number counting).woken (known_after asked number counting).jobs
+  half : (thread : Thread) (at : ℕ) → happening ≡ WakeUp thread false → not asked.begin_at_run ≡ true → is_of asked number thread ≡ true →
+      (known_after asked number counting).woken.started ≡ Some at → IsBack boundary (known_after asked number counting).woken (known_after asked number counting).jobs
 
 next_keeps : (asked : Asked) (counting : List Said) (boundary now number : ℕ) (all : List Told) (event : Event) (happening : Happening) →
     IsNext asked counting boundary now number event happening → Keeps boundary now all (known_after asked number counting) →
@@ -159,10 +216,14 @@ next_keeps : (asked : Asked) (counting : List Said) (boundary now number : ℕ) 
 next_keeps asked counting boundary now number all event (Switch previous state next) is keeps =
     switch_keeps boundary now all (task_at asked number).apart (not asked.begin_at_run) (is_of asked number previous) (is_of asked number next) state
     (leaving_at asked counting event) (known_after asked number counting) (is.late refl) (is.by refl) (is.at refl) (is.whole refl)
-    (λ mine first. is.left previous state next refl mine first) (λ other comes. is.ripe refl) keeps
+    (λ mine first. is.left previous state next refl mine first) (λ other comes. is.ripe refl)
+    (λ other comes wakes. is.back previous state next refl wakes comes) keeps
 next_keeps asked counting boundary now number all event (WakeUp thread starts) is keeps =
-    woken_keeps boundary now all (is_of asked number thread && not asked.begin_at_run) (task_at asked number).apart event.time (known_after asked number counting)
-    (is.late refl) (is.by refl) (is.ripe refl) keeps
+    woken_keeps boundary now all (is_of asked number thread && not asked.begin_at_run) (task_at asked number).apart starts event.time (known_after asked number counting)
+    (is.late refl) (is.by refl) (is.at refl) (is.ripe refl)
+    (λ mine second at started.
+    let both = and_parts (is_of asked number thread) (not asked.begin_at_run) mine in
+    is.half thread at (ap (λ (b : Bool). WakeUp thread b) second) both.1 both.0 started) keeps
 next_keeps asked counting boundary now number all event (Speed processor khz) is keeps =
     speeds_keeps boundary now all processor event.time (speed_after asked.start processor counting) (known_after asked number counting) (is.by refl) (is.at refl) keeps
 next_keeps asked counting boundary now number all event Loss is keeps =
@@ -180,7 +241,7 @@ staying_keeps : (asked : Asked) (counting : List Said) (boundary now number : �
 staying_keeps asked counting boundary now number all processor to thread late by at whole left keeps =
     switch_keeps boundary now all (task_at asked number).apart (not asked.begin_at_run) (is_of asked number thread) (is_of asked number thread) states.GoesOn
     (leaving_at asked counting (staying processor to thread)) (known_after asked number counting) late by at whole (λ mine first. left mine)
-    (λ other comes. absurd (true≢false (sym comes ∙ other))) keeps
+    (λ other comes. absurd (true≢false (sym comes ∙ other))) (λ other comes wakes. absurd (true≢false (sym comes ∙ other))) keeps
 
 -- # Whether an event counts
 
@@ -221,7 +282,13 @@ by_counting (Some end) event past P counts_it stays passes =
 
 keeps_later : (boundary now later : ℕ) (all : List Told) (known : Known) → now ≤ later → Keeps boundary now all known → Keeps boundary later all known
 keeps_later boundary now later all known on keeps =
-    record { told = keeps.told; sound = later_sound now later known.jobs on keeps.sound; last = keeps.last; stands = by known.on keeps.stands }
+    record {
+      told = keeps.told;
+      sound = later_sound now later known.jobs on keeps.sound;
+      last = keeps.last;
+      stands = by known.on keeps.stands;
+      started = λ at is. ((keeps.started at is).0, omega (arith, on, (keeps.started at is).1));
+    }
   where
     by : (standing : Option Standing) → StandsBy now standing known.jobs → StandsBy later standing known.jobs
     by None stands = tt
@@ -291,6 +358,12 @@ module _ (asked : Asked) (past : List Said) (cut : Cut) (number : ℕ) (begun : 
         left = λ previous state next is mine first.
             there_since asked past cut event previous state next number
             (subst (λ (h : Happening). was_there_before asked past cut event h ≡ false) is kept.there) mine first;
+        back = λ previous state next is wakes mine.
+            back_kept asked past cut event previous state next number (subst (λ (h : Happening). came_back asked past cut event h ≡ false) is kept.back)
+            (before (ap is_loss is)) wakes mine;
+        half = λ thread at is wakes mine started.
+            half_kept asked past cut event thread number at (subst (λ (h : Happening). came_back asked past cut event h ≡ false) is kept.back)
+            (before (ap is_loss is)) wakes mine started;
       })
       (keeps_later cut.boundary (last_asked asked past) later (told_of asked past cut number) (counted asked past number) on holds.keeps)
     where
@@ -359,7 +432,7 @@ module _ (asked : Asked) (past : List Said) (cut : Cut) (number : ℕ) (begun : 
       (λ (job : Job). job.begin < cut.boundary → IsFirm asked (said ∷ past) cut.decided number job)
       (λ job is early. firm_goes_on asked said past cut.decided number goes job (is early)) (counted asked past number).jobs holds.firm in
       record {
-        keeps = record { told = refl; sound = keeps.sound; last = keeps.last; stands = keeps.stands };
+        keeps = record { told = refl; sound = keeps.sound; last = keeps.last; stands = keeps.stands; started = keeps.started };
         firm = told_each (IsFirm asked (said ∷ past) cut.decided number) cut.boundary (counted asked (said ∷ past) number).jobs
             (subst (AllByRecursion (OfTold (IsFirm asked (said ∷ past) cut.decided number))) (sym keeps.told)
             (each_told (IsFirm asked (said ∷ past) cut.decided number) cut.boundary (counted asked past number).jobs firm));
