@@ -7,7 +7,7 @@ use Rattle.yds_trace.specs.declared.fault.Cause.{Cause}
 use Rattle.yds_trace.specs.declared.fault.Cause.TheVariants as causes
 use Rattle.yds_trace.specs.Asked.{Numbered, Asked}
 use Rattle.yds_trace.specs.Faults.{first_fault, trace_fault, touched, touched_fault}
-use Rattle.yds_trace_examples.proofs.Lines.{t, other, idle, line, woken, comes, sleeps, other_leaves, speed, marker, lost, task, asked, at_run, up_to, from}
+use Rattle.yds_trace_examples.proofs.Lines.{t, other, idle, line, woken, comes, sleeps, exits, other_leaves, speed, marker, lost, task, asked, at_run, up_to, from}
 
 abbrev fault : Asked → List Said → Option (ℕ × Cause)
 fault asked lines = first_fault asked (reverse lines)
@@ -67,6 +67,36 @@ twin_came_later = refl
 
 twin_woken_later : fault (up_to 30) (line 1 5 (WakeUp other true) ∷ line 1 40 (WakeUp twin true) ∷ sleeps 0 50 ∷ []) ≡ None
 twin_woken_later = refl
+
+-- # Threads that were over, and wake-ups that aren't recorded
+
+-- A thread that was over has lines of another one.
+a_number_used_again : fault asked (woken 10 ∷ comes 0 12 ∷ exits 0 40 ∷ woken 50 ∷ []) ≡ Some (4, causes.Exited)
+a_number_used_again = refl
+
+-- Also where events were lost in between; near miss: it has no line more.
+used_again_behind_a_loss : fault (record asked { cut_losses = true }) (woken 10 ∷ comes 0 12 ∷ exits 0 40 ∷ lost 0 ∷ woken 50 ∷ []) ≡ Some (5, causes.Exited)
+used_again_behind_a_loss = refl
+
+over_for_good : fault asked (woken 10 ∷ comes 0 12 ∷ exits 0 40 ∷ marker 0 50 ∷ []) ≡ None
+over_for_good = refl
+
+-- It comes behind a second sleep without a wake-up.
+never_woken : fault asked (woken 10 ∷ comes 0 12 ∷ sleeps 0 20 ∷ comes 0 30 ∷ sleeps 0 40 ∷ comes 0 50 ∷ []) ≡ Some (6, causes.NotWoken)
+never_woken = refl
+
+-- Near misses: it was so once; a wake-up came in between, while it went to sleep; jobs begin at their first run; it is gone on with.
+not_woken_once : fault asked (woken 10 ∷ comes 0 12 ∷ sleeps 0 20 ∷ comes 0 30 ∷ sleeps 0 40 ∷ woken 45 ∷ comes 0 50 ∷ []) ≡ None
+not_woken_once = refl
+
+woken_going_to_sleep : fault asked (woken 10 ∷ comes 0 12 ∷ sleeps 0 20 ∷ comes 0 30 ∷ woken 39 ∷ sleeps 0 40 ∷ comes 0 50 ∷ []) ≡ None
+woken_going_to_sleep = refl
+
+needs_no_wake_up : fault at_run (woken 10 ∷ comes 0 12 ∷ sleeps 0 20 ∷ comes 0 30 ∷ sleeps 0 40 ∷ comes 0 50 ∷ []) ≡ None
+needs_no_wake_up = refl
+
+gone_on_with : fault (record asked { cut_losses = true }) (woken 10 ∷ comes 0 12 ∷ sleeps 0 20 ∷ comes 0 30 ∷ sleeps 0 40 ∷ comes 0 50 ∷ []) ≡ None
+gone_on_with = refl
 
 -- # Losses
 

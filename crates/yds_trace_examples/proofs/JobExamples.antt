@@ -7,7 +7,7 @@ use Rattle.yds_trace.specs.declared.job.End.TheVariants as ends
 use Rattle.yds_trace.specs.Asked.{Asked}
 use Rattle.yds_trace.specs.Jobs.{Job}
 use Rattle.yds_trace.specs.Document.{jobs_of}
-use Rattle.yds_trace_examples.proofs.Lines.{t, other, idle, line, woken, comes, sleeps, preempted, back, other_leaves, speed, marker, lost, asked, with_apart, at_run, up_to, stretch, job, begun_by}
+use Rattle.yds_trace_examples.proofs.Lines.{t, other, idle, line, woken, is_awake, comes, sleeps, exits, preempted, back, other_leaves, speed, marker, lost, asked, with_apart, at_run, up_to, stretch, job, begun_by}
 
 -- the task's jobs by these lines, which stand in order of time
 abbrev jobs : Asked → List Said → List Job
@@ -59,9 +59,49 @@ one_wake_up_twice : jobs asked (woken 10 ∷ woken 11 ∷ comes 0 12 ∷ sleeps 
 one_wake_up_twice = refl
 
 -- A thread that is new is woken the first time, and ends its last job when it exits.
-a_fork_and_an_exit : jobs asked (line 2 10 (WakeUp t true) ∷ comes 0 12 ∷ line 0 40 (Switch t states.Sleeps other) ∷ other_leaves 0 50 ∷ []) ≡
-    job 10 (ends.Ended 40) (stretch 0 12 40 ∷ []) ∷ []
+a_fork_and_an_exit : jobs asked (line 2 10 (WakeUp t false) ∷ comes 0 12 ∷ exits 0 40 ∷ []) ≡
+    record (job 10 (ends.Ended 40) (stretch 0 12 40 ∷ [])) { exited = true } ∷ []
 a_fork_and_an_exit = refl
+
+-- # Woken while it goes to sleep
+
+-- A wake-up that was started before it left to sleep, and wasn't done by then, begins a job: the next one.
+woken_going_to_sleep : jobs asked (woken 10 ∷ comes 0 12 ∷ woken 38 ∷ sleeps 0 40 ∷ comes 0 50 ∷ sleeps 0 60 ∷ []) ≡
+    record (job 10 (ends.Ended 40) (stretch 0 12 40 ∷ [])) { wake_ups = 1 } ∷ job 38 (ends.Ended 60) (stretch 0 50 60 ∷ []) ∷ []
+woken_going_to_sleep = refl
+
+-- So it is where its second half is told behind the sleep.
+woken_in_halves : jobs asked (woken 10 ∷ is_awake 11 ∷ comes 0 12 ∷ woken 38 ∷ sleeps 0 40 ∷ is_awake 45 ∷ comes 0 50 ∷ sleeps 0 60 ∷ []) ≡
+    record (job 10 (ends.Ended 40) (stretch 0 12 40 ∷ [])) { wake_ups = 1 } ∷ job 38 (ends.Ended 60) (stretch 0 50 60 ∷ []) ∷ []
+woken_in_halves = refl
+
+-- Less than 50 after the job's begin it goes on with that.
+woken_going_to_sleep_within : jobs with_apart (woken 10 ∷ comes 0 12 ∷ woken 38 ∷ sleeps 0 40 ∷ comes 0 70 ∷ sleeps 0 80 ∷ []) ≡
+    record (job 10 (ends.Ended 80) (stretch 0 70 80 ∷ stretch 0 12 40 ∷ [])) { wake_ups = 1 } ∷ []
+woken_going_to_sleep_within = refl
+
+-- Near miss: it was done before that, so it was taken up while the thread ran.
+woken_while_it_runs : jobs asked (woken 10 ∷ comes 0 12 ∷ woken 30 ∷ is_awake 31 ∷ sleeps 0 40 ∷ woken 45 ∷ comes 0 50 ∷ sleeps 0 60 ∷ []) ≡
+    record (job 10 (ends.Ended 40) (stretch 0 12 40 ∷ [])) { wake_ups = 1 } ∷ job 45 (ends.Ended 60) (stretch 0 50 60 ∷ []) ∷ []
+woken_while_it_runs = refl
+
+-- # A sleep that was none
+
+-- Without a wake-up it hasn't slept, as where a signal was pending: the job goes on.
+never_slept : jobs asked (woken 10 ∷ comes 0 12 ∷ sleeps 0 20 ∷ comes 0 30 ∷ sleeps 0 40 ∷ []) ≡
+    record (job 10 (ends.Ended 40) (stretch 0 30 40 ∷ stretch 0 12 20 ∷ [])) { slept = Some 20 } ∷ []
+never_slept = refl
+
+-- Near misses: events were lost in between; and a second such sleep, from the first one on.
+lost_in_between : jobs asked (woken 10 ∷ comes 0 12 ∷ sleeps 0 20 ∷ marker 1 25 ∷ lost 1 ∷ comes 0 30 ∷ sleeps 0 40 ∷ []) ≡
+    job 10 (ends.Ended 20) (stretch 0 12 20 ∷ []) ∷ begun_by 30 (ends.Ended 40) (record (stretch 0 30 40) { khz = None } ∷ []) ∷ []
+lost_in_between = refl
+
+never_woken : jobs asked (woken 10 ∷ comes 0 12 ∷ sleeps 0 20 ∷ comes 0 30 ∷ sleeps 0 40 ∷ comes 0 50 ∷ sleeps 0 60 ∷ []) ≡
+    record (job 10 (ends.Lost 20) (stretch 0 30 40 ∷ stretch 0 12 20 ∷ [])) { slept = Some 20 } ∷ begun_by 50 (ends.Ended 60) (stretch 0 50 60 ∷ []) ∷ []
+never_woken = refl
+
+-- # Order
 
 -- Of a wake-up and a switch of one time the order of lines decides.
 a_wake_up_first : jobs asked (woken 10 ∷ comes 0 10 ∷ sleeps 0 40 ∷ []) ≡ job 10 (ends.Ended 40) (stretch 0 10 40 ∷ []) ∷ []

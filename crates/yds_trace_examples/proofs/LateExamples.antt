@@ -23,12 +23,19 @@ late_by_nothing = refl
 not_due : late_by None 109 110 ends.Open ≡ None
 not_due = refl
 
--- what is due just at `from` is of the time before it
-due_at_from : late_by (Some 110) 200 110 (ends.Ended 150) ≡ None
-due_at_from = refl
+-- what was due before `from` is late where it is open behind it
+due_before_from : late_by (Some 120) 200 110 (ends.Ended 150) ≡ Some 40
+due_before_from = refl
 
-due_after_from : late_by (Some 109) 200 110 (ends.Ended 150) ≡ Some 40
-due_after_from = refl
+open_from_end_to_end : late_by (Some 120) 200 110 ends.Open ≡ Some 90
+open_from_end_to_end = refl
+
+-- near misses: it ended by then; it wasn't seen open behind it
+ended_at_from : late_by (Some 150) 200 110 (ends.Ended 150) ≡ None
+ended_at_from = refl
+
+lost_before_from : late_by (Some 120) 200 110 (ends.Lost 115) ≡ None
+lost_before_from = refl
 
 -- it was still open at 120, after which a switch is missing, or events are lost: it is late by 10 at least
 late_when_last_seen : late_by None 200 110 (ends.Unseen 120 true) ≡ Some 10

@@ -29,6 +29,10 @@ line processor time happening = Stamped (record { processor = processor; time = 
 abbrev pub woken : ℕ → Said
 woken time = line 3 time (WakeUp t true)
 
+-- its wake-up was done
+abbrev pub is_awake : ℕ → Said
+is_awake time = line 3 time (WakeUp t false)
+
 -- it comes to the idle processor
 abbrev pub comes : ℕ → ℕ → Said
 comes processor time = line processor time (Switch idle states.GoesOn t)
@@ -36,6 +40,10 @@ comes processor time = line processor time (Switch idle states.GoesOn t)
 -- it leaves it to sleep
 abbrev pub sleeps : ℕ → ℕ → Said
 sleeps processor time = line processor time (Switch t states.Sleeps idle)
+
+-- it is over
+abbrev pub exits : ℕ → ℕ → Said
+exits processor time = line processor time (Switch t states.Exits idle)
 
 -- it is preempted by another thread, and that gives the processor back
 abbrev pub preempted : ℕ → ℕ → Said
@@ -110,7 +118,7 @@ stretch processor from to = record { processor = processor; from = from; to = to
 
 abbrev pub job : ℕ → End → List Stretch → Job
 job begin end stretches =
-    record { begin = begin; begin_known = true; end = end; stretches = stretches; wake_ups = 0; switch_missing = false; shared = false }
+    record { begin = begin; begin_known = true; end = end; stretches = stretches; wake_ups = 0; switch_missing = false; slept = None; exited = false; shared = false }
 
 -- what the job ran on one of its processors
 abbrev pub share : ℕ → End → List Stretch → Job

@@ -11,7 +11,7 @@ use Rattle.yds_trace_document.specs.declared.fault.DocumentFault.TheVariants as 
 use Rattle.yds_trace_text.specs.Text.{comment, unit_comment}
 use Rattle.yds_trace_text.specs.PartText.{part_text}
 use Rattle.yds_trace_parts.specs.Told.{InForm, AtLine, OfDocument, Told, told_of}
-use Rattle.yds_trace_examples.proofs.Lines.{woken, comes, sleeps, preempted, back, marker, lost, asked, of_each, in_shares, with_others}
+use Rattle.yds_trace_examples.proofs.Lines.{woken, is_awake, comes, sleeps, preempted, back, marker, lost, asked, of_each, in_shares, with_others}
 
 abbrev two_jobs : List Said
 two_jobs = woken 1000 ∷ comes 0 1020 ∷ sleeps 0 1040 ∷ woken 1200 ∷ comes 0 1210 ∷ sleeps 0 1230 ∷ []
@@ -210,3 +210,18 @@ reaches_back = refl
 -- near miss: the part was written at that last line
 begins_there : part_fault asked (reverse (two_jobs ++ marker 1 1240 ∷ [])) cut (lost 0) ≡ None
 begins_there = refl
+
+-- A thread comes behind the end of a written job without a wake-up: that job goes on.
+comes_back : part_fault asked (reverse two_jobs) (record cut { boundary = 1201 }) (comes 0 1310) ≡ Some causes.PartWritten
+comes_back = refl
+
+-- So it is where its wake-up is done that was started before it left to sleep.
+woken_back : part_fault asked (reverse (two_jobs ++ woken 1240 ∷ comes 0 1250 ∷ woken 1259 ∷ sleeps 0 1260 ∷ [])) (record cut { boundary = 1241 }) (is_awake 1310) ≡ Some causes.PartWritten
+woken_back = refl
+
+-- Near misses: the job isn't written; or it was woken since.
+comes_back_later : part_fault asked (reverse two_jobs) cut (comes 0 1310) ≡ None
+comes_back_later = refl
+
+woken_since : part_fault asked (reverse (two_jobs ++ woken 1300 ∷ [])) (record cut { boundary = 1300 }) (comes 0 1310) ≡ None
+woken_since = refl

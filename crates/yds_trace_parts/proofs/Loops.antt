@@ -8,7 +8,8 @@ use Rattle.yds_trace.specs.declared.pass.Pass.{Pass}
 use Rattle.yds_trace.specs.declared.shown.Shown.{Shown}
 use Rattle.yds_trace.specs.Asked.{Asked, on, task_of}
 use Rattle.yds_trace.specs.Kept.{IsAtBehind}
-use Rattle.yds_trace.specs.Parts.{no_cut, later, was_there_before, changes_parts, is_due}
+use Rattle.yds_trace.specs.Jobs.{Known, known_after}
+use Rattle.yds_trace.specs.Parts.{last_begin, no_cut, later, was_there_before, has_ended, sleeps_before, woken_before, is_known_so, wakes_at, came_back, changes_parts, is_due}
 use Rattle.yds_trace.specs.Past.{is_loss, lost_since, whole_since, has_switched, up_to}
 use Rattle.yds_trace.specs.Shown.{IsShown}
 use Rattle.yds_trace.proofs.Later.{later_changes}
@@ -246,12 +247,32 @@ was_there asked past event Loss = refl
 was_there asked past event Marker = refl
 was_there asked past event Other = refl
 
+sleeps_never : (known : Known) → sleeps_before 0 known ≡ false
+sleeps_never known = and_false (known.woken.seen && has_ended known.jobs) (nat_lt (last_begin known.jobs) 0) (none_under (last_begin known.jobs))
+
+never_so : (asked : Asked) (past : List Said) (test : Known → Bool) → ((known : Known) → test known ≡ false) → (found : Option ℕ) →
+    (elim found as (λ _. Bool) [ None ↦ false | Some number ↦ test (known_after asked number (up_to asked.to past)) ]) ≡ false
+never_so asked past test none None = refl
+never_so asked past test none (Some number) = none (known_after asked number (up_to asked.to past))
+
+came_back_never : (asked : Asked) (past : List Said) (event : Event) (happening : Happening) → came_back asked past no_cut event happening ≡ false
+came_back_never asked past event (Switch previous state next) =
+    and_false (wakes_at asked event) (is_known_so asked past next (sleeps_before 0)) (never_so asked past (sleeps_before 0) sleeps_never (task_of asked.tasks next))
+came_back_never asked past event (WakeUp thread starts) =
+    and_false (wakes_at asked event) (not starts && is_known_so asked past thread (woken_before 0))
+    (and_false (not starts) (is_known_so asked past thread (woken_before 0))
+    (never_so asked past (woken_before 0) (λ known. and_false (is_some known.woken.started) (sleeps_before 0 known) (sleeps_never known)) (task_of asked.tasks thread)))
+came_back_never asked past event (Speed processor khz) = refl
+came_back_never asked past event Loss = refl
+came_back_never asked past event Marker = refl
+came_back_never asked past event Other = refl
+
 -- no line changes a part where there is none
 not_before_0 : (asked : Asked) (past : List Said) (said : Said) → changes_parts asked past no_cut said ≡ false
 not_before_0 asked past (Stamped event) =
     ap₂ (λ (a b : Bool). a || b)
     (and_false (is_loss event.happening) (nat_lt (lost_since event.processor since.ItsLastLine past) 0) (none_under (lost_since event.processor since.ItsLastLine past)))
-    (was_there asked past event event.happening)
+    (ap₂ (λ (a b : Bool). a || b) (was_there asked past event event.happening) (came_back_never asked past event event.happening))
 not_before_0 asked past (Lost processor reach) = none_under (lost_since processor reach past)
 not_before_0 asked past Nothing = refl
 

@@ -455,7 +455,7 @@ no_lines asked number = by asked.to
 
 pub at_first : (asked : Asked) (number : ℕ) → Holds asked [] no_cut number
 at_first asked number = record {
-  keeps = subst (λ (known : Known). Keeps 0 (last_asked asked []) (told 0 known.jobs) known) (no_lines asked number) (record { told = refl; sound = tt; last = tt; stands = tt });
+  keeps = subst (λ (known : Known). Keeps 0 (last_asked asked []) (told 0 known.jobs) known) (no_lines asked number) (record { told = refl; sound = tt; last = tt; stands = tt; started = λ at none. absurd (cc none) });
   firm = subst (λ (known : Known). Each (IsFirm asked [] 0 number) 0 known.jobs) (no_lines asked number) tt;
 }
 

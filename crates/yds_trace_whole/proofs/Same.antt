@@ -8,7 +8,7 @@ use Rattle.yds_trace.specs.declared.job.End.TheVariants as ends
 use Rattle.yds_trace.specs.declared.job.Standing.{Standing}
 use Rattle.yds_trace.specs.declared.reason.Reason.{Reason}
 use Rattle.yds_trace.specs.declared.reason.Reason.TheVariants as reasons
-use Rattle.yds_trace.specs.Asked.{Task, Asked, task_at, is_after_from}
+use Rattle.yds_trace.specs.Asked.{Task, Asked, task_at, is_after_from, is_behind_from}
 use Rattle.yds_trace.specs.Past.{last_time, up_to, speed_after}
 use Rattle.yds_trace.specs.Jobs.{Job, Known, changed_last, ran}
 use Rattle.yds_trace.specs.Late.{last_asked, due, is_open, is_judged, late_by}
@@ -28,11 +28,11 @@ some_if b n = if b then Some n else None
 -- a job that is shown up to a time
 abbrev late_at : Option ℕ → ℕ → ℕ → ℕ → Bool → Option ℕ
 late_at from last deadline shown unended =
-    if is_judged from last deadline && (nat_lt deadline shown || ((deadline == shown) && unended)) then Some (shown - deadline) else None
+    if is_judged from last deadline shown && (nat_lt deadline shown || ((deadline == shown) && unended)) then Some (shown - deadline) else None
 
-judged_same : (from : Option ℕ) (last next deadline : ℕ) → deadline ≤ last → deadline ≤ next → is_judged from last deadline ≡ is_judged from next deadline
-judged_same None last next deadline here there = le-leb deadline last here ∙ sym (le-leb deadline next there)
-judged_same (Some from) last next deadline here there = ap (λ (b : Bool). nat_lt from deadline && b) (le-leb deadline last here ∙ sym (le-leb deadline next there))
+judged_same : (from : Option ℕ) (last next deadline shown : ℕ) → deadline ≤ last → deadline ≤ next → is_judged from last deadline shown ≡ is_judged from next deadline shown
+judged_same from last next deadline shown here there =
+    ap (λ (b : Bool). is_behind_from from shown && b) (le-leb deadline last here ∙ sym (le-leb deadline next there))
 
 due_by : (deadline shown : ℕ) (unended : Bool) → (nat_lt deadline shown || ((deadline == shown) && unended)) ≡ true → deadline ≤ shown
 due_by deadline shown unended is = by (nat_lt deadline shown) refl is
@@ -46,11 +46,11 @@ late_at_same : (from : Option ℕ) (last next deadline shown : ℕ) (unended : B
 late_at_same from last next deadline shown unended here there = by (nat_lt deadline shown || ((deadline == shown) && unended)) refl
   where
     by : (b : Bool) → (nat_lt deadline shown || ((deadline == shown) && unended)) ≡ b →
-        ◌≡◌ {A = Option ℕ} (if is_judged from last deadline && b then Some (shown - deadline) else None) (if is_judged from next deadline && b then Some (shown - deadline) else None)
+        ◌≡◌ {A = Option ℕ} (if is_judged from last deadline shown && b then Some (shown - deadline) else None) (if is_judged from next deadline shown && b then Some (shown - deadline) else None)
     by true is =
         ap (λ (b : Bool). some_if (b && true) (shown - deadline))
-        (judged_same from last next deadline (omega (arith, due_by deadline shown unended is, here)) (omega (arith, due_by deadline shown unended is, there)))
-    by false is = ap (λ (b : Bool). some_if b (shown - deadline)) (and-false (is_judged from last deadline) ∙ sym (and-false (is_judged from next deadline)))
+        (judged_same from last next deadline shown (omega (arith, due_by deadline shown unended is, here)) (omega (arith, due_by deadline shown unended is, there)))
+    by false is = ap (λ (b : Bool). some_if b (shown - deadline)) (and-false (is_judged from last deadline shown) ∙ sym (and-false (is_judged from next deadline shown)))
 
 late_same : (from : Option ℕ) (last next deadline decided line ripe : ℕ) (absent : Bool) (end : End) → last ≤ next → IsSoundEnd last absent end → IsFirmEnd last decided line ripe end →
     late_by from next deadline end ≡ late_by from last deadline end
