@@ -56,7 +56,7 @@ fn wake_ups_speeds_and_losses(rt: HostRuntime) {
             5_123_400_624_000,
             Happening::WakeUp {
                 thread: thread(b"audio", 1202),
-                starts: true,
+                starts: false,
             }
         ))
     );

@@ -120,6 +120,8 @@ fn job(from: u32, to: u32, stretches: Vec<Stretch>) -> Job {
         stretches,
         wake_ups: 0,
         switch_missing: false,
+        slept: None,
+        exited: false,
         shared: false,
     }
 }
