@@ -13,7 +13,7 @@ use Rattle.yds_trace.specs.declared.step.Step.{Step}
 use Rattle.yds_trace.specs.declared.step.Step.TheVariants as steps
 use Rattle.yds_trace.specs.Asked.{Asked}
 use Rattle.yds_trace.specs.Document.{began_before}
-use Rattle.yds_trace.specs.Jobs.{Job, Known, began, reopened, woken_after, counted, woken_jobs, awake_jobs, went_on, back_jobs, come_jobs, running_jobs, changed_last, ended, exits, missing, ran, left_unseen, vanished, stands_on, passed_by, comes, has_no_switch, begun_at_most, begun_by, stretch_of, left_from, left_in, leaves, woken_at, wakes_up, speeds, lost_job, lost_earlier, lost_jobs, loses, left_if, after_switch, known_after}
+use Rattle.yds_trace.specs.Jobs.{Job, Known, began, reopened, woken_after, counted, woken_jobs, awake_jobs, went_on, back_jobs, come_jobs, running_jobs, changed_last, ended, exits, missing, ran, left_unseen, vanished, stands_on, passed_by, comes, has_no_switch, is_new, begun_at_most, begun_by, stretch_of, left_from, left_in, leaves, woken_at, wakes_up, speeds, lost_job, lost_earlier, lost_jobs, loses, left_if, after_switch, known_after}
 use Rattle.yds_trace.specs.Kept.{behind, KeepsLast, AreForgotten, IsFollowed}
 use Rattle.yds_trace.specs.Views.{known_read}
 use Rattle.yds_trace.specs.Steps.{stepped}
@@ -231,16 +231,16 @@ left_from_split forgotten wakes leaving kept last =
     split_if forgotten (stands_on leaving.processor kept.on) (stands_on leaving.processor kept.on)
     (elim kept.on [ None ↦ kept.jobs ++ forgotten | Some standing ↦ changed_last (ran (stretch_of leaving standing.since)) (kept.jobs ++ forgotten) ])
     (elim kept.on [ None ↦ kept.jobs | Some standing ↦ changed_last (ran (stretch_of leaving standing.since)) kept.jobs ])
-    (if is_none kept.on && not leaving.has_switched && has_no_switch (kept.jobs ++ forgotten)
+    (if is_none kept.on && not leaving.has_switched && is_new (behind forgotten kept)
     then changed_last (ran (stretch_of leaving leaving.whole_since)) (begun_by leaving.whole_since (kept.jobs ++ forgotten))
     else changed_last missing (awake_jobs leaving.time (vanished wakes (behind forgotten kept)).jobs))
-    (if is_none kept.on && not leaving.has_switched && has_no_switch kept.jobs
+    (if is_none kept.on && not leaving.has_switched && is_new kept
     then changed_last (ran (stretch_of leaving leaving.whole_since)) (begun_by leaving.whole_since kept.jobs)
     else changed_last missing (awake_jobs leaving.time (vanished wakes kept).jobs))
     refl
     (here_split forgotten leaving kept.on kept.jobs last)
     (split_if forgotten _ _ _ _ _ _
-    (ap (λ (b : Bool). is_none kept.on && not leaving.has_switched && b) (switch_split kept.jobs forgotten last))
+    (ap (λ (b : Bool). is_none kept.on && not leaving.has_switched && (not kept.woken.seen && b)) (switch_split kept.jobs forgotten last))
     (changed_split (ran (stretch_of leaving leaving.whole_since)) forgotten _ _ (begun_split leaving.whole_since forgotten _ _ (kept_jobs forgotten kept.jobs last)))
     (changed_split missing forgotten _ _ (awake_split leaving.time forgotten _ _ (jobs_of forgotten _ _ (vanished_behind forgotten wakes kept last)))))
 

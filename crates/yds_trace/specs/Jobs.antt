@@ -201,7 +201,7 @@ comes apart wakes processor time known = record {
   woken = record { came = false; started = None; seen = true };
 }
 
--- Nothing was seen of the thread's switches since the trace's begin, or since events were lost.
+-- The last job is open and hasn't run, or events were lost while it was; or there is none.
 abbrev pub has_no_switch : List Job → Bool
 has_no_switch [] = true
 has_no_switch (job ∷ jobs) = elim job.end [
@@ -210,6 +210,10 @@ has_no_switch (job ∷ jobs) = elim job.end [
   | ends.Unseen last goes_on ↦ false
   | ends.Lost last ↦ true
 ]
+
+-- Nothing was seen of the thread's switches since the trace's begin, or since events were lost.
+abbrev pub is_new : Known → Bool
+is_new known = not known.woken.seen && has_no_switch known.jobs
 
 abbrev pub begun_at_most : ℕ → Job → Job
 begun_at_most time job = record job { begin = time; begin_known = false }
@@ -233,7 +237,7 @@ left_from wakes leaving known =
       | None ↦ known.jobs
       | Some standing ↦ changed_last (ran (stretch_of leaving standing.since)) known.jobs
     ]
-    else (if is_none known.on && not leaving.has_switched && has_no_switch known.jobs
+    else (if is_none known.on && not leaving.has_switched && is_new known
     then changed_last (ran (stretch_of leaving leaving.whole_since)) (begun_by leaving.whole_since known.jobs)
     else changed_last missing (awake_jobs leaving.time (vanished wakes known).jobs))
 

@@ -298,7 +298,7 @@ fn begin_by_after(alloc: Global, time: u64, job: Job, jobs: &mut Vec<Job>) -> Re
     }
 }
 
-/// Whether nothing was seen of the thread's switches since the trace's begin, or since events were lost.
+/// Whether the last job is open and hasn't run, or events were lost while it was; or there is none.
 pub(crate) fn has_no_switch(jobs: &Vec<Job>) -> bool
     ensures { result ≡ spec.has_no_switch (jobs_listed jobs.now.items) }
 {

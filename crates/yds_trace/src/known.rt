@@ -239,6 +239,13 @@ impl Known {
         Ok(())
     }
 
+    /// Whether nothing was seen of its switches since the trace's begin, or since events were lost.
+    fn is_new(&self) -> bool
+        ensures { result ≡ spec.is_new (known_read self.now) }
+    {
+        !self.woken.seen && has_no_switch(&self.jobs)
+    }
+
     /// Its jobs where it leaves a processor.
     fn leave_from(&mut self, alloc: Global, wakes: bool, leaving: Leaving) -> Result<(), Memory>
         ensures { OnOk result (jobs_listed self.new.jobs.items ≡ spec.left_from wakes leaving (known_read self.old)) }
@@ -247,7 +254,7 @@ impl Known {
             if standing.processor == leaving.processor {
                 return run_last(leaving.stretch(standing.since), &mut self.jobs);
             }
-        } else if !leaving.has_switched && has_no_switch(&self.jobs) {
+        } else if !leaving.has_switched && self.is_new() {
             begin_by(alloc, leaving.whole_since, &mut self.jobs)?;
             return run_last(leaving.stretch(leaving.whole_since), &mut self.jobs);
         }

@@ -130,7 +130,11 @@ there_from_the_begin = refl
 woken_while_there : jobs asked (marker 1 5 ∷ woken 10 ∷ sleeps 0 40 ∷ []) ≡ begun_by 5 (ends.Ended 40) (stretch 0 5 40 ∷ []) ∷ []
 woken_while_there = refl
 
--- Near miss: the processor has switched before, so a switch is missing between.
+-- Near misses: it ran elsewhere before, so it came at a time that isn't told; and the processor has switched before.
+not_there_since_it_ran : jobs asked (woken 10 ∷ comes 0 12 ∷ sleeps 0 20 ∷ woken 30 ∷ sleeps 3 40 ∷ []) ≡
+    job 10 (ends.Ended 20) (stretch 0 12 20 ∷ []) ∷ record (job 30 (ends.Ended 40) []) { switch_missing = true } ∷ []
+not_there_since_it_ran = refl
+
 not_there_from_the_begin : jobs asked (other_leaves 0 5 ∷ sleeps 0 40 ∷ []) ≡ record (begun_by 40 (ends.Ended 40) []) { switch_missing = true } ∷ []
 not_there_from_the_begin = refl
 

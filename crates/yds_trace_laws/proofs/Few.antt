@@ -10,7 +10,7 @@ use Rattle.yds_trace.specs.declared.job.Leaving.{Leaving}
 use Rattle.yds_trace.specs.declared.job.Woken.{Woken}
 use Rattle.yds_trace.specs.Asked.{Asked, task_at, is_of}
 use Rattle.yds_trace.specs.Past.{is_first_switch, counts, stayed, up_to_time, up_to, speed_after}
-use Rattle.yds_trace.specs.Jobs.{Job, Known, began, reopened, woken_after, counted as counted_job, woken_jobs, awake_jobs, went_on, back_jobs, come_jobs, running_jobs, changed_last, ended, exits, missing, ran, left_unseen, vanished, stands_on, passed_by, comes, has_no_switch, begun_by, begun_at_most, stretch_of, left_from, left_in, leaves, woken_at, left_started, wakes_up, lost_job, lost_earlier, lost_jobs, leaving_at, left_if, after_switch, after_event, known_after}
+use Rattle.yds_trace.specs.Jobs.{Job, Known, began, reopened, woken_after, counted as counted_job, woken_jobs, awake_jobs, went_on, back_jobs, come_jobs, running_jobs, changed_last, ended, exits, missing, ran, left_unseen, vanished, stands_on, passed_by, comes, has_no_switch, is_new, begun_by, begun_at_most, stretch_of, left_from, left_in, leaves, woken_at, left_started, wakes_up, lost_job, lost_earlier, lost_jobs, leaving_at, left_if, after_switch, after_event, known_after}
 use Rattle.yds_trace.specs.Late.{last_asked}
 use Rattle.yds_trace.specs.Document.{closed, jobs_of}
 
@@ -120,11 +120,11 @@ left_from_few wakes leaving n known few =
     let before : length (vanished wakes known).jobs ≤ length known.jobs = vanished_few wakes (length known.jobs) known (omega arith) in
     if_few (stands_on leaving.processor known.on) n
     (elim known.on [ None ↦ known.jobs | Some standing ↦ changed_last (ran (stretch_of leaving standing.since)) known.jobs ])
-    (if is_none known.on && not leaving.has_switched && has_no_switch known.jobs
+    (if is_none known.on && not leaving.has_switched && is_new known
     then changed_last (ran (stretch_of leaving leaving.whole_since)) (begun_by leaving.whole_since known.jobs)
     else changed_last missing (awake_jobs leaving.time (vanished wakes known).jobs))
     (here_few leaving known.on n known.jobs (omega (arith, few)))
-    (if_few (is_none known.on && not leaving.has_switched && has_no_switch known.jobs) n
+    (if_few (is_none known.on && not leaving.has_switched && is_new known) n
     (changed_last (ran (stretch_of leaving leaving.whole_since)) (begun_by leaving.whole_since known.jobs))
     (changed_last missing (awake_jobs leaving.time (vanished wakes known).jobs))
     (changed_few (ran (stretch_of leaving leaving.whole_since)) n (begun_by leaving.whole_since known.jobs) (begun_few leaving.whole_since n known.jobs few))

@@ -13,7 +13,7 @@ use Rattle.yds_trace.specs.declared.job.Leaving.{Leaving}
 use Rattle.yds_trace.specs.declared.job.Woken.{Woken}
 use Rattle.yds_trace.specs.Asked.{Asked, task_at, is_of}
 use Rattle.yds_trace.specs.Past.{is_loss, whole_since, counts, is_first_switch, stayed, up_to_time, up_to, speed_after}
-use Rattle.yds_trace.specs.Jobs.{Job, Known, new_job, began, reopened, woken_after, counted as counted_job, woken_jobs, awake_jobs, went_on, back_jobs, come_jobs, running_jobs, changed_last, ended, exits, missing, ran, left_unseen, vanished, stands_on, passed_by, comes, has_no_switch, begun_by, begun_at_most, stretch_of, left_from, left_in, leaves, woken_at, left_started, wakes_up, lost_job, lost_earlier, lost_jobs, leaving_at, left_if, after_switch, after_event, known_after}
+use Rattle.yds_trace.specs.Jobs.{Job, Known, new_job, began, reopened, woken_after, counted as counted_job, woken_jobs, awake_jobs, went_on, back_jobs, come_jobs, running_jobs, changed_last, ended, exits, missing, ran, left_unseen, vanished, stands_on, passed_by, comes, has_no_switch, is_new, begun_by, begun_at_most, stretch_of, left_from, left_in, leaves, woken_at, left_started, wakes_up, lost_job, lost_earlier, lost_jobs, leaving_at, left_if, after_switch, after_event, known_after}
 use Rattle.yds_trace.specs.Late.{last_asked}
 use Rattle.yds_trace.specs.Document.{closed, jobs_of}
 use Rattle.yds_trace_laws.proofs.Runs.{reverse-all}
@@ -201,11 +201,11 @@ left_from_hold : (P : Job → Type 0) → IsKept P → (wakes : Bool) (leaving :
 left_from_hold P kept wakes leaving known now whole all =
     if_hold P (stands_on leaving.processor known.on)
     (elim known.on [ None ↦ known.jobs | Some standing ↦ changed_last (ran (stretch_of leaving standing.since)) known.jobs ])
-    (if is_none known.on && not leaving.has_switched && has_no_switch known.jobs
+    (if is_none known.on && not leaving.has_switched && is_new known
     then changed_last (ran (stretch_of leaving leaving.whole_since)) (begun_by leaving.whole_since known.jobs)
     else changed_last missing (awake_jobs leaving.time (vanished wakes known).jobs))
     (here_hold P kept leaving known.on known.jobs all)
-    (if_hold P (is_none known.on && not leaving.has_switched && has_no_switch known.jobs)
+    (if_hold P (is_none known.on && not leaving.has_switched && is_new known)
     (changed_last (ran (stretch_of leaving leaving.whole_since)) (begun_by leaving.whole_since known.jobs))
     (changed_last missing (awake_jobs leaving.time (vanished wakes known).jobs))
     (changed_hold P (ran (stretch_of leaving leaving.whole_since)) (kept.longer (stretch_of leaving leaving.whole_since)) (begun_by leaving.whole_since known.jobs)

@@ -18,7 +18,7 @@ use Rattle.yds_trace.specs.Past.{last_time, is_loss, is_switch, whole_since, has
 use Rattle.yds_trace.specs.Faults.{first_fault, numbered, said_fault, stamped_fault, behind_fault, place_fault, length_fault, threads_fault, event_fault, stayed_fault, happening_fault, is_torn}
 use Rattle.yds_trace.specs.Late.{last_asked}
 use Rattle.yds_trace.specs.Document.{closed}
-use Rattle.yds_trace.specs.Jobs.{Job, Known, began, reopened, woken_after, counted as counted_job, woken_jobs, awake_jobs, went_on, back_jobs, come_jobs, running_jobs, changed_last, ended, exits, missing, ran, left_unseen, vanished, stands_on, comes, has_no_switch, begun_by, begun_at_most, stretch_of, left_from, left_in, woken_at, wakes_up, speeds, lost_job, lost_earlier, lost_jobs, loses, leaving_at, left_if, after_switch, after_event, known_after}
+use Rattle.yds_trace.specs.Jobs.{Job, Known, began, reopened, woken_after, counted as counted_job, woken_jobs, awake_jobs, went_on, back_jobs, come_jobs, running_jobs, changed_last, ended, exits, missing, ran, left_unseen, vanished, stands_on, comes, has_no_switch, is_new, begun_by, begun_at_most, stretch_of, left_from, left_in, woken_at, wakes_up, speeds, lost_job, lost_earlier, lost_jobs, loses, leaving_at, left_if, after_switch, after_event, known_after}
 use Rattle.yds_trace_laws.specs.Sharing.{AreApart, EachStretch}
 use Rattle.yds_trace_laws.specs.Laws.{TasksHaveOwnTime}
 use Rattle.yds_trace_laws.proofs.Begins.{or_none, numbered_none}
@@ -178,20 +178,20 @@ left_from_ran P wakes leaving known all new = first (stands_on leaving.processor
     gone : List Job
     gone = changed_last missing (awake_jobs leaving.time (vanished wakes known).jobs)
 
-    second : (b : Bool) → (is_none known.on && not leaving.has_switched && has_no_switch known.jobs) ≡ b → Ran P (if b then unseen else gone)
+    second : (b : Bool) → (is_none known.on && not leaving.has_switched && is_new known) ≡ b → Ran P (if b then unseen else gone)
     second true is =
-        let parts = and_parts (is_none known.on && not leaving.has_switched) (has_no_switch known.jobs) is in
+        let parts = and_parts (is_none known.on && not leaving.has_switched) (is_new known) is in
         let two = and_parts (is_none known.on) (not leaving.has_switched) parts.0 in
         more_ran P (stretch_of leaving leaving.whole_since) (begun_by leaving.whole_since known.jobs)
         (new (stretch_of leaving leaving.whole_since) (Unseen (not_false leaving.has_switched two.1) refl)) (begun_ran P leaving.whole_since known.jobs all)
     second false is = changed_ran P missing (λ job is. is) (awake_jobs leaving.time (vanished wakes known).jobs) (awake_ran P leaving.time (vanished wakes known).jobs (vanished_ran P wakes known all))
 
     first : (b : Bool) → stands_on leaving.processor known.on ≡ b →
-        Ran P (if b then here else (if is_none known.on && not leaving.has_switched && has_no_switch known.jobs then unseen else gone))
+        Ran P (if b then here else (if is_none known.on && not leaving.has_switched && is_new known then unseen else gone))
     first true is =
         here_ran P leaving known.on known.jobs all
         (λ standing on. new (stretch_of leaving standing.since) (Came standing on (stands_there leaving.processor known.on standing on is) refl))
-    first false is = second (is_none known.on && not leaving.has_switched && has_no_switch known.jobs) refl
+    first false is = second (is_none known.on && not leaving.has_switched && is_new known) refl
 
 pub switch_ran : (P : Stretch → Type 0) (apart : ℕ) (wakes left came : Bool) (state : State) (leaving : Leaving) (known : Known) → Ran P known.jobs →
     (left ≡ true → (stretch : Stretch) → IsLeft known leaving stretch → P stretch) → Ran P (after_switch apart wakes left came state leaving known).jobs

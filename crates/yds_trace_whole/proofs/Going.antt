@@ -9,7 +9,7 @@ use Rattle.yds_trace.specs.declared.job.Stretch.{Stretch}
 use Rattle.yds_trace.specs.declared.job.Standing.{Standing}
 use Rattle.yds_trace.specs.declared.job.Leaving.{Leaving}
 use Rattle.yds_trace.specs.declared.job.Woken.{Woken}
-use Rattle.yds_trace.specs.Jobs.{Job, Known, new_job, began, reopened, woken_after, counted, woken_jobs, awake_jobs, went_on, back_jobs, come_jobs, running_jobs, changed_last, ended, exits, missing, ran, left_unseen, vanished, stands_on, passed_by, comes, has_no_switch, begun_at_most, begun_by, stretch_of, left_from, left_in, leaves, not_seen, left_started, woken_at, wakes_up, speeds, lost_end, lost_job, lost_before, lost_earlier, lost_jobs, loses, after_switch}
+use Rattle.yds_trace.specs.Jobs.{Job, Known, new_job, began, reopened, woken_after, counted, woken_jobs, awake_jobs, went_on, back_jobs, come_jobs, running_jobs, changed_last, ended, exits, missing, ran, left_unseen, vanished, stands_on, passed_by, comes, has_no_switch, is_new, begun_at_most, begun_by, stretch_of, left_from, left_in, leaves, not_seen, left_started, woken_at, wakes_up, speeds, lost_end, lost_job, lost_before, lost_earlier, lost_jobs, loses, after_switch}
 use Rattle.yds_trace_laws.proofs.Runs.{all_weaker}
 use Rattle.yds_trace_whole.proofs.Told.{Told, told, new_told, changed_told, AreAlike, alike_told, Each}
 
@@ -586,19 +586,19 @@ module _ (boundary now : ℕ) (all : List Told) where
   left_from_fresh wakes leaving known late by at since whole keeps =
       cond_both (stands_on leaving.processor known.on)
       (elim known.on [ None ↦ known.jobs | Some standing ↦ changed_last (ran (stretch_of leaving standing.since)) known.jobs ])
-      (if is_none known.on && not leaving.has_switched && has_no_switch known.jobs
+      (if is_none known.on && not leaving.has_switched && is_new known
       then changed_last (ran (stretch_of leaving leaving.whole_since)) (begun_by leaving.whole_since known.jobs)
       else changed_last missing (awake_jobs leaving.time (vanished wakes known).jobs)) (Fresh boundary now all)
       (here_fresh leaving known.on known.jobs by at keeps.told keeps.sound keeps.last keeps.stands)
-      (λ there. cond_both (is_none known.on && not leaving.has_switched && has_no_switch known.jobs)
+      (λ there. cond_both (is_none known.on && not leaving.has_switched && is_new known)
       (changed_last (ran (stretch_of leaving leaving.whole_since)) (begun_by leaving.whole_since known.jobs))
       (changed_last missing (awake_jobs leaving.time (vanished wakes known).jobs)) (Fresh boundary now all)
       (λ first.
-      let parts = and_parts (is_none known.on && not leaving.has_switched) (has_no_switch known.jobs) first in
+      let parts = and_parts (is_none known.on && not leaving.has_switched) (is_new known) first in
       let two = and_parts (is_none known.on) (not leaving.has_switched) parts.0 in
       let low : boundary ≤ leaving.whole_since = whole (not-true leaving.has_switched two.1) in
       ran_going (stretch_of leaving leaving.whole_since) (begun_by leaving.whole_since known.jobs) (begun_last leaving.whole_since low since known.jobs)
-      (omega (arith, since, at)) by (begun_going leaving.whole_since low since known.on known.jobs keeps.told keeps.sound keeps.last parts.1))
+      (omega (arith, since, at)) by (begun_going leaving.whole_since low since known.on known.jobs keeps.told keeps.sound keeps.last (and_parts (not known.woken.seen) (has_no_switch known.jobs) parts.1).1))
       (λ other.
       let gone : Keeps boundary now all (vanished wakes known) = vanished_keeps wakes known keeps in
       going_fresh boundary now all (changed_last missing (awake_jobs leaving.time (vanished wakes known).jobs))
@@ -630,7 +630,7 @@ module _ (boundary now : ℕ) (all : List Told) where
   sleeps_started wakes leaving known true there started at is = (
     ended_last at leaving.time known.woken.seen (left_from wakes leaving known)
         (subst (λ (stands : Bool). IsLastAwaited at known.woken.seen (if stands then (elim known.on [ None ↦ known.jobs | Some standing ↦ changed_last (ran (stretch_of leaving standing.since)) known.jobs ])
-        else (if is_none known.on && not leaving.has_switched && has_no_switch known.jobs
+        else (if is_none known.on && not leaving.has_switched && is_new known
         then changed_last (ran (stretch_of leaving leaving.whole_since)) (begun_by leaving.whole_since known.jobs)
         else changed_last missing (awake_jobs leaving.time (vanished wakes known).jobs)))) (sym there)
         (ran_last at known.woken.seen leaving known.on known.jobs (started at is).0)),
