@@ -15,7 +15,7 @@ use Rattle.yds_trace.specs.Asked.{Task, Asked, task_at, task_of, is_number}
 use Rattle.yds_trace.specs.Jobs.{Job, Known, lost_earlier, lost_jobs, loses, stands_on, after_switch, wakes_up, after_event, known_after}
 use Rattle.yds_trace.specs.Past.{lost_since}
 use Rattle.yds_trace.specs.Others.{has_open_job, is_waiting, one_waits, any_waits}
-use Rattle.yds_trace.specs.Faults.{pid_in, pid_before, runs_on, touches, touched, touched_fault, counted_fault}
+use Rattle.yds_trace.specs.Faults.{pid_in, pid_before, has_number, runs_on, touches, touched, touched_fault, counted_fault}
 use Rattle.yds_trace.specs.Steps.{leaving_after, step_in, step_of, stepped, first_in, second_in, pid_of}
 use Rattle.yds_trace.specs.Following.{IsTaken, IsLost, some_waits, touches_by}
 use Rattle.yds_trace.specs.Kept.{behind, KeepsLast, IsFollowed}
@@ -127,6 +127,17 @@ runs_on_is asked counting boundary processor start (task ∷ tasks) (one ∷ kep
     (sym (ap (λ (known : Known). stands_on processor known.on) (each 0 start one (omega arith) (omega arith)).known))
     (runs_on_is asked counting boundary processor (start + 1) tasks kept (omega arith) (λ k n d within is. each (suc k) n d (omega arith) (omega arith)))
 
+numbers_are : (asked : Asked) (counting : List Said) (boundary pid start : ℕ) (tasks : List Task) (kept : List Followed) → length kept ≡ length tasks →
+    ((k n : ℕ) (d : Followed) → k < length tasks → start + k ≡ n → IsFollowed asked counting boundary n (get_or kept k d)) →
+    has_number asked counting pid start tasks ≡ list_any (λ followed. is_number pid followed.pid) kept
+numbers_are asked counting boundary pid start [] [] many each = refl
+numbers_are asked counting boundary pid start [] (one ∷ kept) many each = absurd (omega arith)
+numbers_are asked counting boundary pid start (task ∷ tasks) [] many each = absurd (omega arith)
+numbers_are asked counting boundary pid start (task ∷ tasks) (one ∷ kept) many each =
+    ap₂ (λ (here rest : Bool). here || rest)
+    (sym (ap (is_number pid) (each 0 start one (omega arith) (omega arith)).pid))
+    (numbers_are asked counting boundary pid (start + 1) tasks kept (omega arith) (λ k n d within is. each (suc k) n d (omega arith) (omega arith)))
+
 at_number : (asked : Asked) (counting : List Said) (boundary : ℕ) (kept : List Followed) →
     ((k : ℕ) (d : Followed) → k < length asked.tasks → IsFollowed asked counting boundary k (get_or kept k d)) →
     (k n : ℕ) (d : Followed) → k < length asked.tasks → 0 + k ≡ n → IsFollowed asked counting boundary n (get_or kept k d)
@@ -168,6 +179,13 @@ one_waits_is asked counting boundary start (task ∷ tasks) (one ∷ kept) many 
     ap₂ (λ (here rest : Bool). here || rest)
     (waiting_is asked counting boundary start one (each 0 start one (omega arith) (omega arith)))
     (one_waits_is asked counting boundary (start + 1) tasks kept (omega arith) (λ k n d within is. each (suc k) n d (omega arith) (omega arith)))
+
+-- Whether a thread of this number was a task.
+pub number_is : (asked : Asked) (counting : List Said) (boundary pid : ℕ) (kept : List Followed) → length kept ≡ length asked.tasks →
+    ((k : ℕ) (d : Followed) → k < length asked.tasks → IsFollowed asked counting boundary k (get_or kept k d)) →
+    list_any (λ followed. is_number pid followed.pid) kept ≡ has_number asked counting pid 0 asked.tasks
+number_is asked counting boundary pid kept many each =
+    sym (numbers_are asked counting boundary pid 0 asked.tasks kept many (at_number asked counting boundary kept each))
 
 pub waits_is : (asked : Asked) (counting : List Said) (boundary : ℕ) (kept : List Followed) → length kept ≡ length asked.tasks →
     ((k : ℕ) (d : Followed) → k < length asked.tasks → IsFollowed asked counting boundary k (get_or kept k d)) → some_waits kept ≡ any_waits asked counting

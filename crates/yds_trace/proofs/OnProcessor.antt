@@ -12,14 +12,14 @@ use Rattle.yds_trace.specs.declared.lines.Lines.{Lines}
 use Rattle.yds_trace.specs.declared.others.Others.{Others as OthersKept}
 use Rattle.yds_trace.specs.declared.shown.Shown.{Shown}
 use Rattle.yds_trace.specs.declared.shown.ShownTask.{ShownTask}
-use Rattle.yds_trace.specs.Asked.{Task, Asked, on, task_at, task_of, is_before_to}
+use Rattle.yds_trace.specs.Asked.{Task, Asked, on, task_at, task_of, is_number, is_before_to}
 use Rattle.yds_trace.specs.Past.{last_time, lost_since, is_loss, is_first_switch, up_to}
 use Rattle.yds_kernel.specs.declared.loss.Since.TheVariants as since
 use Rattle.yds_trace.specs.Jobs.{Job, Known, stands_on, after_event, loses, known_after}
 use Rattle.yds_trace.specs.Late.{last_asked}
 use Rattle.yds_trace.specs.Document.{Judged, closed, jobs_of, began_before}
-use Rattle.yds_trace.specs.Faults.{pid_in, pid_before, is_another, is_two_tasks, has_exited, thread_fault, first_thread_fault, state_fault, is_unwoken, needs_wake_ups, unwoken_fault, both_fault, happening_fault, is_torn, stamped_fault, place_fault, runs_on, touches, touched, length_fault, said_fault, numbered, first_fault, wakes_task, has_wake_up}
-use Rattle.yds_trace.specs.Parts.{last_begin, last_begin_of, is_over, is_settled, may_write, reaches_back, was_there_before, sleeps_before, woken_before, wakes_at, came_back, changes_parts}
+use Rattle.yds_trace.specs.Faults.{pid_in, pid_before, is_another, is_another_thread, is_two_tasks, has_exited, is_over, has_number, is_renamed, thread_fault, first_thread_fault, state_fault, is_unwoken, needs_wake_ups, unwoken_fault, both_fault, happening_fault, is_torn, stamped_fault, place_fault, runs_on, touches, touched, length_fault, said_fault, numbered, first_fault, wakes_task, has_wake_up}
+use Rattle.yds_trace.specs.Parts.{last_begin, last_begin_of, is_over as job_is_over, is_settled, may_write, reaches_back, was_there_before, sleeps_before, woken_before, wakes_at, came_back, changes_parts}
 use Rattle.yds_trace.specs.Kept.{IsFollowed, AreOthers, IsCounted, IsLines}
 use Rattle.yds_trace.specs.Others.{Span, Spans, is_waiting, one_waits, any_waits, who_has, other_of, in_the_way, ended_at, spans_by, spans_after, spans_on, others_of, goes_behind, others_from}
 use Rattle.yds_trace.specs.Shown.{IsShownTask, IsShown}
@@ -45,7 +45,7 @@ last_begin_of_on asked processor past number =
 pub is_settled_on : (asked : Asked) (processor : ℕ) (past : List Said) (judged : Judged) →
     is_settled (on processor asked) past judged ≡ is_settled asked past judged
 is_settled_on asked processor past judged =
-    ap (λ (begin : ℕ). is_over (last_asked asked past) (nat_lt judged.job.begin begin) judged.job.end
+    ap (λ (begin : ℕ). job_is_over (last_asked asked past) (nat_lt judged.job.begin begin) judged.job.end
     && nat_le (judged.job.begin + (task_at asked judged.task).apart) (last_time past)) (last_begin_of_on asked processor past judged.task)
 
 -- # Who was in the way
@@ -164,6 +164,25 @@ over_on : (asked : Asked) (processor : ℕ) (counting : List Said) (found : Opti
 over_on asked processor counting None = refl
 over_on asked processor counting (Some number) = ap (λ (known : Known). has_exited known.jobs) (known_after_on asked processor number counting)
 
+same_on : (asked : Asked) (processor : ℕ) (counting : List Said) (pid : ℕ) (found : Option ℕ) →
+    (elim found as (λ _. Bool) [ None ↦ false | Some number ↦ is_number pid (pid_before (on processor asked) number counting) ])
+    ≡ (elim found as (λ _. Bool) [ None ↦ false | Some number ↦ is_number pid (pid_before asked number counting) ])
+same_on asked processor counting pid None = refl
+same_on asked processor counting pid (Some number) = ap (is_number pid) (pid_before_on asked processor number counting)
+
+numbers_on : (asked : Asked) (processor : ℕ) (counting : List Said) (pid number : ℕ) (tasks : List Task) →
+    has_number (on processor asked) counting pid number tasks ≡ has_number asked counting pid number tasks
+numbers_on asked processor counting pid number [] = refl
+numbers_on asked processor counting pid number (task ∷ tasks) =
+    ap₂ (λ (here rest : Bool). here || rest) (ap (is_number pid) (pid_before_on asked processor number counting))
+    (numbers_on asked processor counting pid (number + 1) tasks)
+
+renamed_on : (asked : Asked) (processor : ℕ) (counting : List Said) (thread : Thread) →
+    is_renamed (on processor asked) counting thread ≡ is_renamed asked counting thread
+renamed_on asked processor counting thread =
+    ap₂ (λ (same has : Bool). not same && has) (same_on asked processor counting thread.pid (task_of asked.tasks thread))
+    (numbers_on asked processor counting thread.pid 0 asked.tasks)
+
 unwoken_on : (asked : Asked) (processor : ℕ) (counting : List Said) (found : Option ℕ) →
     (elim found as (λ _. Option Cause) [ None ↦ None | Some number ↦ if needs_wake_ups asked && is_unwoken (known_after (on processor asked) number counting) then Some causes.NotWoken else None ])
     ≡ (elim found as (λ _. Option Cause) [ None ↦ None | Some number ↦ if needs_wake_ups asked && is_unwoken (known_after asked number counting) then Some causes.NotWoken else None ])
@@ -176,8 +195,13 @@ thread_fault_on : (asked : Asked) (processor : ℕ) (counting : List Said) (thre
     thread_fault (on processor asked) counting thread ≡ thread_fault asked counting thread
 thread_fault_on asked processor counting thread =
     ap₂ {C = Option Cause} (λ (another over : Bool). if is_two_tasks asked.tasks thread then Some causes.TwoTasks
-    else (if another then Some causes.TwoThreads else (if over then Some causes.Exited else None)))
+    else (if another then Some causes.TwoThreads else (if over then Some causes.Exited
+    else (if is_renamed (on processor asked) counting thread then Some causes.Renamed else None))))
     (another_on asked processor counting thread.pid (task_of asked.tasks thread)) (over_on asked processor counting (task_of asked.tasks thread))
+    ∙ ap {B = Option Cause} (λ (renamed : Bool). if is_two_tasks asked.tasks thread then Some causes.TwoTasks
+    else (if is_another_thread asked counting thread then Some causes.TwoThreads
+    else (if is_over asked counting thread then Some causes.Exited else (if renamed then Some causes.Renamed else None))))
+    (renamed_on asked processor counting thread)
 
 first_thread_fault_on : (asked : Asked) (processor : ℕ) (counting : List Said) (happening : Happening) →
     first_thread_fault (on processor asked) counting happening ≡ first_thread_fault asked counting happening

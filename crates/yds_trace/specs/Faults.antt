@@ -60,11 +60,29 @@ is_over asked counting thread = elim (task_of asked.tasks thread) [
   | Some number ↦ has_exited (known_after asked number counting).jobs
 ]
 
+-- one of these tasks, from this number on, was the thread of this number before
+abbrev pub has_number : Asked → List Said → ℕ → ℕ → List Task → Bool
+has_number asked counting pid number [] = false
+has_number asked counting pid number (task ∷ tasks) =
+    is_number pid (pid_before asked number counting) || has_number asked counting pid (number + 1) tasks
+
+-- the task that it is was this thread before
+abbrev pub is_same_thread : Asked → List Said → Thread → Bool
+is_same_thread asked counting thread = elim (task_of asked.tasks thread) [
+  | None ↦ false
+  | Some number ↦ is_number thread.pid (pid_before asked number counting)
+]
+
+-- It was a task's thread before, in the lines that count, and has another name now.
+abbrev pub is_renamed : Asked → List Said → Thread → Bool
+is_renamed asked counting thread = not (is_same_thread asked counting thread) && has_number asked counting thread.pid 0 asked.tasks
+
 abbrev pub thread_fault : Asked → List Said → Thread → Option Cause
 thread_fault asked counting thread =
     if is_two_tasks asked.tasks thread then Some causes.TwoTasks
     else (if is_another_thread asked counting thread then Some causes.TwoThreads
-    else (if is_over asked counting thread then Some causes.Exited else None))
+    else (if is_over asked counting thread then Some causes.Exited
+    else (if is_renamed asked counting thread then Some causes.Renamed else None)))
 
 abbrev pub is_unknown : State → Bool
 is_unknown states.GoesOn = false

@@ -1,8 +1,9 @@
 //! What is kept of the lines that count: those up to the end of what is asked for.
-ghost use Rattle.std.specs.Prelude.{◌≡◌, ℕ, ◌<◌, ◌≤◌, List, [], ◌∷◌, length, Option, None, IfOk, OnOk, IfErr, map, is_some, true, false};
+ghost use Rattle.std.specs.Prelude.{◌≡◌, ℕ, ◌<◌, ◌≤◌, List, [], ◌∷◌, length, if◌then◌else◌, Option, Some, None, IfOk, OnOk, IfErr, map, is_some, true, false};
 ghost use Rattle.yds_kernel.specs.Event as trace;
 ghost use Rattle.yds_kernel.specs.Views.{event_read, happening_read};
 ghost use Rattle.yds_trace.specs.Asked as asking;
+ghost use Rattle.yds_trace.specs.declared.fault.Cause.TheVariants as causes;
 ghost use Rattle.yds_trace.specs.Faults as spec;
 ghost use Rattle.yds_trace.specs.Finding.{found, first_found, second_found};
 ghost use Rattle.yds_trace.specs.Following.{some_waits, spans_at, touches_by};
@@ -18,7 +19,7 @@ ghost use Rattle.yds_trace.specs.Views.{asked_read, span_read, task_read};
 use crate::asked::Asked;
 use crate::fault::Cause;
 use crate::find::Found;
-use crate::followed::{Followed, any_waits, follow, lose_each, runs_on, take_each};
+use crate::followed::{Followed, any_waits, follow, has_number, lose_each, runs_on, take_each};
 use crate::jobs::has_exited;
 use crate::limits::MAX_TOUCHES;
 use crate::lines::Lines;
@@ -258,10 +259,22 @@ impl Counted {
             Some(number) => match self.pid(number) {
                 Some(pid) if pid != thread.pid => Err(Cause::TwoThreads),
                 Some(_) | None if self.has_exited(number) => Err(Cause::Exited),
-                Some(_) | None => Ok(()),
+                Some(_) => Ok(()),
+                None => self.check_name(thread.pid),
             },
-            None => Ok(()),
+            None => self.check_name(thread.pid),
         }
+    }
+
+    /// What a thread of this number is refused for that wasn't a task under the name that it has.
+    fn check_name(&self, pid: u64) -> Result<(), Cause>
+        ensures { (asked : asking.Asked) (counting : List trace.Said) → IsCounted asked counting self.now
+            → fault_in result ≡ (if spec.has_number asked counting pid 0 asked.tasks then Some causes.Renamed else None) }
+    {
+        if has_number(&self.tasks, pid) {
+            return Err(Cause::Renamed);
+        }
+        Ok(())
     }
 
     /// What an event not after `to` is refused for: its threads, and the state of who leaves.

@@ -17,6 +17,8 @@ pub enum Cause {
     TwoThreads,
     /// The thread of a task was over before.
     Exited,
+    /// The thread of a task that is given by its name has another name.
+    Renamed,
     /// A thread is one task by its number and another one by its name.
     TwoTasks,
     /// More than `MAX_TOUCHES` lines tell of the tasks.

@@ -3,6 +3,7 @@ ghost use Rattle.std.specs.Prelude.{◌≡◌, ℕ, ◌+◌, ◌<◌, ◌≤◌,
 ghost use Rattle.std.specs.List.{list_any, All};
 ghost use Rattle.yds_kernel.specs.Parts.{or_else, capped};
 ghost use Rattle.yds_trace.specs.declared.followed.Followed.{Followed};
+ghost use Rattle.yds_trace.specs.Asked.{is_number};
 ghost use Rattle.yds_trace.specs.Following.{IsUnknown, IsTaken, IsLost, Forgets, apart_of, place_of, first_before, jobs_in, stretches_of, some_waits};
 ghost use Rattle.yds_trace.specs.Jobs.{stands_on};
 ghost use Rattle.yds_trace.specs.Others.{is_waiting};
@@ -263,6 +264,13 @@ pub(crate) fn runs_on(tasks: &[Followed], processor: u64) -> bool
     tasks
         .iter()
         .any(|followed| stands_on(processor, followed.known.on))
+}
+
+/// Whether a task was the thread of this number.
+pub(crate) fn has_number(tasks: &[Followed], pid: u64) -> bool
+    ensures { result ≡ list_any (λ followed. is_number pid followed.pid) tasks.now }
+{
+    tasks.iter().any(|followed| followed.pid == Some(pid))
 }
 
 /// Whether a job of a task waits.

@@ -68,6 +68,28 @@ twin_came_later = refl
 twin_woken_later : fault (up_to 30) (line 1 5 (WakeUp other true) ∷ line 1 40 (WakeUp twin true) ∷ sleeps 0 50 ∷ []) ≡ None
 twin_woken_later = refl
 
+-- # Threads that get another name
+
+-- The task's thread has another name from 12 on.
+abbrev renamed : Thread
+renamed = record { name = codes "t2"; pid = 7 }
+
+another_name : fault asked (woken 10 ∷ line 0 12 (Switch idle states.GoesOn renamed) ∷ []) ≡ Some (2, causes.Renamed)
+another_name = refl
+
+another_name_asleep : fault asked (woken 10 ∷ comes 0 12 ∷ sleeps 0 40 ∷ line 3 50 (WakeUp renamed true) ∷ []) ≡ Some (4, causes.Renamed)
+another_name_asleep = refl
+
+-- Near misses: it got the task's name; it is given by its number; and it is another thread.
+got_its_name : fault asked (line 3 5 (WakeUp renamed true) ∷ woken 10 ∷ comes 0 12 ∷ []) ≡ None
+got_its_name = refl
+
+by_its_number : fault (record asked { tasks = record task { thread = Numbered 7 } ∷ [] }) (woken 10 ∷ line 0 12 (Switch idle states.GoesOn renamed) ∷ []) ≡ None
+by_its_number = refl
+
+other_of_that_name : fault asked (woken 10 ∷ line 0 12 (Switch idle states.GoesOn (record renamed { pid = 8 })) ∷ []) ≡ None
+other_of_that_name = refl
+
 -- # Threads that were over, and wake-ups that aren't recorded
 
 -- A thread that was over has lines of another one.

@@ -40,6 +40,7 @@ cause_text causes.EventsLost = codes "events were lost before it; record with a 
 cause_text causes.UnknownState = codes "a task leaves in a state that the kernel doesn't have; write the trace anew"
 cause_text causes.TwoThreads = codes "a task's name is that of another thread before; threads are renamed at their start, too: give the number, which stays, by PID=NAME:DEADLINE"
 cause_text causes.Exited = codes "a task's thread was over before, and its number is that of another thread now; choose --from and --to around it"
+cause_text causes.Renamed = codes "a task's thread has another name here, so it isn't followed; give its number, which stays, by PID=NAME:DEADLINE"
 cause_text causes.TwoTasks = codes "one thread is two tasks, by its number and by its name; leave one out"
 cause_text causes.TooLong = codes "more than 250000 lines tell of the tasks; choose a shorter time by --from and --to, or fewer tasks"
 cause_text causes.NoLine = codes "no line of a kernel's trace; write it as text, by trace-cmd report or perf script with cpu and time among its fields: a line has a processor as [001] and a time with a point as 12.345678: before its event's name"

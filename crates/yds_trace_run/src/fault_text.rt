@@ -119,6 +119,9 @@ fn push_cause(cause: Cause, line: &mut ArrayString<LINE_BYTES>)
         Cause::Exited => line.push_str(
             "a task's thread was over before, and its number is that of another thread now; choose --from and --to around it",
         ),
+        Cause::Renamed => line.push_str(
+            "a task's thread has another name here, so it isn't followed; give its number, which stays, by PID=NAME:DEADLINE",
+        ),
         Cause::TwoTasks => line.push_str(
             "one thread is two tasks, by its number and by its name; leave one out",
         ),

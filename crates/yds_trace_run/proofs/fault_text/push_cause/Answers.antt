@@ -41,3 +41,6 @@ returns-in-Exited-clause-text c = c.push_str-in-Exited.ensures.bytes ∙ ap (λ 
 
 pub returns-in-NotWoken-clause-text : goal.returns-in-NotWoken-clause-text
 returns-in-NotWoken-clause-text c = c.push_str-in-NotWoken.ensures.bytes ∙ ap (λ (fault : Cause). c.args.line.now.bytes ++ cause_text fault) (sym c.in-NotWoken.is)
+
+pub returns-in-Renamed-clause-text : goal.returns-in-Renamed-clause-text
+returns-in-Renamed-clause-text c = c.push_str-in-Renamed.ensures.bytes ∙ ap (λ (fault : Cause). c.args.line.now.bytes ++ cause_text fault) (sym c.in-Renamed.is)
