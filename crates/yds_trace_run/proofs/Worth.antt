@@ -3,9 +3,6 @@ use Rattle.yds_model.proofs.Common.{◌≡◌, ℕ, inl, inr, List, length, get_
 use Rattle.std.specs.Prelude.{IfSome, option_map}
 use Rattle.std.proofs.lemmas.List.{append_cancel_left}
 use Rattle.std.specs.Io.KnownBytes.{Appends}
-use Rattle.yds_model.specs.Document.{Document as DocumentRead}
-use Rattle.yds_model.specs.Feasible.{IsFeasible}
-use Rattle.yds_model.specs.Reading.{reading}
 use Rattle.base.specs.declared.status.Status.{Status}
 use Rattle.base.specs.declared.status.Status.TheVariants as statuses
 use Rattle.base.specs.declared.limits.TheConstants.{MAX_INPUT}
@@ -15,24 +12,19 @@ use Rattle.yds_trace.specs.Asked.{Task, Asked, IsAsked, on}
 use Rattle.yds_trace.specs.Faults.{first_fault}
 use Rattle.yds_trace.specs.Parts.{processors_of}
 use Rattle.yds_trace.proofs.OnProcessor.{first_fault_on}
-use Rattle.yds_trace.specs.WrittenTime.{Units}
-use Rattle.yds_trace.specs.Document.{Judged, all_judged, units_of, Document, document_of}
-use Rattle.yds_trace_laws.specs.AsSlots.{jobs_read, slots_read}
-use Rattle.yds_trace_laws.specs.Faithful.{AreFaithful}
+use Rattle.yds_trace.specs.Document.{all_judged, units_of, document_of}
 use Rattle.yds_trace_laws.proofs.Faithful.{documents_are_faithful}
 use Rattle.yds_trace_laws.proofs.Begins.{or_none}
-use Rattle.yds_trace_laws.proofs.Seen.{feasible_means_in_time}
 use Rattle.yds_trace_document.specs.declared.fault.DocumentFault.{DocumentFault}
 use Rattle.yds_trace_document.specs.Settled.{settled_of}
 use Rattle.yds_trace_document.specs.Limits.{limit_fault}
-use Rattle.yds_trace_again.specs.Again.{document_read, IsReadAs, IsReadAgain}
-use Rattle.yds_trace_again.specs.Holds.{Holds}
+use Rattle.yds_trace_again.specs.Again.{IsReadAgain}
 use Rattle.yds_trace_again.specs.Laws.{AreLabelled}
 use Rattle.yds_trace_again.proofs.Again.{read_again as is_read_again}
-use Rattle.yds_trace_again.proofs.Holding.{late_jobs_are_named}
+use Rattle.yds_trace_again.proofs.Worth.{faithful_read, told_late}
 use Rattle.yds_trace_words.specs.Tasks.{is_label}
 use Rattle.yds_trace_run.specs.Fault.{OfText, of_document, of_text, document_fault}
-use Rattle.yds_trace_text.specs.Text.{late_comment, text_of}
+use Rattle.yds_trace_text.specs.Text.{text_of}
 use Rattle.yds_trace_reading.specs.LineFault.{past_of}
 use Rattle.yds_trace_parts.specs.Told.{Halt, told_of, by_number}
 use Rattle.yds_trace_bounds.specs.declared.bounds.Bounds.{Bounds}
@@ -43,28 +35,13 @@ use Rattle.yds_trace_files.specs.Unread.{Unread}
 use Rattle.yds_trace_run.specs.Endings.{IsText, Outcome, Writes}
 use Rattle.yds_trace_laws.proofs.Processors.{jobs_are_the_same, each_job_belongs, shares_are_the_whole, only_its_own, none_has_moved}
 use Rattle.yds_trace_whole.specs.Parts.{written_parts}
+use Rattle.yds_trace_whole.specs.Worth.{ArePartsReadAgain}
 use Rattle.yds_trace_whole.proofs.Parting.{parts_are_the_whole}
 use Rattle.yds_trace_whole.proofs.Together.{parts_make_the_document}
-use Rattle.yds_trace_whole.proofs.Everywhere.{all_parts_are_kept, parts_are_of_processors, nothing_is_late_anywhere, each_part_is_read, written_are_faithful}
-use Rattle.yds_trace_run.specs.Worth.{IsReadFeasible, IsFaithfulText, NothingLate, HidesNothing, AreSharedIfAsked, ArePartsReadAgain, IsReadSo, IsFaithfulSo, IsWholeSo, IsWorth, HoldsWithin, OfAppended}
+use Rattle.yds_trace_whole.proofs.Everywhere.{all_parts_are_kept, parts_are_of_processors, each_part_is_read, pieces_hide_nothing, pieces_are_faithful}
+use Rattle.yds_trace_run.specs.Worth.{HidesNothing, AreSharedIfAsked, IsReadSo, IsFaithfulSo, IsWholeSo, IsWorth, HoldsWithin, OfAppended}
 use Rattle.yds_trace_run.proofs.Within.{fit_within}
 use Rattle.yds_trace_run.proofs.InParts.{IsToldAs, told_as}
-
--- # A text that is read again
-
--- It is read as nothing else.
-as_read : (shown : Document) (text : List ℕ) (document : DocumentRead) → IsReadAs shown text → reading text ≡ Ok document → document ≡ document_read shown
-as_read shown text document again read = let both = sym read ∙ again.read in cc
-
--- So where what it is read as is feasible, the document is.
-feasible_read : (shown : Document) (text : List ℕ) → IsReadAs shown text → IsReadFeasible text → IsFeasible (jobs_read shown.jobs) (slots_read shown.runs)
-feasible_read shown text again is =
-    subst (λ (document : DocumentRead). IsFeasible document.jobs document.slots) (as_read shown text is.document again is.read) is.feasible
-
--- And where the document is faithful, what it is read as is.
-faithful_read : (asked : Asked) (units : Units) (ones : List Judged) (shown : Document) (text : List ℕ) → IsReadAs shown text → AreFaithful asked units ones shown
-    → IsFaithfulText asked units ones text
-faithful_read asked units ones shown text again faithful document read = record { shown = shown; is = as_read shown text document again read; faithful = faithful }
 
 -- # What a run that is done wrote
 
@@ -166,12 +143,6 @@ read_so true asked strict input text fit told = parts_read_again asked strict (p
 
 -- # No late job is hidden
 
-told_late : (asked : Asked) (past : List Said) (text : List ℕ) → IsAsked asked → text ≡ text_of asked past → IsReadAgain asked past text → NothingLate asked past text
-told_late asked past text fit is again feasible i d within by late = (
-  feasible_means_in_time asked past fit (feasible_read (document_of asked past) text again feasible) i d within by late,
-  subst (λ (one : List ℕ). Holds one (late_comment (units_of asked past) (get_or (all_judged asked past) i d))) (sym is) (late_jobs_are_named asked (settled_of asked past) i d within),
-)
-
 hides_nothing : (in_parts : Bool) (asked : Asked) (strict : Bool) (input text : List ℕ) → IsFit asked → IsTold in_parts asked strict input text statuses.Done
     → HidesNothing in_parts asked (past_of (order_of input)) text
 hides_nothing false asked strict input text fit told =
@@ -179,15 +150,7 @@ hides_nothing false asked strict input text fit told =
 hides_nothing true asked strict input text fit told =
     let past = past_of (order_of input) in
     let parts = told_parts asked strict input text told in
-    let again = parts_read_again asked strict past text fit parts in
-    record {
-      says = parts.says;
-      told = λ feasible.
-          nothing_is_late_anywhere asked past fit.plain parts.sound parts.keeps
-          (λ i d within.
-          let part = get_or (written_parts asked past) i d in
-          feasible_read part.settled.document part.text (again.read i d within) (feasible i d within));
-    }
+    pieces_hide_nothing asked past text fit.plain parts.sound parts.keeps (parts_read_again asked strict past text fit parts)
 
 -- # It is faithful
 
@@ -200,17 +163,7 @@ faithful_so false asked strict input text fit told =
 faithful_so true asked strict input text fit told =
     let past = past_of (order_of input) in
     let parts = told_parts asked strict input text told in
-    let again = parts_read_again asked strict past text fit parts in
-    record {
-      says = parts.says;
-      each = λ i d within.
-          let part = get_or (written_parts asked past) i d in
-          let faithful = written_are_faithful asked past fit.plain parts.sound parts.keeps i d within in
-          record {
-            of_trace = faithful.of_trace;
-            faithful = faithful_read (on part.processor asked) part.settled.units part.settled.judged part.settled.document part.text (again.read i d within) faithful.faithful;
-          };
-    }
+    pieces_are_faithful asked past text fit.plain parts.sound parts.keeps (parts_read_again asked strict past text fit parts)
 
 -- # It is whole
 

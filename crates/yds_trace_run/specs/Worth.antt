@@ -1,85 +1,24 @@
 -- What was written of a trace, as one document or as documents in parts, is worth to whoever reads it: no late job is hidden, it is read again, it is
 -- faithful to the trace, and parts are the whole.
-use Rattle.std.specs.Prelude.{◌≡◌, ◌≢◌, ℕ, ◌<◌, ⊤, List, ◌++◌, filter, Bool, true, false, Option, Some, None, Result, Ok, IfSome}
-use Rattle.std.specs.List.{All, flat_map}
-use Rattle.yds_model.specs.Feasible.{IsFeasible}
-use Rattle.yds_model.specs.Document.{Document as DocumentRead}
-use Rattle.yds_model.specs.Reading.{reading}
+use Rattle.std.specs.Prelude.{◌≡◌, ◌≢◌, ℕ, ⊤, List, ◌++◌, filter, Bool, true, false, Option, Some, None, Result, Ok, IfSome}
+use Rattle.std.specs.List.{All}
 use Rattle.yds_kernel.specs.Event.{Said}
 use Rattle.yds_kernel_order.specs.Order.{order_of}
 use Rattle.yds_trace.specs.Asked.{Asked, on}
 use Rattle.yds_trace.specs.declared.reason.Reason.TheVariants as reasons
-use Rattle.yds_trace.specs.WrittenTime.{Units}
-use Rattle.yds_trace.specs.Document.{Judged, jobs_of, has_run_on, all_judged, units_of, Document}
+use Rattle.yds_trace.specs.Document.{Judged, jobs_of, has_run_on, all_judged, units_of}
 use Rattle.yds_trace.specs.Parts.{belongs, processors_of}
-use Rattle.yds_trace_laws.specs.Faithful.{AreFaithful}
-use Rattle.yds_trace_laws.specs.InUnits.{AreOf}
 use Rattle.yds_trace_laws.specs.Processors.{BelongsTo, HasItsShare, AreTheSame}
 use Rattle.yds_trace_bounds.specs.declared.bounds.Bounds.{Bounds}
 use Rattle.yds_trace_bounds.specs.Bounds.{asked_in}
-use Rattle.yds_trace_text.specs.Text.{late_comment}
-use Rattle.yds_trace_again.specs.Again.{document_read, IsReadAs, IsReadAgain}
-use Rattle.yds_trace_again.specs.Holds.{Holds}
+use Rattle.yds_trace_again.specs.Again.{IsReadAgain}
+use Rattle.yds_trace_again.specs.Worth.{IsFaithfulText, NothingLate}
 use Rattle.yds_trace_reading.specs.LineFault.{past_of}
 use Rattle.yds_trace_words.specs.Words.{WordFault}
 use Rattle.yds_trace_words.specs.Request.{Request, ReadTrace}
-use Rattle.yds_trace_whole.specs.Parts.{Part, parts_of, written_parts, parts_on, judged_in_parts}
+use Rattle.yds_trace_whole.specs.Parts.{parts_of, written_parts, parts_on, judged_in_parts}
 use Rattle.yds_trace_whole.specs.Whole.{whole_document, put_together}
-use Rattle.yds_trace_whole.specs.Worth.{IsToldLateAmong}
-
--- # A text as it is read
-
--- It is read as a document whose slots are feasible.
-pub record IsReadFeasible (text : List ℕ) : Type 0 where
-  pub document : DocumentRead
-  pub read : reading text ≡ Ok document
-  pub feasible : IsFeasible document.jobs document.slots
-
--- What is read is a document of runs that is faithful to these jobs in these units.
-pub record IsReadFaithful (asked : Asked) (units : Units) (ones : List Judged) (document : DocumentRead) : Type 0 where
-  pub shown : Document
-  pub is : document ≡ document_read shown
-  pub faithful : AreFaithful asked units ones shown
-
--- so it is of each document as which the text is read
-abbrev pub IsFaithfulText : Asked → Units → List Judged → List ℕ → Type 0
-IsFaithfulText asked units ones text = (document : DocumentRead) → reading text ≡ Ok document → IsReadFaithful asked units ones document
-
--- # One document
-
--- Where a job is known to be late, it is late by less than a unit of time, and a comment of the text names it.
-abbrev pub IsToldLate : Asked → List Said → List ℕ → Judged → Type 0
-IsToldLate asked past text judged = (by : ℕ) → judged.late ≡ Some by → (by < asked.unit) × Holds text (late_comment (units_of asked past) judged)
-
--- Where what the text is read as is feasible, that holds of each job of the tasks.
-abbrev pub NothingLate : Asked → List Said → List ℕ → Type 0
-NothingLate asked past text = IsReadFeasible text → All (IsToldLate asked past text) (all_judged asked past)
-
--- # Documents in parts
-
--- The text is that of these parts, one behind the other.
-abbrev pub IsOfParts : List Part → List ℕ → Type 0
-IsOfParts parts text = text ≡ flat_map (λ part. part.text) parts
-
--- Where what each of them is read as is feasible, each job of the tasks that is known to be late is late by less than a unit of time, and a
--- comment of one of them names it.
-pub record NothingLateInTexts (asked : Asked) (past : List Said) (parts : List Part) (text : List ℕ) : Type 0 where
-  pub says : IsOfParts parts text
-  pub told : All (λ part. IsReadFeasible part.text) parts → All (IsToldLateAmong asked parts) (all_judged asked past)
-
--- Each of them is read again as its document.
-pub record ArePartsReadAgain (parts : List Part) (text : List ℕ) : Type 0 where
-  pub says : IsOfParts parts text
-  pub read : All (λ part. IsReadAs part.settled.document part.text) parts
-
--- The part's jobs are jobs of the whole trace, as its processor has them, and what its text is read as is faithful to them.
-pub record IsFaithfulPiece (asked : Asked) (past : List Said) (part : Part) : Type 0 where
-  pub of_trace : AreOf (on part.processor asked) past part.settled.judged
-  pub faithful : IsFaithfulText (on part.processor asked) part.settled.units part.settled.judged part.text
-
-pub record AreFaithfulPieces (asked : Asked) (past : List Said) (parts : List Part) (text : List ℕ) : Type 0 where
-  pub says : IsOfParts parts text
-  pub each : All (IsFaithfulPiece asked past) parts
+use Rattle.yds_trace_whole.specs.Worth.{NothingLateInTexts, ArePartsReadAgain, AreFaithfulPieces}
 
 -- # Jobs that moved
 

@@ -14,9 +14,10 @@ use Rattle.yds_trace_laws.proofs.Ordered.{append-all, append-all_left, map-all}
 use Rattle.yds_trace_laws.proofs.Runs.{all_weaker, contained}
 use Rattle.yds_trace_laws.proofs.Processors.{each_job_belongs, part_unseen, cut_unseen}
 use Rattle.yds_trace_again.proofs.Parts.{parts_are_read_again}
+use Rattle.yds_trace_again.proofs.Worth.{feasible_read, faithful_read}
 use Rattle.yds_trace_whole.specs.Parts.{Part, made, made_with, made_at, parts_behind, parts_of, made_behind, written_behind, last_made, written_parts, parts_on, KeepsParts, KeepsAllParts}
 use Rattle.yds_trace_whole.specs.Laws.{PartsAreOfProcessors, AllPartsAreKept}
-use Rattle.yds_trace_whole.specs.Worth.{IsPartFeasible, IsNamedIn, IsToldLateIn, NothingLateInParts, IsFaithfulPart, IsReadPart}
+use Rattle.yds_trace_whole.specs.Worth.{IsPartFeasible, IsNamedIn, IsToldLateIn, NothingLateInParts, IsFaithfulPart, IsReadPart, NothingLateInTexts, ArePartsReadAgain, AreFaithfulPieces}
 use Rattle.yds_trace_whole.specs.WorthLaws.{NothingIsLateAnywhere, EachPartIsRead}
 use Rattle.yds_trace_whole.proofs.Holding.{kept_for}
 use Rattle.yds_trace_whole.proofs.Shared.{one_by_one, all_both}
@@ -313,7 +314,7 @@ of_processors P asked past all =
     (last_of P asked past (processors_of asked past) each))
 
 -- What holds of each part that a processor has by itself holds of each part that is written.
-pub each_is_own : (P : ℕ → Part → Type 0) (asked : Asked) (past : List Said) → All (λ processor. All (P processor) (parts_of (on processor asked) past)) (processors_of asked past) →
+each_is_own : (P : ℕ → Part → Type 0) (asked : Asked) (past : List Said) → All (λ processor. All (P processor) (parts_of (on processor asked) past)) (processors_of asked past) →
     All (λ part. P part.processor part) (written_parts asked past)
 each_is_own P asked past own i d within =
     let parts : List Part = written_parts asked past in
@@ -327,7 +328,7 @@ each_is_own P asked past own i d within =
 -- # Each part is faithful
 
 -- as what its processor has by itself
-pub written_are_faithful : (asked : Asked) (past : List Said) → IsAsked asked → first_fault asked past ≡ None → KeepsAllParts asked past →
+written_are_faithful : (asked : Asked) (past : List Said) → IsAsked asked → first_fault asked past ≡ None → KeepsAllParts asked past →
     All (λ part. IsFaithfulPart (on part.processor asked) past part) (written_parts asked past)
 written_are_faithful asked past fit none keeps =
     each_is_own (λ processor part. IsFaithfulPart (on processor asked) past part) asked past
@@ -372,3 +373,29 @@ nothing_is_late_anywhere asked past fit none keeps feasible i d within by late =
     (own (subst (All IsPartFeasible) are_own (All-filter (λ part. part.processor == processor) IsPartFeasible parts feasible)))
     by (ap (λ (judged : Judged). judged.late) same ∙ late) in
     (told.0, record { there = there; same_job = same; named = named_among asked past processor there are_own told.1 })
+
+-- # Their texts
+
+-- Where each part is read again, their texts hide no late job.
+pub pieces_hide_nothing : (asked : Asked) (past : List Said) (text : List ℕ) → IsAsked asked → first_fault asked past ≡ None → KeepsAllParts asked past →
+    ArePartsReadAgain (written_parts asked past) text → NothingLateInTexts asked past (written_parts asked past) text
+pieces_hide_nothing asked past text fit none keeps again = record {
+  says = again.says;
+  told = λ feasible.
+      nothing_is_late_anywhere asked past fit none keeps
+      (λ i d within. let part : Part = get_or (written_parts asked past) i d in feasible_read part.settled.document part.text (again.read i d within) (feasible i d within));
+}
+
+-- And what they are read as is faithful.
+pub pieces_are_faithful : (asked : Asked) (past : List Said) (text : List ℕ) → IsAsked asked → first_fault asked past ≡ None → KeepsAllParts asked past →
+    ArePartsReadAgain (written_parts asked past) text → AreFaithfulPieces asked past (written_parts asked past) text
+pieces_are_faithful asked past text fit none keeps again = record {
+  says = again.says;
+  each = λ i d within.
+      let part : Part = get_or (written_parts asked past) i d in
+      let faithful = written_are_faithful asked past fit none keeps i d within in
+      record {
+        of_trace = faithful.of_trace;
+        faithful = faithful_read (on part.processor asked) part.settled.units part.settled.judged part.settled.document part.text (again.read i d within) faithful.faithful;
+      };
+}

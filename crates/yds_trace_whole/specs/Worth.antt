@@ -1,11 +1,11 @@
 -- What the parts of a trace are worth to whoever asked for them: no late job is hidden in them, each is faithful to the trace, and each is read
 -- again as a document of its own.
 use Rattle.std.specs.Prelude.{◌≡◌, ℕ, ◌<◌, ◌≤◌, List, filter, length, Bool, Some, None}
-use Rattle.std.specs.List.{All, Contains}
+use Rattle.std.specs.List.{All, Contains, flat_map}
 use Rattle.base.specs.declared.limits.TheConstants.{MAX_INPUT}
 use Rattle.yds_model.specs.Feasible.{IsFeasible}
 use Rattle.yds_kernel.specs.Event.{Said}
-use Rattle.yds_trace.specs.Asked.{Asked}
+use Rattle.yds_trace.specs.Asked.{Asked, on}
 use Rattle.yds_trace.specs.Document.{Judged, all_judged}
 use Rattle.yds_trace.specs.Parts.{belongs}
 use Rattle.yds_trace_laws.specs.AsSlots.{jobs_read, slots_read}
@@ -16,6 +16,7 @@ use Rattle.yds_trace_document.specs.Part.{part_limit_fault}
 use Rattle.yds_trace_text.specs.Text.{late_comment}
 use Rattle.yds_trace_again.specs.Again.{IsReadAs}
 use Rattle.yds_trace_again.specs.Holds.{Holds}
+use Rattle.yds_trace_again.specs.Worth.{IsReadFeasible, IsFaithfulText}
 use Rattle.yds_trace_whole.specs.Parts.{Part, parts_of, written_parts}
 
 -- # No late job is hidden
@@ -69,3 +70,29 @@ pub record IsFaithfulPart (asked : Asked) (past : List Said) (part : Part) : Typ
 abbrev pub IsReadPart : Asked → Bool → Part → Type 0
 IsReadPart asked strict part =
     part_limit_fault asked strict part.cut part.settled ≡ None → length part.text ≤ MAX_INPUT → IsReadAs part.settled.document part.text
+
+-- # The text of all parts
+
+-- The text is that of these parts, one behind the other.
+abbrev pub IsOfParts : List Part → List ℕ → Type 0
+IsOfParts parts text = text ≡ flat_map (λ part. part.text) parts
+
+-- Where what each of them is read as is feasible, each job of the tasks that is known to be late is late by less than a unit of time, and a
+-- comment of one of them names it.
+pub record NothingLateInTexts (asked : Asked) (past : List Said) (parts : List Part) (text : List ℕ) : Type 0 where
+  pub says : IsOfParts parts text
+  pub told : All (λ part. IsReadFeasible part.text) parts → All (IsToldLateAmong asked parts) (all_judged asked past)
+
+-- Each of them is read again as its document.
+pub record ArePartsReadAgain (parts : List Part) (text : List ℕ) : Type 0 where
+  pub says : IsOfParts parts text
+  pub read : All (λ part. IsReadAs part.settled.document part.text) parts
+
+-- The part's jobs are jobs of the whole trace, as its processor has them, and what its text is read as is faithful to them.
+pub record IsFaithfulPiece (asked : Asked) (past : List Said) (part : Part) : Type 0 where
+  pub of_trace : AreOf (on part.processor asked) past part.settled.judged
+  pub faithful : IsFaithfulText (on part.processor asked) part.settled.units part.settled.judged part.text
+
+pub record AreFaithfulPieces (asked : Asked) (past : List Said) (parts : List Part) (text : List ℕ) : Type 0 where
+  pub says : IsOfParts parts text
+  pub each : All (IsFaithfulPiece asked past) parts
