@@ -4,7 +4,7 @@ use Rattle.model_lemmas.proofs.Scale.{one_scale_decides}
 use Rattle.yds_kernel.specs.declared.state.State.TheVariants as states
 use Rattle.yds_kernel.specs.Event.{Thread, Happening, Switch, WakeUp, Said, Stamped}
 use Rattle.yds_trace.specs.Asked.{Asked, Task, Named, Same}
-use Rattle.yds_trace.specs.Document.{all_judged, units_of, with_runs}
+use Rattle.yds_trace.specs.Document.{all_judged, units_of}
 use Rattle.yds_trace_laws.specs.Faithful.{HasItsJob}
 use Rattle.yds_trace_laws.proofs.Ordered.{All-map_back}
 use Rattle.yds_trace_laws.proofs.Runs.{contained}

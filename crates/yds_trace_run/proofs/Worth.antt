@@ -177,7 +177,7 @@ shared asked past moved = record {
 
 whole_so : (in_parts : Bool) (asked : Asked) (strict : Bool) (input text : List ℕ) → IsFit asked → IsTold in_parts asked strict input text statuses.Done
     → IsWholeSo in_parts asked (past_of (order_of input)) text
-whole_so false asked strict input text fit told = shared asked (past_of (order_of input))
+whole_so false asked strict input text fit told = record { read = read_so false asked strict input text fit told; shared = shared asked (past_of (order_of input)) }
 whole_so true asked strict input text fit told =
     let past = past_of (order_of input) in
     let parts = told_parts asked strict input text told in

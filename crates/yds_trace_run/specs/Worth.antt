@@ -43,6 +43,11 @@ AreSharedIfAsked asked past = asked.moved_parts ≡ true → AreSharedOut asked 
 
 -- # The whole
 
+-- The text is read again as the one document, and where what a job ran is shared out among the processors, none of it is lost.
+pub record IsWhole (asked : Asked) (past : List Said) (text : List ℕ) : Type 0 where
+  pub read : IsReadAgain asked past text
+  pub shared : AreSharedIfAsked asked past
+
 -- Of the parts that are written, those of this processor are its parts by itself. Their jobs, one part after another, are those of the whole trace
 -- that belong to it; and put together, they are the one document that it would have without limits.
 pub record AreTheWhole (asked : Asked) (past : List Said) (processor : ℕ) : Type 0 where
@@ -73,7 +78,7 @@ IsFaithfulSo false asked past text = IsFaithfulText asked (units_of asked past) 
 IsFaithfulSo true asked past text = AreFaithfulPieces asked past (written_parts asked past) text
 
 abbrev pub IsWholeSo : Bool → Asked → List Said → List ℕ → Type 0
-IsWholeSo false asked past text = AreSharedIfAsked asked past
+IsWholeSo false asked past text = IsWhole asked past text
 IsWholeSo true asked past text = AreWhole asked past text
 
 -- # All of it
@@ -87,8 +92,9 @@ pub record IsWorth (asked : Asked) (past : List Said) (text : List ℕ) : Type 0
   pub read_again : IsReadSo asked.in_parts asked past text
   -- No job and no run of what it is read as is invented: each run is stretches of time that the trace shows of its job. And none is missing.
   pub faithful : IsFaithfulSo asked.in_parts asked past text
-  -- In parts, no part is missing; one that was written long ago says of its jobs what the whole trace says of them; and put together the parts
-  -- are the one document that the trace would have without limits. Where what a job ran is shared out among the processors, none of it is lost.
+  -- Nothing is missing behind it. In parts, no part is; one that was written long ago says of its jobs what the whole trace says of them; and put
+  -- together they are the one document that the trace would have without limits. Where what a job ran is shared out among the processors, none of
+  -- it is lost.
   pub whole : IsWholeSo asked.in_parts asked past text
 
 -- # Of a run
