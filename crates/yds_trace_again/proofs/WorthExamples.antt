@@ -1,5 +1,7 @@
 -- What a text is worth, tried on a trace of two jobs: texts that dropped something are refused. A unit of time is 10 nanoseconds.
-use Rattle.yds_model.proofs.Common.{◌≡◌, ◌≢◌, ℕ, zero, suc, ◌*◌, ◌<◌, List, [], ◌∷◌, codes, map, reverse, false, Some, None, Ok, refl, ap, subst, arith, of_whole, digits, Document, no_document, reading, All, All-nil, All-cons, recursion_from_All, get_or, one-dvd, job_at, IsDivided, IsInWindow, IsFeasible, slots_at, work_given}
+use Rattle.yds_model.proofs.Common.{◌≡◌, ◌≢◌, ℕ, zero, suc, ◌*◌, ◌<◌, List, [], ◌∷◌, codes, length, map, reverse, false, Some, None, Result, Ok, Err, refl, ap, subst, arith, of_whole, digits, Document, no_document, reading, All, All-nil, All-cons, recursion_from_All, get_or, one-dvd, job_at, IsDivided, IsInWindow, IsFeasible, slots_at, work_given}
+use Rattle.base.specs.Fields.{Fault}
+use Rattle.yds_model.specs.declared.reason.Reason.{Reason}
 use Rattle.model_lemmas.proofs.Scale.{one_scale_decides}
 use Rattle.yds_kernel.specs.declared.state.State.TheVariants as states
 use Rattle.yds_kernel.specs.Event.{Thread, Happening, Switch, WakeUp, Said, Stamped}
@@ -9,6 +11,7 @@ use Rattle.yds_trace_laws.specs.Faithful.{HasItsJob}
 use Rattle.yds_trace_laws.proofs.Ordered.{All-map_back}
 use Rattle.yds_trace_laws.proofs.Runs.{contained}
 use Rattle.yds_trace_text.specs.Text.{name_of}
+use Rattle.yds_trace_again.specs.Again.{IsReadAgain}
 use Rattle.yds_trace_again.specs.Worth.{IsReadFeasible, IsFaithfulText, IsToldLate, NothingLate}
 
 -- # A trace of two jobs
@@ -135,13 +138,30 @@ IsOther name = name ≢ codes "t.0"
 is_other : IsOther (codes "u.0")
 is_other same = let first : 117 ≡ 116 = ap (λ (name : List ℕ). get_or name 0 0) same in omega (arith, first)
 
--- It isn't feasible, so nothing is hidden. But what it is read as isn't faithful: the job isn't there.
-job_in_time_dropped : IsFaithfulText asked (units_of asked lines) (all_judged asked lines) without_t → ⊥
+abbrev IsFaithfulHere : List ℕ → Type 0
+IsFaithfulHere text = IsFaithfulText asked (units_of asked lines) (all_judged asked lines) text
+
+-- What a text is read as isn't faithful where that job isn't there.
+dropped : (text : List ℕ) (document : Document) → reading text ≡ Ok document → All IsOther document.names → IsFaithfulHere text → ⊥
 unfolding digits
-job_in_time_dropped faithful =
-    let is = faithful only_u without_t_is_read in
-    let names : codes "u.0" ∷ [] ≡ map name_of is.shown.jobs = ap (λ (document : Document). document.names) is.is in
-    let others : All (λ job. IsOther (name_of job)) is.shown.jobs = All-map_back IsOther name_of is.shown.jobs
-    (subst (All IsOther) names (All-cons IsOther (codes "u.0") [] is_other (All-nil IsOther))) in
+dropped text document read others faithful =
+    let is = faithful document read in
+    let none : All (λ job. IsOther (name_of job)) is.shown.jobs =
+    All-map_back IsOther name_of is.shown.jobs (subst (λ (one : Document). All IsOther one.names) is.is others) in
     let each = recursion_from_All (HasItsJob (units_of asked lines) is.shown) (all_judged asked lines) is.faithful.no_job_missing in
-    contained (λ job. IsOther (name_of job)) is.shown.jobs _ (each.0.standing refl) others refl
+    contained (λ job. IsOther (name_of job)) is.shown.jobs _ (each.0.standing refl) none refl
+
+-- This one is no feasible document, so no job is hidden in it; but it isn't faithful.
+job_in_time_dropped : IsFaithfulHere without_t → ⊥
+job_in_time_dropped faithful = dropped without_t only_u without_t_is_read (All-cons IsOther (codes "u.0") [] is_other (All-nil IsOther)) faithful
+
+-- Nor is the empty text, which isn't read again as the trace's document either.
+empty_drops_a_job : IsFaithfulHere [] → ⊥
+empty_drops_a_job faithful = dropped [] no_document refl (All-nil IsOther) faithful
+
+abbrev names_in : Result Document (Fault Reason) → ℕ
+names_in (Ok document) = length document.names
+names_in (Err fault) = 0
+
+empty_is_another : IsReadAgain asked lines [] → ⊥
+empty_is_another again = let none : 0 ≡ 2 = ap names_in again.read in omega (arith, none)

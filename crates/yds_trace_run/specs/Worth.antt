@@ -92,9 +92,9 @@ pub record IsWorth (asked : Asked) (past : List Said) (text : List ℕ) : Type 0
   pub read_again : IsReadSo asked.in_parts asked past text
   -- No job and no run of what it is read as is invented: each run is stretches of time that the trace shows of its job. And none is missing.
   pub faithful : IsFaithfulSo asked.in_parts asked past text
-  -- Nothing is missing behind it. In parts, no part is; one that was written long ago says of its jobs what the whole trace says of them; and put
-  -- together they are the one document that the trace would have without limits. Where what a job ran is shared out among the processors, none of
-  -- it is lost.
+  -- It is the whole. One document is that of the trace. In parts, no part is missing; one that was written long ago says of its jobs what the whole
+  -- trace says of them; and put together they are the one document that the trace would have without limits. Where what a job ran is shared out
+  -- among the processors, none of it is lost.
   pub whole : IsWholeSo asked.in_parts asked past text
 
 -- # Of a run
