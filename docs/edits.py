@@ -42,7 +42,10 @@ NEEDED = [
     ("yds_c", "yds_answer"),
 ]
 # A clause that is a record, by crate and function, with the file of the record and its name.
-RECORDS = {("yds_run", "run", "worth"): ("specs/Worth.antt", "IsWorth")}
+RECORDS = {
+    ("yds_run", "run", "worth"): ("specs/Worth.antt", "IsWorth"),
+    ("yds_trace_run", "run", "worth"): ("specs/Worth.antt", "IsWorth"),
+}
 
 FUNCTION = re.compile(r'^(\s*)(pub(?:\([^)]*\))? )?(?:const |unsafe |extern "C" )*fn (\w+)')
 OWNER = re.compile(r"^(?:pub(?:\([^)]*\))? )?(impl|trait)\b\s*(.*)$")

@@ -7,3 +7,5 @@ pub mod Again
 mod Examples
 pub mod Holding
 pub mod Parts
+pub mod Worth
+mod WorthExamples

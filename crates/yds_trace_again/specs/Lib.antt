@@ -1,3 +1,4 @@
 pub mod Again
 pub mod Holds
 pub mod Laws
+pub mod Worth

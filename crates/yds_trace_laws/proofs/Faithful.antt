@@ -1,5 +1,5 @@
--- Each job and each run of a trace's document is one that the trace shows, and no run of a job that stands as it is is missing.
-use Rattle.yds_model.proofs.Common.{◌≡◌, ℕ, zero, suc, ◌+◌, ◌<◌, ◌≤◌, inl, inr, ◌==◌, ◌&&◌, List, [], ◌∷◌, map, flat_map, reverse, Bool, true, false, not, nat_lt, if◌then◌else◌, Option, Some, None, is_some, is_none, refl, sym, subst, arith, get_or, All, All-from_recursion, recursion_from_All, All-contains_itself, Contains, list_any, or_parts, eqb-true, lt-ltb, cases_lt}
+-- Each job and each run of a trace's document is one that the trace shows, no job that is written is missing, and no run of one that stands as it is.
+use Rattle.yds_model.proofs.Common.{◌≡◌, ℕ, zero, suc, ◌+◌, ◌<◌, ◌≤◌, inl, inr, ◌==◌, ◌&&◌, List, [], ◌∷◌, length, map, flat_map, reverse, Bool, true, false, not, nat_lt, if◌then◌else◌, Option, Some, None, is_some, is_none, refl, sym, ap, ◌∙◌, subst, arith, get_or, All, All-from_recursion, recursion_from_All, All-contains_itself, Contains, list_any, or_parts, eqb-true, lt-ltb, cases_lt}
 use Rattle.std.specs.List.{AllByRecursion, enumerate_from}
 use Rattle.yds_kernel.specs.Event.{Said}
 use Rattle.yds_trace.specs.declared.job.Stretch.{Stretch}
@@ -10,7 +10,7 @@ use Rattle.yds_trace.specs.Late.{last_asked, is_open, lateness}
 use Rattle.yds_trace.specs.Jobs.{Job}
 use Rattle.yds_trace.specs.WrittenTime.{Units, Run, run_of}
 use Rattle.yds_trace.specs.Document.{is_lost, reaches_to, is_elsewhere, is_of_unknown_speed, reason_of, Judged, judged, all_judged, stands, units_of, Written, with_runs, without_runs, written_runs, written_of, Placed, placed_runs, all_runs}
-use Rattle.yds_trace_laws.specs.Faithful.{IsAt, IsShown, IsStanding, IsTraced, IsTracedJob, HasRun, HasItsRuns}
+use Rattle.yds_trace_laws.specs.Faithful.{IsAt, IsShown, IsStanding, IsTraced, IsTracedJob, HasItsJob, HasRun, HasItsRuns}
 use Rattle.yds_trace_laws.specs.InUnits.{document_in}
 use Rattle.yds_trace_laws.specs.Laws.{SomeAreFaithful, DocumentsAreFaithful}
 use Rattle.yds_trace_laws.proofs.Seen.{stands_written}
@@ -103,6 +103,16 @@ shown asked units one positive whole stand =
 
 -- # Each job
 
+-- as the document of these jobs in these units has them
+abbrev IsStandingIn : Units → List Judged → ℕ → Judged → Type 0
+IsStandingIn units ones place one = IsStanding units ones (document_in units ones) place one
+
+abbrev IsTracedIn : Asked → Units → List Judged → Placed → Type 0
+IsTracedIn asked units ones placed = IsTraced asked units ones (document_in units ones) placed
+
+abbrev HasRunIn : Units → List Judged → Judged → Stretch → Type 0
+HasRunIn units ones one stretch = HasRun units ones (document_in units ones) one stretch
+
 traced_job : (units : Units) (ones : List Judged) (one : Judged) (job : Written) → Contains ones one → written_of units one ≡ Some job → IsTracedJob units ones job
 traced_job units ones one job has is = chosen (stands one) refl one.late refl is
   where
@@ -118,6 +128,32 @@ traced_jobs : (units : Units) (ones : List Judged) → AllByRecursion (IsTracedJ
 traced_jobs units ones =
     filter_map-all (written_of units) (Contains ones) (IsTracedJob units ones) (traced_job units ones) ones
     (recursion_from_All (Contains ones) ones (All-contains_itself ones))
+
+at_all : {A : Type 0} (P : A → Type 0) (xs : List A) (n : ℕ) (x : A) → IsAt xs n x → AllByRecursion P xs → P x
+at_all P [] n x at all = absurd at
+at_all P (y ∷ ys) zero x at all = subst P at all.0
+at_all P (y ∷ ys) (suc n) x at all = at_all P ys n x at all.1
+
+late_written : (units : Units) (one : Judged) (by : ℕ) → stands one ≡ false → one.late ≡ Some by → written_of units one ≡ Some (without_runs units one)
+late_written units one by stand late =
+    ap (λ (b : Bool). if b then Some (with_runs units one) else (if is_some one.late then Some (without_runs units one) else None)) stand
+    ∙ ap (λ (l : Option ℕ). if is_some l then Some (without_runs units one) else None) late
+
+-- what is written of one of these jobs is in their document
+has_written : (units : Units) (ones : List Judged) (i : ℕ) (d : Judged) (job : Written) → i < length ones → written_of units (get_or ones i d) ≡ Some job →
+    Contains (document_in units ones).jobs job
+has_written units ones i d job within is =
+    let jobs : List Written = (document_in units ones).jobs in
+    let at = found (written_of units) ones i d job within is in
+    at_all (Contains jobs) jobs at.0 job at.1 (recursion_from_All (Contains jobs) jobs (All-contains_itself jobs))
+
+no_job_missing : (units : Units) (ones : List Judged) → All (HasItsJob units (document_in units ones)) ones
+no_job_missing units ones i d within =
+    let one : Judged = get_or ones i d in
+    record {
+      standing = λ stand. has_written units ones i d (with_runs units one) within (stands_written units one stand);
+      late = λ stand by late. has_written units ones i d (without_runs units one) within (late_written units one by stand late);
+    }
 
 -- # Each run
 
@@ -152,11 +188,6 @@ placed_back P start (suc n) (first ∷ jobs) job at all =
     (λ run holds. let number : start + 1 + n ≡ start + suc n = omega arith in subst (λ (m : ℕ). P (place m run)) number holds) job.runs
     (placed_back P (start + 1) n jobs job at (append-all_right P (placed_runs (start, first)) (flat_map placed_runs (enumerate_from (start + 1) jobs)) all))
 
-at_all : {A : Type 0} (P : A → Type 0) (xs : List A) (n : ℕ) (x : A) → IsAt xs n x → AllByRecursion P xs → P x
-at_all P [] n x at all = absurd at
-at_all P (y ∷ ys) zero x at all = subst P at all.0
-at_all P (y ∷ ys) (suc n) x at all = at_all P ys n x at all.1
-
 pub all_whole : (asked : Asked) (past : List Said) → All (IsWhole asked) (all_judged asked past)
 all_whole asked past = All-from_recursion (IsWhole asked) (all_judged asked past) (each_judged (IsWhole asked) asked past (whole_is asked past))
 
@@ -165,13 +196,13 @@ abbrev AreWhole : Asked → List Judged → Type 0
 AreWhole asked ones = All (IsWhole asked) ones
 
 runs_of_job : (asked : Asked) (units : Units) (ones : List Judged) → 1 ≤ units.time → AreWhole asked ones → (n : ℕ) (job : Written) → IsAt (document_in units ones).jobs n job →
-    AllByRecursion (λ run. IsTraced asked units ones (place n run)) job.runs
+    AllByRecursion (λ run. IsTracedIn asked units ones (place n run)) job.runs
 runs_of_job asked units ones positive whole n job at = by (at_all (IsTracedJob units ones) (document_in units ones).jobs n job at (traced_jobs units ones))
   where
     standing : (one : Judged) → Contains ones one → stands one ≡ true → IsAt (document_in units ones).jobs n (with_runs units one) →
-        AllByRecursion (λ run. IsTraced asked units ones (place n run)) (written_runs units one.job)
+        AllByRecursion (λ run. IsTracedIn asked units ones (place n run)) (written_runs units one.job)
     standing one has stand there =
-        all_weaker (IsRunOf units (IsShown asked one)) (λ run. IsTraced asked units ones (place n run))
+        all_weaker (IsRunOf units (IsShown asked one)) (λ run. IsTracedIn asked units ones (place n run))
         (λ run is. record {
           one = one;
           standing = record { is_judged = has; stands_so = stand; is_there = there };
@@ -181,40 +212,40 @@ runs_of_job asked units ones positive whole n job at = by (at_all (IsTracedJob u
         }) (written_runs units one.job)
         (runs_are_stretches units (IsShown asked one) (reverse one.job.stretches) (shown asked units one positive (contained (IsWhole asked) ones one has whole) stand))
 
-    by : IsTracedJob units ones job → AllByRecursion (λ run. IsTraced asked units ones (place n run)) job.runs
+    by : IsTracedJob units ones job → AllByRecursion (λ run. IsTracedIn asked units ones (place n run)) job.runs
     by traced = elim traced.written [
       | inl stand ↦
-          subst (λ (written : Written). AllByRecursion (λ run. IsTraced asked units ones (place n run)) written.runs) (sym stand.1)
+          subst (λ (written : Written). AllByRecursion (λ run. IsTracedIn asked units ones (place n run)) written.runs) (sym stand.1)
           (standing traced.one traced.is_judged stand.0 (subst (IsAt (document_in units ones).jobs n) stand.1 at))
-      | inr late ↦ subst (λ (written : Written). AllByRecursion (λ run. IsTraced asked units ones (place n run)) written.runs) (sym late.2) tt
+      | inr late ↦ subst (λ (written : Written). AllByRecursion (λ run. IsTracedIn asked units ones (place n run)) written.runs) (sym late.2) tt
     ]
 
-no_run_invented : (asked : Asked) (units : Units) (ones : List Judged) → 1 ≤ units.time → AreWhole asked ones → AllByRecursion (IsTraced asked units ones) (document_in units ones).runs
+no_run_invented : (asked : Asked) (units : Units) (ones : List Judged) → 1 ≤ units.time → AreWhole asked ones → AllByRecursion (IsTracedIn asked units ones) (document_in units ones).runs
 no_run_invented asked units ones positive whole =
     let jobs : List Written = (document_in units ones).jobs in
-    in_order-all (IsTraced asked units ones) (λ placed. placed.run.from) (flat_map placed_runs (enumerate_from 0 jobs))
-    (placed_from (IsTraced asked units ones) 0 jobs
+    in_order-all (IsTracedIn asked units ones) (λ placed. placed.run.from) (flat_map placed_runs (enumerate_from 0 jobs))
+    (placed_from (IsTracedIn asked units ones) 0 jobs
     (λ n job at.
-    all_weaker (λ run. IsTraced asked units ones (place n run)) (λ run. IsTraced asked units ones (place (0 + n) run))
-    (λ run is. let number : n ≡ 0 + n = omega arith in subst (λ (m : ℕ). IsTraced asked units ones (place m run)) number is) job.runs
+    all_weaker (λ run. IsTracedIn asked units ones (place n run)) (λ run. IsTracedIn asked units ones (place (0 + n) run))
+    (λ run is. let number : n ≡ 0 + n = omega arith in subst (λ (m : ℕ). IsTracedIn asked units ones (place m run)) number is) job.runs
     (runs_of_job asked units ones positive whole n job at)))
 
 -- # No run is missing
 
 -- the run that has a stretch, as it is placed
-placed_run : (units : Units) (ones : List Judged) (one : Judged) (n : ℕ) (stretch : Stretch) (runs : List Run) → IsStanding units ones n one →
-    AllByRecursion (λ run. Contains (document_in units ones).runs (place n run)) runs → IsInSome units stretch runs → HasRun units ones one stretch
+placed_run : (units : Units) (ones : List Judged) (one : Judged) (n : ℕ) (stretch : Stretch) (runs : List Run) → IsStandingIn units ones n one →
+    AllByRecursion (λ run. Contains (document_in units ones).runs (place n run)) runs → IsInSome units stretch runs → HasRunIn units ones one stretch
 placed_run units ones one n stretch [] standing all there = absurd there
 placed_run units ones one n stretch (run ∷ runs) standing all (inl within) = record { placed = place n run; is_there = all.0; standing = standing; within = within }
 placed_run units ones one n stretch (run ∷ runs) standing all (inr more) = placed_run units ones one n stretch runs standing all.1 more
 
-no_run_missing : (units : Units) (ones : List Judged) → All (HasItsRuns units ones) ones
+no_run_missing : (units : Units) (ones : List Judged) → All (HasItsRuns units ones (document_in units ones)) ones
 no_run_missing units ones i d within stand =
     let one : Judged = get_or ones i d in
     let jobs : List Written = (document_in units ones).jobs in
     let runs : List Placed = all_runs jobs in
     let at = found (written_of units) ones i d (with_runs units one) within (stands_written units one stand) in
-    let standing : IsStanding units ones at.0 one = record { is_judged = All-contains_itself ones i d within; stands_so = stand; is_there = at.1 } in
+    let standing : IsStandingIn units ones at.0 one = record { is_judged = All-contains_itself ones i d within; stands_so = stand; is_there = at.1 } in
     let there : AllByRecursion (Contains runs) (flat_map placed_runs (enumerate_from 0 jobs)) =
     in_order-all_back (Contains runs) (λ placed. placed.run.from) (flat_map placed_runs (enumerate_from 0 jobs))
     (recursion_from_All (Contains runs) runs (All-contains_itself runs)) in
@@ -222,9 +253,9 @@ no_run_missing units ones i d within stand =
     all_weaker (λ run. Contains runs (place (0 + at.0) run)) (λ run. Contains runs (place at.0 run))
     (λ run has. let number : 0 + at.0 ≡ at.0 = omega arith in subst (λ (m : ℕ). Contains runs (place m run)) number has) (written_runs units one.job)
     (placed_back (Contains runs) 0 at.0 jobs (with_runs units one) at.1 there) in
-    All-from_recursion (λ stretch. IsForward (run_of units stretch) → HasRun units ones one stretch) one.job.stretches
-    (reverse-all_back (λ stretch. IsForward (run_of units stretch) → HasRun units ones one stretch) one.job.stretches
-    (all_weaker (λ stretch. IsForward (run_of units stretch) → IsInSome units stretch (written_runs units one.job)) (λ stretch. IsForward (run_of units stretch) → HasRun units ones one stretch)
+    All-from_recursion (λ stretch. IsForward (run_of units stretch) → HasRunIn units ones one stretch) one.job.stretches
+    (reverse-all_back (λ stretch. IsForward (run_of units stretch) → HasRunIn units ones one stretch) one.job.stretches
+    (all_weaker (λ stretch. IsForward (run_of units stretch) → IsInSome units stretch (written_runs units one.job)) (λ stretch. IsForward (run_of units stretch) → HasRunIn units ones one stretch)
     (λ stretch has forward. placed_run units ones one at.0 stretch (written_runs units one.job) standing its (has forward)) (reverse one.job.stretches)
     (stretches_have_runs units (reverse one.job.stretches))))
 
@@ -233,7 +264,8 @@ no_run_missing units ones i d within stand =
 pub some_are_faithful : SomeAreFaithful
 some_are_faithful asked past units ones positive are = record {
   no_job_invented = All-from_recursion (IsTracedJob units ones) (document_in units ones).jobs (traced_jobs units ones);
-  no_run_invented = All-from_recursion (IsTraced asked units ones) (document_in units ones).runs
+  no_job_missing = no_job_missing units ones;
+  no_run_invented = All-from_recursion (IsTracedIn asked units ones) (document_in units ones).runs
       (no_run_invented asked units ones positive (each_of_these (IsWhole asked) (all_judged asked past) ones are (all_whole asked past)));
   no_run_missing = no_run_missing units ones;
 }

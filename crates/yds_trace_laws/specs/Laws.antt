@@ -77,10 +77,11 @@ FeasibleMeansInTime = (asked : Asked) (past : List Said) → IsAsked asked →
 
 -- # Runs and stretches
 
--- Each job and each run of the document of some of a trace's jobs is one that the trace shows, and each run that it shows of one of them that
--- stands as it is is there.
+-- Each job and each run of the document of some of a trace's jobs is one that the trace shows. Each of them that stands as it is or is late is
+-- there, and so is each run that the trace shows of one that stands as it is.
 abbrev pub SomeAreFaithful : Type 0
-SomeAreFaithful = (asked : Asked) (past : List Said) (units : Units) (ones : List Judged) → 1 ≤ units.time → AreOf asked past ones → AreFaithful asked units ones
+SomeAreFaithful = (asked : Asked) (past : List Said) (units : Units) (ones : List Judged) → 1 ≤ units.time → AreOf asked past ones →
+    AreFaithful asked units ones (document_in units ones)
 
 -- So it is of the trace's document.
 abbrev pub DocumentsAreFaithful : Type 0

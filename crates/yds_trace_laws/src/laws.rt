@@ -46,12 +46,12 @@ pub fn fronts_are_infeasible()
     ensures { FrontsAreInfeasible }
 {}
 
-/// No job and no run of the document of some of a trace's jobs is invented, and no run is missing.
+/// No job and no run of the document of some of a trace's jobs is invented, and none is missing.
 pub fn some_are_faithful()
     ensures { SomeAreFaithful }
 {}
 
-/// No job and no run of a trace's document is invented, and no run is missing.
+/// No job and no run of a trace's document is invented, and none is missing.
 pub fn documents_are_faithful()
     ensures { DocumentsAreFaithful }
 {}

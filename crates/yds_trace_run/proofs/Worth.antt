@@ -1,6 +1,7 @@
--- What was written names each late job, is read again, and is faithful to the trace, in one document or in parts.
+-- What was written hides no late job, is read again, and is faithful to the trace, as it is read, in one document or in parts.
 use Rattle.yds_model.proofs.Common.{◌≡◌, ℕ, inl, inr, List, length, get_or, All, Bool, Option, Some, None, Ok, refl, sym, subst, ◌∙◌, ◌≢◌, ◌≤◌, true, false, nat_lt, if◌then◌else◌, ltb-false, and_parts, AllPairs, is_name}
 use Rattle.std.specs.Prelude.{IfSome, option_map}
+use Rattle.std.proofs.lemmas.List.{append_cancel_left}
 use Rattle.std.specs.Io.KnownBytes.{Appends}
 use Rattle.base.specs.declared.status.Status.{Status}
 use Rattle.base.specs.declared.status.Status.TheVariants as statuses
@@ -11,21 +12,19 @@ use Rattle.yds_trace.specs.Asked.{Task, Asked, IsAsked, on}
 use Rattle.yds_trace.specs.Faults.{first_fault}
 use Rattle.yds_trace.specs.Parts.{processors_of}
 use Rattle.yds_trace.proofs.OnProcessor.{first_fault_on}
-use Rattle.yds_trace.specs.Document.{all_judged, units_of}
+use Rattle.yds_trace.specs.Document.{all_judged, units_of, document_of}
 use Rattle.yds_trace_laws.proofs.Faithful.{documents_are_faithful}
 use Rattle.yds_trace_laws.proofs.Begins.{or_none}
-use Rattle.yds_trace_laws.proofs.Seen.{feasible_means_in_time}
 use Rattle.yds_trace_document.specs.declared.fault.DocumentFault.{DocumentFault}
 use Rattle.yds_trace_document.specs.Settled.{settled_of}
 use Rattle.yds_trace_document.specs.Limits.{limit_fault}
 use Rattle.yds_trace_again.specs.Again.{IsReadAgain}
-use Rattle.yds_trace_again.specs.Holds.{Holds}
 use Rattle.yds_trace_again.specs.Laws.{AreLabelled}
 use Rattle.yds_trace_again.proofs.Again.{read_again as is_read_again}
-use Rattle.yds_trace_again.proofs.Holding.{late_jobs_are_named}
+use Rattle.yds_trace_again.proofs.Worth.{faithful_read, told_late}
 use Rattle.yds_trace_words.specs.Tasks.{is_label}
 use Rattle.yds_trace_run.specs.Fault.{OfText, of_document, of_text, document_fault}
-use Rattle.yds_trace_text.specs.Text.{late_comment, text_of}
+use Rattle.yds_trace_text.specs.Text.{text_of}
 use Rattle.yds_trace_reading.specs.LineFault.{past_of}
 use Rattle.yds_trace_parts.specs.Told.{Halt, told_of, by_number}
 use Rattle.yds_trace_bounds.specs.declared.bounds.Bounds.{Bounds}
@@ -36,19 +35,13 @@ use Rattle.yds_trace_files.specs.Unread.{Unread}
 use Rattle.yds_trace_run.specs.Endings.{IsText, Outcome, Writes}
 use Rattle.yds_trace_laws.proofs.Processors.{jobs_are_the_same, each_job_belongs, shares_are_the_whole, only_its_own, none_has_moved}
 use Rattle.yds_trace_whole.specs.Parts.{written_parts}
-use Rattle.yds_trace_whole.proofs.Worth.{parts_are_faithful}
+use Rattle.yds_trace_whole.specs.Worth.{ArePartsReadAgain}
 use Rattle.yds_trace_whole.proofs.Parting.{parts_are_the_whole}
 use Rattle.yds_trace_whole.proofs.Together.{parts_make_the_document}
-use Rattle.yds_trace_whole.proofs.Everywhere.{all_parts_are_kept, parts_are_of_processors, nothing_is_late_anywhere, each_part_is_read}
-use Rattle.yds_trace_run.specs.Worth.{HoldsWithin, NothingLate, HidesNothing, AreSharedIfAsked, ArePartsReadAgain, IsReadSo, IsFaithfulSo, IsWholeSo}
+use Rattle.yds_trace_whole.proofs.Everywhere.{all_parts_are_kept, parts_are_of_processors, each_part_is_read, pieces_hide_nothing, pieces_are_faithful}
+use Rattle.yds_trace_run.specs.Worth.{HidesNothing, AreSharedIfAsked, IsReadSo, IsFaithfulSo, IsWholeSo, IsWorth, HoldsWithin, OfAppended}
 use Rattle.yds_trace_run.proofs.Within.{fit_within}
 use Rattle.yds_trace_run.proofs.InParts.{IsToldAs, told_as}
-
-told_late : (asked : Asked) (past : List Said) (text : List ℕ) → IsAsked asked → text ≡ text_of asked past → NothingLate asked past text
-told_late asked past text fit is = λ feasible i d within by late. (
-  feasible_means_in_time asked past fit feasible i d within by late,
-  subst (λ (one : List ℕ). Holds one (late_comment (units_of asked past) (get_or (all_judged asked past) i d))) (sym is) (late_jobs_are_named asked (settled_of asked past) i d within),
-)
 
 -- # What a run that is done wrote
 
@@ -65,17 +58,24 @@ told_within : (Q : Asked → Type 0) (within : Option Asked) (strict : Bool) (by
 told_within Q None strict bytes text fit each told = let other : statuses.Done ≡ statuses.Refused = told.0 in absurd cc
 told_within Q (Some one) strict bytes text fit each told = each one fit told
 
--- What holds of each text that is told holds of what it wrote.
-done_holds : (unread : Unread) (Q : Asked → List ℕ → List ℕ → Type 0) (asked : Asked) (bounds : Bounds) (strict : Bool)
-    → ((one : Asked) (bytes text : List ℕ) → IsFit one → IsTold one.in_parts one strict bytes text statuses.Done → Q one bytes text)
+-- What was appended has what a text has, if that was appended.
+of_appended : (P : List ℕ → Type 0) (old new : Option (List ℕ)) (text : List ℕ) → Appends old new text → P text → OfAppended old new P
+of_appended P None new text appends holds = tt
+of_appended P (Some old) None text appends holds = tt
+of_appended P (Some old) (Some new) text appends holds = λ other is. subst P (append_cancel_left old text other (sym appends ∙ is)) holds
+
+-- What holds of each text that is told holds of what was written.
+done_holds : (unread : Unread) (Q : Asked → List Said → List ℕ → Type 0) (asked : Asked) (bounds : Bounds) (strict : Bool)
+    → ((one : Asked) (bytes text : List ℕ) → IsFit one → IsTold one.in_parts one strict bytes text statuses.Done → Q one (past_of (order_of bytes)) text)
     → (input old new : Option (List ℕ)) (flushed : Option ℕ) (ended : Status) → ((first : ℕ) → IsFit (asked_from first bounds asked)) → ended ≡ statuses.Done
     → IfSome input (λ bytes. Writes unread (Ok (ReadTrace asked bounds strict)) bytes ended old new flushed)
-    → IfSome input (λ bytes. HoldsWithin (asked_in bounds asked (order_of bytes)) (λ within. (text : List ℕ) × Appends old new text × Q within bytes text))
+    → IfSome input (λ bytes. HoldsWithin (asked_in bounds asked (order_of bytes)) (λ within. OfAppended old new (Q within (past_of (order_of bytes)))))
 done_holds unread Q asked bounds strict each None old new flushed ended fit done writes = tt
 done_holds unread Q asked bounds strict each (Some bytes) old new flushed ended fit done writes =
+    let past = past_of (order_of bytes) in
     let whole = subst (λ (s : Status). Outcome s writes.text writes.status old new flushed) done writes.outcome in
-    told_within (λ within. (text : List ℕ) × Appends old new text × Q within bytes text) (asked_in bounds asked (order_of bytes)) strict bytes writes.text
-    (fit_within bounds asked (order_of bytes) fit) (λ one fits told. (writes.text, whole.whole, each one bytes writes.text fits told))
+    told_within (λ within. OfAppended old new (Q within past)) (asked_in bounds asked (order_of bytes)) strict bytes writes.text (fit_within bounds asked (order_of bytes) fit)
+    (λ one fits told. of_appended (Q one past) old new writes.text whole.whole (each one bytes writes.text fits told))
     (done_so unread asked bounds strict bytes writes.text writes.status whole.said writes.is_text)
 
 labelled : (tasks : List Task) → All (λ task. is_label task.label ≡ true) tasks → AllPairs (λ task other. task.label ≢ other.label) tasks → AreLabelled tasks
@@ -115,24 +115,6 @@ fit_on processor asked fit = record { has_unit = fit.has_unit; has_speed_unit = 
 sound_on : (processor : ℕ) (asked : Asked) (past : List Said) → first_fault asked past ≡ None → first_fault (on processor asked) past ≡ None
 sound_on processor asked past sound = first_fault_on asked processor past ∙ sound
 
--- # No late job is hidden
-
-hides_nothing : (in_parts : Bool) (asked : Asked) (strict : Bool) (input text : List ℕ) → IsFit asked → IsTold in_parts asked strict input text statuses.Done
-    → HidesNothing in_parts asked (past_of (order_of input)) text
-hides_nothing false asked strict input text fit told = told_late asked (past_of (order_of input)) text fit.plain told.says
-hides_nothing true asked strict input text fit told =
-    let parts = told_parts asked strict input text told in
-    nothing_is_late_anywhere asked (past_of (order_of input)) fit.plain parts.sound parts.keeps
-
-pub nothing_late : (unread : Unread) (asked : Asked) (bounds : Bounds) (strict : Bool) (input old new : Option (List ℕ)) (flushed : Option ℕ) (ended : Status)
-    → ((first : ℕ) → IsFit (asked_from first bounds asked)) → ended ≡ statuses.Done
-    → IfSome input (λ bytes. Writes unread (Ok (ReadTrace asked bounds strict)) bytes ended old new flushed)
-    → IfSome input (λ bytes. HoldsWithin (asked_in bounds asked (order_of bytes)) (λ within.
-    (text : List ℕ) × Appends old new text × HidesNothing within.in_parts within (past_of (order_of bytes)) text))
-nothing_late unread asked bounds strict input old new flushed ended fit done writes =
-    done_holds unread (λ within bytes text. HidesNothing within.in_parts within (past_of (order_of bytes)) text) asked bounds strict
-    (λ one bytes text fits told. hides_nothing one.in_parts one strict bytes text fits told) input old new flushed ended fit done writes
-
 -- # It is read again
 
 no_limit : (limit : Option DocumentFault) → of_document limit ≡ None → limit ≡ None
@@ -159,46 +141,31 @@ read_so : (in_parts : Bool) (asked : Asked) (strict : Bool) (input text : List �
 read_so false asked strict input text fit told = document_again asked strict (past_of (order_of input)) text fit told.fits told.says
 read_so true asked strict input text fit told = parts_read_again asked strict (past_of (order_of input)) text fit (told_parts asked strict input text told)
 
-pub read_again : (unread : Unread) (asked : Asked) (bounds : Bounds) (strict : Bool) (input old new : Option (List ℕ)) (flushed : Option ℕ) (ended : Status)
-    → ((first : ℕ) → IsFit (asked_from first bounds asked)) → ended ≡ statuses.Done
-    → IfSome input (λ bytes. Writes unread (Ok (ReadTrace asked bounds strict)) bytes ended old new flushed)
-    → IfSome input (λ bytes. HoldsWithin (asked_in bounds asked (order_of bytes)) (λ within.
-    (text : List ℕ) × Appends old new text × IsReadSo within.in_parts within (past_of (order_of bytes)) text))
-read_again unread asked bounds strict input old new flushed ended fit done writes =
-    done_holds unread (λ within bytes text. IsReadSo within.in_parts within (past_of (order_of bytes)) text) asked bounds strict
-    (λ one bytes text fits told. read_so one.in_parts one strict bytes text fits told) input old new flushed ended fit done writes
+-- # No late job is hidden
 
--- # It is faithful, and whole
+hides_nothing : (in_parts : Bool) (asked : Asked) (strict : Bool) (input text : List ℕ) → IsFit asked → IsTold in_parts asked strict input text statuses.Done
+    → HidesNothing in_parts asked (past_of (order_of input)) text
+hides_nothing false asked strict input text fit told =
+    told_late asked (past_of (order_of input)) text fit.plain told.says (read_so false asked strict input text fit told)
+hides_nothing true asked strict input text fit told =
+    let past = past_of (order_of input) in
+    let parts = told_parts asked strict input text told in
+    pieces_hide_nothing asked past text fit.plain parts.sound parts.keeps (parts_read_again asked strict past text fit parts)
 
--- What holds of the lines of each trace that is told holds of its lines.
-lines_hold : (unread : Unread) (Q : Asked → List ℕ → Type 0) (asked : Asked) (bounds : Bounds) (strict : Bool)
-    → ((one : Asked) (bytes text : List ℕ) → IsFit one → IsTold one.in_parts one strict bytes text statuses.Done → Q one bytes)
-    → (input old new : Option (List ℕ)) (flushed : Option ℕ) (ended : Status) → ((first : ℕ) → IsFit (asked_from first bounds asked)) → ended ≡ statuses.Done
-    → IfSome input (λ bytes. Writes unread (Ok (ReadTrace asked bounds strict)) bytes ended old new flushed)
-    → IfSome input (λ bytes. HoldsWithin (asked_in bounds asked (order_of bytes)) (λ within. Q within bytes))
-lines_hold unread Q asked bounds strict each None old new flushed ended fit done writes = tt
-lines_hold unread Q asked bounds strict each (Some bytes) old new flushed ended fit done writes =
-    let whole = subst (λ (s : Status). Outcome s writes.text writes.status old new flushed) done writes.outcome in
-    told_within (λ within. Q within bytes) (asked_in bounds asked (order_of bytes)) strict bytes writes.text (fit_within bounds asked (order_of bytes) fit)
-    (λ one fits told. each one bytes writes.text fits told) (done_so unread asked bounds strict bytes writes.text writes.status whole.said writes.is_text)
+-- # It is faithful
 
 faithful_so : (in_parts : Bool) (asked : Asked) (strict : Bool) (input text : List ℕ) → IsFit asked → IsTold in_parts asked strict input text statuses.Done
-    → IsFaithfulSo in_parts asked (past_of (order_of input))
-faithful_so false asked strict input text fit told = documents_are_faithful asked (past_of (order_of input)) fit.plain
+    → IsFaithfulSo in_parts asked (past_of (order_of input)) text
+faithful_so false asked strict input text fit told =
+    let past = past_of (order_of input) in
+    faithful_read asked (units_of asked past) (all_judged asked past) (document_of asked past) text (read_so false asked strict input text fit told)
+    (documents_are_faithful asked past fit.plain)
 faithful_so true asked strict input text fit told =
     let past = past_of (order_of input) in
     let parts = told_parts asked strict input text told in
-    λ i d within.
-    let processor = get_or (processors_of asked past) i d in
-    parts_are_faithful (on processor asked) past (fit_on processor asked fit.plain) (sound_on processor asked past parts.sound) (all_parts_are_kept asked past parts.keeps i d within)
+    pieces_are_faithful asked past text fit.plain parts.sound parts.keeps (parts_read_again asked strict past text fit parts)
 
-pub faithful : (unread : Unread) (asked : Asked) (bounds : Bounds) (strict : Bool) (input old new : Option (List ℕ)) (flushed : Option ℕ) (ended : Status)
-    → ((first : ℕ) → IsFit (asked_from first bounds asked)) → ended ≡ statuses.Done
-    → IfSome input (λ bytes. Writes unread (Ok (ReadTrace asked bounds strict)) bytes ended old new flushed)
-    → IfSome input (λ bytes. HoldsWithin (asked_in bounds asked (order_of bytes)) (λ within. IsFaithfulSo within.in_parts within (past_of (order_of bytes))))
-faithful unread asked bounds strict input old new flushed ended fit done writes =
-    lines_hold unread (λ within bytes. IsFaithfulSo within.in_parts within (past_of (order_of bytes))) asked bounds strict
-    (λ one bytes text fits told. faithful_so one.in_parts one strict bytes text fits told) input old new flushed ended fit done writes
+-- # It is whole
 
 -- Of a job that moved, no stretch is lost where that is asked for.
 shared : (asked : Asked) (past : List Said) → AreSharedIfAsked asked past
@@ -208,12 +175,14 @@ shared asked past moved = record {
   none_moved = λ processor. none_has_moved (on processor asked) past moved;
 }
 
-whole_so : (in_parts : Bool) (asked : Asked) (strict : Bool) (input text : List ℕ) → IsFit asked → IsTold in_parts asked strict input text statuses.Done → IsWholeSo in_parts asked (past_of (order_of input))
-whole_so false asked strict input text fit told = shared asked (past_of (order_of input))
+whole_so : (in_parts : Bool) (asked : Asked) (strict : Bool) (input text : List ℕ) → IsFit asked → IsTold in_parts asked strict input text statuses.Done
+    → IsWholeSo in_parts asked (past_of (order_of input)) text
+whole_so false asked strict input text fit told = record { read = read_so false asked strict input text fit told; shared = shared asked (past_of (order_of input)) }
 whole_so true asked strict input text fit told =
     let past = past_of (order_of input) in
     let parts = told_parts asked strict input text told in
     record {
+      read = parts_read_again asked strict past text fit parts;
       each = λ i d within.
           let processor = get_or (processors_of asked past) i d in
           let sound = sound_on processor asked past parts.sound in
@@ -228,10 +197,20 @@ whole_so true asked strict input text fit told =
       belong = each_job_belongs asked past;
     }
 
-pub whole : (unread : Unread) (asked : Asked) (bounds : Bounds) (strict : Bool) (input old new : Option (List ℕ)) (flushed : Option ℕ) (ended : Status)
+-- # All of it
+
+is_worth : (asked : Asked) (strict : Bool) (input text : List ℕ) → IsFit asked → IsTold asked.in_parts asked strict input text statuses.Done
+    → IsWorth asked (past_of (order_of input)) text
+is_worth asked strict input text fit told = record {
+  nothing_late = hides_nothing asked.in_parts asked strict input text fit told;
+  read_again = read_so asked.in_parts asked strict input text fit told;
+  faithful = faithful_so asked.in_parts asked strict input text fit told;
+  whole = whole_so asked.in_parts asked strict input text fit told;
+}
+
+pub done_is_worth : (unread : Unread) (asked : Asked) (bounds : Bounds) (strict : Bool) (input old new : Option (List ℕ)) (flushed : Option ℕ) (ended : Status)
     → ((first : ℕ) → IsFit (asked_from first bounds asked)) → ended ≡ statuses.Done
     → IfSome input (λ bytes. Writes unread (Ok (ReadTrace asked bounds strict)) bytes ended old new flushed)
-    → IfSome input (λ bytes. HoldsWithin (asked_in bounds asked (order_of bytes)) (λ within. IsWholeSo within.in_parts within (past_of (order_of bytes))))
-whole unread asked bounds strict input old new flushed ended fit done writes =
-    lines_hold unread (λ within bytes. IsWholeSo within.in_parts within (past_of (order_of bytes))) asked bounds strict
-    (λ one bytes text fits told. whole_so one.in_parts one strict bytes text fits told) input old new flushed ended fit done writes
+    → IfSome input (λ bytes. HoldsWithin (asked_in bounds asked (order_of bytes)) (λ within. OfAppended old new (IsWorth within (past_of (order_of bytes)))))
+done_is_worth unread asked bounds strict input old new flushed ended fit done writes =
+    done_holds unread IsWorth asked bounds strict (λ one bytes text fits told. is_worth one strict bytes text fits told) input old new flushed ended fit done writes

@@ -1,9 +1,7 @@
 //! The run of the program.
 ghost use Rattle.std.specs.Prelude.{◌≡◌, ◌≢◌, ◌<◌, ◌≤◌, ℕ, List, [], Ok, IfSome, Bool, true, false};
-ghost use Rattle.std.specs.Io.KnownBytes.{Appends};
 ghost use Rattle.yds_port.specs.Count.{Rose, next_count};
 ghost use Rattle.yds_kernel_order.specs.Order.{order_of};
-ghost use Rattle.yds_trace.specs.Asked as asking;
 ghost use Rattle.yds_trace_words.specs.Request.{request_of, ReadTrace, ListThreads, IsFit};
 ghost use Rattle.yds_trace_words.specs.Views.{words_of};
 ghost use Rattle.yds_trace_reading.specs.LineFault.{past_of};
@@ -14,7 +12,7 @@ ghost use Rattle.yds_trace_bounds.specs.Bounds.{asked_from, asked_in};
 ghost use Rattle.yds_trace_run.specs.Answer.{ReadsInput, TellsParts};
 ghost use Rattle.yds_trace_run.specs.Endings.{Writes, IsEnded, IsDelivered, Tells, TellsHalt, TellsStop, Leaves, stopped_of, stopped_text, stopped_status};
 ghost use Rattle.yds_trace_files.specs.Unread.{unread_read};
-ghost use Rattle.yds_trace_run.specs.Worth.{HoldsWithin, HidesNothing, IsReadSo, IsFaithfulSo, IsWholeSo};
+ghost use Rattle.yds_trace_run.specs.Worth.{HoldsWithin, OfTrace, OfAppended, IsWorth};
 
 use crate::delivery::deliver;
 use crate::fault_text::{
@@ -76,36 +74,18 @@ pub fn run<S: Input, K: Sink>(
         → IfSome (S.left source.old) (λ input. Leaves result input (S.left source.new) (S.faults source.old) (S.faults source.new)) }
     ensures flushed { result ≢ Status.WriteFault → next_count (K.flushes sink.old) ≤ K.flushes sink.new }
     ensures flushed_once { ¬ TellsParts (request_of (words_of words.now)) → result ≢ Status.WriteFault → K.flushes sink.new ≡ next_count (K.flushes sink.old) }
-    ensures flushed_behind_each { (asked : asking.Asked) (bounds : Bounds) (strict : Bool) → request_of (words_of words.now) ≡ Ok (ReadTrace asked bounds strict) → asked.in_parts ≡ true
-        → IfSome (S.left source.old) (λ input. result ≡ Status.Done → HoldsWithin (asked_in bounds asked (order_of input)) (λ within.
-        K.flushes sink.new ≡ next_count (count_on (times_told within strict (past_of (order_of input))) (K.flushes sink.old)))) }
+    ensures flushed_behind_each { result ≡ Status.Done → TellsParts (request_of (words_of words.now))
+        → OfTrace (request_of (words_of words.now)) (S.left source.old) (λ within strict past. K.flushes sink.new ≡ next_count (count_on (times_told within strict past) (K.flushes sink.old))) }
 
     // What was written is one of the texts for the words and all bytes of the source: the document with its status, or why there is none.
     ensures answer { IfSome (S.left source.old) (λ input.
         Writes (S.unread source.new) (request_of (words_of words.now)) input result (K.written sink.old) (K.written sink.new) (K.flushed sink.new)) }
 
-    // What was written as a document is worth what its reader takes it for: where it is feasible, each job that is known to be late is
-    // late by less than a unit of time, and a comment names it.
-    ensures nothing_late { result ≡ Status.Done → (asked : asking.Asked) (bounds : Bounds) (strict : Bool) → request_of (words_of words.now) ≡ Ok (ReadTrace asked bounds strict)
-        → IfSome (S.left source.old) (λ input. HoldsWithin (asked_in bounds asked (order_of input)) (λ within.
-        (text : List ℕ) × Appends (K.written sink.old) (K.written sink.new) text × HidesNothing within.in_parts within (past_of (order_of input)) text)) }
-
-    // It is read again by the definition of documents, within the limits, as just its jobs and its runs, in their order.
-    ensures read_again { result ≡ Status.Done → (asked : asking.Asked) (bounds : Bounds) (strict : Bool) → request_of (words_of words.now) ≡ Ok (ReadTrace asked bounds strict)
-        → IfSome (S.left source.old) (λ input. HoldsWithin (asked_in bounds asked (order_of input)) (λ within.
-        (text : List ℕ) × Appends (K.written sink.old) (K.written sink.new) text × IsReadSo within.in_parts within (past_of (order_of input)) text)) }
-
-    // No job and no run of it is invented: each run is stretches of time that the trace shows of its job. And none is missing.
-    ensures faithful { result ≡ Status.Done → (asked : asking.Asked) (bounds : Bounds) (strict : Bool) → request_of (words_of words.now) ≡ Ok (ReadTrace asked bounds strict)
-        → IfSome (S.left source.old) (λ input. HoldsWithin (asked_in bounds asked (order_of input)) (λ within.
-        IsFaithfulSo within.in_parts within (past_of (order_of input)))) }
-
-    // In parts, a part that was written long ago says of its jobs what the whole trace says of them, and put together the parts are
-    // the one document that the trace would have without limits. Where what a job ran is shared out among the processors, none of it
-    // is lost.
-    ensures whole { result ≡ Status.Done → (asked : asking.Asked) (bounds : Bounds) (strict : Bool) → request_of (words_of words.now) ≡ Ok (ReadTrace asked bounds strict)
-        → IfSome (S.left source.old) (λ input. HoldsWithin (asked_in bounds asked (order_of input)) (λ within.
-        IsWholeSo within.in_parts within (past_of (order_of input)))) }
+    // What was written of a trace that was told to its end is worth what its reader takes it for: where what it is read as is feasible, no
+    // job is late by a unit of time or more, and a comment names each that is late; it is read again; no job and no run is invented, and none
+    // is missing; and parts are the whole. The record has these as fields: `nothing_late`, `read_again`, `faithful` and `whole`.
+    ensures worth { result ≡ Status.Done
+        → OfTrace (request_of (words_of words.now)) (S.left source.old) (λ within strict past. OfAppended (K.written sink.old) (K.written sink.new) (IsWorth within past)) }
 {
     match read_words(alloc, words) {
         Ok(Request::Help) => deliver(HELP, Status::Done, sink),

@@ -1,5 +1,5 @@
 -- The parts of all processors: those of one are what it has by itself, and so is what is known of them.
-use Rattle.yds_model.proofs.Common.{◌≡◌, ◌≢◌, ◌∙◌, ℕ, zero, suc, ◌+◌, ◌<◌, ◌≤◌, ◌⊎◌, inl, inr, ◌==◌, ◌||◌, List, [], ◌∷◌, ◌++◌, map, filter, flat_map, get_or, Bool, true, false, if◌then◌else◌, Option, Some, None, refl, sym, ap, ap₂, subst, arith, cases_lt, eq-eqb, ne_eqb, or_parts, append-nil, filter-append, flat_map-append, list_any, filter_all, filter_none, contains_filter, All, All-nil, All-cons, All-push, All-from_recursion, AllByRecursion, Contains-get_or}
+use Rattle.yds_model.proofs.Common.{◌≡◌, ◌≢◌, ◌∙◌, ℕ, zero, suc, ◌+◌, ◌<◌, ◌≤◌, ◌⊎◌, inl, inr, ◌==◌, ◌||◌, List, [], ◌∷◌, ◌++◌, map, filter, flat_map, get_or, Bool, true, false, if◌then◌else◌, Option, Some, None, refl, sym, ap, ap₂, subst, arith, cases_lt, eq-eqb, ne_eqb, or_parts, append-nil, filter-append, flat_map-append, list_any, filter_all, filter_none, contains_filter, All, All-nil, All-cons, All-push, All-from_recursion, recursion_from_All, All-filter, All-contains_itself, AllByRecursion, Contains, Contains-get_or}
 use Rattle.std.proofs.lemmas.List.Folds.{list_any-append}
 use Rattle.yds_kernel.specs.Event.{Said}
 use Rattle.yds_trace.specs.declared.cut.Cut.{Cut}
@@ -10,17 +10,18 @@ use Rattle.yds_trace.specs.Document.{Judged, all_judged}
 use Rattle.yds_trace.specs.Parts.{belongs, place_of, cut_after, changes_parts, processor_count, first_numbers, processors_of, watched_of, changes_one, parts_fault}
 use Rattle.yds_trace.proofs.OnProcessor.{first_fault_on, changes_parts_on}
 use Rattle.yds_trace_laws.specs.Processors.{whole_job, BelongsTo}
-use Rattle.yds_trace_laws.proofs.Ordered.{append-all, map-all}
+use Rattle.yds_trace_laws.proofs.Ordered.{append-all, append-all_left, map-all}
 use Rattle.yds_trace_laws.proofs.Runs.{all_weaker, contained}
 use Rattle.yds_trace_laws.proofs.Processors.{each_job_belongs, part_unseen, cut_unseen}
 use Rattle.yds_trace_again.proofs.Parts.{parts_are_read_again}
+use Rattle.yds_trace_again.proofs.Worth.{feasible_read, faithful_read}
 use Rattle.yds_trace_whole.specs.Parts.{Part, made, made_with, made_at, parts_behind, parts_of, made_behind, written_behind, last_made, written_parts, parts_on, KeepsParts, KeepsAllParts}
 use Rattle.yds_trace_whole.specs.Laws.{PartsAreOfProcessors, AllPartsAreKept}
-use Rattle.yds_trace_whole.specs.Worth.{IsPartFeasible, IsToldLateIn, NothingLateInParts, IsReadPart}
+use Rattle.yds_trace_whole.specs.Worth.{IsPartFeasible, IsNamedIn, IsToldLateIn, NothingLateInParts, IsFaithfulPart, IsReadPart, NothingLateInTexts, ArePartsReadAgain, AreFaithfulPieces}
 use Rattle.yds_trace_whole.specs.WorthLaws.{NothingIsLateAnywhere, EachPartIsRead}
 use Rattle.yds_trace_whole.proofs.Holding.{kept_for}
 use Rattle.yds_trace_whole.proofs.Shared.{one_by_one, all_both}
-use Rattle.yds_trace_whole.proofs.Worth.{IsKeptBefore, none_before, at_place, nothing_is_late_in_parts}
+use Rattle.yds_trace_whole.proofs.Worth.{IsKeptBefore, none_before, at_place, nothing_is_late_in_parts, parts_are_faithful}
 
 -- # Each part that is written
 
@@ -264,7 +265,91 @@ all_parts_are_kept asked past keeps =
     (λ everywhere processor within. kept_on asked processor (every_kept asked processor everywhere) past keeps)
     (λ alone. kept_on asked asked.processor (alone_kept asked alone) past keeps)
 
+-- # Each part that is written is of a processor that has documents
+
+-- what holds of the first numbers holds of fewer
+fewer : (P : ℕ → Type 0) (n m : ℕ) → n ≤ m → AllByRecursion P (first_numbers m) → AllByRecursion P (first_numbers n)
+fewer P n zero few all = subst (λ (k : ℕ). AllByRecursion P (first_numbers k)) (let e : zero ≡ n = omega (arith, few) in e) tt
+fewer P n (suc m) few all = by (cases_lt m n) (λ less. fewer P n m less (append-all_left P (first_numbers m) (m ∷ []) all))
+  where
+    by : (m < n) ⊎ (n ≤ m) → (n ≤ m → AllByRecursion P (first_numbers n)) → AllByRecursion P (first_numbers n)
+    by (inl more) rest = subst (λ (k : ℕ). AllByRecursion P (first_numbers k)) (let e : suc m ≡ n = omega (arith, few, more) in e) all
+    by (inr less) rest = rest less
+
+-- Those that had documents before a line have some behind it.
+had_before : (P : ℕ → Type 0) (asked : Asked) (said : Said) (past : List Said) → AllByRecursion P (processors_of asked (said ∷ past)) → AllByRecursion P (processors_of asked past)
+had_before P asked said past all = by asked.everywhere all
+  where
+    by : (b : Bool) → AllByRecursion P (if b then first_numbers (processor_count (said ∷ past)) else asked.processor ∷ []) →
+        AllByRecursion P (if b then first_numbers (processor_count past) else asked.processor ∷ [])
+    by true all = fewer P (processor_count past) (processor_count (said ∷ past)) (omega arith) all
+    by false all = all
+
+abbrev IsOf : (ℕ → Type 0) → Part → Type 0
+IsOf P part = P part.processor
+
+pieces_of : (P : ℕ → Type 0) (asked : Asked) (past : List Said) (said : Said) (processors : List ℕ) → AllByRecursion P processors → AllByRecursion (IsOf P) (made_behind asked past said processors)
+pieces_of P asked past said [] all = tt
+pieces_of P asked past said (processor ∷ processors) all =
+    append-all (IsOf P) (piece_on asked past said processor) (made_behind asked past said processors)
+    (all_weaker (λ part. part.processor ≡ processor) (IsOf P) (λ part is. subst P (sym is) all.0) (piece_on asked past said processor) (piece_is_on asked past said processor))
+    (pieces_of P asked past said processors all.1)
+
+behind_of : (P : ℕ → Type 0) (asked : Asked) (past : List Said) → AllByRecursion P (processors_of asked past) → AllByRecursion (IsOf P) (written_behind asked past)
+behind_of P asked [] all = tt
+behind_of P asked (said ∷ past) all =
+    append-all (IsOf P) (written_behind asked past) (made_behind asked past said (processors_of asked (said ∷ past))) (behind_of P asked past (had_before P asked said past all))
+    (pieces_of P asked past said (processors_of asked (said ∷ past)) all)
+
+last_of : (P : ℕ → Type 0) (asked : Asked) (past : List Said) (processors : List ℕ) → AllByRecursion P processors → AllByRecursion (IsOf P) (map (last_made asked past) processors)
+last_of P asked past [] all = tt
+last_of P asked past (processor ∷ processors) all = (all.0, last_of P asked past processors all.1)
+
+-- So what holds of each of these processors holds of that of each part.
+of_processors : (P : ℕ → Type 0) (asked : Asked) (past : List Said) → All P (processors_of asked past) → All (IsOf P) (written_parts asked past)
+of_processors P asked past all =
+    let each = recursion_from_All P (processors_of asked past) all in
+    All-from_recursion (IsOf P) (written_parts asked past)
+    (append-all (IsOf P) (written_behind asked past) (map (last_made asked past) (processors_of asked past)) (behind_of P asked past each)
+    (last_of P asked past (processors_of asked past) each))
+
+-- What holds of each part that a processor has by itself holds of each part that is written.
+each_is_own : (P : ℕ → Part → Type 0) (asked : Asked) (past : List Said) → All (λ processor. All (P processor) (parts_of (on processor asked) past)) (processors_of asked past) →
+    All (λ part. P part.processor part) (written_parts asked past)
+each_is_own P asked past own i d within =
+    let parts : List Part = written_parts asked past in
+    let part : Part = get_or parts i d in
+    let there : Contains (parts_on part.processor parts) part =
+    contains_filter (λ (other : Part). other.processor == part.processor) parts part (eq-eqb part.processor part.processor refl) (All-contains_itself parts i d within) in
+    contained (P part.processor) (parts_on part.processor parts) part there
+    (subst (All (P part.processor)) (sym (of_processors (λ processor. parts_on processor parts ≡ parts_of (on processor asked) past) asked past (parts_are_of_processors asked past) i d within))
+    (of_processors (λ processor. All (P processor) (parts_of (on processor asked) past)) asked past own i d within))
+
+-- # Each part is faithful
+
+-- as what its processor has by itself
+written_are_faithful : (asked : Asked) (past : List Said) → IsAsked asked → first_fault asked past ≡ None → KeepsAllParts asked past →
+    All (λ part. IsFaithfulPart (on part.processor asked) past part) (written_parts asked past)
+written_are_faithful asked past fit none keeps =
+    each_is_own (λ processor part. IsFaithfulPart (on processor asked) past part) asked past
+    (λ i d within.
+    let processor : ℕ = get_or (processors_of asked past) i d in
+    parts_are_faithful (on processor asked) past (asked_on asked processor fit) (first_fault_on asked processor past ∙ none) (all_parts_are_kept asked past keeps i d within))
+
 -- # No late job is hidden
+
+-- a job that one of a processor's parts names, one of those that are written names
+named_among : (asked : Asked) (past : List Said) (processor : ℕ) (one : Judged) → parts_on processor (written_parts asked past) ≡ parts_of (on processor asked) past →
+    IsNamedIn (parts_of (on processor asked) past) one → IsNamedIn (written_parts asked past) one
+named_among asked past processor one own is =
+    let parts : List Part = written_parts asked past in
+    record {
+      part = is.part;
+      is_there = contained (Contains parts) (parts_on processor parts) is.part (subst (λ (some : List Part). Contains some is.part) (sym own) is.is_there)
+          (All-filter (λ part. part.processor == processor) (Contains parts) parts (All-contains_itself parts));
+      has = is.has;
+      named = is.named;
+    }
 
 -- the law
 pub nothing_is_late_anywhere : NothingIsLateAnywhere
@@ -273,15 +358,44 @@ nothing_is_late_anywhere asked past fit none keeps feasible i d within by late =
     let home : BelongsTo asked one (processors_of asked past) = each_job_belongs asked past i d within in
     let processor : ℕ = home.processor in
     let here : Asked = on processor asked in
+    let parts : List Part = written_parts asked past in
     let both = one_by_one asked processor (all_judged asked past) (all_judged here past) (all_both asked processor past) i d within in
     let there : Judged = get_or (all_judged here past) i d in
     let same : whole_job there ≡ whole_job one = both.1.same in
     let kept : KeepsParts here past =
     contained (λ (p : ℕ). KeepsParts (on p asked) past) (processors_of asked past) processor home.is_there (all_parts_are_kept asked past keeps) in
+    let are_own : parts_on processor parts ≡ parts_of here past =
+    contained (λ (p : ℕ). parts_on p parts ≡ parts_of (on p asked) past) (processors_of asked past) processor home.is_there (parts_are_of_processors asked past) in
     let own : NothingLateInParts here past =
     nothing_is_late_in_parts here past (asked_on asked processor fit) (first_fault_on asked processor past ∙ none) kept in
     let told = contained (IsToldLateIn here (parts_of here past)) (filter (belongs here) (all_judged here past)) there
     (contains_filter (belongs here) (all_judged here past) there (both.1.has home.has) (Contains-get_or (all_judged here past) i d both.0))
-    (own (contained (λ (p : ℕ). All IsPartFeasible (parts_of (on p asked) past)) (processors_of asked past) processor home.is_there feasible))
+    (own (subst (All IsPartFeasible) are_own (All-filter (λ part. part.processor == processor) IsPartFeasible parts feasible)))
     by (ap (λ (judged : Judged). judged.late) same ∙ late) in
-    (told.0, record { processor = processor; is_there = home.is_there; there = there; same_job = same; named = told.1 })
+    (told.0, record { there = there; same_job = same; named = named_among asked past processor there are_own told.1 })
+
+-- # Their texts
+
+-- Where each part is read again, their texts hide no late job.
+pub pieces_hide_nothing : (asked : Asked) (past : List Said) (text : List ℕ) → IsAsked asked → first_fault asked past ≡ None → KeepsAllParts asked past →
+    ArePartsReadAgain (written_parts asked past) text → NothingLateInTexts asked past (written_parts asked past) text
+pieces_hide_nothing asked past text fit none keeps again = record {
+  says = again.says;
+  told = λ feasible.
+      nothing_is_late_anywhere asked past fit none keeps
+      (λ i d within. let part : Part = get_or (written_parts asked past) i d in feasible_read part.settled.document part.text (again.read i d within) (feasible i d within));
+}
+
+-- And what they are read as is faithful.
+pub pieces_are_faithful : (asked : Asked) (past : List Said) (text : List ℕ) → IsAsked asked → first_fault asked past ≡ None → KeepsAllParts asked past →
+    ArePartsReadAgain (written_parts asked past) text → AreFaithfulPieces asked past (written_parts asked past) text
+pieces_are_faithful asked past text fit none keeps again = record {
+  says = again.says;
+  each = λ i d within.
+      let part : Part = get_or (written_parts asked past) i d in
+      let faithful = written_are_faithful asked past fit none keeps i d within in
+      record {
+        of_trace = faithful.of_trace;
+        faithful = faithful_read (on part.processor asked) part.settled.units part.settled.judged part.settled.document part.text (again.read i d within) faithful.faithful;
+      };
+}

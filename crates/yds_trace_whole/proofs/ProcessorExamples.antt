@@ -1,6 +1,7 @@
 -- Small traces of two processors, each with documents of its own. A job is due 100 nanoseconds after its begin.
-use Rattle.yds_model.proofs.Common.{◌≡◌, ◌≢◌, ℕ, List, [], ◌∷◌, map, codes, reverse, true, Some, None, refl, ap, subst, arith, get_or, IsFeasible}
+use Rattle.yds_model.proofs.Common.{◌≡◌, ◌≢◌, ◌∙◌, ℕ, List, [], ◌∷◌, ◌++◌, append-nil, map, codes, reverse, true, Some, None, refl, ap, subst, arith, get_or, IsFeasible}
 use Rattle.std.specs.Fmt.{digits}
+use Rattle.std.proofs.lemmas.List.{append_cancel_left}
 use Rattle.yds_kernel.specs.declared.state.State.TheVariants as states
 use Rattle.yds_kernel.specs.declared.loss.Since.TheVariants as since
 use Rattle.yds_kernel.specs.Event.{Happening, Switch, WakeUp, Marker, Said, Lost}
@@ -11,9 +12,10 @@ use Rattle.yds_trace.specs.Document.{Document}
 use Rattle.yds_trace.specs.Parts.{no_cut, waiting, is_quiet, cut_at, part_fault, processors_of}
 use Rattle.yds_trace_laws.specs.AsSlots.{jobs_read, slots_read}
 use Rattle.yds_trace_laws.proofs.AsRead.{gets}
+use Rattle.yds_trace_text.specs.Text.{comment}
 use Rattle.yds_trace_whole.specs.Parts.{made, made_at, parts_of, last_made, written_parts, judged_in_parts}
 use Rattle.yds_trace_whole.specs.Whole.{whole_document, put_together}
-use Rattle.yds_trace_whole.specs.Worth.{IsPartFeasible}
+use Rattle.yds_trace_whole.specs.Worth.{IsPartFeasible, IsOfParts}
 use Rattle.yds_trace_whole.proofs.Traces.{t, idle, line_of, task_due, asked_of}
 
 abbrev comes : Happening
@@ -48,6 +50,15 @@ second_on_1 = refl
 
 two_last_parts : map (λ part. part.processor) (written_parts asked one_each) ≡ 0 ∷ 1 ∷ []
 two_last_parts = refl
+
+-- Near miss: the text of the first of them alone isn't that of all parts.
+last_part_dropped : IsOfParts (written_parts asked one_each) (last_made asked one_each 0).text → ⊥
+unfolding comment
+last_part_dropped says =
+    let text : List ℕ = (last_made asked one_each 0).text in
+    let more : List ℕ = (last_made asked one_each 1).text in
+    let none : [] ≡ more ++ [] = append_cancel_left text [] (more ++ []) (append-nil text ∙ says) in
+    let first : 0 ≡ 35 = ap (λ (codes : List ℕ). get_or codes 0 0) none in omega (arith, first)
 
 -- At 2000 processor 1 is quiet, and nothing before it belongs to it: no part is written, and the cut moves.
 quiet_on_1 : is_quiet (on 1 asked) one_each (waiting (on 1 asked) one_each no_cut) 2000 ≡ true

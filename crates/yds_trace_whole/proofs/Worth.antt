@@ -152,7 +152,7 @@ nothing_late asked past fit none whole feasible i d within by late =
 
 abbrev IsOwnDocument : Asked → Part → Type 0
 IsOwnDocument asked part =
-    (part.settled.document ≡ document_in part.settled.units part.settled.judged) × AreFaithful asked part.settled.units part.settled.judged
+    (part.settled.document ≡ document_in part.settled.units part.settled.judged) × AreFaithful asked part.settled.units part.settled.judged part.settled.document
 
 own_documents : (asked : Asked) (past : List Said) → IsAsked asked → first_fault asked past ≡ None → All (IsOwnDocument asked) (parts_of asked past)
 own_documents asked past fit none =

@@ -4,6 +4,7 @@
 //! `yds_trace_again`, whose laws hold of each part.
 //! It carries the promise that what a part says of its jobs, and of other threads, is what the whole trace says of them, that feasible
 //! parts hide no late job, and that each part is faithful to the trace and is read again; also where each processor has parts of its own.
+//! Its lemmas say the same of the text of all parts, and of what each of theirs is read as.
 #![tactic(auto)]
 
 mod laws;

@@ -7,13 +7,13 @@ pub fn nothing_is_late_in_parts()
     ensures { NothingIsLateInParts }
 {}
 
-/// Where no line is refused and the document of each part of each processor is feasible, that holds of each job of the whole trace: the job
-/// belongs to a processor that has documents, and a comment of that processor's parts names it.
+/// Where no line is refused and the document of each part that is written is feasible, that holds of each job of the whole trace: a comment
+/// of one of these parts names it, as the part's processor has it.
 pub fn nothing_is_late_anywhere()
     ensures { NothingIsLateAnywhere }
 {}
 
-/// Where no line is refused, no job and no run of a part is invented, and no run of its jobs is missing.
+/// Where no line is refused, no job and no run of a part is invented, and none of its jobs and of their runs is missing.
 pub fn parts_are_faithful()
     ensures { PartsAreFaithful }
 {}

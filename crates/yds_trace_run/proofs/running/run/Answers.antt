@@ -19,49 +19,16 @@ use Rattle.yds_trace_run.specs.FaultText.{memory_text}
 use Rattle.yds_trace_run.specs.Worth.{HoldsWithin}
 use Rattle.yds_trace_run.specs.Endings.{IsText, Writes, IsDelivered}
 use Rattle.yds_trace_run.proofs.Told.{ends_alone}
-use Rattle.yds_trace_run.proofs.Worth.{nothing_late, read_again, faithful, whole}
+use Rattle.yds_trace_run.proofs.Worth.{done_is_worth}
 use Rattle.yds_trace_run.proofs.running.run.Goals as goal
 
-pub returns-in-Ok-Trace-clause-nothing_late : goal.returns-in-Ok-Trace-clause-nothing_late
-returns-in-Ok-Trace-clause-nothing_late g c = λ done asked bounds strict same.
+pub returns-in-Ok-Trace-clause-worth : goal.returns-in-Ok-Trace-clause-worth
+returns-in-Ok-Trace-clause-worth g c = λ done asked bounds strict same.
     let made = subst (λ (made : RequestMade). request_of (words_of c.args.words.now) ≡ Ok (request_read made)) c.in-Ok-Trace.field-0-is c.in-Ok-Trace.ensures.request in
     let joined : Ok (ReadTrace (asked_read c.in-Ok-Trace.asked) c.in-Ok-Trace.bounds c.in-Ok-Trace.strict) ≡ Ok (ReadTrace asked bounds strict) = sym made ∙ same in
     let both : ReadTrace (asked_read c.in-Ok-Trace.asked) c.in-Ok-Trace.bounds c.in-Ok-Trace.strict ≡ ReadTrace asked bounds strict = cc in
     let fit = subst (λ (made : RequestMade). IsFitRequest (request_read made)) c.in-Ok-Trace.field-0-is c.in-Ok-Trace.ensures.fit in
-    nothing_late (g.S.Input.unread c.run_trace.new.source) asked bounds strict (g.S.Source.left c.args.source.now) (g.K.Sink.written c.args.sink.now) (g.K.Sink.written c.run_trace.new.sink) (g.K.Sink.flushed c.run_trace.new.sink)
-    c.run_trace.result (subst IsFitRequest both fit) done
-    (subst (λ (request : Request). IfSome (g.S.Source.left c.args.source.now) (λ input. Writes (g.S.Input.unread c.run_trace.new.source) (Ok request) input c.run_trace.result (g.K.Sink.written c.args.sink.now)
-    (g.K.Sink.written c.run_trace.new.sink) (g.K.Sink.flushed c.run_trace.new.sink))) both c.run_trace.ensures.answer)
-
-pub returns-in-Ok-Trace-clause-read_again : goal.returns-in-Ok-Trace-clause-read_again
-returns-in-Ok-Trace-clause-read_again g c = λ done asked bounds strict same.
-    let made = subst (λ (made : RequestMade). request_of (words_of c.args.words.now) ≡ Ok (request_read made)) c.in-Ok-Trace.field-0-is c.in-Ok-Trace.ensures.request in
-    let joined : Ok (ReadTrace (asked_read c.in-Ok-Trace.asked) c.in-Ok-Trace.bounds c.in-Ok-Trace.strict) ≡ Ok (ReadTrace asked bounds strict) = sym made ∙ same in
-    let both : ReadTrace (asked_read c.in-Ok-Trace.asked) c.in-Ok-Trace.bounds c.in-Ok-Trace.strict ≡ ReadTrace asked bounds strict = cc in
-    let fit = subst (λ (made : RequestMade). IsFitRequest (request_read made)) c.in-Ok-Trace.field-0-is c.in-Ok-Trace.ensures.fit in
-    read_again (g.S.Input.unread c.run_trace.new.source) asked bounds strict (g.S.Source.left c.args.source.now) (g.K.Sink.written c.args.sink.now) (g.K.Sink.written c.run_trace.new.sink) (g.K.Sink.flushed c.run_trace.new.sink)
-    c.run_trace.result (subst IsFitRequest both fit) done
-    (subst (λ (request : Request). IfSome (g.S.Source.left c.args.source.now) (λ input. Writes (g.S.Input.unread c.run_trace.new.source) (Ok request) input c.run_trace.result (g.K.Sink.written c.args.sink.now)
-    (g.K.Sink.written c.run_trace.new.sink) (g.K.Sink.flushed c.run_trace.new.sink))) both c.run_trace.ensures.answer)
-
-pub returns-in-Ok-Trace-clause-faithful : goal.returns-in-Ok-Trace-clause-faithful
-returns-in-Ok-Trace-clause-faithful g c = λ done asked bounds strict same.
-    let made = subst (λ (made : RequestMade). request_of (words_of c.args.words.now) ≡ Ok (request_read made)) c.in-Ok-Trace.field-0-is c.in-Ok-Trace.ensures.request in
-    let joined : Ok (ReadTrace (asked_read c.in-Ok-Trace.asked) c.in-Ok-Trace.bounds c.in-Ok-Trace.strict) ≡ Ok (ReadTrace asked bounds strict) = sym made ∙ same in
-    let both : ReadTrace (asked_read c.in-Ok-Trace.asked) c.in-Ok-Trace.bounds c.in-Ok-Trace.strict ≡ ReadTrace asked bounds strict = cc in
-    let fit = subst (λ (made : RequestMade). IsFitRequest (request_read made)) c.in-Ok-Trace.field-0-is c.in-Ok-Trace.ensures.fit in
-    faithful (g.S.Input.unread c.run_trace.new.source) asked bounds strict (g.S.Source.left c.args.source.now) (g.K.Sink.written c.args.sink.now) (g.K.Sink.written c.run_trace.new.sink) (g.K.Sink.flushed c.run_trace.new.sink)
-    c.run_trace.result (subst IsFitRequest both fit) done
-    (subst (λ (request : Request). IfSome (g.S.Source.left c.args.source.now) (λ input. Writes (g.S.Input.unread c.run_trace.new.source) (Ok request) input c.run_trace.result (g.K.Sink.written c.args.sink.now)
-    (g.K.Sink.written c.run_trace.new.sink) (g.K.Sink.flushed c.run_trace.new.sink))) both c.run_trace.ensures.answer)
-
-pub returns-in-Ok-Trace-clause-whole : goal.returns-in-Ok-Trace-clause-whole
-returns-in-Ok-Trace-clause-whole g c = λ done asked bounds strict same.
-    let made = subst (λ (made : RequestMade). request_of (words_of c.args.words.now) ≡ Ok (request_read made)) c.in-Ok-Trace.field-0-is c.in-Ok-Trace.ensures.request in
-    let joined : Ok (ReadTrace (asked_read c.in-Ok-Trace.asked) c.in-Ok-Trace.bounds c.in-Ok-Trace.strict) ≡ Ok (ReadTrace asked bounds strict) = sym made ∙ same in
-    let both : ReadTrace (asked_read c.in-Ok-Trace.asked) c.in-Ok-Trace.bounds c.in-Ok-Trace.strict ≡ ReadTrace asked bounds strict = cc in
-    let fit = subst (λ (made : RequestMade). IsFitRequest (request_read made)) c.in-Ok-Trace.field-0-is c.in-Ok-Trace.ensures.fit in
-    whole (g.S.Input.unread c.run_trace.new.source) asked bounds strict (g.S.Source.left c.args.source.now) (g.K.Sink.written c.args.sink.now) (g.K.Sink.written c.run_trace.new.sink) (g.K.Sink.flushed c.run_trace.new.sink)
+    done_is_worth (g.S.Input.unread c.run_trace.new.source) asked bounds strict (g.S.Source.left c.args.source.now) (g.K.Sink.written c.args.sink.now) (g.K.Sink.written c.run_trace.new.sink) (g.K.Sink.flushed c.run_trace.new.sink)
     c.run_trace.result (subst IsFitRequest both fit) done
     (subst (λ (request : Request). IfSome (g.S.Source.left c.args.source.now) (λ input. Writes (g.S.Input.unread c.run_trace.new.source) (Ok request) input c.run_trace.result (g.K.Sink.written c.args.sink.now)
     (g.K.Sink.written c.run_trace.new.sink) (g.K.Sink.flushed c.run_trace.new.sink))) both c.run_trace.ensures.answer)
@@ -79,13 +46,21 @@ FlushesEach (ReadTrace asked bounds strict) input ended old new = asked.in_parts
     → HoldsWithin (asked_in bounds asked (order_of bytes)) (λ within. new ≡ next_count (count_on (times_told within strict (past_of (order_of bytes))) old)))
 FlushesEach other input ended old new = ⊤
 
+-- the run being done, said before the input
+done_first : (Q : List ℕ → Type 0) (ended : Status) (input : Option (List ℕ)) → ended ≡ statuses.Done → IfSome input (λ bytes. ended ≡ statuses.Done → Q bytes) → IfSome input Q
+done_first Q ended None done each = tt
+done_first Q ended (Some bytes) done each = each done
+
 pub returns-in-Ok-Trace-clause-flushed_behind_each : goal.returns-in-Ok-Trace-clause-flushed_behind_each
-returns-in-Ok-Trace-clause-flushed_behind_each g c = λ asked bounds strict same.
+returns-in-Ok-Trace-clause-flushed_behind_each g c = λ done parts asked bounds strict same.
     let made = subst (λ (made : RequestMade). request_of (words_of c.args.words.now) ≡ Ok (request_read made)) c.in-Ok-Trace.field-0-is c.in-Ok-Trace.ensures.request in
     let joined : Ok (ReadTrace (asked_read c.in-Ok-Trace.asked) c.in-Ok-Trace.bounds c.in-Ok-Trace.strict) ≡ Ok (ReadTrace asked bounds strict) = sym made ∙ same in
     let both : ReadTrace (asked_read c.in-Ok-Trace.asked) c.in-Ok-Trace.bounds c.in-Ok-Trace.strict ≡ ReadTrace asked bounds strict = cc in
-    subst (λ (request : Request). FlushesEach request (g.S.Source.left c.args.source.now) c.run_trace.result (g.K.Sink.flushes c.args.sink.now) (g.K.Sink.flushes c.run_trace.new.sink))
-    both c.run_trace.ensures.flushed_behind_each
+    let each = subst (λ (request : Request). FlushesEach request (g.S.Source.left c.args.source.now) c.run_trace.result (g.K.Sink.flushes c.args.sink.now) (g.K.Sink.flushes c.run_trace.new.sink))
+    both c.run_trace.ensures.flushed_behind_each (subst TellsParts same parts) in
+    done_first (λ bytes. HoldsWithin (asked_in bounds asked (order_of bytes))
+    (λ within. g.K.Sink.flushes c.run_trace.new.sink ≡ next_count (count_on (times_told within strict (past_of (order_of bytes))) (g.K.Sink.flushes c.args.sink.now))))
+    c.run_trace.result (g.S.Source.left c.args.source.now) done each
 
 -- Where memory ran out before the trace was read, nothing was written but that.
 memory_writes : (unread : Unread) {K : Type 0} (written : K → Option (List ℕ)) (flushed : K → Option ℕ) (flushes faults : K → ℕ) (words : List (List ℕ)) (input : Option (List ℕ)) (ended : Status)
