@@ -106,15 +106,19 @@ awake_jobs time (job ∷ jobs) = elim job.end [
   | ends.Lost last ↦ began time false (job ∷ jobs)
 ]
 
+-- Where events were lost after a time, a wake-up may be among them. So one that went on behind a sleep may have slept there.
+abbrev pub open_until : ℕ → Option ℕ → ℕ
+open_until time slept = min time (unwrap_or slept time)
+
 -- Events were lost after this time: a job that was open then, or ended since, has no known end.
-abbrev pub lost_end : ℕ → End → End
-lost_end time ends.Open = ends.Lost time
-lost_end time (ends.Ended end) = if nat_lt time end then ends.Lost time else ends.Ended end
-lost_end time (ends.Unseen last goes_on) = ends.Lost (min time last)
-lost_end time (ends.Lost last) = ends.Lost (min time last)
+abbrev pub lost_end : ℕ → Option ℕ → End → End
+lost_end time slept ends.Open = ends.Lost (open_until time slept)
+lost_end time slept (ends.Ended end) = if nat_lt time end then ends.Lost (open_until time slept) else ends.Ended end
+lost_end time slept (ends.Unseen last goes_on) = ends.Lost (min (open_until time slept) last)
+lost_end time slept (ends.Lost last) = ends.Lost (min time last)
 
 abbrev pub lost_job : ℕ → Job → Job
-lost_job time job = record job { end = lost_end time job.end }
+lost_job time job = record job { end = lost_end time job.slept job.end }
 
 -- open again, where its thread left to sleep, and didn't
 abbrev pub went_on : ℕ → Job → Job
@@ -287,12 +291,13 @@ speeds processor time khz known = elim known.on [
 ]
 
 -- Of a job behind which another one has begun, what was known of its end before the loss stays.
-abbrev pub lost_before : ℕ → End → End
-lost_before time (ends.Unseen last goes_on) = if nat_lt time last then ends.Lost time else ends.Unseen last goes_on
-lost_before time end = lost_end time end
+abbrev pub lost_before : ℕ → Option ℕ → End → End
+lost_before time slept (ends.Unseen last goes_on) =
+    if nat_lt time last then ends.Lost (open_until time slept) else ends.Unseen last goes_on
+lost_before time slept end = lost_end time slept end
 
 abbrev pub lost_earlier : ℕ → Job → Job
-lost_earlier time job = record job { end = lost_before time job.end }
+lost_earlier time job = record job { end = lost_before time job.slept job.end }
 
 abbrev pub lost_jobs : ℕ → List Job → List Job
 lost_jobs time [] = []

@@ -101,27 +101,38 @@ impl Leaving {
 }
 
 impl End {
-    /// Where events were lost after this time.
-    pub(crate) fn lost(self, time: u64) -> End
-        ensures { result ≡ spec.lost_end time self }
+    /// Where events were lost after this time, of a job that went on behind such a sleep.
+    pub(crate) fn lost(self, time: u64, slept: Option<u64>) -> End
+        ensures { result ≡ spec.lost_end time slept self }
     {
         match self {
-            End::Open => End::Lost(time),
-            End::Ended(end) if time < end => End::Lost(time),
+            End::Open => End::Lost(open_until(time, slept)),
+            End::Ended(end) if time < end => End::Lost(open_until(time, slept)),
             End::Ended(end) => End::Ended(end),
-            End::Unseen { since, .. } | End::Lost(since) => End::Lost(time.min(since)),
+            End::Unseen { since, .. } => End::Lost(open_until(time, slept).min(since)),
+            End::Lost(since) => End::Lost(time.min(since)),
         }
     }
 
     /// The same of a job behind which another one has begun.
-    pub(crate) fn lost_before(self, time: u64) -> End
-        ensures { result ≡ spec.lost_before time self }
+    pub(crate) fn lost_before(self, time: u64, slept: Option<u64>) -> End
+        ensures { result ≡ spec.lost_before time slept self }
     {
         match self {
-            End::Unseen { since, .. } if time < since => End::Lost(time),
+            End::Unseen { since, .. } if time < since => End::Lost(open_until(time, slept)),
             End::Unseen { since, goes_on } => End::Unseen { since, goes_on },
-            End::Open | End::Ended(_) | End::Lost(_) => self.lost(time),
+            End::Open | End::Ended(_) | End::Lost(_) => self.lost(time, slept),
         }
+    }
+}
+
+/// Up to when a job is known to have been open, where events were lost after this time, and it went on behind such a sleep.
+fn open_until(time: u64, slept: Option<u64>) -> u64
+    ensures { result ≡ spec.open_until time slept }
+{
+    match slept {
+        Some(slept) => time.min(slept),
+        None => time,
     }
 }
 
@@ -179,7 +190,7 @@ impl Job {
     pub(crate) fn lost(mut self, time: u64) -> Job
         ensures { job_read result ≡ spec.lost_job time (job_read self) }
     {
-        self.end = self.end.lost(time);
+        self.end = self.end.lost(time, self.slept);
         self
     }
 

@@ -375,7 +375,7 @@ fn lose_earlier(time: u64, jobs: &mut Vec<Job>)
     ensures { jobs_listed jobs.new.items ≡ map (spec.lost_earlier time) (jobs_listed jobs.old.items) }
 {
     for job in jobs.iter_mut() {
-        job.end = job.end.lost_before(time);
+        job.end = job.end.lost_before(time, job.slept);
     }
 }
 
@@ -384,7 +384,7 @@ fn lose_last(time: u64, jobs: &mut Vec<Job>)
     ensures { jobs_listed jobs.new.items ≡ spec.changed_last (spec.lost_job time) (jobs_listed jobs.old.items) }
 {
     if let Some(job) = jobs.last_mut() {
-        job.end = job.end.lost(time);
+        job.end = job.end.lost(time, job.slept);
     }
 }
 

@@ -97,6 +97,11 @@ lost_in_between : jobs asked (woken 10 ∷ comes 0 12 ∷ sleeps 0 20 ∷ marker
     job 10 (ends.Ended 20) (stretch 0 12 20 ∷ []) ∷ begun_by 30 (ends.Ended 40) (record (stretch 0 30 40) { khz = None } ∷ []) ∷ []
 lost_in_between = refl
 
+-- Where a loss that is told later began before it came back, its wake-up may be among what was lost: it is known open up to that sleep alone.
+lost_over_a_sleep : jobs asked (woken 10 ∷ comes 0 12 ∷ marker 1 15 ∷ sleeps 0 20 ∷ marker 1 25 ∷ comes 0 30 ∷ lost 1 ∷ sleeps 0 40 ∷ []) ≡
+    record (job 10 (ends.Lost 20) (stretch 0 12 20 ∷ [])) { slept = Some 20 } ∷ begun_by 40 (ends.Ended 40) (record (stretch 0 40 40) { khz = None } ∷ []) ∷ []
+lost_over_a_sleep = refl
+
 never_woken : jobs asked (woken 10 ∷ comes 0 12 ∷ sleeps 0 20 ∷ comes 0 30 ∷ sleeps 0 40 ∷ comes 0 50 ∷ sleeps 0 60 ∷ []) ≡
     record (job 10 (ends.Lost 20) (stretch 0 30 40 ∷ stretch 0 12 20 ∷ [])) { slept = Some 20 } ∷ begun_by 50 (ends.Ended 60) (stretch 0 50 60 ∷ []) ∷ []
 never_woken = refl

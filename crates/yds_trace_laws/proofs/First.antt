@@ -6,7 +6,7 @@ use Rattle.yds_trace.specs.declared.job.End.{End}
 use Rattle.yds_trace.specs.declared.job.End.TheVariants as ends
 use Rattle.yds_trace.specs.Asked.{no_task, Asked, IsAsked, task_at, is_behind_from}
 use Rattle.yds_trace.specs.Past.{first_time, last_time, is_loss, counts, up_to}
-use Rattle.yds_trace.specs.Jobs.{Job, counted as counted_job, lost_end, lost_before}
+use Rattle.yds_trace.specs.Jobs.{Job, counted as counted_job, open_until, lost_end, lost_before}
 use Rattle.yds_trace.specs.Late.{last_asked, due, is_judged, is_open, lateness, late_by, shown_until}
 use Rattle.yds_trace.specs.Document.{jobs_of, shares_of, reason_of, Judged, all_judged, stands}
 use Rattle.yds_trace_laws.specs.Laws.{NoneBeginsBefore}
@@ -146,25 +146,25 @@ still_kept = record {
   torn = λ job is. is;
   longer = λ stretch job is. is;
   unseen = λ came goes_on job is. tt;
-  last_lost = λ time job is. last_lost time job.end is;
-  lost = λ time job is. lost time job.end is;
+  last_lost = λ time job is. last_lost time job.slept job.end is;
+  lost = λ time job is. lost time job.slept job.end is;
 }
   where
     woken : (again : Bool) (job : Job) → GoesOnStill job → GoesOnStill (counted_job again job)
     woken true job is = is
     woken false job is = is
 
-    last_lost : (time : ℕ) (end : End) → IsNotEnded end → IsNotEnded (lost_end time end)
-    last_lost time ends.Open is = tt
-    last_lost time (ends.Ended end) is = absurd is
-    last_lost time (ends.Unseen last goes_on) is = tt
-    last_lost time (ends.Lost last) is = tt
+    last_lost : (time : ℕ) (slept : Option ℕ) (end : End) → IsNotEnded end → IsNotEnded (lost_end time slept end)
+    last_lost time slept ends.Open is = tt
+    last_lost time slept (ends.Ended end) is = absurd is
+    last_lost time slept (ends.Unseen last goes_on) is = tt
+    last_lost time slept (ends.Lost last) is = tt
 
-    lost : (time : ℕ) (end : End) → IsNotEnded end → IsNotEnded (lost_before time end)
-    lost time ends.Open is = tt
-    lost time (ends.Ended end) is = absurd is
-    lost time (ends.Unseen last goes_on) is = still_lost (nat_lt time last) time last goes_on
-    lost time (ends.Lost last) is = tt
+    lost : (time : ℕ) (slept : Option ℕ) (end : End) → IsNotEnded end → IsNotEnded (lost_before time slept end)
+    lost time slept ends.Open is = tt
+    lost time slept (ends.Ended end) is = absurd is
+    lost time slept (ends.Unseen last goes_on) is = still_lost (nat_lt time last) (open_until time slept) last goes_on
+    lost time slept (ends.Lost last) is = tt
 
 -- # Jobs that are judged
 

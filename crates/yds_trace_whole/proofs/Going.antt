@@ -9,7 +9,7 @@ use Rattle.yds_trace.specs.declared.job.Stretch.{Stretch}
 use Rattle.yds_trace.specs.declared.job.Standing.{Standing}
 use Rattle.yds_trace.specs.declared.job.Leaving.{Leaving}
 use Rattle.yds_trace.specs.declared.job.Woken.{Woken}
-use Rattle.yds_trace.specs.Jobs.{Job, Known, new_job, began, reopened, woken_after, counted, woken_jobs, awake_jobs, went_on, back_jobs, come_jobs, running_jobs, changed_last, ended, exits, missing, ran, left_unseen, vanished, stands_on, passed_by, comes, has_no_switch, is_new, begun_at_most, begun_by, stretch_of, left_from, left_in, leaves, not_seen, left_started, woken_at, wakes_up, speeds, lost_end, lost_job, lost_before, lost_earlier, lost_jobs, loses, after_switch}
+use Rattle.yds_trace.specs.Jobs.{Job, Known, new_job, began, reopened, woken_after, counted, woken_jobs, awake_jobs, went_on, back_jobs, come_jobs, running_jobs, changed_last, ended, exits, missing, ran, left_unseen, vanished, stands_on, passed_by, comes, has_no_switch, is_new, begun_at_most, begun_by, stretch_of, left_from, left_in, leaves, not_seen, left_started, woken_at, wakes_up, speeds, open_until, lost_end, lost_job, lost_before, lost_earlier, lost_jobs, loses, after_switch}
 use Rattle.yds_trace_laws.proofs.Runs.{all_weaker}
 use Rattle.yds_trace_whole.proofs.Told.{Told, told, new_told, changed_told, AreAlike, alike_told, Each}
 
@@ -414,15 +414,15 @@ module _ (boundary now : ℕ) (all : List Told) where
   -- a job of which nothing more is known from the first of its sleeps on
   slept_sound : (first end : ℕ) (job : Job) → job.end ≡ ends.Ended end → IsSound now job → IsSound now (lost_job first job)
   slept_sound first end job is sound =
-      subst (λ (e : End). IsSound now (record job { end = lost_end first e })) (sym is) (by (nat_lt first end) refl)
+      subst (λ (e : End). IsSound now (record job { end = lost_end first job.slept e })) (sym is) (by (nat_lt first end) refl)
     where
       before : end ≤ now
       before = subst (IsSoundEnd now job.switch_missing) is sound.1
 
-      by : (b : Bool) → nat_lt first end ≡ b → IsSound now (record job { end = if b then ends.Lost first else ends.Ended end })
+      by : (b : Bool) → nat_lt first end ≡ b → IsSound now (record job { end = if b then ends.Lost (open_until first job.slept) else ends.Ended end })
       by true earlier =
           let early : first < end = ltb-true first end earlier in
-          other_end now job job.switch_missing (ends.Lost first) sound (omega (arith, early, before)) (omega arith)
+          other_end now job job.switch_missing (ends.Lost (open_until first job.slept)) sound (omega (arith, early, before)) (omega arith)
       by false later = subst (λ (e : End). IsSound now (record job { end = e })) is sound
 
   module _ (time : ℕ) (late : boundary ≤ time) (by : time ≤ now) where
@@ -792,17 +792,18 @@ IsKnownBy since (ends.Ended end) = end ≤ since
 IsKnownBy since (ends.Unseen last goes_on) = last ≤ since
 IsKnownBy since (ends.Lost last) = last ≤ since
 
-lost_before_same : (since : ℕ) (end : End) → IsKnownBy since end → lost_before since end ≡ end
-lost_before_same since ends.Open known = absurd known
-lost_before_same since (ends.Ended end) known = ap (λ (b : Bool). if b then ends.Lost since else ends.Ended end) (le-ltb since end known)
-lost_before_same since (ends.Unseen last goes_on) known = ap (λ (b : Bool). if b then ends.Lost since else ends.Unseen last goes_on) (le-ltb since last known)
-lost_before_same since (ends.Lost last) known = ap ends.Lost (let e : min since last ≡ last = omega (arith, known) in e)
+lost_before_same : (since : ℕ) (slept : Option ℕ) (end : End) → IsKnownBy since end → lost_before since slept end ≡ end
+lost_before_same since slept ends.Open known = absurd known
+lost_before_same since slept (ends.Ended end) known = ap (λ (b : Bool). if b then ends.Lost (open_until since slept) else ends.Ended end) (le-ltb since end known)
+lost_before_same since slept (ends.Unseen last goes_on) known =
+    ap (λ (b : Bool). if b then ends.Lost (open_until since slept) else ends.Unseen last goes_on) (le-ltb since last known)
+lost_before_same since slept (ends.Lost last) known = ap ends.Lost (let e : min since last ≡ last = omega (arith, known) in e)
 
-lost_end_same : (since : ℕ) (end : End) → IsDone end → IsKnownBy since end → lost_end since end ≡ end
-lost_end_same since ends.Open done known = absurd known
-lost_end_same since (ends.Ended end) done known = ap (λ (b : Bool). if b then ends.Lost since else ends.Ended end) (le-ltb since end known)
-lost_end_same since (ends.Unseen last goes_on) done known = absurd done
-lost_end_same since (ends.Lost last) done known = ap ends.Lost (let e : min since last ≡ last = omega (arith, known) in e)
+lost_end_same : (since : ℕ) (slept : Option ℕ) (end : End) → IsDone end → IsKnownBy since end → lost_end since slept end ≡ end
+lost_end_same since slept ends.Open done known = absurd known
+lost_end_same since slept (ends.Ended end) done known = ap (λ (b : Bool). if b then ends.Lost (open_until since slept) else ends.Ended end) (le-ltb since end known)
+lost_end_same since slept (ends.Unseen last goes_on) done known = absurd done
+lost_end_same since slept (ends.Lost last) done known = ap ends.Lost (let e : min since last ≡ last = omega (arith, known) in e)
 
 with_end : (job : Job) (end : End) → end ≡ job.end → record job { end = end } ≡ job
 with_end job end is = ap (λ (e : End). record job { end = e }) is
@@ -810,14 +811,14 @@ with_end job end is = ap (λ (e : End). record job { end = e }) is
 earlier_alike : (boundary since : ℕ) (jobs : List Job) → Each (λ job. IsKnownBy since job.end) boundary jobs → AreAlike boundary jobs (map (lost_earlier since) jobs)
 earlier_alike boundary since [] known = tt
 earlier_alike boundary since (job ∷ jobs) known = (
-  record { begin = refl; known = refl; same = λ early. with_end job (lost_before since job.end) (lost_before_same since job.end (known.0 early)) },
+  record { begin = refl; known = refl; same = λ early. with_end job (lost_before since job.slept job.end) (lost_before_same since job.slept job.end (known.0 early)) },
   earlier_alike boundary since jobs known.1,
 )
 
 last_alike : (boundary since : ℕ) (on : Option Standing) (job : Job) → (job.begin < boundary → IsKnownBy since job.end) →
     (boundary ≤ job.begin) ⊎ (IsDone job.end × IsOff on) → job.begin < boundary → lost_job since job ≡ job
 last_alike boundary since on job known (inl free) early = absurd (omega (arith, free, early))
-last_alike boundary since on job known (inr done) early = with_end job (lost_end since job.end) (lost_end_same since job.end done.0 (known early))
+last_alike boundary since on job known (inr done) early = with_end job (lost_end since job.slept job.end) (lost_end_same since job.slept job.end done.0 (known early))
 
 lost_alike : (boundary since : ℕ) (on : Option Standing) (jobs : List Job) → Each (λ job. IsKnownBy since job.end) boundary jobs → IsLeft boundary on jobs →
     AreAlike boundary jobs (lost_jobs since jobs)
@@ -832,41 +833,45 @@ sound_if : (now since : ℕ) (job : Job) (b : Bool) (end : End) → since ≤ no
 sound_if now since job true end by is sound = other_end now job job.switch_missing (ends.Lost since) sound by (omega arith)
 sound_if now since job false end by is sound = subst (λ (e : End). IsSound now (record job { end = e })) is sound
 
-lost_end_sound : (now since : ℕ) (job : Job) (end : End) → since ≤ now → job.end ≡ end → IsSound now job → IsSound now (record job { end = lost_end since end })
-lost_end_sound now since job ends.Open by is sound = other_end now job job.switch_missing (ends.Lost since) sound by (omega arith)
-lost_end_sound now since job (ends.Ended end) by is sound = sound_if now since job (nat_lt since end) (ends.Ended end) by is sound
-lost_end_sound now since job (ends.Unseen last goes_on) by is sound =
-    other_end now job job.switch_missing (ends.Lost (min since last)) sound (omega (arith, by)) (omega arith)
-lost_end_sound now since job (ends.Lost last) by is sound = other_end now job job.switch_missing (ends.Lost (min since last)) sound (omega (arith, by)) (omega arith)
+lost_end_sound : (now since : ℕ) (slept : Option ℕ) (job : Job) (end : End) → since ≤ now → job.end ≡ end → IsSound now job →
+    IsSound now (record job { end = lost_end since slept end })
+lost_end_sound now since slept job ends.Open by is sound = other_end now job job.switch_missing (ends.Lost (open_until since slept)) sound (omega (arith, by)) (omega arith)
+lost_end_sound now since slept job (ends.Ended end) by is sound =
+    sound_if now (open_until since slept) job (nat_lt since end) (ends.Ended end) (omega (arith, by)) is sound
+lost_end_sound now since slept job (ends.Unseen last goes_on) by is sound =
+    other_end now job job.switch_missing (ends.Lost (min (open_until since slept) last)) sound (omega (arith, by)) (omega arith)
+lost_end_sound now since slept job (ends.Lost last) by is sound = other_end now job job.switch_missing (ends.Lost (min since last)) sound (omega (arith, by)) (omega arith)
 
-lost_before_sound : (now since : ℕ) (job : Job) (end : End) → since ≤ now → job.end ≡ end → IsSound now job → IsSound now (record job { end = lost_before since end })
-lost_before_sound now since job ends.Open by is sound = other_end now job job.switch_missing (ends.Lost since) sound by (omega arith)
-lost_before_sound now since job (ends.Ended end) by is sound = sound_if now since job (nat_lt since end) (ends.Ended end) by is sound
-lost_before_sound now since job (ends.Unseen last goes_on) by is sound = sound_if now since job (nat_lt since last) (ends.Unseen last goes_on) by is sound
-lost_before_sound now since job (ends.Lost last) by is sound = other_end now job job.switch_missing (ends.Lost (min since last)) sound (omega (arith, by)) (omega arith)
+lost_before_sound : (now since : ℕ) (slept : Option ℕ) (job : Job) (end : End) → since ≤ now → job.end ≡ end → IsSound now job →
+    IsSound now (record job { end = lost_before since slept end })
+lost_before_sound now since slept job ends.Open by is sound = lost_end_sound now since slept job ends.Open by is sound
+lost_before_sound now since slept job (ends.Ended end) by is sound = lost_end_sound now since slept job (ends.Ended end) by is sound
+lost_before_sound now since slept job (ends.Unseen last goes_on) by is sound =
+    sound_if now (open_until since slept) job (nat_lt since last) (ends.Unseen last goes_on) (omega (arith, by)) is sound
+lost_before_sound now since slept job (ends.Lost last) by is sound = lost_end_sound now since slept job (ends.Lost last) by is sound
 
 earlier_sound : (now since : ℕ) (jobs : List Job) → since ≤ now → AreSound now jobs → AreSound now (map (lost_earlier since) jobs)
 earlier_sound now since [] by sound = tt
-earlier_sound now since (job ∷ jobs) by sound = (lost_before_sound now since job job.end by refl sound.0, earlier_sound now since jobs by sound.1)
+earlier_sound now since (job ∷ jobs) by sound = (lost_before_sound now since job.slept job job.end by refl sound.0, earlier_sound now since jobs by sound.1)
 
 lost_sound : (now since : ℕ) (jobs : List Job) → since ≤ now → AreSound now jobs → AreSound now (lost_jobs since jobs)
 lost_sound now since [] by sound = tt
-lost_sound now since (job ∷ jobs) by sound = (lost_end_sound now since job job.end by refl sound.0, earlier_sound now since jobs by sound.1)
+lost_sound now since (job ∷ jobs) by sound = (lost_end_sound now since job.slept job job.end by refl sound.0, earlier_sound now since jobs by sound.1)
 
 done_if : (since : ℕ) (b : Bool) (end : End) → IsDone end → IsDone (if b then ends.Lost since else end)
 done_if since true end done = tt
 done_if since false end done = done
 
-lost_done : (since : ℕ) (end : End) → IsDone (lost_end since end)
-lost_done since ends.Open = tt
-lost_done since (ends.Ended end) = done_if since (nat_lt since end) (ends.Ended end) tt
-lost_done since (ends.Unseen last goes_on) = tt
-lost_done since (ends.Lost last) = tt
+lost_done : (since : ℕ) (slept : Option ℕ) (end : End) → IsDone (lost_end since slept end)
+lost_done since slept ends.Open = tt
+lost_done since slept (ends.Ended end) = done_if (open_until since slept) (nat_lt since end) (ends.Ended end) tt
+lost_done since slept (ends.Unseen last goes_on) = tt
+lost_done since slept (ends.Lost last) = tt
 
 lost_left : (boundary since : ℕ) (on : Option Standing) (jobs : List Job) → IsLeft boundary on jobs → IsLeft boundary None (lost_jobs since jobs)
 lost_left boundary since on [] last = tt
 lost_left boundary since on (job ∷ jobs) (inl free) = inl free
-lost_left boundary since on (job ∷ jobs) (inr done) = inr (lost_done since job.end, tt)
+lost_left boundary since on (job ∷ jobs) (inr done) = inr (lost_done since job.slept job.end, tt)
 
 -- A loss since a time by which all ends are known that are told.
 pub loses_keeps : (boundary now : ℕ) (all : List Told) (since : ℕ) (known : Known) → since ≤ now → Each (λ job. IsKnownBy since job.end) boundary known.jobs →

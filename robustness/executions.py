@@ -1,0 +1,284 @@
+"""executions.py: simulates executions whose truth is known, and holds against it what a trace of them is told as.
+
+    python3 robustness/executions.py [--count N] [--seed S]      2,000 executions of seed 1 without these
+
+A thread is woken, runs, and sleeps, by what a kernel does and writes: it is preempted, waits for a disk, is stopped, has
+a signal pending while it goes to sleep, is woken while it goes to sleep, moves, is over, or starves. Wake-ups are
+recorded by their first half, by their second, or by both; a trace may begin late, lose events, or be asked for from a
+time on. A job is from a wake-up to the next sleep. What second.py reads of the trace is compared with the truth:
+
+- hidden: a job was late by a unit of time or more, none is told late, and no comment says that anything isn't known;
+- invented: a job is told late, and no job was open so long.
+
+The last line is 'N passed, M failed'; the status is 1 where M isn't 0.
+"""
+
+import argparse
+import random
+import sys
+from collections import Counter
+from pathlib import Path
+from typing import Dict, List, NamedTuple, Optional, Tuple
+
+sys.path.insert(0, str(Path(__file__).resolve().parent))
+import second  # noqa: E402
+
+PID, NAME = 100, "decode"
+UNIT = 10_000
+"""Nanoseconds in a unit of time."""
+SLACK = 9_000
+"""A wake-up's second half comes less than so long behind its first: a job that is told by it alone begins so much later."""
+UNKNOWN = ("not ended", "events lost", "a switch is missing", "its begin isn't in the trace")
+KINDS = ("whole", "starving", "front", "from", "loss")
+
+
+class True_(NamedTuple):
+    """A job as it was: when it began, and until when it was open."""
+
+    begin: int
+    end: int
+
+
+class Line(NamedTuple):
+    """A line of the trace: when, on which processor, and its text."""
+
+    time: int
+    processor: int
+    text: str
+
+
+class Machine:
+    """A few processors, the thread that is looked at, and others; times are nanoseconds."""
+
+    def __init__(self, draw: random.Random) -> None:
+        self.draw = draw
+        self.processors = draw.randint(1, 3)
+        self.has: List[Tuple[str, int]] = [("swapper/0", 0)] * self.processors
+        self.lines: List[Line] = []
+        self.jobs: List[True_] = []
+        self.halves = draw.choice(("first", "first", "both", "second"))
+        self.now = 100 * 10**9 + draw.randrange(10**9)
+        self.seen: Counter = Counter()
+
+    def wait(self, least: int, most: int) -> int:
+        """Time goes on."""
+        self.now += self.draw.randint(least, most)
+        return self.now
+
+    def write(self, text: str, processor: int) -> None:
+        """A line at this time."""
+        self.lines.append(Line(self.now, processor, text))
+
+    def half(self, first: bool) -> None:
+        """Half of a wake-up, if it is recorded."""
+        if self.halves in ("both", "first" if first else "second"):
+            name = "sched_waking" if first else "sched_wakeup"
+            self.write(f"{name}: comm={NAME} pid={PID} prio=120 target_cpu=000", self.draw.randrange(self.processors))
+
+    def wake(self) -> int:
+        """The thread is woken: when that starts."""
+        begin = self.now
+        self.half(True)
+        self.wait(500, SLACK // 2)
+        self.half(False)
+        return begin
+
+    def switch(self, processor: int, state: str, name: str, pid: int) -> None:
+        """A processor switches."""
+        before, number = self.has[processor]
+        self.write(
+            f"sched_switch: prev_comm={before} prev_pid={number} prev_prio=120 prev_state={state} ==>"
+            f" next_comm={name} next_pid={pid} next_prio=120",
+            processor,
+        )
+        self.has[processor] = (name, pid)
+
+    def other(self) -> Tuple[str, int]:
+        """Whoever comes next: another thread, or the idle one."""
+        return self.draw.choice((("swapper/0", 0), ("hog", 7), ("kworker/0:1", 8)))
+
+    def noise(self, free_of: Optional[int]) -> None:
+        """Other threads switch on a processor."""
+        for processor in range(self.processors):
+            if processor != free_of and self.draw.random() < 0.4:
+                self.switch(processor, self.draw.choice("RS"), *self.other())
+
+    def come(self) -> int:
+        """The thread comes to a processor."""
+        processor = self.draw.randrange(self.processors)
+        self.switch(processor, "R", NAME, PID)
+        return processor
+
+    def leave(self, processor: int, state: str) -> None:
+        """It leaves it."""
+        self.switch(processor, state, *self.other())
+
+    def stretch(self, processor: int) -> int:
+        """It runs, and something comes between; it runs on afterwards."""
+        self.wait(20_000, 400_000)
+        what = self.draw.choice(("preempted", "preempted", "moved", "disk", "stopped", "signal"))
+        self.seen[what] += 1
+        self.leave(processor, {"preempted": "R", "moved": "R+", "disk": "D", "stopped": self.draw.choice("Tt"), "signal": "S"}[what])
+        self.wait(1_000, 20_000 if what == "signal" else self.draw.choice((50_000, 500_000, 5_000_000)))
+        self.noise(None)
+        if what in ("disk", "stopped"):
+            self.wake()
+        self.wait(1_000, 30_000)
+        return self.come()
+
+    def run(self, signals: int, starving: bool) -> None:
+        """A job after another: each from a wake-up to the next sleep."""
+        count = self.draw.randint(3, 9)
+        begin, signalled = self.wake(), False
+        for number in range(count):
+            self.wait(2_000, 4_000_000 if self.draw.random() < 0.2 else 60_000)
+            if starving and number == count - 1:
+                self.wait(20_000_000, 60_000_000)
+                self.noise(None)
+                self.jobs.append(True_(begin, self.now))
+                return
+            processor, signalled = self.come(), False
+            for _ in range(self.draw.choice((0, 0, 1, 1, 2, 3))):
+                before = self.seen["signal"]
+                if not signalled or signals:
+                    processor = self.stretch(processor)
+                signalled = signalled or self.seen["signal"] > before
+            self.wait(20_000, 6_000_000 if self.draw.random() < 0.2 else 900_000)
+            begin = self.sleep(processor, begin, number == count - 1)
+
+    def sleep(self, processor: int, begin: int, last: bool) -> int:
+        """It goes to sleep, and is woken: when the next job begins."""
+        if last and self.draw.random() < 0.3:
+            self.seen["over"] += 1
+            self.leave(processor, self.draw.choice("XZ"))
+            self.jobs.append(True_(begin, self.now))
+            self.wait(100_000, 900_000)
+            self.noise(None)
+            return begin
+        raced = not last and self.draw.random() < 0.25
+        if raced:
+            self.seen["raced"] += 1
+            woken = self.now
+            self.half(True)
+            self.wait(300, SLACK // 3)
+        self.leave(processor, self.draw.choice(("S", "S", "S", "I")))
+        self.jobs.append(True_(begin, self.now))
+        if raced:
+            self.wait(300, SLACK // 3)
+            self.half(False)
+            return woken
+        self.wait(50_000, 9_000_000)
+        self.noise(None)
+        return begin if last else self.wake()
+
+
+class Tried(NamedTuple):
+    """A trace, the words for it, and from when to when it shows what happens."""
+
+    text: bytes
+    words: List[str]
+    begin: int
+    end: int
+
+
+def text_of(lines: List[Line], lost: Dict[int, int]) -> bytes:
+    """The lines as the kernel writes them; before some, by their places, that events of their processor were lost."""
+    told: List[str] = []
+    for place, line in enumerate(lines):
+        if place in lost:
+            told.append(f"CPU:{line.processor} [LOST {lost[place]} EVENTS]")
+        told.append(f"          x-1     [{line.processor:03d}] d..2. {line.time // 10**9}.{line.time % 10**9:09d}: {line.text}")
+    return ("\n".join(told) + "\n").encode()
+
+
+def tried(kind: str, machine: Machine, draw: random.Random) -> Tried:
+    """What is recorded, and asked for."""
+    deadline = draw.choice((1, 2, 5, 16))
+    words = ["--tasks", f"{NAME}:{deadline}", "--start", "1000000", "--cpu", "0", "--us", "10", "--khz", "100000"]
+    lines, lost = list(machine.lines), {}
+    if kind == "front":
+        lines = lines[draw.randrange(len(lines) // 2) :]
+    if kind == "from":
+        at = draw.randrange(lines[0].time, lines[-1].time)
+        words += ["--from", f"{at // 10**9}.{at % 10**9:09d}"]
+    if kind == "loss":
+        processor = draw.randrange(machine.processors)
+        own = [place for place, line in enumerate(lines) if line.processor == processor]
+        if len(own) > 4:
+            first = draw.randrange(1, len(own) - 2)
+            gone = own[first : first + draw.randint(1, min(6, len(own) - 1 - first))]
+            behind = own[own.index(gone[-1]) + 1]
+            kept = [place for place in range(len(lines)) if place not in gone]
+            lost = {kept.index(behind): len(gone)}
+            lines = [lines[place] for place in kept]
+        words += ["--lost", "cut"]
+    begin = lines[0].time if kind != "from" else at
+    return Tried(text_of(lines, lost), words, begin, lines[-1].time)
+
+
+def is_plain(document: second.Document) -> bool:
+    """Whether nothing says that anything isn't known."""
+    left = any(one.reason in UNKNOWN for one in document.judged)
+    return not (left or document.tally.losses or document.tally.missing or any(one.job.exited for one in document.judged))
+
+
+def hidden(document: second.Document, jobs: List[True_], case: Tried, deadline: int) -> Optional[True_]:
+    """A job that was late by a unit or more, where none is told late and nothing says that anything isn't known."""
+    if any(one.late is not None and one.late >= UNIT for one in document.judged) or not is_plain(document):
+        return None
+    for job in jobs:
+        due, end = job.begin + deadline, min(job.end, case.end)
+        if job.end > case.begin and due + UNIT + SLACK <= end and due <= case.end:
+            return job
+    return None
+
+
+def invented(document: second.Document, jobs: List[True_]) -> Optional[second.Judged]:
+    """A job that is told late, though no job was open so long."""
+    for one in document.judged:
+        if one.late is not None:
+            shown = one.due + one.late
+            if not any(job.begin <= one.job.begin + SLACK and shown <= job.end + SLACK for job in jobs):
+                return one
+    return None
+
+
+def main(words: List[str]) -> int:
+    """Simulates so many executions. Gives the status."""
+    parser = argparse.ArgumentParser(description=(__doc__ or "").split("\n", maxsplit=1)[0])
+    parser.add_argument("--count", type=int, default=2000)
+    parser.add_argument("--seed", type=int, default=1)
+    options = parser.parse_args(words)
+    counts: Counter = Counter()
+    failed = 0
+    for number in range(options.count):
+        draw = random.Random(f"{options.seed} {number}")
+        kind = KINDS[number % len(KINDS)]
+        machine = Machine(draw)
+        machine.run(0, kind == "starving")
+        case = tried(kind, machine, draw)
+        asked = second.asked_by(case.words)
+        counts[kind] += 1
+        counts.update({f"with {what}": 1 for what in machine.seen})
+        try:
+            document = second.whole_document(case.text, asked)
+        except second.Wrong as wrong:
+            counts[f"{kind}: refused ({wrong.kind})"] += 1
+            continue
+        late = any(one.late is not None and one.late >= UNIT for one in document.judged)
+        counts[f"{kind}: {'late' if late else 'plain' if is_plain(document) else 'as far as is known'}"] += 1
+        deadline = asked.tasks[0].deadline
+        lost, made = hidden(document, machine.jobs, case, deadline), invented(document, machine.jobs)
+        if lost is not None or made is not None:
+            failed += 1
+            if failed <= 5:
+                print(f"execution {number} of seed {options.seed} ({kind}, {machine.halves}): hidden {lost}, invented {made}")
+                print(" ".join(case.words), case.text.decode(), sep="\n")
+    for what, many in sorted(counts.items()):
+        print(f"{many:7} {what}")
+    print(f"{options.count - failed} passed, {failed} failed")
+    return int(failed > 0)
+
+
+if __name__ == "__main__":
+    sys.exit(main(sys.argv[1:]))
