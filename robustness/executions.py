@@ -10,6 +10,10 @@ time on. A job is from a wake-up to the next sleep. What second.py reads of the 
 - hidden: a job was late by a unit of time or more, none is told late, and no comment says that anything isn't known;
 - invented: a job is told late, and no job was open so long.
 
+Two things can't be known, and are counted apart: a thread's first wake-up in the trace may end a wait within a job that
+began before it; and where wake-ups are recorded by their first half alone, one that comes while its thread goes to sleep
+may have been taken up before that, if the thread isn't seen again.
+
 The last line is 'N passed, M failed'; the status is 1 where M isn't 0.
 """
 
@@ -32,7 +36,7 @@ UNKNOWN = ("not ended", "events lost", "a switch is missing", "its begin isn't i
 KINDS = ("whole", "starving", "front", "from", "loss")
 
 
-class True_(NamedTuple):
+class Real(NamedTuple):
     """A job as it was: when it began, and until when it was open."""
 
     begin: int
@@ -55,7 +59,7 @@ class Machine:
         self.processors = draw.randint(1, 3)
         self.has: List[Tuple[str, int]] = [("swapper/0", 0)] * self.processors
         self.lines: List[Line] = []
-        self.jobs: List[True_] = []
+        self.jobs: List[Real] = []
         self.halves = draw.choice(("first", "first", "both", "second"))
         self.now = 100 * 10**9 + draw.randrange(10**9)
         self.seen: Counter = Counter()
@@ -126,21 +130,21 @@ class Machine:
         self.wait(1_000, 30_000)
         return self.come()
 
-    def run(self, signals: int, starving: bool) -> None:
+    def run(self, starving: bool) -> None:
         """A job after another: each from a wake-up to the next sleep."""
         count = self.draw.randint(3, 9)
-        begin, signalled = self.wake(), False
+        begin = self.wake()
         for number in range(count):
             self.wait(2_000, 4_000_000 if self.draw.random() < 0.2 else 60_000)
             if starving and number == count - 1:
                 self.wait(20_000_000, 60_000_000)
                 self.noise(None)
-                self.jobs.append(True_(begin, self.now))
+                self.jobs.append(Real(begin, self.now))
                 return
             processor, signalled = self.come(), False
             for _ in range(self.draw.choice((0, 0, 1, 1, 2, 3))):
                 before = self.seen["signal"]
-                if not signalled or signals:
+                if not signalled:
                     processor = self.stretch(processor)
                 signalled = signalled or self.seen["signal"] > before
             self.wait(20_000, 6_000_000 if self.draw.random() < 0.2 else 900_000)
@@ -151,7 +155,7 @@ class Machine:
         if last and self.draw.random() < 0.3:
             self.seen["over"] += 1
             self.leave(processor, self.draw.choice("XZ"))
-            self.jobs.append(True_(begin, self.now))
+            self.jobs.append(Real(begin, self.now))
             self.wait(100_000, 900_000)
             self.noise(None)
             return begin
@@ -162,7 +166,7 @@ class Machine:
             self.half(True)
             self.wait(300, SLACK // 3)
         self.leave(processor, self.draw.choice(("S", "S", "S", "I")))
-        self.jobs.append(True_(begin, self.now))
+        self.jobs.append(Real(begin, self.now))
         if raced:
             self.wait(300, SLACK // 3)
             self.half(False)
@@ -173,10 +177,11 @@ class Machine:
 
 
 class Tried(NamedTuple):
-    """A trace, the words for it, and from when to when it shows what happens."""
+    """A trace, the words for it, its first time, and from when to when it is asked for and shows what happens."""
 
     text: bytes
     words: List[str]
+    first: int
     begin: int
     end: int
 
@@ -195,12 +200,14 @@ def tried(kind: str, machine: Machine, draw: random.Random) -> Tried:
     """What is recorded, and asked for."""
     deadline = draw.choice((1, 2, 5, 16))
     words = ["--tasks", f"{NAME}:{deadline}", "--start", "1000000", "--cpu", "0", "--us", "10", "--khz", "100000"]
-    lines, lost = list(machine.lines), {}
+    lines = list(machine.lines)
+    lost: Dict[int, int] = {}
+    begin: Optional[int] = None
     if kind == "front":
         lines = lines[draw.randrange(len(lines) // 2) :]
     if kind == "from":
-        at = draw.randrange(lines[0].time, lines[-1].time)
-        words += ["--from", f"{at // 10**9}.{at % 10**9:09d}"]
+        begin = draw.randrange(lines[0].time, lines[-1].time)
+        words += ["--from", f"{begin // 10**9}.{begin % 10**9:09d}"]
     if kind == "loss":
         processor = draw.randrange(machine.processors)
         own = [place for place, line in enumerate(lines) if line.processor == processor]
@@ -212,8 +219,7 @@ def tried(kind: str, machine: Machine, draw: random.Random) -> Tried:
             lost = {kept.index(behind): len(gone)}
             lines = [lines[place] for place in kept]
         words += ["--lost", "cut"]
-    begin = lines[0].time if kind != "from" else at
-    return Tried(text_of(lines, lost), words, begin, lines[-1].time)
+    return Tried(text_of(lines, lost), words, lines[0].time, begin if begin is not None else lines[0].time, lines[-1].time)
 
 
 def is_plain(document: second.Document) -> bool:
@@ -222,7 +228,7 @@ def is_plain(document: second.Document) -> bool:
     return not (left or document.tally.losses or document.tally.missing or any(one.job.exited for one in document.judged))
 
 
-def hidden(document: second.Document, jobs: List[True_], case: Tried, deadline: int) -> Optional[True_]:
+def hidden(document: second.Document, jobs: List[Real], case: Tried, deadline: int) -> Optional[Real]:
     """A job that was late by a unit or more, where none is told late and nothing says that anything isn't known."""
     if any(one.late is not None and one.late >= UNIT for one in document.judged) or not is_plain(document):
         return None
@@ -233,7 +239,16 @@ def hidden(document: second.Document, jobs: List[True_], case: Tried, deadline: 
     return None
 
 
-def invented(document: second.Document, jobs: List[True_]) -> Optional[second.Judged]:
+def limit_of(job: Real, machine: Machine, first: int) -> str:
+    """Why it can't be known of a hidden job that it was late, if it can't: of a trace that begins at this time."""
+    if job.begin < first:
+        return "a wait's end taken for a begin"
+    before = [other for other in machine.jobs if other.begin < job.begin]
+    raced = bool(before) and before[-1].end > job.begin
+    return "woken as it went to sleep, and not seen again" if raced and machine.halves == "first" and job == machine.jobs[-1] else ""
+
+
+def invented(document: second.Document, jobs: List[Real]) -> Optional[second.Judged]:
     """A job that is told late, though no job was open so long."""
     for one in document.judged:
         if one.late is not None:
@@ -255,7 +270,7 @@ def main(words: List[str]) -> int:
         draw = random.Random(f"{options.seed} {number}")
         kind = KINDS[number % len(KINDS)]
         machine = Machine(draw)
-        machine.run(0, kind == "starving")
+        machine.run(kind == "starving")
         case = tried(kind, machine, draw)
         asked = second.asked_by(case.words)
         counts[kind] += 1
@@ -269,6 +284,10 @@ def main(words: List[str]) -> int:
         counts[f"{kind}: {'late' if late else 'plain' if is_plain(document) else 'as far as is known'}"] += 1
         deadline = asked.tasks[0].deadline
         lost, made = hidden(document, machine.jobs, case, deadline), invented(document, machine.jobs)
+        limit = "" if lost is None else limit_of(lost, machine, case.first)
+        if limit:
+            counts[f"can't be known: {limit}"] += 1
+            lost = None
         if lost is not None or made is not None:
             failed += 1
             if failed <= 5:
