@@ -747,6 +747,7 @@ class Job:
     exited: bool = False
     again: int = 0
     just_apart: bool = False
+    raced: str = ""
 
 
 class Follower:
@@ -787,8 +788,11 @@ class Follower:
         """It is woken: from when that was started, where this is the second half."""
         if self.state() == "open" and self.jobs:
             self.jobs[-1].wakes += 0 if self.woken else 1
+        elif line.starts or self.started is None:
+            self.stir(line.time)
         else:
-            self.stir(line.time if line.starts or self.started is None else self.started)
+            self.stir(self.started)
+            self.jobs[-1].raced = "and both halves tell"
         self.woken, self.started = True, line.time if line.starts else None
 
     def awake(self, time: int) -> None:
@@ -810,11 +814,12 @@ class Follower:
             self.begin(time, False)
         elif self.started is not None:
             self.stir(self.started)
+            self.jobs[-1].raced = "and one half tells"
         elif last.slept is None:
             last.state, last.slept = "open", last.at
         else:
             if last.slept < last.at:
-                last.state, last.at = "lost", last.slept
+                last.state, last.at, last.raced = "lost", last.slept, "twice"
             self.begin(time, False)
 
     def vanish(self) -> None:
