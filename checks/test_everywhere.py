@@ -367,7 +367,7 @@ class Faults(unittest.TestCase):
         first = [wake(0, 0, "a"), switch(0, 100, "swapper", "R", "a"), wake(0, 150, "b"), switch(1, 200, "swapper", "R", "b")]
         then = [switch(1, 300, "b", "R", "swapper"), switch(2, 400, "swapper", "R", "b"), switch(2, 500, "b", "S", "swapper"), switch(0, 600, "a", "S", "swapper")]
         lines = [*first, *then, *job(0, 2000, "a"), *[other(0, 8000)] * 5]
-        strict = "it doesn't stand as it is, and --strict is given; leave that out, or choose --from and --to around the job"
+        strict = "it doesn't stand as it is, or its thread was over with it, and --strict is given; leave that out, or choose --from and --to around the job"
         self.assertEqual(cut_small(lines, "--strict"), [f"# part 1 of processor 1: found job 1: {strict}", "failed"])
         self.assertEqual(cut_small(lines)[0], "# part 1: jobs 1 to 1, from 0 to 150, shift 0, cpu 0")
 

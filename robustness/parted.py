@@ -245,18 +245,21 @@ class Parts:
         cuts = self.watched()
         if is_loss(line) and any(self.lines.lost_since(line) < cut.decided for cut in cuts):
             return "part written"
-        if line.kind == "switch" and any(self.comes_back(line) < cut.boundary for cut in cuts):
+        if line.threads and any(self.comes_back(line) < cut.boundary for cut in cuts):
             return "part written"
         if line.kind != "switch" or self.asked.task_of(line.threads[0]) is None or self.counted.has_switched(line.processor):
             return None
         return "part written" if any(self.counted.whole_since(line.time) < cut.boundary for cut in cuts) else None
 
     def comes_back(self, line: Line) -> int:
-        """When the last job began of a thread that comes behind that job's end, without a wake-up since; of any other no time is so late."""
-        task = self.asked.task_of(line.threads[1])
-        if task is None or self.asked.at_run or (self.asked.end is not None and line.time > self.asked.end):
+        """When the last job began of a thread that comes behind that job's end, without a wake-up since, or of which a wake-up is done that was
+        started before that end; of any other no time is so late."""
+        task = self.asked.task_of(line.threads[-1])
+        if task is None or line.starts or self.asked.at_run or (self.asked.end is not None and line.time > self.asked.end):
             return MOST_TIME
         follower = self.followers[task]
+        if line.kind == "wake" and follower.started is None:
+            return MOST_TIME
         return follower.jobs[-1].begin if follower.seen and follower.state() == "ended" else MOST_TIME
 
     def take(self, line: Line, in_text: int) -> None:

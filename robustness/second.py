@@ -1272,8 +1272,8 @@ class Document:
         for place, one in enumerate(self.judged, 1):
             missed = one.late is not None or one.reason not in ("before from", "after to") if one.reason else one.job.exited
             if self.asked.strict and missed:
-                raise Wrong(f"found job {place}: it doesn't stand as it is, and --strict is given; leave that out,"
-                            " or choose --from and --to around the job", 3, "document: strict")
+                raise Wrong(f"found job {place}: it doesn't stand as it is, or its thread was over with it, and --strict is given; leave that"
+                            " out, or choose --from and --to around the job", 3, "document: strict")
 
     def is_in_run(self, ran: Stretch) -> bool:
         """Whether a stretch is in a run."""
@@ -1307,9 +1307,10 @@ class Document:
         for one in self.judged:
             if not one.reason:
                 yield from self.shown_lines(one)
+            if not one.reason or one.late is not None:
+                yield from self.thread_lines(one)
         yield from self.left_out()
         yield from self.unwritten()
-        yield from self.gone_on()
         for task, mine in zip(asked.tasks, self.by_task):
             yield from self.wrong_units(task, mine)
         yield from self.other_threads()
@@ -1347,6 +1348,13 @@ class Document:
         if one.job.state == "ended" and not told and (not one.runs or self.shown_end(one) < self.ended(one)):
             yield f"# ends: {one.called} {self.ended(one)}"
 
+    def thread_lines(self, one: Judged) -> Iterator[str]:
+        """The comments of a job with which its thread was over, and of one that went on behind a sleep without a wake-up."""
+        if one.job.exited:
+            yield f"# exited: {one.called}"
+        if one.job.slept is not None:
+            yield f"# went on behind a sleep without a wake-up: {one.called}"
+
     def left_out(self) -> Iterator[str]:
         """The comments of the jobs that are left out: the most frequent reason first."""
         order = ["not ended", "events lost", "a switch is missing", "its begin isn't in the trace",
@@ -1380,15 +1388,6 @@ class Document:
             most = max(standing, key=lambda one: one.job.wakes)
             told = "1 wake-up came while its job was open" if wakes == 1 else f"{wakes} wake-ups came while their job was open"
             yield f"# {told}, the most of {most.called}: {most.job.wakes}"
-
-    def gone_on(self) -> Iterator[str]:
-        """The comments of jobs with which their thread was over, and of those that went on behind a sleep without a wake-up."""
-        told = [one for one in self.judged if not one.reason or one.late is not None]
-        whats = {"exited": [one.called for one in told if one.job.exited],
-                 "went on behind a sleep without a wake-up": [one.called for one in told if one.job.slept is not None]}
-        for what, names in whats.items():
-            if names:
-                yield f"# {what}: {names[0] if len(names) == 1 else f'{len(names)} jobs, the first {names[0]}, the last {names[-1]}'}"
 
     def other_threads(self) -> Iterator[str]:
         """The comments of who else had the processor. Of a name that moves a terminal's cursor, each such byte is a question mark."""

@@ -74,7 +74,7 @@ WANTED = [
     "a job that begins as its thread goes to sleep, and one half tells", "a job that begins as its thread goes to sleep, and both halves tell",
     "a job that goes on behind a sleep without a wake-up", "a job that is lost behind two such sleeps", "a job with which its thread was over",
     "a thread is stopped", "a thread is traced", "a thread is dead", "a job that hangs over from", "a job that hangs over from, and isn't ended",
-    "comment exited", "comment went on", "comment several exited", "comment several went on",
+    "comment exited", "comment went on",
     "a job as it is", "a job that moves, in time", "a job that moves, late", "a job that starves", "an overrun", "a job that is preempted",
     "a job that goes on after a sleep", "a job with several wake-ups", "late by nothing", "late by 1 ns", "late by less than a unit",
     "ends at its deadline", "a change of speed in a job", "a change of speed at the stamp of a switch", "equal stamps", "a wake-up and a switch of one stamp",
@@ -198,8 +198,6 @@ def in_text(text: str) -> Iterator[str]:
     kinds = "part|other|late, without its runs|late on another processor|late by less|late in a run|late|not ended|begins|ends|left out|[0-9]+ stretch|[0-9]+ wake|the deadline of|APART of|places where events were lost|switches of other threads|lines that programs wrote|no line for|exited|went on"
     for mark in re.finditer(f"^# (?:up to here, )?({kinds})", text, re.M):
         yield "comment " + re.sub("[0-9]+ ", "", mark[1])
-    for mark in re.finditer("^# (exited|went on)[a-z -]*: [0-9]+ jobs", text, re.M):
-        yield f"comment several {mark[1]}"
 
 
 def in_others(document: Document) -> Iterator[str]:
