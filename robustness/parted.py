@@ -115,7 +115,8 @@ class Piece(NamedTuple):
 class Parts:
     """A trace in parts, as far as it is read: the parts that are written, behind which lines they were, and which processors were cut there.
 
-    Lines are taken in order of time. `number` counts them, and `in_text` is the number in the text of the last one that was taken, or that is.
+    Lines are taken in order of time. `number` counts them, and `in_text` is the number in the text of the last one that was taken, or that is. A
+    thread `is_back` where the last line tells that it is, behind the end of a job that began before those that wait.
 
     Of several processors each has a cut of its own. All on which no task has run, but for 0, are cut as one (`idle`): those of
     which no line has told yet, too. So one that comes late is cut as if it had been there from the begin on.
@@ -128,6 +129,7 @@ class Parts:
     greatest: int = 0
     is_torn: bool = False
     is_woken: bool = False
+    is_back: bool = False
     text: str = ""
     written: List[Document] = field(default_factory=list)
     behind: List[int] = field(default_factory=list)
@@ -245,7 +247,8 @@ class Parts:
         cuts = self.watched()
         if is_loss(line) and any(self.lines.lost_since(line) < cut.decided for cut in cuts):
             return "part written"
-        if line.threads and any(self.comes_back(line) < cut.boundary for cut in cuts):
+        self.is_back = bool(line.threads) and any(self.comes_back(line) < cut.boundary for cut in cuts)
+        if self.is_back:
             return "part written"
         if line.kind != "switch" or self.asked.task_of(line.threads[0]) is None or self.counted.has_switched(line.processor):
             return None
