@@ -230,7 +230,7 @@ def strict(it: Drawing) -> None:
 SHOWN: List[Callable[[Drawing], None]] = [
     plain, moves, comes_late, loses, stands_idle, starves_nowhere, crowded, loses_alone, roams, long.was_there, loses_behind, moves, long.limited,
     comes_late, strict, long.windowed, long.hangs, loses_behind, long.faulty, starves_nowhere, long.opened, loses_alone, long.at_run, long.unwoken, moves, long.unseen,
-    comes_late, long.missing, crowded, no_job, long.raced, long.came_back, long.exited, long.came_back, long.faulty, long.unwoken,
+    comes_late, long.missing, crowded, no_job, long.raced, long.came_back, long.exited, long.came_back, long.faulty, long.unwoken, long.exited, no_job,
 ]
 
 
