@@ -10,10 +10,16 @@ import re
 from typing import Callable, Dict, List, NamedTuple, Optional, Tuple
 
 NAMES = [b"decode", b"audio", b"Web Content", b"a [001] 5.1: print:", b"x ==> y", b"kworker/0:1", b"k=v,w", b"n:12 [9]", b"back\\slash"]
+MARKED = [b"w pid=11 prio=9", b"w:11 [9]", b"a pid=10 prio=1"]
+"""Names within which the mark stands that ends a woken thread's name."""
 OTHERS = [b"other", b"<...>", b"x next_pid=7 next_prio=1", b"esc\x1b[2J", b"long " * 14]
 FORMATS = ("kernel", "short", "raw", "perf", "perfetto")
 MARKER = b"note [000] d..2. 100.002: sched_switch: prev_comm=decode prev_pid=10 prev_prio=1 prev_state=S ==> next_comm=x next_pid=9 next_prio=1"
 WAKE_UPS = [b"sched_waking:", b"sched_wakeup:", b"sched_wakeup_new:"]
+HALVES = [(b"sched_waking:",), (b"sched_wakeup:",), (b"sched_wakeup_new:",), (b"sched_waking:", b"sched_wakeup:")]
+"""A wake-up as a trace tells it: that it starts, that it was done, or both."""
+STOPS = [b"T", b"t", b"T", b"t", b"4", b"8", b"T+", b"t|K"]
+EXITS = [b"X", b"Z", b"x", b"X", b"Z", b"x", b"16", b"32", b"X|K", b"Z+"]
 UNIT = 10_000
 MILLISECOND = 10**6
 
@@ -68,6 +74,8 @@ class Drawing:
         self.starving: Optional[bytes] = None
         self.sleepy = 0.6
         self.rewoken = True
+        self.halves = [(event,) for event in WAKE_UPS]
+        self.odds: Dict[str, float] = {}
         self.grain = draw.choice([1, 1, 1_000])
         self.on: Dict[int, bytes] = {}
         self.time = draw.randrange(10**6) * 1_000
@@ -120,6 +128,15 @@ class Drawing:
                 before, one, state, arrow, after, two)
         self.write(processor, b"sched_switch:", text)
 
+    def chance(self, what: str) -> bool:
+        """Whether this happens now."""
+        odds = self.odds.get(what, 0.0)
+        return odds > 0 and self.draw.random() < odds
+
+    def wait(self, times: List[int]) -> None:
+        """One of these times passes."""
+        self.time += self.draw.choice(times) // self.grain * self.grain
+
     def may_run(self, name: bytes, processor: int) -> bool:
         """Whether a thread may come to a processor."""
         return self.state[name] == "ready" and name != self.starving and self.home.get(name, processor) == processor
@@ -132,15 +149,41 @@ class Drawing:
         if not before and not after:
             return
         sleeps = not after or self.draw.random() < self.sleepy
-        state = self.draw.choice([b"S", b"S", b"S", b"I", b"X", b"1"] if sleeps else [b"R", b"R+", b"D", b"S+"]) if before else b"R"
+        state = self.draw.choice([b"S", b"S", b"S", b"I", b"P", b"1"] if sleeps else [b"R", b"R+", b"D", b"S+"]) if before else b"R"
+        began = self.time
+        raced = False
         if before:
-            self.state[before] = "sleeps" if sleeps else "ready"
-            if sleeps and before in self.woken:
-                self.spans.append((before, self.woken.pop(before), self.time))
+            state, raced = self.leave(before, state, sleeps)
         if after:
             self.state[after], self.on[processor] = "runs", after
         idle = b"swapper/%d" % processor
         self.tell_switch(processor, before or idle, state, after or idle)
+        if raced:
+            self.woken[before] = began
+            self.wakes.append((before, began))
+            self.finish(before, processor)
+
+    def leave(self, name: bytes, state: bytes, sleeps: bool) -> Tuple[bytes, bool]:
+        """A thread leaves, in this state or in another one: woken just before, for a signal, over, or stopped. And whether it was woken."""
+        told = name in self.listed or not self.odds
+        raced = sleeps and told and self.chance("race")
+        back = raced or (sleeps and told and self.chance("signal"))
+        over = sleeps and not back and (self.chance("exit") or not told)
+        if raced:
+            self.tell_wake(b"sched_waking:", name, self.draw.randrange(self.processors))
+            self.wait([0, 0, 1_000, 6_000])
+        self.state[name] = "ready" if back or not sleeps else "over" if over and not self.chance("again") else "sleeps"
+        if sleeps and (raced or not back) and name in self.woken:
+            self.spans.append((name, self.woken.pop(name), self.time))
+        if over:
+            return self.draw.choice(EXITS), raced
+        return self.draw.choice(STOPS) if not sleeps and self.chance("stop") else state, raced
+
+    def finish(self, name: bytes, processor: int) -> None:
+        """The second half of a wake-up that was started, perhaps."""
+        if self.chance("second half"):
+            self.wait([0, 0, 1_000, 30_000])
+            self.tell_wake(b"sched_wakeup:", name, processor)
 
     def speed(self, processor: int) -> None:
         """A processor's speed changes."""
@@ -149,14 +192,22 @@ class Drawing:
 
     def wake(self, name: bytes, processor: int) -> None:
         """A thread is woken."""
-        event = self.draw.choice(WAKE_UPS)
+        events = self.draw.choice(self.halves)
+        began = self.time
+        for event in events:
+            if event != events[0]:
+                self.wait([0, 0, 1_000, 7_000])
+            self.tell_wake(event, name, processor)
+        if name in self.listed:
+            self.woken.setdefault(name, began)
+            self.wakes.append((name, began))
+
+    def tell_wake(self, event: bytes, name: bytes, processor: int) -> None:
+        """One half of a wake-up."""
         pid = self.pid(name)
         short = b"%s:%d [120] CPU:%03d" % (name, pid, processor)
         text = short if self.form == "short" else b"comm=%s pid=%d prio=120 target_cpu=%03d" % (name, pid, processor)
         self.write(self.draw.randrange(self.processors), event, text)
-        if name in self.listed:
-            self.woken.setdefault(name, self.time)
-            self.wakes.append((name, self.time))
 
     def step(self) -> None:
         """Something happens."""
@@ -706,9 +757,10 @@ def unseen(it: Drawing) -> None:
 
 
 def unwoken(it: Drawing) -> None:
-    """No wake-up of a task, where jobs begin at wake-ups."""
+    """No wake-up of a task, where jobs begin at wake-ups. Without going on behind lost events a line would be refused before."""
     usual(it)
     it.options.pop("--begin", None)
+    it.options["--lost"] = "cut"
     it.lines = [line for line in it.lines if not any(event in line for event in WAKE_UPS)]
     for name in it.listed:
         if not any(name in line and b"sched_switch" in line for line in it.lines):
@@ -881,6 +933,101 @@ def plain(seed: int, number: int) -> Drawn:
     usual(it, draw.choice([0.0, 0.9]))
     it.unbound()
     return Drawn("plain", it.form, it.words(), it.ends.join(it.lines) + b"\n")
+
+
+# # Traces of threads that are woken as they go to sleep, come back without a wake-up, are stopped, or are over
+
+
+def racing(it: Drawing) -> None:
+    """Threads are woken as they go to sleep. Of each wake-up one half is told, or both."""
+    it.odds = {"race": it.draw.choice([0.3, 0.6]), "second half": it.draw.choice([0.0, 0.0, 0.5, 1.0])}
+    it.rewoken = it.draw.random() < 0.3
+    usual(it, it.draw.choice([0.0, 0.6]))
+
+
+def signalled(it: Drawing) -> None:
+    """Threads leave to sleep, and come back without a wake-up, since a signal is pending: most of them once in a job."""
+    it.odds = {"signal": it.draw.choice([0.1, 0.1, 0.2, 0.5]), "race": it.draw.choice([0.0, 0.1]), "second half": 0.5}
+    usual(it, it.draw.choice([0.0, 0.6]))
+
+
+def unwoken_often(it: Drawing) -> None:
+    """They do so several times in one job, perhaps in a trace that goes on behind lost events, or whose jobs begin at their run."""
+    it.odds = {"signal": it.draw.choice([0.5, 0.9])}
+    it.rewoken = False
+    usual(it, it.draw.choice([0.0, 0.6]))
+    it.options.pop("--begin", None)
+    drawn_number = it.draw.random()
+    if drawn_number < 0.5:
+        it.options["--lost"] = "cut"
+    elif drawn_number < 0.6:
+        it.options["--begin"] = "run"
+
+
+def stopping(it: Drawing) -> None:
+    """Threads are stopped and traced within their jobs."""
+    it.odds = {"stop": 0.6}
+    it.sleepy = it.draw.choice([0.2, 0.4])
+    usual(it, it.draw.choice([0.0, 0.8]))
+
+
+def exiting(it: Drawing) -> None:
+    """Threads are over, and now and then the number of one is that of another one then."""
+    it.odds = {"exit": it.draw.choice([0.02, 0.1, 0.3]), "again": it.draw.choice([0.0, 0.0, 0.0, 1.0])}
+    it.run(30)
+    it.odds["exit"], it.sleepy = 1.0, 1.0
+    for name in it.listed:
+        if it.state[name] == "sleeps":
+            it.wake(name, 0)
+            it.state[name] = "ready"
+    for _ in range(12):
+        it.wait([0, 40_000, 900_000])
+        it.switch(it.draw.randrange(it.processors))
+    it.ask(it.draw.choice([0.0, 0.0, 0.6]))
+
+
+def hanging(it: Drawing) -> None:
+    """A job is due before `--from`, and is open then."""
+    it.odds = it.draw.choice([{}, {"stop": 0.5}, {"signal": 0.05}])
+    it.sleepy = it.draw.choice([0.2, 0.5])
+    usual(it, 0.3)
+    it.unbound()
+    name, begin, end = it.draw.choice([span for span in it.spans if span[2] - span[1] > 5 * UNIT] or [(it.listed[0], it.begun, it.time)])
+    at = it.draw.choice([(begin + end) // 2, end - it.grain, end, begin + 3 * UNIT])
+    it.options["--from"] = it.seconds(at)
+    wish = next(wish for wish in it.wishes if wish.name == name)
+    wish.deadline = max(UNIT, it.draw.choice([(at - begin) // 2, (at - begin) // 2, at - begin - it.grain, at - begin, at - begin + 1]))
+    if it.draw.random() < 0.5 and at + 1 < end:
+        it.options["--to"] = it.seconds(it.draw.choice([at + it.grain, (at + end) // 2, end - 1]))
+
+
+def marked(it: Drawing) -> None:
+    """Threads have names within which the mark stands that ends such a name."""
+    list_only(it, it.draw.sample(MARKED, it.draw.choice([1, 2])) + [b"decode"])
+    it.odds = {"race": 0.2, "second half": 0.5}
+    for wish in it.wishes:
+        wish.by_number, wish.label = True, f"t{wish.pid}"
+    usual(it, 0.3)
+
+
+def mixed(it: Drawing) -> None:
+    """All of these, with lines that are missing, a front that is cut off, or lost events."""
+    it.odds = {"race": 0.2, "second half": 0.5, "signal": 0.05, "stop": 0.3, "exit": 0.02, "again": 0.3}
+    it.draw.choice([anything, fronted, missing, torn, moving, sharing])(it)
+
+
+DOZES: List[Callable[[Drawing], None]] = [racing, signalled, unwoken_often, stopping, exiting, hanging, marked, mixed]
+
+
+def dozing(seed: int, number: int) -> Drawn:
+    """The trace of this number of threads that sleep, and don't."""
+    draw = random.Random(f"dozing {seed} {number}")
+    show = DOZES[number % len(DOZES)]
+    it = Drawing(draw, show is not mixed or draw.random() < 0.5)
+    it.halves = draw.choice([HALVES, HALVES[:1], HALVES[1:2], HALVES[3:], HALVES[2:]])
+    show(it)
+    trace = it.ends.join(it.lines) + (it.last_end if it.lines else b"")
+    return Drawn(show.__name__, it.form, with_more(seed, number, with_parts(seed, number, it.words())), trace)
 
 
 # # Words with a mistake

@@ -230,7 +230,7 @@ def strict(it: Drawing) -> None:
 SHOWN: List[Callable[[Drawing], None]] = [
     plain, moves, comes_late, loses, stands_idle, starves_nowhere, crowded, loses_alone, roams, long.was_there, loses_behind, moves, long.limited,
     comes_late, strict, long.windowed, long.hangs, loses_behind, long.faulty, starves_nowhere, long.opened, loses_alone, long.at_run, long.unwoken, moves, long.unseen,
-    comes_late, long.missing, crowded, no_job,
+    comes_late, long.missing, crowded, no_job, long.raced, long.came_back, long.exited, long.came_back, long.faulty, long.unwoken, long.exited, no_job,
 ]
 
 
@@ -254,6 +254,9 @@ WANTED = [
     "whole: unwoken", "line: unwoken", "whole: a task unseen", "a late job in a part", "a late job without its runs", "a job left out",
     "option --from", "option --to", "option --begin", "option --us", "option --parts", "option APART", "a whole trace in parts",
     "option --moved", "a share, in time", "a share, late", "lines out of order", "lines out of order at the end of a part",
+    "line: not woken", "line: exited", "a thread that is back behind a part", "a job with which its thread was over",
+    "a job that goes on behind a sleep without a wake-up", "a job that begins as its thread goes to sleep, and one half tells",
+    "a job that begins as its thread goes to sleep, and both halves tell",
 ]
 LEAST, OF = 4, 400
 HEAD = re.compile(r"^# part (\d+): jobs (\d+) to (\d+), from \d+ to \d+, shift \d+, cpu (\d+)(, windows open)?(, the last)?$", re.M)
@@ -294,11 +297,13 @@ def in_jobs(said: Told) -> Iterator[str]:
                 yield "a share, in time" if one.late is None else "a share, late"
             if not one.job.ran:
                 yield "a job that has run nowhere"
+            yield from long.in_sleeps(one.job)
 
 
 def in_fault(said: Told, parts: Parts, trace: bytes) -> Iterator[str]:
     """What the fault is, and of which processor's part."""
     yield from long.in_fault(said)
+    yield from long.back(said, parts)
     if said.kind == "part document: no job" and said.parts:
         yield "part document: no job, behind a part"
     if said.kind == "line: part written":

@@ -18,7 +18,7 @@ import sys
 import tempfile
 from collections import Counter
 from pathlib import Path
-from typing import Callable, Dict, List, Optional, Pattern, Tuple
+from typing import Callable, Dict, Iterator, List, Optional, Pattern, Tuple
 
 MOST = 4_294_967_295
 LONGEST = 65_536
@@ -68,8 +68,12 @@ fn told(alloc: Global, reader: &TraceReader) -> Result<Vec<u8>, anyhow::Error> {
                     add_thread(alloc, &mut text, previous)?;
                     add_thread(alloc, &mut text, next)?;
                 }
-                Happening::WakeUp(thread) => {
-                    add(&mut text, format!(in alloc; "wake ")?)?;
+                Happening::WakeUp { thread, starts } => {
+                    if starts {
+                        add(&mut text, format!(in alloc; "waking ")?)?;
+                    } else {
+                        add(&mut text, format!(in alloc; "woken ")?)?;
+                    }
                     add_thread(alloc, &mut text, thread)?;
                 }
                 Happening::Speed { processor, khz } => {
@@ -113,19 +117,30 @@ DROPPED = re.compile(rb"[ \t]*CPU:([0-9]+) \[(?:LOST )?(?:[0-9]+ ?)?EVENTS(?:\]|
 STARTED = re.compile(rb"#+ CPU ([0-9]+) buffer started #")
 OPENS = re.compile(rb"\[[0-9]*(?:\]|\Z)")
 STATE = re.compile(rb"(?:[RDSTtXxZPIWKN][A-Za-z|+]*|0|1|2|4|8|16|32|64|128|256)\Z")
-GOES_ON = re.compile(rb"(?:[RD].*|.*\+|0|2|256)\Z", re.DOTALL)
+EXITS = re.compile(rb"(?:[XZx].*|16|32)\Z", re.DOTALL)
+GOES_ON = re.compile(rb"(?:[RDTt].*|.*\+|0|2|4|8|256)\Z", re.DOTALL)
 
 
-def named(pattern: Pattern[bytes], names: bytes) -> Optional[Tuple[bytes, "re.Match[bytes]"]]:
-    """The name before the first mark whose number is within the limit, and the mark."""
-    start = 0
-    while True:
-        mark = pattern.search(names, start)
-        if mark is None:
-            return None
+Named = Tuple[bytes, "re.Match[bytes]"]
+
+
+def all_named(pattern: Pattern[bytes], names: bytes) -> Iterator[Named]:
+    """The name before each mark whose number is within the limit, and the mark."""
+    mark = pattern.search(names)
+    while mark is not None:
         if int(mark[1]) <= MOST:
-            return names[: mark.start()], mark
-        start = mark.start() + 1
+            yield names[: mark.start()], mark
+        mark = pattern.search(names, mark.start() + 1)
+
+
+def named(pattern: Pattern[bytes], names: bytes) -> Optional[Named]:
+    """The name before the first such mark."""
+    return next(all_named(pattern, names), None)
+
+
+def last_named(pattern: Pattern[bytes], names: bytes) -> Optional[Named]:
+    """The name before the last such mark: behind it no other name stands."""
+    return next(reversed(list(all_named(pattern, names))), None)
 
 
 def thread(name: bytes, mark: "re.Match[bytes]") -> bytes:
@@ -143,15 +158,33 @@ def switch(text: bytes) -> Optional[bytes]:
     second = named(COMES if plain else SHORT_COMES, mark.string[mark.end() :])
     if second is None:
         return None
-    state = b"Unknown" if not STATE.match(mark[2]) else b"GoesOn" if GOES_ON.match(mark[2]) else b"Sleeps"
-    return b"switch %s %s%s" % (state, thread(name, mark), thread(*second))
+    return b"switch %s %s%s" % (state_of(mark[2]), thread(name, mark), thread(*second))
 
 
-def wake_up(text: bytes) -> Optional[bytes]:
-    """What a wake-up's text says."""
+def state_of(text: bytes) -> bytes:
+    """What a thread's state means for its job."""
+    if not STATE.match(text):
+        return b"Unknown"
+    return b"Exits" if EXITS.match(text) else b"GoesOn" if GOES_ON.match(text) else b"Sleeps"
+
+
+def who_wakes(text: bytes) -> Optional[bytes]:
+    """Whom a wake-up's text names."""
     plain = text.startswith(b"comm=")
-    found = named(WAKES, text[5:]) if plain else named(SHORT_WAKES, text)
-    return None if found is None else b"wake " + thread(*found)
+    found = last_named(WAKES, text[5:]) if plain else last_named(SHORT_WAKES, text)
+    return None if found is None else thread(*found)
+
+
+def waking(text: bytes) -> Optional[bytes]:
+    """What the text of a wake-up that starts says."""
+    who = who_wakes(text)
+    return None if who is None else b"waking " + who
+
+
+def woken(text: bytes) -> Optional[bytes]:
+    """What the text of a wake-up that was done says."""
+    who = who_wakes(text)
+    return None if who is None else b"woken " + who
 
 
 def speed(text: bytes) -> Optional[bytes]:
@@ -164,9 +197,9 @@ def speed(text: bytes) -> Optional[bytes]:
 
 READ: Dict[bytes, Tuple[bytes, Callable[[bytes], Optional[bytes]]]] = {
     b"sched_switch:": (b"UnknownSwitch", switch),
-    b"sched_waking:": (b"UnknownWakeUp", wake_up),
-    b"sched_wakeup:": (b"UnknownWakeUp", wake_up),
-    b"sched_wakeup_new:": (b"UnknownWakeUp", wake_up),
+    b"sched_waking:": (b"UnknownWakeUp", waking),
+    b"sched_wakeup:": (b"UnknownWakeUp", woken),
+    b"sched_wakeup_new:": (b"UnknownWakeUp", woken),
     b"cpu_frequency:": (b"UnknownSpeed", speed),
     b"PERF_RECORD_LOST": (b"", lambda text: b"loss"),
 }
@@ -229,8 +262,8 @@ def reading(line: bytes, ended: bool) -> bytes:
 # # Drawn lines
 
 NAMES = [b"decode", b"Web Content", b"swapper/0", b"a [001] 5.1: print:", b"x ==> y", b"a prev_pid=3", b"b:12 [9]",
-         b"c pid=4", b"", b"kworker/3:1-events", b"n next_pid=7 next_prio=1", b"sched_switch:", b"[3]", b"tab\tname"]
-STATES = b"S R R+ D D|K X Z I T t 0 1 2 256 3 Q S+ P".split()
+         b"c pid=4", b"", b"x pid=100 prio=", b"y:7 [120]", b"kworker/3:1-events", b"n next_pid=7 next_prio=1", b"sched_switch:", b"[3]", b"tab\tname"]
+STATES = b"S R R+ D D|K X X|K Z x X+ I I+ T T+ t t|K 0 1 2 4 8 16 32 64 128 256 3 Q S+ P W K N".split()
 MARKED = b"note [000] d..2. 7.5: sched_switch: "
 
 

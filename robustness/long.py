@@ -32,7 +32,7 @@ from typing import Callable, Dict, Iterator, List, NamedTuple, Optional, Tuple
 from exchanged import strewn
 from machine import KHZ, Machine, STRANGERS, Task
 from parted import FULL, Parts, SMALL, told_in_parts
-from second import Document, Told, as_bytes, asked_by, judge_jobs, ordered
+from second import Document, Job, Told, as_bytes, asked_by, judge_jobs, ordered
 
 class Drawing:
     """A machine with its words, and how long its trace is: `scale` times shorter than the program's limits need it."""
@@ -376,10 +376,31 @@ def unseen(it: Drawing) -> None:
     it.tasks[-1].name, it.tasks[-1].pid = "nobody", 99
 
 
+def raced(it: Drawing) -> None:
+    """Threads are woken as they go to sleep, are stopped, and leave for a signal. Of wake-ups one half is told, or both."""
+    it.it.odds.update(race=it.draw.choice([0.02, 0.2]), halves=it.draw.choice([0.0, 0.5, 1.0]), stop=0.02)
+    it.it.odds.update({"second half": it.draw.choice([0.0, 0.5, 1.0]), "signal": it.draw.choice([0.0, 0.002])})
+    it.options.pop("--begin", None)
+
+
+def came_back(it: Drawing) -> None:
+    """Some threads come without a wake-up behind the ends of their jobs, perhaps behind a part."""
+    often = min(it.scale, 8)
+    it.it.odds.update(unwoken=it.draw.choice([0.0005, 0.005]) * often, signal=it.draw.choice([0.0, 0.03]) * often, halves=it.draw.choice([0.0, 1.0]))
+    it.options.pop("--begin", None)
+    if it.draw.random() < 0.6:
+        it.options.pop("--lost")
+
+
+def exited(it: Drawing) -> None:
+    """A thread is over, and now and then its number is that of another one then."""
+    it.it.odds.update({"exit": it.draw.choice([0.001, 0.01]) * min(it.scale, 20), "again": it.draw.choice([0.0, 1.0])})
+
+
 SHOWN: List[Callable[[Drawing], None]] = [
     plain, hangs, loses, windowed, calm, was_there, faulty, limited, starves, missing, at_run, ended_behind, stretched, opened, elsewhere, missing,
     loses, windowed, unwoken, unseen, faulty, limited, loses, opened, hangs, missing, strict, ended_behind, unwoken, hangs, faulty, strict, shoved, shoved,
-    visited, visited,
+    visited, visited, raced, came_back, exited, came_back,
 ]
 
 
@@ -408,7 +429,9 @@ WANTED = [
     "part document: strict", "whole: unwoken", "line: unwoken", "whole: a task unseen", "a late job in a part", "a late job without its runs", "a job left out",
     "option --from", "option --to", "option --begin", "option --us", "option APART", "more than 25000 stretches", "a whole trace in parts",
     "option --moved", "option --others", "a share, in time", "a share, late", "another thread in a part", "another thread up to the end of a part",
-    "more than 12500 spans", "lines out of order", "lines out of order at the end of a part",
+    "more than 12500 spans", "line: not woken", "line: exited", "a thread that is back behind a part", "a job with which its thread was over",
+    "a job that goes on behind a sleep without a wake-up", "a job that begins as its thread goes to sleep, and one half tells",
+    "a job that begins as its thread goes to sleep, and both halves tell", "lines out of order", "lines out of order at the end of a part",
 ]
 LEAST, OF = 4, 400
 
@@ -439,6 +462,22 @@ def in_fault(said: Told) -> Iterator[str]:
             yield "no place, known to be late"
 
 
+def in_sleeps(job: Job) -> Iterator[str]:
+    """How a job's thread went to sleep before it, and within it, and whether it was over then."""
+    if job.exited:
+        yield "a job with which its thread was over"
+    if job.slept is not None:
+        yield "a job that goes on behind a sleep without a wake-up"
+    if job.raced.startswith("and"):
+        yield f"a job that begins as its thread goes to sleep, {job.raced}"
+
+
+def back(said: Told, parts: Parts) -> Iterator[str]:
+    """Whether a line is refused for a thread that is back behind the end of a job that was written."""
+    if said.kind == "line: part written" and parts.is_back:
+        yield "a thread that is back behind a part"
+
+
 def in_documents(said: Told) -> Iterator[str]:
     """What the jobs of the parts show."""
     for document in said.parts:
@@ -449,6 +488,7 @@ def in_documents(said: Told) -> Iterator[str]:
                 yield "a job left out"
             if one.part is not None:
                 yield "a share, in time" if one.late is None else "a share, late"
+            yield from in_sleeps(one.job)
         if document.others:
             yield "another thread in a part"
         if len(document.others) > 12_500:
@@ -574,7 +614,7 @@ def main(words: List[str]) -> int:
         it = drawn(seed, number)
         counts[f"shows {it.shows}"] += 1
         said, parts = told_in_parts(it.trace, asked_by(it.words))
-        counts.update({f"status {said.status}", *in_parts(said, it.words), *in_fault(said), *in_documents(said), *between_parts(said),
+        counts.update({f"status {said.status}", *in_parts(said, it.words), *in_fault(said), *in_documents(said), *between_parts(said), *back(said, parts),
                        *out_of_order(it.trace, parts)})
         faults = list(faults_of(programs, it, said, parts))
         passed, failed = passed + int(not faults), failed + int(bool(faults))

@@ -18,7 +18,7 @@ class Task:
         self.busy, self.deadline, self.apart = int(period * share), int(period * factor), 0
         self.home = self.place = home
         self.left = self.due = self.begun = 0
-        self.starves = self.hangs = self.naps = False
+        self.starves = self.hangs = self.naps = self.is_over = False
 
     def is_ready(self, processor: int) -> bool:
         """Whether it would run on this processor."""
@@ -75,16 +75,22 @@ class Machine:
             self.turn(processor, state, best)
 
     def wake(self, task: Task) -> None:
-        """A thread is woken."""
-        if self.wakes:
-            self.write(task.home, "sched_waking", f"comm={task.name} pid={task.pid} prio=120 target_cpu={task.place:03d}")
+        """A thread is woken: that starts, or was done, or both are told."""
+        halves = self.draw.choice([["sched_wakeup"], ["sched_waking", "sched_wakeup"]]) if self.chance("halves") else ["sched_waking"]
+        for half in halves if self.wakes and not self.chance("unwoken") else []:
+            self.tell_wake(task, half)
+
+    def tell_wake(self, task: Task, half: str) -> None:
+        """A line of one half of a wake-up."""
+        self.write(task.home, half, f"comm={task.name} pid={task.pid} prio=120 target_cpu={task.place:03d}")
 
     def release(self, task: Task) -> None:
         """A period begins."""
+        if task.is_over:
+            return
         if task.left == 0 and task.naps is False:
             task.place = self.draw.choice(self.places) if self.chance("roam") else task.home
-            task.left = max(1_000, int(task.busy * self.draw.choice([0.2, 0.8, 1.0, 1.0])))
-            task.begun, task.due = self.time, self.time + task.deadline
+            self.begin(task)
             if self.chance("overrun"):
                 task.left = int(task.period * self.draw.choice([1.0, 1.5, 2.5]))
             if self.chance("short"):
@@ -93,6 +99,11 @@ class Machine:
         elif self.chance("rewoken"):
             self.wake(task)
         self.dispatch(task.place)
+
+    def begin(self, task: Task) -> None:
+        """A job begins."""
+        task.left = max(1_000, int(task.busy * self.draw.choice([0.2, 0.8, 1.0, 1.0])))
+        task.begun, task.due = self.time, self.time + task.deadline
 
     def next_period(self, number: int) -> None:
         """When it comes."""
@@ -132,7 +143,27 @@ class Machine:
         task = self.on[processor]
         if task is not None:
             task.left = 0
+            if self.chance("race"):
+                self.race(processor, task)
+                return
+            if self.chance("exit"):
+                task.is_over = not self.chance("again")
+                self.dispatch(processor, self.draw.choice(["X", "Z", "x"]))
+                return
         self.dispatch(processor, self.draw.choice(["S", "S", "S", "I"]))
+
+    def race(self, processor: int, task: Task) -> None:
+        """A thread is woken as it goes to sleep: it leaves all the same, and the second half of the wake-up is told behind that, or isn't."""
+        self.tell_wake(task, "sched_waking")
+        time = self.time
+        self.pass_by(self.draw.choice([0, 1_000, 3_000]))
+        self.dispatch(processor, "S")
+        self.begin(task)
+        task.begun, task.due = time, time + task.deadline
+        if self.chance("second half"):
+            self.pass_by(self.draw.choice([0, 1_000]))
+            self.tell_wake(task, "sched_wakeup")
+        self.dispatch(task.place)
 
     def pass_by(self, time: int) -> None:
         """Some time passes, and what has a processor runs."""
@@ -146,7 +177,8 @@ class Machine:
         busy = [processor for processor, task in enumerate(self.on) if task is not None]
         if not busy or until - self.time <= 20_000:
             return False
-        ways = {"speed": self.change_speed, "sleep": self.sleep, "nap": self.nap, "move": self.move, "others": self.intrude}
+        ways = {"speed": self.change_speed, "sleep": self.sleep, "signal": self.come_back, "stop": self.stop, "nap": self.nap, "move": self.move,
+                "others": self.intrude}
         way = next((way for what, way in ways.items() if self.chance(what)), None)
         if way is None:
             return False
@@ -167,6 +199,19 @@ class Machine:
         self.pass_by(2_000)
         self.wake(task)
         self.pass_by(2_000)
+        self.turn(processor, "R", task)
+
+    def come_back(self, processor: int, task: Task) -> None:
+        """A thread leaves to sleep, and comes without a wake-up: a signal is pending."""
+        self.turn(processor, "D" if task.hangs else "S", None)
+        self.pass_by(2_000)
+        self.turn(processor, "R", task)
+
+    def stop(self, processor: int, task: Task) -> None:
+        """A thread is stopped or traced for some microseconds."""
+        self.turn(processor, self.draw.choice(["T", "t"]), None)
+        self.pass_by(self.draw.choice([2_000, 90_000]))
+        self.wake(task)
         self.turn(processor, "R", task)
 
     def intrude(self, processor: int, task: Task) -> None:

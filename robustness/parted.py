@@ -115,7 +115,8 @@ class Piece(NamedTuple):
 class Parts:
     """A trace in parts, as far as it is read: the parts that are written, behind which lines they were, and which processors were cut there.
 
-    Lines are taken in order of time. `number` counts them, and `in_text` is the number in the text of the last one that was taken, or that is.
+    Lines are taken in order of time. `number` counts them, and `in_text` is the number in the text of the last one that was taken, or that is. A
+    thread `is_back` where the last line tells that it is, behind the end of a job that began before those that wait.
 
     Of several processors each has a cut of its own. All on which no task has run, but for 0, are cut as one (`idle`): those of
     which no line has told yet, too. So one that comes late is cut as if it had been there from the begin on.
@@ -128,6 +129,7 @@ class Parts:
     greatest: int = 0
     is_torn: bool = False
     is_woken: bool = False
+    is_back: bool = False
     text: str = ""
     written: List[Document] = field(default_factory=list)
     behind: List[int] = field(default_factory=list)
@@ -191,8 +193,18 @@ class Parts:
         if self.asked.is_two(thread):
             return "tasks"
         task = self.asked.task_of(thread)
-        before = None if task is None else self.threads.get(task)
-        return "threads" if before is not None and before != thread.pid else None
+        if task is None:
+            return None
+        before = self.threads.get(task)
+        if before is not None and before != thread.pid:
+            return "threads"
+        jobs = self.followers[task].jobs
+        return "exited" if jobs and jobs[-1].exited else None
+
+    def is_unwoken(self, thread: Thread) -> bool:
+        """Whether a thread that comes now left to sleep twice in its job, and no wake-up ended either sleep."""
+        task = self.asked.task_of(thread)
+        return task is not None and not self.asked.cut and not self.asked.at_run and self.followers[task].slept_before()
 
     def threads_fault(self, line: Line) -> Optional[str]:
         """What the threads of an event are refused for."""
@@ -208,6 +220,7 @@ class Parts:
             found.append("state" if mine is not None and line.state == "Unknown" else None)
             found.append(self.thread_fault(second))
             found.append("threads" if mine is not None and self.asked.task_of(second) == mine and first.pid != second.pid else None)
+            found.append("not woken" if self.is_unwoken(second) else None)
         return next((fault for fault in found if fault), None)
 
     def is_lost_within(self, line: Line) -> bool:
@@ -229,14 +242,28 @@ class Parts:
         return "lost" if not self.asked.cut and is_behind and (self.is_lost_within(line) or self.is_torn) else None
 
     def part_cause(self, line: Line) -> Optional[str]:
-        """It tells of a loss, or of a thread that was there, since a time before a part that was written, of any processor. A cut at which
-        nothing is written counts, too."""
+        """It tells of a loss, or of a thread that was there, since a time before a part that was written, or that a job that began before
+        hasn't ended, of any processor. A cut at which nothing is written counts, too."""
         cuts = self.watched()
         if is_loss(line) and any(self.lines.lost_since(line) < cut.decided for cut in cuts):
+            return "part written"
+        self.is_back = bool(line.threads) and any(self.comes_back(line) < cut.boundary for cut in cuts)
+        if self.is_back:
             return "part written"
         if line.kind != "switch" or self.asked.task_of(line.threads[0]) is None or self.counted.has_switched(line.processor):
             return None
         return "part written" if any(self.counted.whole_since(line.time) < cut.boundary for cut in cuts) else None
+
+    def comes_back(self, line: Line) -> int:
+        """When the last job began of a thread that comes behind that job's end, without a wake-up since, or of which a wake-up is done that was
+        started before that end; of any other no time is so late."""
+        task = self.asked.task_of(line.threads[-1])
+        if task is None or line.starts or self.asked.at_run or (self.asked.end is not None and line.time > self.asked.end):
+            return MOST_TIME
+        follower = self.followers[task]
+        if line.kind == "wake" and follower.started is None:
+            return MOST_TIME
+        return follower.jobs[-1].begin if follower.seen and follower.state() == "ended" else MOST_TIME
 
     def take(self, line: Line, in_text: int) -> None:
         """The next line, which has this number in the text."""

@@ -356,7 +356,8 @@ def asked_by(words: List[str]) -> Asked:
 
 
 class Line(NamedTuple):
-    """What a line says: `switch`, `wake`, `speed`, `loss`, `marker`, `other`, or, without a stamp, `lost`, `begin` or `nothing`."""
+    """What a line says: `switch`, `wake`, `speed`, `loss`, `marker`, `other`, or, without a stamp, `lost`, `begin` or `nothing`. A wake-up
+    starts, or was done."""
 
     kind: str
     processor: int = 0
@@ -365,6 +366,7 @@ class Line(NamedTuple):
     state: str = ""
     khz: int = 0
     of: int = 0
+    starts: bool = False
 
 
 def threads_in(text: bytes) -> Tuple[Thread, ...]:
@@ -390,8 +392,8 @@ def line_of(said: bytes) -> Line:
     if kind == "switch":
         state, threads = word[4].split(b" ", 1)
         return Line(kind, processor, time, threads_in(threads), state.decode())
-    if kind == "wake":
-        return Line(kind, processor, time, threads_in(word[4]))
+    if kind in ("waking", "woken"):
+        return Line("wake", processor, time, threads_in(word[4]), starts=kind == "waking")
     if kind == "speed":
         of, khz = word[4].split(b" ")
         return Line(kind, processor, time, of=int(of), khz=int(khz))
@@ -415,6 +417,9 @@ CAUSES = {
     "state": "a task leaves in a state that the kernel doesn't have; write the trace anew",
     "threads": "a task's name is that of another thread before; threads are renamed at their start, too: give the number, which stays, by PID=NAME:DEADLINE",
     "tasks": "one thread is two tasks, by its number and by its name; leave one out",
+    "exited": "a task's thread was over before, and its number is that of another thread now; choose --from and --to around it",
+    "not woken": ("a task comes behind a sleep without a wake-up, twice in one job; record sched_waking, sched_wakeup and sched_wakeup_new,"
+                  " let jobs begin at their first run by --begin run, or go on by --lost cut"),
     "none": ("no line of a kernel's trace; write it as text, by trace-cmd report or perf script with cpu and time among its fields: a line "
              "has a processor as [001] and a time with a point as 12.345678: before its event's name"),
     "unwoken": "no wake-up of a task; record sched_waking too, or let jobs begin at their first run by --begin run",
@@ -598,8 +603,24 @@ def thread_fault(thread: Thread, past: List[Line], asked: Asked) -> Optional[str
     if asked.is_two(thread):
         return "tasks"
     task = asked.task_of(thread)
-    before = None if task is None else pid_of(task, past, asked)
-    return "threads" if before is not None and before != thread.pid else None
+    if task is None:
+        return None
+    before = pid_of(task, past, asked)
+    if before is not None and before != thread.pid:
+        return "threads"
+    is_over = any(line.state == "Exits" and asked.task_of(line.threads[0]) == task for line in past if line.kind == "switch")
+    return "exited" if is_over else None
+
+
+def is_unwoken(thread: Thread, past: List[Line], asked: Asked) -> bool:
+    """Whether a thread that comes now left to sleep twice in its job, and no wake-up ended either sleep."""
+    task = asked.task_of(thread)
+    if task is None or asked.cut or asked.at_run:
+        return False
+    told = [line for line in since_loss(past) if any(asked.task_of(one) == task for one in line.threads)]
+    if not told or told[-1].kind != "switch" or told[-1].state != "Sleeps" or asked.task_of(told[-1].threads[1]) == task:
+        return False
+    return followed(task, past, asked).slept_before()
 
 
 def threads_fault(line: Line, lines: List[Line], asked: Asked) -> Optional[str]:
@@ -620,6 +641,7 @@ def threads_fault(line: Line, lines: List[Line], asked: Asked) -> Optional[str]:
         found.append("state" if mine is not None and line.state == "Unknown" else None)
         found.append(thread_fault(second, past, asked))
         found.append("threads" if mine is not None and asked.task_of(second) == mine and first.pid != second.pid else None)
+        found.append("not woken" if is_unwoken(second, past, asked) else None)
     return next((fault for fault in found if fault), None)
 
 
@@ -710,7 +732,8 @@ class Stretch(NamedTuple):
 
 @dataclass
 class Job:
-    """A job: `state` is open, ended, unseen or lost, and `at` when it ended, or was seen last."""
+    """A job: `state` is open, ended, unseen or lost, and `at` when it ended, or was seen last. With one that is `exited` its thread was over.
+    Where its thread left to sleep and came without a wake-up, `slept` is when it left."""
 
     begin: int
     known: bool
@@ -720,8 +743,11 @@ class Job:
     ran: List[Stretch] = field(default_factory=list)
     wakes: int = 0
     missing: bool = False
+    slept: Optional[int] = None
+    exited: bool = False
     again: int = 0
     just_apart: bool = False
+    raced: str = ""
 
 
 class Follower:
@@ -733,6 +759,8 @@ class Follower:
         self.jobs: List[Job] = []
         self.on: Optional[Tuple[int, int, int]] = None
         self.woken = False
+        self.started: Optional[int] = None
+        self.seen = False
 
     def state(self) -> str:
         """That of the last job."""
@@ -756,13 +784,16 @@ class Follower:
         else:
             self.begin(time, last is not None or not self.asked.at_run)
 
-    def wake(self, time: int) -> None:
-        """It is woken."""
+    def wake(self, line: Line) -> None:
+        """It is woken: from when that was started, where this is the second half."""
         if self.state() == "open" and self.jobs:
             self.jobs[-1].wakes += 0 if self.woken else 1
+        elif line.starts or self.started is None:
+            self.stir(line.time)
         else:
-            self.stir(time)
-        self.woken = True
+            self.stir(self.started)
+            self.jobs[-1].raced = "and both halves tell"
+        self.woken, self.started = True, line.time if line.starts else None
 
     def awake(self, time: int) -> None:
         """It is found awake."""
@@ -771,13 +802,33 @@ class Follower:
         elif self.state() != "open":
             self.begin(time, False)
 
+    def slept_before(self) -> bool:
+        """Its thread left to sleep, and no wake-up ended that, nor a sleep before in the same job."""
+        asleep = self.state() == "ended" and self.seen and self.started is None
+        return asleep and self.jobs[-1].slept is not None
+
+    def come_back(self, time: int) -> None:
+        """It comes behind its job's end. It was woken as it went to sleep, or it hasn't slept; if that is so twice, a wake-up is missing."""
+        last = self.jobs[-1]
+        if not self.seen:
+            self.begin(time, False)
+        elif self.started is not None:
+            self.stir(self.started)
+            self.jobs[-1].raced = "and one half tells"
+        elif last.slept is None:
+            last.state, last.slept = "open", last.at
+        else:
+            if last.slept < last.at:
+                last.state, last.at, last.raced = "lost", last.slept, "twice"
+            self.begin(time, False)
+
     def vanish(self) -> None:
         """It isn't where it came to."""
         if self.on is not None:
             job = self.jobs[-1]
             job.state, job.at, job.missing = "unseen", self.on[1], True
             job.goes_on = not self.asked.at_run and not self.woken
-            self.on = None
+            self.on = self.started = None
 
     def is_new(self) -> bool:
         """No switch of it was seen since the begin or a loss."""
@@ -789,7 +840,8 @@ class Follower:
     def leave(self, line: Line, past: Past) -> None:
         """It leaves a processor."""
         khz = past.speed(line.processor)
-        if self.on is not None and self.on[0] == line.processor:
+        stood = self.on is not None and self.on[0] == line.processor
+        if self.on is not None and stood:
             self.jobs[-1].ran.append(Stretch(line.processor, self.on[2], line.time, khz))
         elif self.is_new() and not past.has_switched(line.processor):
             since = past.whole_since(line.time)
@@ -802,18 +854,21 @@ class Follower:
             self.vanish()
             self.awake(line.time)
             self.jobs[-1].missing = True
-        if line.state == "Sleeps":
-            self.jobs[-1].state, self.jobs[-1].at = "ended", line.time
-        self.on, self.woken = None, False
+        if line.state in ("Sleeps", "Exits"):
+            self.jobs[-1].state, self.jobs[-1].at, self.jobs[-1].exited = "ended", line.time, line.state == "Exits"
+        self.started = self.started if stood and line.state == "Sleeps" else None
+        self.on, self.woken, self.seen = None, False, True
 
     def come(self, line: Line) -> None:
         """It comes to a processor."""
         self.vanish()
         if self.asked.at_run and self.state() != "open":
             self.stir(line.time)
+        elif not self.asked.at_run and self.state() == "ended":
+            self.come_back(line.time)
         elif not self.asked.at_run:
             self.awake(line.time)
-        self.on, self.woken = (line.processor, line.time, line.time), False
+        self.on, self.woken, self.started, self.seen = (line.processor, line.time, line.time), False, None, True
 
     def cut(self, time: int, khz: Optional[int]) -> None:
         """Up to here it ran at this speed."""
@@ -830,7 +885,7 @@ class Follower:
                 job.state, job.at = "lost", min(job.at, since)
             elif job.state == "open" or job.at > since:
                 job.state, job.at = "lost", since
-        self.on, self.woken = None, False
+        self.on, self.woken, self.started, self.seen = None, False, None, False
 
     def take(self, line: Line, past: Past) -> None:
         """The next line, behind these."""
@@ -840,7 +895,7 @@ class Follower:
         elif line.kind == "speed" and self.on is not None and self.on[0] == line.of:
             self.cut(line.time, past.speed(line.of))
         elif line.kind == "wake" and mine[0] and not self.asked.at_run:
-            self.wake(line.time)
+            self.wake(line)
         elif line.kind == "switch":
             if mine[0]:
                 self.leave(line, past)
@@ -850,12 +905,18 @@ class Follower:
                 self.come(line)
 
 
-def jobs_of(number: int, lines: List[Line], asked: Asked) -> List[Job]:
-    """The jobs of a task."""
+def followed(number: int, count: List[Line], asked: Asked) -> Follower:
+    """A task's thread, behind these lines, which count."""
     follower = Follower(asked, number)
-    count = counting(lines, asked)
     for at, line in enumerate(count):
         follower.take(line, Past(count[:at], asked))
+    return follower
+
+
+def jobs_of(number: int, lines: List[Line], asked: Asked) -> List[Job]:
+    """The jobs of a task."""
+    count = counting(lines, asked)
+    follower = followed(number, count, asked)
     if follower.on is not None:
         follower.cut(shown_by(last_time(lines), asked).end, speed_of(follower.on[0], count, asked))
     return follower.jobs
@@ -974,7 +1035,7 @@ def shown_by(last: int, asked: Asked) -> Shown:
 def late_by(job: Job, due: int, end: int, asked: Asked) -> Optional[int]:
     """By how much a job is known to be late, where what is asked for and shown ends there."""
     shown = {"open": end, "ended": job.at}.get(job.state, min(job.at, end))
-    if due > end or (asked.begin is not None and due <= asked.begin):
+    if due > end or (asked.begin is not None and shown <= asked.begin):
         return None
     return shown - due if shown > due or (shown == due and job.state != "ended") else None
 
@@ -1209,10 +1270,10 @@ class Document:
     def check_missed(self) -> None:
         """With `--strict` the first job that doesn't stand."""
         for place, one in enumerate(self.judged, 1):
-            missed = bool(one.reason) and (one.late is not None or one.reason not in ("before from", "after to"))
+            missed = one.late is not None or one.reason not in ("before from", "after to") if one.reason else one.job.exited
             if self.asked.strict and missed:
-                raise Wrong(f"found job {place}: it doesn't stand as it is, and --strict is given; leave that out,"
-                            " or choose --from and --to around the job", 3, "document: strict")
+                raise Wrong(f"found job {place}: it doesn't stand as it is, or its thread was over with it, and --strict is given; leave that"
+                            " out, or choose --from and --to around the job", 3, "document: strict")
 
     def is_in_run(self, ran: Stretch) -> bool:
         """Whether a stretch is in a run."""
@@ -1246,6 +1307,8 @@ class Document:
         for one in self.judged:
             if not one.reason:
                 yield from self.shown_lines(one)
+            if not one.reason or one.late is not None:
+                yield from self.thread_lines(one)
         yield from self.left_out()
         yield from self.unwritten()
         for task, mine in zip(asked.tasks, self.by_task):
@@ -1284,6 +1347,13 @@ class Document:
         told = one.late is not None and (self.ended(one) <= due or self.shown_end(one) <= due)
         if one.job.state == "ended" and not told and (not one.runs or self.shown_end(one) < self.ended(one)):
             yield f"# ends: {one.called} {self.ended(one)}"
+
+    def thread_lines(self, one: Judged) -> Iterator[str]:
+        """The comments of a job with which its thread was over, and of one that went on behind a sleep without a wake-up."""
+        if one.job.exited:
+            yield f"# exited: {one.called}"
+        if one.job.slept is not None:
+            yield f"# went on behind a sleep without a wake-up: {one.called}"
 
     def left_out(self) -> Iterator[str]:
         """The comments of the jobs that are left out: the most frequent reason first."""

@@ -4,7 +4,8 @@
     python3 robustness/trace.py one SEED NUMBER [PROGRAM]     the trace of this number alone, with both texts
 
 It draws TRACES traces (1,000) by drawn.py, each with words, with words that have a mistake or name files, and with
-lines that are taken out of the order of their times (exchanged.py): five formats; threads that sleep, are preempted,
+lines that are taken out of the order of their times (exchanged.py), and as many of threads that are woken as they go to
+sleep, come back without a wake-up, are stopped, or are over: five formats; threads that sleep, are preempted,
 wait, starve and move among processors, with odd names; changes of speed at the stamp of a switch; fronts that are cut
 off, lost events, missing switches, each fault of a line, of its form, of a whole trace and of a document; `--from` and
 `--to`, of the clock and from the first line on; deadlines that are missed by a nanosecond; and one in eight in parts, and one in eight of all processors, of
@@ -28,7 +29,7 @@ from collections import Counter
 from pathlib import Path
 from typing import Dict, Iterator, List, NamedTuple, Set, Tuple
 
-from drawn import Drawn, decimal_text, drawn, every_processor, mistaken
+from drawn import Drawn, decimal_text, dozing, drawn, every_processor, mistaken
 from exchanged import exchanged
 from parted import SMALL, told_in_parts
 from second import (
@@ -69,6 +70,11 @@ WANTED = [
     *(f"document: {cause}" for cause in ("times", "work", "coarse speed", "no job", "strict")),
     *(f"word: {reason}" for reason in HELPS), "a time that counts from the first line", "no first line",
     *(f"late: {reason}" for reason in REASONS), *(f"left out: {reason}" for reason in REASONS + ["not ended", "after to"]),
+    "a wake-up that starts alone", "a wake-up that was done alone", "a wake-up in both halves", "a woken name with a mark inside",
+    "a job that begins as its thread goes to sleep, and one half tells", "a job that begins as its thread goes to sleep, and both halves tell",
+    "a job that goes on behind a sleep without a wake-up", "a job that is lost behind two such sleeps", "a job with which its thread was over",
+    "a thread is stopped", "a thread is traced", "a thread is dead", "a job that hangs over from", "a job that hangs over from, and isn't ended",
+    "comment exited", "comment went on",
     "a job as it is", "a job that moves, in time", "a job that moves, late", "a job that starves", "an overrun", "a job that is preempted",
     "a job that goes on after a sleep", "a job with several wake-ups", "late by nothing", "late by 1 ns", "late by less than a unit",
     "ends at its deadline", "a change of speed in a job", "a change of speed at the stamp of a switch", "equal stamps", "a wake-up and a switch of one stamp",
@@ -125,9 +131,28 @@ def in_trace(trace: bytes) -> Iterator[str]:
         yield "no line feed at the end"
     signs = {
         "lines end by CR LF": rb"\r\n", "a marker that looks like a switch": rb"note \[000\]", "a wake-up of a new thread": rb"wakeup_new",
-        "a wait for a disk": rb"(prev_state=|\] )D ", "a thread ends": rb"(prev_state=|\] )X ",
+        "a wait for a disk": rb"(prev_state=|\] )D ", "a thread ends": rb"(prev_state=|\] )X ", "a thread is dead": rb"(prev_state=|\] )[Zx] ",
+        "a thread is stopped": rb"(prev_state=|\] )(T|4) ", "a thread is traced": rb"(prev_state=|\] )(t|8) ",
     }
     yield from (name for name, sign in signs.items() if re.search(sign, trace))
+    yield from in_wake_ups(lines)
+
+
+def in_wake_ups(lines: List[bytes]) -> Iterator[str]:
+    """What its wake-ups show: of a thread's name, which half is told next to which."""
+    woken = [mark for mark in (re.search(rb" sched_(wak\w+): (?:comm=)?(.*?)(?: pid=| ?:)[0-9]+ (?:prio=[0-9]+ t|\[[0-9]+\] C)", line) for line in lines) if mark]
+    if any(re.search(rb" pid=[0-9]+ prio=|:[0-9]+ \[[0-9]+\]", mark[2]) for mark in woken):
+        yield "a woken name with a mark inside"
+    before: Dict[bytes, bytes] = {}
+    for mark in woken:
+        last = before.get(mark[2])
+        if mark[1] == b"wakeup" and last == b"waking":
+            yield "a wake-up in both halves"
+        elif mark[1] == b"wakeup":
+            yield "a wake-up that was done alone"
+        elif last == b"waking":
+            yield "a wake-up that starts alone"
+        before[mark[2]] = mark[1]
 
 
 def in_job(one: Judged, unit: int) -> Iterator[str]:
@@ -149,6 +174,10 @@ def in_job(one: Judged, unit: int) -> Iterator[str]:
         "a job that goes on after a sleep": one.job.again > 0,
         "a job with several wake-ups": one.job.wakes > 0,
         "a job that is followed just APART after its begin": one.job.just_apart,
+        f"a job that begins as its thread goes to sleep, {one.job.raced}": one.job.raced.startswith("and"),
+        "a job that goes on behind a sleep without a wake-up": one.job.slept is not None and one.job.state != "lost",
+        "a job that is lost behind two such sleeps": one.job.raced == "twice",
+        "a job with which its thread was over": one.job.exited,
         "late by nothing": late == 0,
         "late by 1 ns": late == 1,
         "late by less than a unit": late is not None and 0 < late < unit,
@@ -158,9 +187,15 @@ def in_job(one: Judged, unit: int) -> Iterator[str]:
     yield from (name for name, holds in signs.items() if holds)
 
 
+def over_from(one: Judged, asked: Asked) -> Iterator[str]:
+    """Whether a job was due before `from`, and is open behind it."""
+    if one.late is not None and asked.begin is not None and one.due <= asked.begin:
+        yield "a job that hangs over from" if one.job.state == "ended" else "a job that hangs over from, and isn't ended"
+
+
 def in_text(text: str) -> Iterator[str]:
     """Which comments a document has."""
-    kinds = "part|other|late, without its runs|late on another processor|late by less|late in a run|late|not ended|begins|ends|left out|[0-9]+ stretch|[0-9]+ wake|the deadline of|APART of|places where events were lost|switches of other threads|lines that programs wrote|no line for"
+    kinds = "part|other|late, without its runs|late on another processor|late by less|late in a run|late|not ended|begins|ends|left out|[0-9]+ stretch|[0-9]+ wake|the deadline of|APART of|places where events were lost|switches of other threads|lines that programs wrote|no line for|exited|went on"
     for mark in re.finditer(f"^# (?:up to here, )?({kinds})", text, re.M):
         yield "comment " + re.sub("[0-9]+ ", "", mark[1])
 
@@ -241,6 +276,7 @@ def things(words: List[str], trace: bytes, said: Told) -> Set[str]:
         found.update(in_others(document))
         for one in document.judged:
             found.update(in_job(one, document.asked.unit))
+            found.update(over_from(one, document.asked))
     return found
 
 
@@ -343,11 +379,14 @@ def drawn_cases(seed: int, number: int, counts: "Counter[str]") -> List[Case]:
         found |= {*in_words(wrong), *([wrong_said.kind] if wrong_said.status in (0, 2) else [])}
     if files_in(wrong):
         found.add("a trace in files")
+    doze = dozing(seed, number)
+    doze_said = told(doze.words, doze.trace)
+    found |= things(doze.words, doze.trace, doze_said)
     other = exchanged(seed, number, it)
     other_said = told(other.words, other.trace)
     counts.update(found | out_of_order(other.words, other.trace, other_said))
     return [Case(it.words, it.trace, said.text, said.status), Case(wrong, it.trace, wrong_said.text, wrong_said.status),
-            Case(other.words, other.trace, other_said.text, other_said.status)]
+            Case(other.words, other.trace, other_said.text, other_said.status), Case(doze.words, doze.trace, doze_said.text, doze_said.status)]
 
 
 def lay_out(top: Path) -> Path:

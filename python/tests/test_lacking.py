@@ -101,7 +101,7 @@ class VerdictTest(unittest.TestCase):
         ]:
             with self.subTest(comments):
                 found = asked("misses", given=document(comments))
-                self.assertEqual((found.status, found.out.splitlines()), (0, wanted))
+                self.assertEqual((found.status, found.out.splitlines()), (8 if wanted[-1] == far else 0, wanted))
 
     def test_misses_beside_a_miss(self) -> None:
         found = asked("misses", given=document(ALL, late=True))
@@ -217,7 +217,7 @@ class PartsTest(unittest.TestCase):
             ends = [text.splitlines()[-1] for text in (first, last)]
             self.assertEqual(ends, ["# 1 job written, none left out", "# 1 job written, 1 left out"])
             for text in (first, last):
-                self.assertEqual((asked("misses", given=text).status, asked("jobs", given=text).status), (0, 0))
+                self.assertEqual((asked("misses", given=text).status, asked("jobs", given=text).status), (8, 0))
             self.assertEqual([page_of(text).ids["verdict"].attributes["class"] for text in (first, last)], ["open", "open"])
         with_one_taken_away = [line for line in lines if b"a.0" not in line]
         self.assertEqual(list(parts.cut(with_one_taken_away, 1))[0].text.decode().splitlines()[-1], "# 2 jobs written, 1 left out")
@@ -254,7 +254,7 @@ class PartsTest(unittest.TestCase):
     def test_misses_of_a_long_document(self) -> None:
         with mock.patch("yds._judged.MOST_JOBS", 1):
             found = asked("misses", given=document(ALL))
-        self.assertEqual((found.status, found.out.splitlines()[-1]), (0, "feasible as far as the trace shows"))
+        self.assertEqual((found.status, found.out.splitlines()[-1]), (8, "feasible as far as the trace shows"))
 
     def test_split_keeps_them(self) -> None:
         told = "".join(f"{text}\n" for text in UP_TO_HERE)

@@ -95,7 +95,23 @@ class MissedOfPartsTest(unittest.TestCase):
         put = parts.whole(holes, answers)
         told = [b"# 1 job has no work: it needs nothing and is in time, the first a.1\n"]
         told += [b"# places where events were lost: 1: whole jobs may have been there\n", b"feasible as far as the trace shows\n"]
-        self.assertEqual((put.yes, list(put.lines)), (True, told))
+        self.assertEqual((put.yes, put.is_open, list(put.lines)), (True, True, told))
+        self.assertFalse(parts.whole(texts, [b"feasible\n"] * 2).is_open)
+
+    def test_what_is_not_known_of_all_parts(self) -> None:
+        left = "# left out: a.%d (not ended)\n# left out: 2 jobs of b (events lost), the first b.%d, the last b.9\n"
+        first = "job a.0 0 9 12\nticks 1\nrun a.0 3 6 4\n# exited: a.0\n"
+        second = "job a.1 0 9 12\nticks 1\nrun a.1 3 6 4\n# exited: a.1\n"
+        texts = [part(1, 0, first + left % (7, 1)), part(2, 9, second + left % (8, 3), True)]
+        answers = ["".join(f"{line}\n" for line in misses(text)[1]).encode() for text in texts]
+        self.assertIn(b"# 3 jobs are left out whose begin or end isn't known, the first a.8: ", answers[1])
+        put = parts.whole(texts, answers)
+        told = [
+            b"# 6 jobs are left out whose begin or end isn't known, the first a.7: it isn't known whether they were in time\n",
+            b"# 2 jobs were ended as their threads were over, the first a.0: perhaps before their work was done\n",
+            b"feasible as far as the trace shows\n",
+        ]
+        self.assertEqual((put.yes, put.is_open, list(put.lines)), (True, True, told))
 
     def test_what_is_no_answer_to_the_part(self) -> None:
         text = part(1, 0, "job a.0 0 9 12\nticks 1\nrun a.0 9 12 4\n", True)

@@ -22,6 +22,7 @@ from yds._comments import (
 )
 from yds._priced import decimal
 from yds._text import Comment, Fault, Job, Line, Point, Row, Rows, Slot, Ticks, base, counted
+from yds._unknown import OfThread, of_thread
 
 BEFORE = "before from"
 """The reason of a job that began before the time from which on the trace was asked for."""
@@ -61,6 +62,8 @@ class Trace(NamedTuple):
     ends: Ends
     runs: List[Run]
     points: List[str]
+    threads: List[OfThread]
+    """What is told of the threads of jobs."""
     comments: List[str]
     """The comments that tell nothing of single jobs."""
 
@@ -140,6 +143,7 @@ class _Reading:
         self._notes: List[Note] = []
         self._groups: List[LeftOut] = []
         self._runs: List[Run] = []
+        self._threads: List[OfThread] = []
         self._comments: List[str] = []
         self._ticks: Optional[int] = None
         self._head = "a kernel trace"
@@ -154,13 +158,15 @@ class _Reading:
             self._head = head.group(1)
         if self._ends.take(row.text) or _OF_JOBS(row.text) or _OF_UNITS(row.text):
             return
-        note, group = note_of(row.text), left_out_jobs(row.text)
+        note, group, thread = note_of(row.text), left_out_jobs(row.text), of_thread(row.text)
         if note is not None and _SHARE(note.job):
             raise row.line.fault(_of_share(note.job))
         if group is not None and _NUMBERED(group.first) and _NUMBERED(group.last):
             self._groups.append(group)
         elif note is not None and (note.job in self._jobs or _NUMBERED(note.job)):
             self._notes.append(note)
+        elif thread is not None:
+            self._threads.append(thread)
         else:
             self._comments.append(row.line.text)
 
@@ -198,7 +204,7 @@ class _Reading:
             )
         return Trace(
             *(self._head, self._clock, khz, self._ticks, self._jobs, self._notes, self._groups),
-            *(self._ends, self._runs, self.points, self._comments),
+            *(self._ends, self._runs, self.points, self._threads, self._comments),
         )
 
 
@@ -554,6 +560,7 @@ class _Written:
         """What is known of jobs, and what isn't here."""
         yield from self._judged.notes
         yield from self._begins_and_ends(jobs)
+        yield from self._of_threads()
         yield from self._judged.left
         yield from self._together()
         yield from self._unplaced(jobs)
@@ -593,6 +600,12 @@ class _Written:
             for kind, known, job in (("begins", self._trace.ends.begin, first), ("ends", self._trace.ends.end, last)):
                 if job[frame] in known:
                     yield f"# {kind}: {frame} {known[job[frame]] - self._by.zero}"
+
+    def _of_threads(self) -> Iterator[str]:
+        """What threads did with jobs that are here."""
+        names = {**self._names, **{job.name: frame for frame, job in self._placed.gone}}
+        told = [f"# {one.kind}: {names[one.job]}" for one in self._trace.threads if one.job in names]
+        yield from dict.fromkeys(told)
 
     def _unplaced(self, jobs: Sequence[Told]) -> Iterator[str]:
         """What has no place."""

@@ -10,6 +10,7 @@ from yds._lacking import Lacking
 from yds._missed import Mended, Miss, Reading, Told
 from yds._program import Answer, of_library
 from yds._text import Fault, Line, Rows, UnitsFault
+from yds._unknown import Unknown
 
 _NO = 1
 
@@ -28,6 +29,13 @@ class Misses(NamedTuple):
     """What audit says of it."""
     lacking: Lacking
     """What the trace lacks: where events were lost, or no line tells of some time, whole jobs may have been."""
+    unknown: Unknown
+    """The jobs of which it isn't known whether they were in time."""
+
+    @property
+    def may_hide(self) -> bool:
+        """Whether a deadline may be missed that isn't told."""
+        return self.lacking.may_hide or self.unknown.may_hide
 
 
 def misses(lines: Iterable[Line], answer: Optional[Answer] = None) -> Misses:
@@ -59,7 +67,7 @@ def misses(lines: Iterable[Line], answer: Optional[Answer] = None) -> Misses:
     missed += told.by_comments(missed)
     held = reading.held
     workless = [job.name for job in held.workless()]
-    return Misses(missed, len(held.jobs), workless, status, verdict, reading.lacking)
+    return Misses(missed, len(held.jobs), workless, status, verdict, reading.lacking, reading.unknown)
 
 
 def _copied(lines: Iterable[Line], kept: IO[bytes]) -> Iterator[Line]:
@@ -76,7 +84,7 @@ def _of_the_faulty(fault: Fault, reading: Reading, rest: Iterable[Line], kept: I
     status, verdict = _audit(reading, kept, answer)
     if not status:
         raise fault
-    return Misses([], len(reading.held.jobs), [], status, verdict, reading.lacking)
+    return Misses([], len(reading.held.jobs), [], status, verdict, reading.lacking, reading.unknown)
 
 
 def _is_miss(verdict: str) -> bool:

@@ -8,6 +8,7 @@ from yds._comments import HIDDEN, LEFT_OUT, LESS_THAN_UNIT, NOT_ENDED, WITHOUT_R
 from yds._held import Held, HeldJob, Moment, is_before
 from yds._lacking import Lacking
 from yds._text import Comment, Job, Line, Row, Rows, Slot, Ticks
+from yds._unknown import Unknown
 
 
 class Miss(NamedTuple):
@@ -27,6 +28,7 @@ class Reading:
         self.ticks = 1
         self.notes: List[Note] = []
         self.lacking = Lacking()
+        self.unknown = Unknown()
 
     def rows(self, rows: Rows) -> Iterator[Row]:
         """The rows, passed on once they are read here."""
@@ -39,6 +41,7 @@ class Reading:
             self.clock.take(row.text)
             self.ends.take(row.text)
             self.lacking.take(row.text)
+            self.unknown.take(row.text)
             note, moved = note_of(row.text), moved_of(row.text)
             if note is not None and note.late is not None:
                 self.notes.append(note)

@@ -11,6 +11,8 @@ from yds._heads import lines_of
 from yds._lacking import AS_FAR, lack_of, of_parts
 from yds._spelled import moved
 from yds._text import counted
+from yds._unknown import is_told
+from yds._unknown import of_parts as unknown_of_parts
 
 _LATE = re.compile(rb"late slot ([0-9]+) ([^ ]+) ([0-9]+(?:\+[0-9]+/[0-9]+)?) deadline ([0-9]+)(, .*)").fullmatch
 _TOLD = re.compile(rb"(?:work [^ ]+ given|[a-z ,]+: [^ ]+) .*|[a-z ,]+: [^ ]+").fullmatch
@@ -31,6 +33,13 @@ class MissedOfParts:
         for place in range(len(answers.parts)):
             self._read(place)
         answers.stop_at_faults()
+        self._lacking = of_parts(answers.parts).whole()
+        self._unknown = unknown_of_parts(answers.parts)
+
+    @property
+    def is_open(self) -> bool:
+        """Whether no deadline is known to be missed, and the trace doesn't show enough for a yes."""
+        return not self.misses and (self._lacking.may_hide or self._unknown.may_hide)
 
     def _read(self, place: int) -> None:
         *lines, last = (line.rstrip(b"\n") for line in lines_of(self._answers.answers[place]))
@@ -51,7 +60,8 @@ class MissedOfParts:
         if found is not None:
             self._workless += int(found.group(1))
             self._first_workless = self._first_workless or found.group(2).decode("latin-1")
-        return found is not None or lack_of(line.decode("latin-1")) is not None
+        text = line.decode("latin-1")
+        return found is not None or lack_of(text) is not None or is_told(text)
 
     def _miss(self, place: int, line: bytes, numbers: List[int]) -> Optional[bytes]:
         """The line with the slot's number and the times of the whole; None where it can't be read."""
@@ -79,10 +89,9 @@ class MissedOfParts:
 
     def lines(self) -> List[bytes]:
         """The lines of the whole."""
-        lacking = of_parts(self._answers.parts).whole()
         told = [workless(self._workless, self._first_workless)] if self._workless else []
-        told += lacking.beside_verdict()
-        met = "feasible" + (AS_FAR if lacking.may_hide else "")
+        told += [*self._unknown.beside_verdict(), *self._lacking.beside_verdict()]
+        met = "feasible" + (AS_FAR if self.is_open else "")
         count = len(self.misses)
         end = counted(count, "missed deadline", "missed deadlines") if count else met
         return [*self.misses, *(text.encode("latin-1") for text in [*told, end])]

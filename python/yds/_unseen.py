@@ -10,6 +10,7 @@ from yds._heads import closing
 from yds._lacking import CLOCK, HOLES, JUMPED, MARKERS, NOT_JUDGED, NOT_WHOLE, SWITCHES, lack_of
 from yds._text import counted
 from yds._timeline import task_of
+from yds._unknown import EXITED, OfThread, of_thread
 
 
 class Unjudged(NamedTuple):
@@ -107,18 +108,27 @@ def _others(comments: Iterable[str]) -> List[Unjudged]:
     found: List[Unjudged] = []
     lacking: Dict[str, Unjudged] = {}
     for text in comments:
-        refused, not_due, lack = _REFUSED(text), _NOT_DUE(text), lack_of(text)
+        refused, not_due, lack, thread = _REFUSED(text), _NOT_DUE(text), lack_of(text), of_thread(text)
         if refused is not None:
             found.append(Unjudged(f"refused by admit: {refused.group(1)}", True, "it isn't served at all", 1))
         elif not_due is not None:
             found.append(Unjudged(text[2:], True, "these jobs aren't in the document"))
         elif lack is not None:
             lacking[lack.kind] = Unjudged(lack.told, *_OF_LACKS[lack.kind])
+        elif thread is not None:
+            found.append(_of_its_thread(text, thread))
         elif _WRONG_UNIT(text):
             found.append(Unjudged(text[2:], True, "in another unit each job may be in time, or late"))
         elif _SHORT(text):
             found.append(Unjudged(text[2:], False, "a job that was late in one is told"))
     return [*found, *lacking.values()]
+
+
+def _of_its_thread(text: str, thread: OfThread) -> Unjudged:
+    """What a job's thread did that no run shows."""
+    if thread.kind == EXITED:
+        return Unjudged(text[2:], True, "its thread was over, perhaps before the job was done")
+    return Unjudged(text[2:], False, "it is one job, from its wake-up on")
 
 
 def _by_count(comments: Iterable[str], jobs: int) -> List[Unjudged]:

@@ -23,6 +23,8 @@ class Whole(NamedTuple):
     """Its lines."""
     told: Tuple[str, ...]
     """The answers of no, each with its part."""
+    is_open: bool = False
+    """Whether deadlines are met as far as the trace shows, which isn't a yes to all jobs."""
 
 
 def put_together(parts: Sequence[Text], answers: Sequence[Text], grid: Optional[int]) -> Whole:
@@ -42,7 +44,8 @@ def put_together(parts: Sequence[Text], answers: Sequence[Text], grid: Optional[
         return Whole(line == b"feasible", iter([text + b"\n" for text in [*beside, line]]), tuple(given.told))
     if given.family == "misses":
         missed = MissedOfParts(given)
-        return Whole(not missed.misses, iter([line + b"\n" for line in missed.lines()]), tuple(given.told))
+        lines = iter([line + b"\n" for line in missed.lines()])
+        return Whole(not missed.misses, lines, tuple(given.told), missed.is_open)
     if given.family == "energies":
         sides = Sides(given, grid)
         return Whole(not sides.missed, sides.lines(), tuple(given.told))

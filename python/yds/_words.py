@@ -25,7 +25,7 @@ from typing import Any, Callable, List, NamedTuple, NoReturn, Optional, Sequence
 from yds._progress import Progress
 from yds._version import DATE, VERSION
 
-DONE, NO, WORDS = 0, 1, 2
+DONE, NO, WORDS, OPEN = 0, 1, 2, 8
 """The statuses: done; a fault of the input or an answer of no; a fault of the words."""
 WIDTH = 120
 CLOSED = 128 + signal.SIGPIPE

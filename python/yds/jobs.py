@@ -26,6 +26,7 @@ from yds._lacking import Lacking
 from yds._missed import Miss
 from yds._priced import Prices, Sum, speed_text
 from yds._text import Comment, Fault, Job, Line, Point, Row, Rows, Slot, Ticks
+from yds._unknown import Unknown
 
 __all__ = ["JobRow", "Jobs", "Miss", "Misses", "Moved", "Number", "late_moved", "misses", "table"]
 
@@ -63,6 +64,8 @@ class Jobs(NamedTuple):
     """The names of the jobs in the document that have no work."""
     lacking: Lacking
     """What the trace lacks: where events were lost, or no line tells of some time, whole jobs may have been."""
+    unknown: Unknown
+    """The jobs of which it isn't known whether they were in time."""
 
 
 _REFUSED = re.compile(r"# refuse ([^ ]+) from [0-9]+ to [0-9]+ work ").match
@@ -78,6 +81,7 @@ class _Reading:
         self.clock = Clock()
         self.ends = Ends()
         self.lacking = Lacking()
+        self.unknown = Unknown()
         self.ticks: Optional[int] = None
         self.order: List[Union[HeldJob, Note]] = []
         self.notes: Dict[str, Note] = {}
@@ -110,6 +114,7 @@ class _Reading:
     def _take_comment(self, row: Comment) -> None:
         self.clock.take(row.text)
         self.lacking.take(row.text)
+        self.unknown.take(row.text)
         moved = moved_of(row.text)
         if moved is not None:
             self.held.take_moved(*moved)
@@ -162,7 +167,8 @@ def table(rows: Iterable[Row], microseconds: Optional[int] = None) -> Jobs:
         reading.clock.unit = microseconds
     filled = _Filled(reading)
     workless = [job.name for job in reading.held.workless()]
-    return Jobs([filled.row(one) for one in reading.order], reading.clock, workless, reading.lacking)
+    rows_of = [filled.row(one) for one in reading.order]
+    return Jobs(rows_of, reading.clock, workless, reading.lacking, reading.unknown)
 
 
 class _Filled:

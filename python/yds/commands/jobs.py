@@ -150,7 +150,7 @@ class Shown:
             told.append(f"# times in units of {self._unit} us")
         if self._found.workless:
             told.append(workless(len(self._found.workless), self._found.workless[0]))
-        told += self._found.lacking.beside_verdict()
+        told += [*self._found.unknown.of_exits(), *self._found.lacking.beside_verdict()]
         return told + [
             "".join([row[0].ljust(widths[0]), *(cell.rjust(width + 2) for cell, width in zip(row[1:], widths[1:]))])
             for row in rows

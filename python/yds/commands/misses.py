@@ -9,7 +9,7 @@ from yds._comments import workless
 from yds._lacking import AS_FAR
 from yds._program import of_environment
 from yds._text import Fault, counted, lines
-from yds._words import DONE, NO, Command, Files, Given, run
+from yds._words import DONE, NO, OPEN, Command, Files, Given, run
 from yds.jobs import misses
 
 COMMAND = Command(
@@ -36,16 +36,17 @@ comment tells how many jobs have no work, as where all runs of a job are shorter
 in time. Numbers are in the document's units. Where its comments tell the trace's clock, `# due at` is the deadline on
 it.
 
-Where the document tells that events were lost, or that for more than a second no line tells anything, whole jobs may
-have been there: a comment above the last line says so, and the last line isn't `feasible`, but `feasible as far as the
-trace shows`. The status is then 0, as no deadline is known to be missed; who wants to know that nothing was lost looks
-at the last line.
+Some documents don't show enough for a yes: jobs were left out since their begins or their ends aren't known, a thread
+was over with its job, perhaps before its work was, events were lost, or for more than a second no line tells anything,
+so that whole jobs may have been there. Comments above the last line say so. Where no deadline is known to be missed,
+the last line isn't `feasible` then, but `feasible as far as the trace shows`, and the status is 8.
 
 The verdicts are those of the program that the environment's YDS names, or of the library, or of yds_cli.
 """,
     files=Files("DOCUMENT", 0, 1),
-    statuses="0 every deadline is met of the jobs that the document has; 1 some aren't, the slots have another fault, "
-    "the document is refused, there is no job, or a fault in the input; 2 a fault of the words.",
+    statuses="0 every deadline is met, and nothing is left out that could hide a miss; 1 some aren't, the slots have "
+    "another fault, the document is refused, there is no job, or a fault in the input; 2 a fault of the words; 8 every "
+    "deadline is met as far as the trace shows.",
 )
 
 
@@ -64,15 +65,15 @@ def tell(given: Given, write: Callable[[str], None]) -> int:
         write(miss.text)
     if found.workless:
         write(workless(len(found.workless), found.workless[0]))
-    for text in found.lacking.beside_verdict():
+    for text in [*found.unknown.beside_verdict(), *found.lacking.beside_verdict()]:
         write(text)
     if found.status != DONE:
         write(found.verdict or f"audit has no answer, and ended with the status {found.status}")
         return NO
     missed = len(found.missed)
-    met = found.verdict + (AS_FAR if found.lacking.may_hide else "")
+    met = found.verdict + (AS_FAR if found.may_hide else "")
     write(counted(missed, "missed deadline", "missed deadlines") if missed else met)
-    return NO if missed else DONE
+    return NO if missed else OPEN if found.may_hide else DONE
 
 
 if __name__ == "__main__":

@@ -11,7 +11,7 @@ from yds import parts
 from yds._lacking import of_parts
 from yds._program import of_environment
 from yds._progress import beside
-from yds._words import DONE, NO, Command, Files, Given, Option, WordsError, run
+from yds._words import DONE, NO, OPEN, Command, Files, Given, Option, WordsError, run
 
 COMMAND = Command(
     "yds-whole",
@@ -31,7 +31,8 @@ bounds: of the least energy, and of Average Rate's where its run of all jobs rou
 
 Parts of a trace tell where events were lost, and of a time of which no line tells. Each tells it of the trace up to its
 own end, so what the last one tells holds: it stands in comments above the verdict of audit and above the last line of
-yds-misses, and behind energies.
+yds-misses, and behind energies. Jobs of which it isn't known whether they were in time are those of all parts: a
+comment above the last line of yds-misses tells them.
 
     yds-whole --bounds --spent energies.txt parts/part-*.txt
 
@@ -47,8 +48,8 @@ jobs, else the library.
         Option("spent", "with --bounds: a file with lines `SIDE energy E` for the whole", "ENERGIES"),
     ],
     Files("FILE", 1),
-    "0 done; 1 a verdict of no, too slow, deadlines missed, or a part without an answer; 2 a fault of the words. Where "
-    "a part has no answer, the last line is `failed`.",
+    "0 done; 1 a verdict of no, too slow, deadlines missed, or a part without an answer; 2 a fault of the words; 8 of "
+    "yds-misses, every deadline is met as far as the trace shows. Where a part has no answer, the last line is `failed`.",
     writes_document=True,
     streams=True,
 )
@@ -79,7 +80,7 @@ def whole(given: Given, write: Callable[[str], None]) -> int:
         beside(f"yds-whole: {text}\n")
     for line in told.lines:
         write(line.decode("latin-1")[:-1])
-    return DONE if told.yes else NO
+    return OPEN if told.is_open else DONE if told.yes else NO
 
 
 def bound(files: Sequence[Path], spent: Optional[str], write: Callable[[str], None]) -> int:
