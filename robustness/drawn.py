@@ -76,6 +76,7 @@ class Drawing:
         self.rewoken = True
         self.halves = [(event,) for event in WAKE_UPS]
         self.odds: Dict[str, float] = {}
+        self.called: Dict[bytes, bytes] = {}
         self.grain = draw.choice([1, 1, 1_000])
         self.on: Dict[int, bytes] = {}
         self.time = draw.randrange(10**6) * 1_000
@@ -120,6 +121,7 @@ class Drawing:
     def tell_switch(self, processor: int, before: bytes, state: bytes, after: bytes) -> None:
         """A switch."""
         one, two = self.pid(before), self.pid(after)
+        before, after = self.called.get(before, before), self.called.get(after, after)
         if self.form == "short":
             text = b"%s:%d [120] %s ==> %s:%d [98]" % (before, one, state, after, two)
         else:
@@ -205,6 +207,7 @@ class Drawing:
     def tell_wake(self, event: bytes, name: bytes, processor: int) -> None:
         """One half of a wake-up."""
         pid = self.pid(name)
+        name = self.called.get(name, name)
         short = b"%s:%d [120] CPU:%03d" % (name, pid, processor)
         text = short if self.form == "short" else b"comm=%s pid=%d prio=120 target_cpu=%03d" % (name, pid, processor)
         self.write(self.draw.randrange(self.processors), event, text)
@@ -212,6 +215,8 @@ class Drawing:
     def step(self) -> None:
         """Something happens."""
         self.time += self.draw.choice(self.steps) // self.grain * self.grain
+        if self.chance("rename"):
+            self.called[self.draw.choice([*self.listed, b"other"])] = self.draw.choice([b"new", b"new", b"audio", *self.listed])
         processor, drawn = self.draw.randrange(self.processors), self.draw.random()
         sleeping = [name for name in self.threads if self.state[name] == "sleeps"]
         if drawn < 0.3 and sleeping:
@@ -1010,13 +1015,23 @@ def marked(it: Drawing) -> None:
     usual(it, 0.3)
 
 
+def renamed(it: Drawing) -> None:
+    """Threads get other names, which may be those of other tasks."""
+    it.odds = {"rename": it.draw.choice([0.02, 0.1]), "race": 0.1}
+    it.rewoken = it.draw.random() < 0.3
+    for wish in it.wishes:
+        is_label = re.fullmatch(b"[!-~]{1,53}", wish.name) is not None
+        wish.by_number = not is_label or (wish.by_number and it.draw.random() < 0.5)
+    usual(it, 0.3)
+
+
 def mixed(it: Drawing) -> None:
     """All of these, with lines that are missing, a front that is cut off, or lost events."""
     it.odds = {"race": 0.2, "second half": 0.5, "signal": 0.05, "stop": 0.3, "exit": 0.02, "again": 0.3}
     it.draw.choice([anything, fronted, missing, torn, moving, sharing])(it)
 
 
-DOZES: List[Callable[[Drawing], None]] = [racing, signalled, unwoken_often, stopping, exiting, hanging, marked, mixed]
+DOZES: List[Callable[[Drawing], None]] = [racing, signalled, unwoken_often, stopping, exiting, hanging, marked, renamed, mixed]
 
 
 def dozing(seed: int, number: int) -> Drawn:

@@ -221,7 +221,7 @@ def faulty(it: Drawing) -> None:
 
     def edit(lines: List[bytes]) -> None:
         at = it.draw.randrange(len(lines) // 4, len(lines))
-        way = it.draw.choice([0, 1, 2, 2, 2, 3, 4])
+        way = it.draw.choice([0, 1, 2, 2, 2, 3, 4, 5])
         if way == 0:
             lines[at] = re.sub(rb" [0-9]+\.", b" 1.", lines[at], count=1)
         elif way == 1:
@@ -230,8 +230,10 @@ def faulty(it: Drawing) -> None:
             lines[at] = lines[at].replace(b" prev_prio=", b" prev_pri=").replace(b" prio=", b" pri=")
         elif way == 3:
             lines[at] = re.sub(rb"prev_state=\w", b"prev_state=q", lines[at])
-        else:
+        elif way == 4:
             lines[at] = re.sub(rb"(decode \w*pid=)10", rb"\g<1>99", lines[at])
+        else:
+            lines[at:] = [line.replace(b"=decode ", b"=decoder ") for line in lines[at:]]
 
     it.edits.append(edit)
 

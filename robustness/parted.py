@@ -193,13 +193,13 @@ class Parts:
         if self.asked.is_two(thread):
             return "tasks"
         task = self.asked.task_of(thread)
-        if task is None:
-            return None
-        before = self.threads.get(task)
+        before = None if task is None else self.threads.get(task)
         if before is not None and before != thread.pid:
             return "threads"
-        jobs = self.followers[task].jobs
-        return "exited" if jobs and jobs[-1].exited else None
+        jobs = [] if task is None else self.followers[task].jobs
+        if jobs and jobs[-1].exited:
+            return "exited"
+        return "renamed" if before is None and thread.pid in self.threads.values() else None
 
     def is_unwoken(self, thread: Thread) -> bool:
         """Whether a thread that comes now left to sleep twice in its job, and no wake-up ended either sleep."""

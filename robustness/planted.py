@@ -42,7 +42,7 @@ MISTAKES = [
         ('if name == b"sched_switch:".as_slice() {', 'if name == b"sched_switch:".as_slice() || is_marker(name) {'),)),
     Mistake("a_wait_for_a_disk_taken_for_a_sleep", "yds_kernel/src/state.rt", (("                || *first == b'D'\n", ""),)),
     Mistake("new_threads_not_woken", "yds_kernel/src/kind.rt", (
-        ('        || name == b"sched_wakeup_new:".as_slice()\n', ""),)),
+        (' || name == b"sched_wakeup_new:".as_slice()\n', "\n"),)),
     Mistake("a_fraction_without_its_places", "yds_kernel/src/find.rt", (
         ("        6 => parts * 1_000,", "        6 => parts,"),)),
     Mistake("a_last_line_cut_short_passed_over", "yds_kernel/src/read.rt", (
@@ -73,8 +73,10 @@ MISTAKES = [
     Mistake("late_at_its_deadline", "yds_trace_document/src/judge.rt", (("&& (deadline < until ||", "&& (deadline <= until ||"),)),
     Mistake("open_at_its_deadline_in_time", "yds_trace_document/src/judge.rt", (
         ("|| (deadline == until && is_open(end)))", "|| (deadline < until && is_open(end)))"),)),
-    Mistake("a_deadline_at_from_judged", "yds_trace_document/src/judge.rt", (
-        ("from < deadline && deadline <= last", "from <= deadline && deadline <= last"),)),
+    Mistake("an_end_at_from_judged", "yds_trace_document/src/judge.rt", (
+        ("from < shown && deadline <= last", "from <= shown && deadline <= last"),)),
+    Mistake("due_before_from_not_judged", "yds_trace_document/src/judge.rt", (
+        ("from < shown && deadline <= last", "from < shown && from < deadline && deadline <= last"),)),
     Mistake("moves_to_greater_processors_passed_over", "yds_trace_document/src/judge.rt", (
         (".any(|stretch| stretch.processor != processor)", ".any(|stretch| stretch.processor < processor)"),)),
     Mistake("times_rounded_up", "yds_trace_document/src/units.rt", (
@@ -138,6 +140,49 @@ MISTAKES = [
         ("        own: !has_own(asked, waiting),\n", "        own: has_own(asked, waiting) || !has_own(asked, waiting),\n"),), "all"),
     Mistake("a_closed_place_behind_jobs_of_others_alone", "yds_trace_parts/src/place.rt", (
         ("            own: self.own || own,\n", "            own: self.own || is_written(judged),\n"),), "all"),
+    # Sleeps, wake-ups, stops and exits.
+    Mistake("a_stopped_thread_taken_for_a_sleeping_one", "yds_kernel/src/state.rt", (("                || *first == b'T'\n", ""),)),
+    Mistake("a_traced_thread_taken_for_a_sleeping_one", "yds_kernel/src/state.rt", (("                || *first == b't'\n", ""),)),
+    Mistake("an_exit_of_older_kernels_taken_for_a_sleep", "yds_kernel/src/state.rt", (("                || *first == b'x'\n", ""),)),
+    Mistake("an_exit_with_a_plus_taken_for_a_preemption", "yds_kernel/src/state.rt", (
+        ("        } else if is_over(text) {\n            State::Exits\n        } else if goes_on(text) {\n            State::GoesOn\n",
+         "        } else if goes_on(text) {\n            State::GoesOn\n        } else if is_over(text) {\n            State::Exits\n"),)),
+    Mistake("the_first_mark_in_a_wake_up", "yds_kernel/src/form.rt", (
+        ("    let (place, marked) = last_marked(mark, text)?;\n", "    let (place, marked) = first_marked(mark, text)?;\n"),)),
+    Mistake("a_second_half_of_its_own_time", "yds_trace/src/known.rt", (
+        ("        Some(before) if !starts => before,\n", "        Some(before) if !starts => before.max(time),\n"),)),
+    Mistake("a_first_half_of_the_time_of_the_one_before", "yds_trace/src/known.rt", (
+        ("        Some(before) if !starts => before,\n        Some(_) | None => time,\n",
+         "        Some(before) if !starts || before < time => before,\n        Some(_) | None => time,\n"),)),
+    Mistake("a_wake_up_forgotten_as_its_thread_goes_to_sleep", "yds_trace/src/known.rt", (
+        ("            started: if state == State::Sleeps {\n", "            started: if state == State::Exits {\n"),)),
+    Mistake("a_wake_up_that_was_done_not_forgotten", "yds_trace/src/known.rt", (
+        ("        self.woken.started = starts.then_some(time);\n", "        self.woken.started = Some(begin);\n"),)),
+    Mistake("a_sleep_without_a_wake_up_ends_its_job", "yds_trace/src/jobs.rt", (
+        ("        (None, None) => put(job.went_on(end), jobs),\n",
+         "        (None, None) => {\n            let _ = end;\n            put(job, jobs)?;\n            begin(alloc, time, false, jobs)\n        }\n"),)),
+    Mistake("a_second_such_sleep_in_a_job_passed_over", "yds_trace/src/counted.rt", (
+        ("            Some(number) if needed && self.is_unwoken(number) => Err(Cause::NotWoken),\n",
+         "            Some(number) if needed && !needed && self.is_unwoken(number) => Err(Cause::NotWoken),\n"),)),
+    Mistake("a_job_lost_behind_such_sleeps_goes_on", "yds_trace/src/jobs.rt", (
+        ("            put(job.lost(first), jobs)?;\n", "            put(job.lost(end.max(first)), jobs)?;\n"),)),
+    Mistake("a_loss_behind_such_a_sleep_passed_over", "yds_trace/src/job.rt", (
+        ("        Some(slept) => time.min(slept),\n", "        Some(slept) => time.min(time.max(slept)),\n"),)),
+    Mistake("a_line_of_a_thread_that_was_over_passed_over", "yds_trace/src/counted.rt", (
+        ("                Some(_) | None if self.has_exited(number) => Err(Cause::Exited),\n", ""),)),
+    Mistake("a_renamed_thread_passed_over", "yds_trace/src/counted.rt", (
+        ("        if has_number(&self.tasks, pid) {\n", "        if pid == 0 && has_number(&self.tasks, pid) {\n"),)),
+    Mistake("an_exit_that_strict_passes_over", "yds_trace_document/src/limits.rt", (
+        ("        None => judged.job.exited,\n", "        None => judged.job.exited && judged.late.is_some(),\n"),)),
+    Mistake("an_exit_of_a_late_job_not_told", "yds_trace_text/src/ends.rt", (
+        ("    if !judged.job.exited {\n", "    if !judged.job.exited || judged.late.is_some() {\n"),)),
+    Mistake("a_thread_seen_elsewhere_taken_for_one_that_was_there", "yds_trace/src/known.rt", (
+        ("        !self.woken.seen && has_no_switch(&self.jobs)\n", "        has_no_switch(&self.jobs)\n"),)),
+    Mistake("a_thread_that_is_back_behind_a_part_passed_over", "yds_trace/src/check.rt", (
+        ("                || comes_back(asked, counted, event, next, cut)\n",
+         "                || (event.time == 0 && comes_back(asked, counted, event, next, cut))\n"),), "parts"),
+    Mistake("a_wake_up_done_behind_a_part_passed_over", "yds_trace/src/check.rt", (
+        ("            !starts && is_woken_back(", "            !starts && event.time == 0 && is_woken_back("),), "parts"),
     # Lines out of order.
     Mistake("lines_of_one_time_exchanged", "yds_kernel_order/src/slot.rt", (
         ("        self.time <= time || self.stays\n", "        self.time < time || self.stays\n"),)),

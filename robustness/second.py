@@ -418,6 +418,7 @@ CAUSES = {
     "threads": "a task's name is that of another thread before; threads are renamed at their start, too: give the number, which stays, by PID=NAME:DEADLINE",
     "tasks": "one thread is two tasks, by its number and by its name; leave one out",
     "exited": "a task's thread was over before, and its number is that of another thread now; choose --from and --to around it",
+    "renamed": "a task's thread has another name here, so it isn't followed; give its number, which stays, by PID=NAME:DEADLINE",
     "not woken": ("a task comes behind a sleep without a wake-up, twice in one job; record sched_waking, sched_wakeup and sched_wakeup_new,"
                   " let jobs begin at their first run by --begin run, or go on by --lost cut"),
     "none": ("no line of a kernel's trace; write it as text, by trace-cmd report or perf script with cpu and time among its fields: a line "
@@ -603,13 +604,14 @@ def thread_fault(thread: Thread, past: List[Line], asked: Asked) -> Optional[str
     if asked.is_two(thread):
         return "tasks"
     task = asked.task_of(thread)
-    if task is None:
-        return None
-    before = pid_of(task, past, asked)
+    before = None if task is None else pid_of(task, past, asked)
     if before is not None and before != thread.pid:
         return "threads"
-    is_over = any(line.state == "Exits" and asked.task_of(line.threads[0]) == task for line in past if line.kind == "switch")
-    return "exited" if is_over else None
+    left = [line.threads[0] for line in past if line.kind == "switch" and line.state == "Exits"]
+    if task is not None and any(asked.task_of(one) == task for one in left):
+        return "exited"
+    was_one = any(pid_of(number, past, asked) == thread.pid for number in range(len(asked.tasks)))
+    return "renamed" if before is None and was_one else None
 
 
 def is_unwoken(thread: Thread, past: List[Line], asked: Asked) -> bool:
@@ -832,7 +834,7 @@ class Follower:
 
     def is_new(self) -> bool:
         """No switch of it was seen since the begin or a loss."""
-        if self.on is not None:
+        if self.on is not None or self.seen:
             return False
         last = self.jobs[-1] if self.jobs else Job(0, False, "lost")
         return last.state == "lost" or (last.state == "open" and not last.ran and not last.missing)
@@ -877,14 +879,17 @@ class Follower:
             self.on = (self.on[0], self.on[1], time)
 
     def lose(self, since: int) -> None:
-        """Events were lost."""
+        """Events were lost. One that went on behind a sleep may have been woken there, if that was lost."""
         for job in self.jobs:
             if job.state == "unseen" and job is not self.jobs[-1] and job.at <= since:
                 continue
-            if job.state in ("unseen", "lost"):
-                job.state, job.at = "lost", min(job.at, since)
+            known = since if job.slept is None else min(since, job.slept)
+            if job.state == "lost":
+                job.at = min(job.at, since)
+            elif job.state == "unseen":
+                job.state, job.at = "lost", min(job.at, known)
             elif job.state == "open" or job.at > since:
-                job.state, job.at = "lost", since
+                job.state, job.at = "lost", known
         self.on, self.woken, self.started, self.seen = None, False, None, False
 
     def take(self, line: Line, past: Past) -> None:

@@ -37,7 +37,7 @@ _UNKNOWN = "it isn't known whether it was late"
 _REASONS: List[Tuple[str, bool, str]] = [
     ("before from", False, _CUT),
     ("after to", False, _CUT),
-    ("not ended", False, "its deadline wasn't over when the trace ended"),
+    ("not ended", True, "the trace ended before its deadline"),
     ("ran on ", False, _KNOWN),
     ("frequency not known", False, _KNOWN),
 ]
