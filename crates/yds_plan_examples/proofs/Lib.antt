@@ -1,1 +1,2 @@
 mod LeastExamples
+mod SizesExamples

@@ -3,7 +3,7 @@
 -- Take the speed of a level. Above it a least schedule does what the plan does: what the members of the levels before that level force, and
 -- what they force together with the level's own. So the confinement bound has nothing to spare, in no slot: each slot of those members is
 -- at least so fast, and each other slot at most. A slot of the level's own members is both.
-use Rattle.yds_model.proofs.Common.{◌≡◌, ℕ, zero, suc, ◌+◌, ◌-◌, ◌*◌, ◌<◌, ◌≤◌, List, ◌++◌, length, get_or, take, take_all, refl, ap, subst, arith, inl, inr, if◌then◌else◌, ◌∙◌, ◌==◌, All, Contains, cases_lt, sum_by-append, sum_by-add, sum_by-mul, sum_by_same, get_or-le-sum_by, part_own, mul_comm, mul-pos, length-map, eq_of_mul-eq-mul_left, mul-le-mul_left, le_of_mul-le-mul_left, flat_map-take, count, AreDifferent, Job, job_at, work_of, WrittenSlot, WholeSlot, IsScale, IsSolid, no_slot, slot_at, slot_at_scale, slots_at, All-append, IsFeasibleAt, excess, IsLeast, Piece, IsConfined, total_length, Level, no_level, level_at, all_members, all_pieces, HasLevelSpeed, IsPlan}
+use Rattle.yds_model.proofs.Common.{◌≡◌, ℕ, zero, suc, ◌+◌, ◌-◌, ◌*◌, ◌<◌, ◌≤◌, List, ◌++◌, length, get_or, take, take_all, refl, ap, subst, arith, inl, inr, if◌then◌else◌, ◌∙◌, ◌==◌, All, Contains, cases_lt, sum_by, sum_by-append, sum_by-add, sum_by-mul, sum_by_same, get_or-le-sum_by, part_own, mul_comm, mul-pos, length-map, eq_of_mul-eq-mul_left, mul-le-mul_left, le_of_mul-le-mul_left, flat_map-take, count, AreDifferent, Job, job_at, work_of, WrittenSlot, WholeSlot, IsScale, IsSolid, no_slot, slot_at, slot_at_scale, slots_at, All-append, IsFeasibleAt, excess, IsLeast, Piece, IsConfined, total_length, Level, no_level, level_at, all_members, all_pieces, HasLevelSpeed, IsPlan}
 use Rattle.model_lemmas.proofs.Time.{none_times, time_within}
 use Rattle.model_lemmas.proofs.Front.{front_at}
 use Rattle.model_lemmas.proofs.Counted.{contained_counted, count_joined}
@@ -41,20 +41,17 @@ slow_other p q often work time none right = grind arith
 -- # All slots at a scale
 
 module _ (jobs : List Job) (scale : ℕ) (slots : List WholeSlot) (positive : 1 ≤ scale) (feasible : IsFeasibleAt jobs scale slots) where
-  -- where jobs and pieces force all that is done above a speed, no slot is astray
-  none_astray : (p q : ℕ) (members : List ℕ) (pieces : List Piece) → AreDifferent members → All (λ number. number < length jobs) members →
-      All (λ number. IsConfined (job_at jobs number) pieces) members →
-      excess p q slots + p * scale * total_length pieces ≤ q * scale * work_of jobs members →
-      All (λ slot. astray p q (count slot.job members) slot.work (slot.to - slot.from) ≡ 0) slots
-  none_astray p q members pieces different known confined forced k d within =
+  -- what all slots do above a speed, and the members' at it, is the members' work and by how much slots are astray
+  all_split : (p q : ℕ) (members : List ℕ) → AreDifferent members → All (λ number. number < length jobs) members →
+      excess p q slots + p * sum_by (λ slot. count slot.job members * (slot.to - slot.from)) slots
+      ≡ q * scale * work_of jobs members + sum_by (λ slot. astray p q (count slot.job members) slot.work (slot.to - slot.from)) slots
+  all_split p q members different known =
       let often = λ (slot : WholeSlot). count slot.job members in
       let time = λ (slot : WholeSlot). slot.to - slot.from in
       let term = λ (slot : WholeSlot). q * slot.work - p * time slot in
       let wrong = λ (slot : WholeSlot). astray p q (often slot) slot.work (time slot) in
       omega (
         arith,
-        forced,
-        get_or-le-sum_by wrong slots k d within,
         sum_by_same (λ slot. term slot + p * (often slot * time slot)) (λ slot. q * (often slot * slot.work) + wrong slot) slots
             (λ j e inside. slot_split p q (often (get_or slots j e)) (get_or slots j e).work (time (get_or slots j e)) (different (get_or slots j e).job)),
         sum_by-add term (λ slot. p * (often slot * time slot)) slots,
@@ -62,8 +59,26 @@ module _ (jobs : List Job) (scale : ℕ) (slots : List WholeSlot) (positive : 1 
         sum_by-mul p (λ slot. often slot * time slot) slots,
         sum_by-mul q (λ slot. often slot * slot.work) slots,
         ap (λ n. q * n) (work_served jobs scale slots members feasible.served known),
-        mul-le-mul_left p (time_within jobs scale members pieces slots positive different confined feasible.one_at_a_time feasible.in_windows),
       )
+
+  -- Where jobs and pieces force all that is done above a speed
+  module _ (p q : ℕ) (members : List ℕ) (pieces : List Piece) (different : AreDifferent members) (known : All (λ number. number < length jobs) members)
+      (confined : All (λ number. IsConfined (job_at jobs number) pieces) members)
+      (forced : excess p q slots + p * scale * total_length pieces ≤ q * scale * work_of jobs members) where
+    -- no slot is astray,
+    none_astray : All (λ slot. astray p q (count slot.job members) slot.work (slot.to - slot.from) ≡ 0) slots
+    none_astray k d within =
+        omega (
+          arith,
+          forced,
+          get_or-le-sum_by (λ (slot : WholeSlot). astray p q (count slot.job members) slot.work (slot.to - slot.from)) slots k d within,
+          all_split p q members different known,
+          mul-le-mul_left p (time_within jobs scale members pieces slots positive different confined feasible.one_at_a_time feasible.in_windows),
+        )
+
+    -- and the members fill the pieces.
+    members_fill : 1 ≤ p → scale * total_length pieces ≤ sum_by (λ slot. count slot.job members * (slot.to - slot.from)) slots
+    members_fill some = le_of_mul-le-mul_left {k = p} (omega (arith, forced, all_split p q members different known)) some
 
 -- # The levels of a plan
 
@@ -114,16 +129,40 @@ module _ (jobs : List Job) (planned : List WrittenSlot) (levels : List Level) (p
     feasible : IsFeasibleAt jobs scale (slots_at scale others)
     feasible = (least.holds scale is).feasible
 
-    -- so no slot is astray of the members of a front whose levels force what all of them do
-    front_right : (p q n : ℕ) → 1 ≤ q → n ≤ length levels →
-        curve p q levels + p * total_length (all_pieces (take n levels)) ≡ q * work_of jobs (all_members (take n levels)) →
-        All (λ slot. astray p q (count slot.job (all_members (take n levels))) slot.work (slot.to - slot.from) ≡ 0) (slots_at scale others)
-    front_right p q n some within forces =
-        let proper = plan.proper in
-        let front = front_at jobs levels proper.well_formed proper.pieces proper.windows n within in
-        none_astray jobs scale (slots_at scale others) is.positive feasible p q (all_members (take n levels)) (all_pieces (take n levels))
-        (front_different jobs levels scale (slots_at scale others) proper.well_formed feasible proper.members n front.known) front.known front.confined
-        (omega (arith, least_does p q some, ap (λ n. scale * n) forces))
+    -- Of a front whose levels force what all of them do
+    module _ (p q n : ℕ) (some : 1 ≤ q) (within : n ≤ length levels)
+        (forces : curve p q levels + p * total_length (all_pieces (take n levels)) ≡ q * work_of jobs (all_members (take n levels))) where
+      -- the members are different,
+      front_once : AreDifferent (all_members (take n levels))
+      front_once = front_different jobs levels scale (slots_at scale others) plan.proper.well_formed feasible plan.proper.members n
+          (front_at jobs levels plan.proper.well_formed plan.proper.pieces plan.proper.windows n within).known
+
+      -- and do all that is done above the speed,
+      front_forced : excess p q (slots_at scale others) + p * scale * total_length (all_pieces (take n levels))
+          ≤ q * scale * work_of jobs (all_members (take n levels))
+      front_forced = omega (arith, least_does p q some, ap (λ n. scale * n) forces)
+
+      -- so no slot is astray of them,
+      front_right : All (λ slot. astray p q (count slot.job (all_members (take n levels))) slot.work (slot.to - slot.from) ≡ 0) (slots_at scale others)
+      front_right =
+          let front = front_at jobs levels plan.proper.well_formed plan.proper.pieces plan.proper.windows n within in
+          none_astray jobs scale (slots_at scale others) is.positive feasible p q (all_members (take n levels)) (all_pieces (take n levels)) front_once
+          front.known front.confined front_forced
+
+      -- and they fill its pieces
+      front_fills : 1 ≤ p → scale * total_length (all_pieces (take n levels))
+          ≤ sum_by (λ slot. count slot.job (all_members (take n levels)) * (slot.to - slot.from)) (slots_at scale others)
+      front_fills =
+          let front = front_at jobs levels plan.proper.well_formed plan.proper.pieces plan.proper.windows n within in
+          members_fill jobs scale (slots_at scale others) is.positive feasible p q (all_members (take n levels)) (all_pieces (take n levels)) front_once
+          front.known front.confined front_forced
+
+    -- The members of the first levels fill their pieces.
+    pub levels_fill : (i : ℕ) → i < length levels → scale * total_length (all_pieces (take (suc i) levels))
+        ≤ sum_by (λ slot. count slot.job (all_members (take (suc i) levels)) * (slot.to - slot.from)) (slots_at scale others)
+    levels_fill i within =
+        let some = plan.proper.well_formed.positive i no_level within in
+        front_fills (level_at levels i).work (level_at levels i).length (suc i) some.1 within (with_it_forces i within) some.0
 
     -- a slot of a level's member has the level's speed
     member_speed : (s : ℕ) → s < length (slots_at scale others) → HasLevelSpeed levels (slots_at scale others) s
@@ -132,8 +171,7 @@ module _ (jobs : List Job) (planned : List WrittenSlot) (levels : List Level) (p
         let slot = slot_at (slots_at scale others) s in
         let some = (plan.proper.well_formed.positive i no_level within).1 in
         let own = contained_counted level.members slot.job stands in
-        let front = front_at jobs levels plan.proper.well_formed plan.proper.pieces plan.proper.windows (suc i) within in
-        let once = front_different jobs levels scale (slots_at scale others) plan.proper.well_formed feasible plan.proper.members (suc i) front.known slot.job in
+        let once = front_once level.work level.length (suc i) some within (with_it_forces i within) slot.job in
         let parts = ap (count slot.job) (flat_map-take (λ (one : Level). one.members) levels i no_level within)
         ∙ count_joined slot.job (all_members (take i levels)) level.members in
         omega (
