@@ -1,12 +1,13 @@
--- Near misses of the laws: a run that rounded, a schedule that isn't feasible, one that is no plan, an exponent of 0, and a number that is no
--- scale.
-use Rattle.yds_model.proofs.Common.{◌≡◌, ◌*◌, ◌+◌, ◌≤◌, List, [], ◌∷◌, refl, arith, Job, of_whole, of_parts, WrittenSlot, IsScale, slots_at, IsFeasible, average_rate, IsAverageRateRun, optimal_available, IsOptimalAvailableRun, excess, work_of}
+-- Near misses of the laws: a run that rounded, a schedule that isn't feasible, one that is no plan, an exponent of 0, operating points on the
+-- square, and a number that is no scale.
+use Rattle.yds_model.proofs.Common.{◌≡◌, ◌*◌, ◌+◌, ◌≤◌, List, [], ◌∷◌, refl, arith, Job, of_whole, of_parts, WrittenSlot, IsScale, slots_at, IsFeasible, Point, IsSpent, average_rate, IsAverageRateRun, optimal_available, IsOptimalAvailableRun, excess, work_of}
 use Rattle.yds_energy.proofs.Finer.{each_scale_of}
 use Rattle.yds_energy.proofs.RunScale.{average_rate_run_free, optimal_available_run_free, optimal_available_rounds_free}
+use Rattle.yds_energy.proofs.SpentScale.{spent_free}
 use Rattle.yds_ratios.specs.SpendingByPower.{spending, IsAtMostTimes, SpendsAtMost, time_above, faster_throughout}
 use Rattle.yds_examples.proofs.Tests.{proved}
 use Rattle.yds_examples.proofs.TestedSchedules.{is_scale, run_at, feasible_by_test, not_feasible_by_test}
-use Rattle.yds_ratio_examples.proofs.Spendings.{job, slot, at_most_times, even, hasty, more_by_test}
+use Rattle.yds_ratio_examples.proofs.Spendings.{job, slot, at_most_times, even, hasty, spends_by_test, more_by_test}
 use Rattle.yds_ratio_examples.proofs.FourJobs.{run, scale, plan}
 
 -- # A run that rounded
@@ -108,6 +109,57 @@ not_nothing = more_by_test 1 0 scale run plan refl refl
 slots_counted : (spending 0 (slots_at scale run) ≡ record { num = 7; den = 1 }) × (spending 0 (slots_at scale plan) ≡ record { num = 4; den = 1 })
     × (SpendsAtMost 0 1 run plan → ⊥)
 slots_counted = (refl, refl, more_by_test 0 1 scale run plan refl refl)
+
+-- # Operating points on the square
+
+-- Two jobs, the second known from 2 on.
+abbrev both : List Job
+both = job 0 4 2 ∷ job 2 4 2 ∷ []
+
+-- Both policies run at 1/2 until 2, and at 3/2 then,
+abbrev waiting : List WrittenSlot
+waiting = slot 0 (of_whole 0) (of_whole 2) (of_whole 1) ∷ slot 0 (of_whole 2) (of_parts 8 3) (of_whole 1) ∷ slot 1 (of_parts 8 3) (of_whole 4) (of_whole 2) ∷ []
+
+waiting_scale : IsScale 3 waiting
+waiting_scale = proved (is_scale 3 waiting) refl
+
+-- and never round on the grid 4.
+waiting_rate : IsAverageRateRun both 4 0 waiting
+waiting_rate = record {
+  run = each_scale_of _ (average_rate_run_free both 4) waiting 3 waiting_scale
+      (proved (run_at both 4 3 (average_rate both 4 3 (slots_at 3 waiting)) (slots_at 3 waiting)) refl);
+  rounds = refl;
+}
+
+waiting_available : IsOptimalAvailableRun both 4 0 waiting
+waiting_available = record {
+  run = each_scale_of _ (optimal_available_run_free both 4) waiting 3 waiting_scale
+      (proved (run_at both 4 3 (optimal_available both 4 3 (slots_at 3 waiting)) (slots_at 3 waiting)) refl);
+  rounds = each_scale_of _ (optimal_available_rounds_free both 4 0) waiting 3 waiting_scale refl;
+}
+
+-- The plan runs at 1.
+abbrev steady : List WrittenSlot
+steady = slot 0 (of_whole 0) (of_whole 2) (of_whole 2) ∷ slot 1 (of_whole 2) (of_whole 4) (of_whole 2) ∷ []
+
+steady_scale : IsScale 1 steady
+steady_scale = proved (is_scale 1 steady) refl
+
+-- By the square the run spends 5, and the plan 4.
+by_the_square : SpendsAtMost 2 4 waiting steady
+by_the_square = spends_by_test 2 4 3 waiting steady refl refl refl
+
+-- The power of each of these points is the square of its speed. Between two of them it goes in a straight line.
+abbrev squares : List Point
+squares = record { speed = 0; power = 0 } ∷ record { speed = 1; power = 1 } ∷ record { speed = 100; power = 10000 } ∷ []
+
+-- On them the plan spends 4, all at the speed 1,
+steady_spends : IsSpent both squares steady (record { energy = of_whole 4; times = of_whole 0 ∷ of_whole 4 ∷ of_whole 0 ∷ [] })
+steady_spends = each_scale_of _ (spent_free both squares _ (omega arith)) steady 1 steady_scale (record { energy = refl; times = refl })
+
+-- and the run 104, with 1/99 of a unit of time at the speed 100: 26 times as much, where the laws' factors are 4 and 8.
+waiting_spends : IsSpent both squares waiting (record { energy = of_whole 104; times = of_whole 1 ∷ of_parts 296 99 ∷ of_parts 1 99 ∷ [] })
+waiting_spends = each_scale_of _ (spent_free both squares _ (omega arith)) waiting 3 waiting_scale (record { energy = refl; times = refl })
 
 -- # A number that is no scale
 

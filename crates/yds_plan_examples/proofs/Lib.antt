@@ -1,0 +1,2 @@
+mod LeastExamples
+mod SizesExamples

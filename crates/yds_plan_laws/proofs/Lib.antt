@@ -1,0 +1,6 @@
+pub mod Certified
+pub mod FewSlots
+pub mod FewLevels
+pub mod FewRounded
+mod Ends
+pub mod FewPieces

@@ -1,0 +1,3 @@
+pub mod LeastLaws
+pub mod SpeedLaws
+pub mod CountLaws

@@ -1,0 +1,46 @@
+//! What follows of plans, beside what other laws stand on. Each is the contract of a call of no parameters that does nothing.
+//!
+//! It stands on `yds_model`, whose definitions the laws speak of; on `yds_events` for event points and stretches; and on `yds_laws` and
+//! `yds_energy` for what is known of plans and of their levels.
+//! It carries the promises that a plan's levels are a proper certificate of just the least schedules, and of how many levels, pieces and
+//! slots there are at most. No limit of a document stands in it.
+#![tactic(auto)]
+
+ghost use Rattle.yds_plan_laws.specs.LeastLaws.{LevelsCertifyTheLeast};
+ghost use Rattle.yds_plan_laws.specs.SpeedLaws.{LeastSpeedsAreOne};
+ghost use Rattle.yds_plan_laws.specs.CountLaws.{LevelsAreFew, PiecesAreFew, PlanSlotsAreFew, RunSlotsAreFew, RoundedSlotsAreFew};
+
+/// A plan's levels are a proper certificate of a schedule exactly where that schedule is least.
+pub fn levels_certify_the_least()
+    ensures { LevelsCertifyTheLeast }
+{}
+
+/// So all least schedules run a job at one speed, that of its level.
+pub fn least_speeds_are_one()
+    ensures { LeastSpeedsAreOne }
+{}
+
+/// A plan has no more levels than jobs with work.
+pub fn levels_are_few()
+    ensures { LevelsAreFew }
+{}
+
+/// A plan of some jobs has at most twice as many pieces as jobs, less one.
+pub fn pieces_are_few()
+    ensures { PiecesAreFew }
+{}
+
+/// A plan of some jobs has at most three times as many slots as jobs, less two.
+pub fn plan_slots_are_few()
+    ensures { PlanSlotsAreFew }
+{}
+
+/// So has a run of Average Rate or of Optimal Available.
+pub fn run_slots_are_few()
+    ensures { RunSlotsAreFew }
+{}
+
+/// Rounded to operating points, a plan of some jobs has at most five times as many slots as jobs, less three.
+pub fn rounded_slots_are_few()
+    ensures { RoundedSlotsAreFew }
+{}
