@@ -46,6 +46,7 @@ CHECKS: list[Command] = [
     (sys.executable, "checks/test_uncalled.py"),
     (sys.executable, "checks/test_everywhere.py"),
     (sys.executable, "robustness/planted.py", "--check"),
+    (sys.executable, "robustness/executions.py", "--count", "400"),
     (sys.executable, "docs/uncalled.py", "--check"),
 ]
 
