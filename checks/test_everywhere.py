@@ -315,6 +315,95 @@ class Cuts(unittest.TestCase):
         self.assertEqual([head for head in heads if "the last" not in head], [])
 
 
+def woken(processor: int, time: int, name: str) -> str:
+    """That a wake-up was done, as a line of this processor."""
+    return wake(processor, time, name).replace("sched_waking", "sched_wakeup")
+
+
+class Sleeps(unittest.TestCase):
+    """What becomes of jobs whose threads are woken as they go to sleep, come back without a wake-up, are stopped, or are over."""
+
+    BEGIN = [wake(0, 0, "a"), switch(0, 100, "swapper", "R", "a")]
+    BACK = [switch(0, 3000, "swapper", "R", "a"), switch(0, 3500, "a", "S", "swapper")]
+    THEN = [f"{stamp(0, 8900)}cpu_frequency: state=1000000 cpu_id=0", *job(0, 9000, "b")]
+    """Job b.0 is written in any case, so that no document is without a job."""
+
+    def jobs(self, lines: Sequence[str], *more: str, then: Sequence[str] = THEN) -> List[str]:
+        """The lines of the jobs of a, and what comments tell of them."""
+        return [line for line in alone([*lines, *then], *more) if " a." in line and not line.startswith("run")]
+
+    def test_a_thread_that_is_woken_as_it_goes_to_sleep(self) -> None:
+        """The first half comes at 0.9 ms, while it runs, and the job begins there, by one half or by both."""
+        leaves = switch(0, 1000, "a", "S", "swapper")
+        wanted = ["job a.0 0 150 9000", "job a.1 90 240 5000"]
+        for between in ([], [woken(0, 1200, "a")]):
+            lines = [*self.BEGIN, wake(0, 900, "a"), leaves, *between, *self.BACK]
+            with self.subTest(between=between):
+                self.assertEqual([line for line in self.jobs(lines) if line.startswith("job")], wanted)
+        done = [*self.BEGIN, wake(0, 800, "a"), woken(0, 900, "a"), leaves, *self.BACK]
+        self.assertEqual(self.jobs(done)[0], "job a.0 0 150 14000")
+        anew = [*self.BEGIN, wake(0, 900, "a"), leaves, wake(0, 1200, "a"), *self.BACK]
+        self.assertEqual(self.jobs(anew)[1], "job a.1 120 270 5000")
+
+    def test_a_thread_that_comes_without_a_wake_up(self) -> None:
+        once = [*self.BEGIN, switch(0, 1000, "a", "S", "swapper"), *self.BACK]
+        told_of = "# went on behind a sleep without a wake-up: a.0"
+        self.assertEqual(self.jobs(once), ["job a.0 0 150 14000", "# late: a.0, 2.000000 ms after its deadline", told_of])
+        twice = [*once, switch(0, 4000, "swapper", "R", "a"), switch(0, 4500, "a", "S", "swapper")]
+        self.assertEqual(self.jobs(twice)[-2:], ["# left out: a.0 (events lost)", "# left out: a.1 (its begin isn't in the trace)"])
+        self.assertEqual(whole.told(WORDS[:-2], ("\n".join([*twice, *self.THEN]) + "\n").encode()).kind, "line: not woken")
+        lost = [*self.BEGIN, switch(0, 1000, "a", "S", "swapper"), "CPU:0 [LOST EVENTS]", *self.BACK]
+        self.assertEqual(self.jobs(lost)[0], "job a.0 0 150 9000")
+
+    def test_a_loss_behind_such_a_sleep(self) -> None:
+        """It is known open up to that sleep, and so not known to be late."""
+        lines = [*self.BEGIN, switch(0, 1000, "a", "S", "swapper"), self.BACK[0], other(0, 3200), "CPU:0 [LOST EVENTS]"]
+        self.assertEqual(self.jobs(lines), ["# left out: a.0 (events lost)"])
+        told_of = "# late, without its runs: a.0 (events lost), not ended 1.700000 ms after its deadline; window -900 -750"
+        self.assertEqual(self.jobs([*self.BEGIN, other(0, 3200), "CPU:0 [LOST EVENTS]"])[1:], [told_of])
+
+    def test_states(self) -> None:
+        for state, has_job in [("T", False), ("t", False), ("T+", False), ("8", False), ("S", True), ("I", True), ("P", True), ("64", True)]:
+            lines = [*self.BEGIN, switch(0, 1000, "a", state, "swapper"), wake(0, 2900, "a"), *self.BACK]
+            with self.subTest(state=state):
+                self.assertEqual(any(line.startswith("job a.1 ") for line in self.jobs(lines)), has_job)
+
+    def test_a_thread_that_was_over(self) -> None:
+        for state in ("X", "Z", "x", "X+", "16", "32"):
+            lines = [*self.BEGIN, switch(0, 1000, "a", state, "swapper")]
+            with self.subTest(state=state):
+                self.assertEqual(self.jobs(lines), ["job a.0 0 150 9000", "# exited: a.0"])
+                self.assertEqual(alone([*lines, wake(0, 2000, "a")])[-1], "failed")
+                self.assertIn("its thread was over with it", alone([*lines, *self.THEN], "--strict")[0])
+
+    def test_a_renamed_thread(self) -> None:
+        """By its name it is refused, and by its number it is followed."""
+        lines = [*self.BEGIN, switch(0, 1000, "a", "S", "swapper"), wake(0, 2000, "a").replace("comm=a ", "comm=z ")]
+        self.assertIn("line 4: a task's thread has another name here", alone([*lines, *self.THEN])[0])
+        trace = ("\n".join([*lines, *self.THEN]) + "\n").encode()
+        self.assertEqual(whole.told(["--tasks", "10=a:1.5,b:1.5", *WORDS[2:]], trace).status, 0)
+
+    def test_a_job_that_was_due_before_from(self) -> None:
+        lines = [*self.BEGIN, other(0, 8000)]
+        told_of = "# late, without its runs: a.0 (before from), not ended 8.600000 ms after its deadline; window -300 -150"
+        self.assertEqual(self.jobs(lines, "--from", "5.003", then=job(1, 9000, "b")), ["job a.0 0 1 1", told_of])
+        ended = [*self.BEGIN, switch(0, 3000, "a", "S", "swapper")]
+        self.assertEqual(self.jobs(ended, "--from", "5.003"), [])
+        self.assertEqual(self.jobs(ended, "--from", "5.002999999")[0], "job a.0 0 1 1")
+
+    def test_a_thread_that_was_elsewhere(self) -> None:
+        """It left processor 0 before, so it wasn't on processor 1 since the trace's begin."""
+        lines = [*self.BEGIN, switch(0, 1000, "a", "S", "swapper"), wake(0, 3000, "a"), switch(1, 3500, "a", "S", "swapper")]
+        self.assertIn("# left out: a.1 (a switch is missing)", self.jobs(lines))
+
+    def test_behind_a_part(self) -> None:
+        """The job a.0 is in a part that was written when its thread is back, or a wake-up is done that was started before its end."""
+        first = [*Cuts.FIRST]
+        back = switch(0, 6000, "swapper", "R", "a")
+        self.assertEqual(cut_small([*first, back])[-2:], ["# line 9: it changes jobs of a part that was written; choose --from and --to around it", "failed"])
+        self.assertNotIn("failed", cut_small([*first, wake(0, 5900, "a"), back]))
+
+
 class Faults(unittest.TestCase):
     """What a trace of several processors is refused for."""
 
