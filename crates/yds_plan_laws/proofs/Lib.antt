@@ -4,3 +4,9 @@ pub mod FewLevels
 pub mod FewRounded
 mod Ends
 pub mod FewPieces
+pub mod OneCertificate
+mod Running
+mod OneSchedule
+pub mod OnePlan
+mod Spelled
+pub mod Once

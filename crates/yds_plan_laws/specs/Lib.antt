@@ -1,3 +1,5 @@
 pub mod LeastLaws
 pub mod SpeedLaws
 pub mod CountLaws
+pub mod OneLaws
+pub mod AnswersOnce
