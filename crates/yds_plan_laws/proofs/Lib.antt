@@ -10,3 +10,8 @@ mod OneSchedule
 pub mod OnePlan
 mod Spelled
 pub mod Once
+mod RunsAlong
+pub mod OneRun
+pub mod OnceRun
+mod OnceCompared
+pub mod OnceAdmitted

@@ -1,5 +1,5 @@
 -- What goes by a plan is answered once: the slots of two plans are one, spelled in the program's way, and so are their levels.
-use Rattle.yds_model.proofs.Common.{◌≡◌, ℕ, ◌<◌, ◌≤◌, List, [], ◌∷◌, ◌++◌, length, get_or, take_all, sym, ap, subst, ◌∙◌, arith, Option, Result, Ok, Err, Bool, true, false, All, Contains, All-append, same_lists, get_or-map, get_or_default, length-map, codes, line, decimal, peak_words, count, Job, Fraction, WrittenSlot, WholeSlot, IsDivided, IsSolid, no_slot, written_slot_at, no_written_slot, slot_at_scale, Level, level_at, all_members, IsPlan, HasLevelDenominators, Document, Fault, reading, task_reading, canonical_text, with_plan, Question, AskPlan, AskReport, AskReportAsJson, AskCurve, AnswersQuestion, AnswersReading, AnswersTasks, UnlessTooLong, is_too_long, AnswersRequest, report_json, curve_text, TrialAnswer, TaskSet, Request}
+use Rattle.yds_model.proofs.Common.{◌≡◌, ℕ, ◌<◌, ◌≤◌, List, [], ◌∷◌, ◌++◌, length, get_or, take_all, sym, ap, subst, ◌∙◌, arith, Option, Result, Ok, Err, Bool, true, false, All, Contains, All-append, same_lists, get_or-map, get_or_default, length-map, codes, line, decimal, peak_words, count, Job, WrittenSlot, WholeSlot, IsDivided, IsSolid, no_slot, written_slot_at, no_written_slot, slot_at_scale, Level, level_at, all_members, IsPlan, HasLevelDenominators, Document, Fault, reading, task_reading, canonical_text, with_plan, Question, AskPlan, AskReport, AskReportAsJson, AskCurve, AnswersQuestion, AnswersReading, AnswersTasks, UnlessTooLong, is_too_long, AnswersRequest, report_json, curve_text, TrialAnswer, TaskSet, Request}
 use Rattle.yds_model.specs.Within.{IsSlot}
 use Rattle.yds_model.specs.PlanAnswer.{PlanAnswer}
 use Rattle.yds_model.specs.ReportAnswer.{ReportAnswer, report_text}
@@ -9,7 +9,6 @@ use Rattle.yds_model.specs.TrialAnswer.{drawn_jobs}
 use Rattle.yds_model.specs.declared.reason.Reason.{Reason}
 use Rattle.yds_model.specs.declared.task_reason.TaskReason.{TaskReason}
 use Rattle.base.specs.declared.status.Status.{Status}
-use Rattle.fraction_lemmas.proofs.Fractions.{equality_of_values}
 use Rattle.model_lemmas.proofs.Scale.{scale_exists}
 use Rattle.yds_laws.proofs.Bound.{scale_left, scale_right}
 use Rattle.yds_laws.proofs.Plans.{plans_serve_work}
@@ -17,27 +16,15 @@ use Rattle.yds_energy.proofs.FullStretches.{level_of_member}
 use Rattle.yds_plan_laws.specs.AnswersOnce.{PlansAnswerOnce}
 use Rattle.yds_plan_laws.proofs.OneCertificate.{levels_are_one}
 use Rattle.yds_plan_laws.proofs.OnePlan.{slots_are_one}
-use Rattle.yds_plan_laws.proofs.Spelled.{spelled_once, over_alike}
+use Rattle.yds_plan_laws.proofs.Spelled.{slot_spelled_once}
 
 -- # Written slots
-
--- a slot by its parts
-abbrev written_of : ℕ → Fraction → Fraction → Fraction → WrittenSlot
-written_of job from to work = record { job = job; from = from; to = to; work = work }
 
 -- slots of one job that are the same at a scale, over the same level's denominators and in the one spelling, are one
 slot_same : (scale : ℕ) (level : Level) (x y : WrittenSlot) → 1 ≤ scale → IsDivided scale x → IsDivided scale y → IsSlot x → IsSlot y → HasLevelDenominators level x →
     HasLevelDenominators level y → slot_at_scale scale x ≡ slot_at_scale scale y → x ≡ y
 slot_same scale level x y positive is also fits fit dens others same =
-    let job : x.job ≡ y.job = ap (λ (slot : WholeSlot). slot.job) same in
-    let from : x.from ≡ y.from = spelled_once _ _ x.from y.from fits.from fit.from (over_alike _ x.from y.from dens.from others.from)
-    ((equality_of_values x.from y.from scale positive is.from also.from).1 (ap (λ (slot : WholeSlot). slot.from) same)) in
-    let to : x.to ≡ y.to = spelled_once _ _ x.to y.to fits.to fit.to (over_alike _ x.to y.to dens.to others.to)
-    ((equality_of_values x.to y.to scale positive is.to also.to).1 (ap (λ (slot : WholeSlot). slot.to) same)) in
-    let work : x.work ≡ y.work = spelled_once _ _ x.work y.work fits.work fit.work (over_alike _ x.work y.work dens.work others.work)
-    ((equality_of_values x.work y.work scale positive is.work also.work).1 (ap (λ (slot : WholeSlot). slot.work) same)) in
-    ap (λ (n : ℕ). written_of n x.from x.to x.work) job ∙ ap (λ (f : Fraction). written_of y.job f x.to x.work) from
-    ∙ ap (λ (f : Fraction). written_of y.job y.from f x.work) to ∙ ap (λ (f : Fraction). written_of y.job y.from y.to f) work
+    slot_spelled_once scale _ _ x y positive is also fits fit dens.from others.from dens.to others.to dens.work others.work same
 
 -- so two plans have the same written slots
 pub written_are_one : (jobs : List Job) (slots others : List WrittenSlot) (levels more : List Level) → IsPlan jobs slots levels → IsPlan jobs others more →
@@ -78,7 +65,7 @@ written_are_one jobs slots others levels more plan next fits fit =
 -- # Answers
 
 -- there is at most one text and status of which this is so
-abbrev IsOnce : (List ℕ → Status → Type 0) → Type 0
+abbrev pub IsOnce : (List ℕ → Status → Type 0) → Type 0
 IsOnce Answered = (text other : List ℕ) (status end : Status) → Answered text status → Answered other end → (text ≡ other) × (status ≡ end)
 
 -- a plan of a document
@@ -136,7 +123,7 @@ trial_once seed jobs text other status end first second =
     )
 
 -- what is read is answered once where each document is, and what can't be read is refused once
-question_once : (question : Question) → ((document : Document) → IsOnce (AnswersQuestion question document)) → (long : Bool) (read : Result Document (Fault Reason)) →
+pub question_once : (question : Question) → ((document : Document) → IsOnce (AnswersQuestion question document)) → (long : Bool) (read : Result Document (Fault Reason)) →
     IsOnce (UnlessTooLong long (AnswersReading question read))
 question_once question once true read text other status end first second = (first.said ∙ sym second.said, first.ended ∙ sym second.ended)
 question_once question once false (Err fault) text other status end first second = (first.said ∙ sym second.said, first.ended ∙ sym second.ended)

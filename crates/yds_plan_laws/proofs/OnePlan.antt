@@ -1,14 +1,15 @@
 -- Two plans of the same jobs have the same slots: they run at the same times, those of their pieces, and each job at the speed of its level.
-use Rattle.yds_model.proofs.Common.{◌≡◌, ℕ, zero, suc, ◌-◌, ◌*◌, ◌<◌, ◌≤◌, List, [], ◌++◌, length, get_or, take_all, sym, ap, subst, arith, All, Any, All-map, get_or_default, length-map, mul-pos, count, Job, job_at, WrittenSlot, WholeSlot, IsScale, no_slot, slot_at, slot_at_scale, slots_at, Piece, Level, no_level, level_at, all_members, all_pieces, IsPlan}
+use Rattle.yds_model.proofs.Common.{◌≡◌, ℕ, zero, suc, ◌-◌, ◌*◌, ◌<◌, ◌≤◌, List, [], ◌∷◌, ◌++◌, ◌∙◌, refl, length, length-append, get_or-append_seam, All-nil, get_or, take_all, sym, ap, subst, arith, All, Any, All-map, get_or_default, length-map, mul-pos, count, Job, job_at, WrittenSlot, WholeSlot, IsScale, no_slot, slot_at, slot_at_scale, slots_at, Piece, Level, no_level, level_at, all_members, all_pieces, IsPlan}
 use Rattle.model_lemmas.proofs.Runs.{run_forward}
 use Rattle.yds_laws.proofs.Bound.{scale_left, scale_right}
 use Rattle.yds_laws.proofs.Plans.{plans_are_least, plans_serve_work}
 use Rattle.yds_energy.proofs.FullStretches.{level_of_member}
+use Rattle.yds_energy.proofs.PlanParts.{scale_joined}
 use Rattle.yds_plan_laws.specs.OneLaws.{SlotsAreOne}
 use Rattle.yds_plan_laws.proofs.Certified.{least_speeds_are_one}
 use Rattle.yds_plan_laws.proofs.OneCertificate.{levels_are_one}
 use Rattle.yds_plan_laws.proofs.Running.{RunsAt, at_parts, runs_in_pieces, pieces_run}
-use Rattle.yds_plan_laws.proofs.OneSchedule.{IsRest, HaveOneSpeed, rests_are_one}
+use Rattle.yds_plan_laws.proofs.OneSchedule.{GoesAlong, HasSpeedOf, IsRest, rests_are_one, runs_behind}
 
 -- a level's speed is some, so a slot at it does some work
 some_work : (work time all long : ℕ) → 1 ≤ all → 1 ≤ time → work * long ≡ all * time → 1 ≤ work
@@ -41,6 +42,7 @@ module _ (jobs : List Job) (slots : List WrittenSlot) (levels : List Level) (pla
       let feasible = plan.proper.feasible.holds scale is in
       let served = plan.served scale is in
       record {
+        ended = All-nil (λ slot. slot.to ≤ 0);
         run = feasible.one_at_a_time;
         windows = feasible.in_windows;
         due = served.earliest_first;
@@ -62,26 +64,32 @@ module _ (jobs : List Job) (slots others : List WrittenSlot) (levels more : List
       (runs_in_pieces jobs slots levels plan scale is k slot within time (omega (arith, runs.0, ap (λ (s : WholeSlot). s.from) one))
       (omega (arith, runs.1, ap (λ (s : WholeSlot). s.to) one))))
 
--- slots of one speed
-abbrev HasSpeedOf : WholeSlot → WholeSlot → Type 0
-HasSpeedOf slot other = slot.job ≡ other.job → slot.work * (other.to - other.from) ≡ other.work * (slot.to - slot.from)
-
--- each job has one speed in both
-speeds_are_one : (jobs : List Job) (slots others : List WrittenSlot) (levels more : List Level) (scale : ℕ) → IsPlan jobs slots levels → IsPlan jobs others more →
-    IsScale scale (slots ++ others) → HaveOneSpeed (slots_at scale slots) (slots_at scale others)
-speeds_are_one jobs slots others levels more scale plan other is k d within j e inside =
-    subst (λ (slot : WholeSlot). HasSpeedOf slot (get_or (slots_at scale others) j e)) (get_or_default (slots_at scale slots) k no_slot d within)
-    (subst (λ (slot : WholeSlot). HasSpeedOf (slot_at (slots_at scale slots) k) slot) (get_or_default (slots_at scale others) j no_slot e inside)
-    (least_speeds_are_one jobs slots slots others levels scale k j plan (plans_are_least jobs slots levels plan).0 (plans_are_least jobs others more other).0 is
-    (omega (arith, within, length-map slots (slot_at_scale scale))) (omega (arith, inside, length-map others (slot_at_scale scale)))))
+-- so the one goes along with the other
+along : (jobs : List Job) (slots others : List WrittenSlot) (levels more : List Level) (scale : ℕ) → IsPlan jobs slots levels → IsPlan jobs others more →
+    IsScale scale (slots ++ others) → GoesAlong jobs scale (slots_at scale slots) (slots_at scale others)
+along jobs slots others levels more scale plan other is = record {
+  runs = λ before rest behind slot end left next all same time from to.
+      let here : Any (RunsAt time) (before ++ slot ∷ rest) =
+      (length before, slot, omega (arith, length-append before (slot ∷ rest)), get_or-append_seam before slot rest slot, (from, to)) in
+      let there = runs_too jobs slots others levels more scale plan other (scale_left scale slots others is) (scale_right scale slots others is) time
+      (subst (λ (some : List WholeSlot). Any (RunsAt time) some) (sym all) here) in
+      runs_behind before behind end time next.ended (omega (arith, left.run.0, from)) (subst (λ (some : List WholeSlot). Any (RunsAt time) some) same there);
+  speeds = λ before rest behind slot next end left follow all same begin job.
+      let n : ℕ = length before in
+      let first : slot_at (slots_at scale slots) n ≡ slot = ap (λ (some : List WholeSlot). slot_at some n) all ∙ get_or-append_seam before slot rest no_slot in
+      let second : slot_at (slots_at scale others) n ≡ next = ap (λ (some : List WholeSlot). slot_at some n) same ∙ get_or-append_seam before next behind no_slot in
+      subst (λ (one : WholeSlot). HasSpeedOf one next) first (subst (λ (one : WholeSlot). HasSpeedOf (slot_at (slots_at scale slots) n) one) second
+      (least_speeds_are_one jobs slots slots others levels scale n n plan (plans_are_least jobs slots levels plan).0 (plans_are_least jobs others more other).0 is
+      (omega (arith, ap length all, length-append before (slot ∷ rest), length-map slots (slot_at_scale scale)))
+      (omega (arith, ap length same, length-append before (next ∷ behind), length-map others (slot_at_scale scale)))
+      (ap (λ (s : WholeSlot). s.job) first ∙ job ∙ sym (ap (λ (s : WholeSlot). s.job) second))));
+}
 
 -- the law, at a scale of both
 pub slots_are_one : SlotsAreOne
 slots_are_one jobs slots others levels more scale plan other is =
     let left = scale_left scale slots others is in
     let right = scale_right scale slots others is in
-    let speeds = speeds_are_one jobs slots others levels more scale plan other is in
-    rests_are_one jobs scale is.positive [] 0 (slots_at scale slots) (slots_at scale others) (all_left jobs slots levels plan scale left)
-    (all_left jobs others more other scale right) (λ time later. runs_too jobs slots others levels more scale plan other left right time)
-    (λ time later. runs_too jobs others slots more levels scale other plan right left time) speeds
-    (λ k d within j e inside same. sym (speeds j e inside k d within (sym same)))
+    rests_are_one jobs scale is.positive (slots_at scale slots) (slots_at scale others) [] 0 (slots_at scale slots) (slots_at scale others)
+    (along jobs slots others levels more scale plan other is)
+    (along jobs others slots more levels scale other plan (scale_joined scale others slots right left)) refl refl (all_left jobs slots levels plan scale left) (all_left jobs others more other scale right)

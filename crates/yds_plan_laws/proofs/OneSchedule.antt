@@ -1,12 +1,13 @@
 -- Two schedules that run at the same times, each job at one speed, earliest deadline first and in stretches, are one: slot by slot they begin at
 -- the same time, with the same job, and end together. For if one slot ended first, its job would be done there.
-use Rattle.yds_model.proofs.Common.{◌≡◌, ℕ, zero, suc, ◌+◌, ◌-◌, ◌*◌, ◌<◌, ◌≤◌, ◌==◌, List, [], ◌∷◌, ◌++◌, length, get_or, refl, sym, ap, subst, ◌∙◌, arith, inl, inr, if◌then◌else◌, All, Any, All-tail, cases_order, append_assoc, eq-eqb, sum_by-cons, sum_by-append, mul-le-mul_right, mul-lt-mul_of_pos_left, lt_of_mul-lt-mul_right, eq_of_mul-eq-mul_right, Job, job_at, WholeSlot, work_given, RunFrom, IsInWindow, LiesIn, IsUncut, stretches, stretch_at, EarliestAfter}
+use Rattle.yds_model.proofs.Common.{◌≡◌, ℕ, zero, suc, ◌+◌, ◌-◌, ◌*◌, ◌<◌, ◌≤◌, ◌==◌, List, [], ◌∷◌, ◌++◌, length, refl, sym, ap, subst, ◌∙◌, arith, inl, inr, if◌then◌else◌, All, Any, All-tail, All-push, cases_order, append_assoc, eq-eqb, sum_by-cons, sum_by-append, mul-le-mul_right, mul-lt-mul_of_pos_left, lt_of_mul-lt-mul_right, eq_of_mul-eq-mul_right, Job, job_at, WholeSlot, work_given, RunFrom, IsInWindow, LiesIn, IsUncut, stretches, stretch_at, EarliestAfter}
 use Rattle.yds_events.proofs.Neighbours.{stretch_order}
 use Rattle.yds_plan_laws.proofs.Running.{RunsAt}
 use Rattle.yds_plan_laws.proofs.FewSlots.{AreOnce, comes_both, first_done, stretch_of}
 
 -- What is left of a schedule after some slots that have ended by a time.
 pub record IsRest (jobs : List Job) (scale : ℕ) (before : List WholeSlot) (end : ℕ) (slots : List WholeSlot) : Type 0 where
+  pub ended : All (λ slot. slot.to ≤ end) before
   pub run : RunFrom end slots
   pub windows : All (IsInWindow jobs scale) slots
   pub due : EarliestAfter jobs scale before slots
@@ -19,6 +20,7 @@ pub record IsRest (jobs : List Job) (scale : ℕ) (before : List WholeSlot) (end
 rest_next : (jobs : List Job) (scale : ℕ) (before : List WholeSlot) (end : ℕ) (slot : WholeSlot) (slots : List WholeSlot) →
     IsRest jobs scale before end (slot ∷ slots) → IsRest jobs scale (before ++ slot ∷ []) slot.to slots
 rest_next jobs scale before end slot slots rest = record {
+  ended = All-push (λ one. one.to ≤ slot.to) before slot (λ k d within. omega (arith, rest.ended k d within, rest.run.0, rest.run.1)) (omega arith);
   run = rest.run.2;
   windows = All-tail (IsInWindow jobs scale) slot slots rest.windows;
   due = rest.due.1;
@@ -29,7 +31,7 @@ rest_next jobs scale before end slot slots rest = record {
 }
 
 -- what runs at a time runs at or after the first slot's start
-runs_from : (start time : ℕ) (slot : WholeSlot) (slots : List WholeSlot) → RunFrom start (slot ∷ slots) → Any (RunsAt time) (slot ∷ slots) → slot.from ≤ time
+pub runs_from : (start time : ℕ) (slot : WholeSlot) (slots : List WholeSlot) → RunFrom start (slot ∷ slots) → Any (RunsAt time) (slot ∷ slots) → slot.from ≤ time
 runs_from start time slot slots run (zero, one, within, is, runs) = omega (arith, runs.0, ap (λ (s : WholeSlot). s.from) is)
 runs_from start time slot [] run (suc k, one, within, is, runs) = absurd (omega (arith, within))
 runs_from start time slot (next ∷ slots) run (suc k, one, within, is, runs) =
@@ -40,14 +42,30 @@ runs_on : (time : ℕ) (slot : WholeSlot) (slots : List WholeSlot) → slot.to �
 runs_on time slot slots ended (zero, one, within, is, runs) = absurd (omega (arith, ended, runs.1, ap (λ (s : WholeSlot). s.to) is))
 runs_on time slot slots ended (suc k, one, within, is, runs) = (k, one, omega (arith, within), is, runs)
 
--- what runs in the one list runs in the other, from a time on
-abbrev RunsToo : ℕ → List WholeSlot → List WholeSlot → Type 0
-RunsToo end slots others = (time : ℕ) → end ≤ time → Any (RunsAt time) slots → Any (RunsAt time) others
+-- what is behind slots that have ended runs where anything does
+pub runs_behind : (before slots : List WholeSlot) (end time : ℕ) → All (λ slot. slot.to ≤ end) before → end ≤ time → Any (RunsAt time) (before ++ slots) →
+    Any (RunsAt time) slots
+runs_behind [] slots end time ended later runs = runs
+runs_behind (slot ∷ before) slots end time ended later runs =
+    runs_behind before slots end time (All-tail (λ one. one.to ≤ end) slot before ended) later
+    (runs_on time slot (before ++ slots) (omega (arith, ended 0 slot (omega arith), later)) runs)
 
--- each job has one speed in both
-abbrev pub HaveOneSpeed : List WholeSlot → List WholeSlot → Type 0
-HaveOneSpeed slots others =
-    All (λ slot. All (λ other. slot.job ≡ other.job → slot.work * (other.to - other.from) ≡ other.work * (slot.to - slot.from)) others) slots
+-- while a slot runs one of others does
+abbrev RunsToo : WholeSlot → List WholeSlot → Type 0
+RunsToo slot others = (time : ℕ) → slot.from ≤ time → time < slot.to → Any (RunsAt time) others
+
+-- two slots of one speed
+abbrev pub HasSpeedOf : WholeSlot → WholeSlot → Type 0
+HasSpeedOf slot other = slot.work * (other.to - other.from) ≡ other.work * (slot.to - slot.from)
+
+-- Behind slots that both schedules have: while the first schedule's next slot runs the second one runs too, and next slots of one job that begin
+-- together have one speed.
+pub record GoesAlong (jobs : List Job) (scale : ℕ) (all same : List WholeSlot) : Type 0 where
+  pub runs : (before slots others : List WholeSlot) (slot : WholeSlot) (end : ℕ) → IsRest jobs scale before end (slot ∷ slots) → IsRest jobs scale before end others →
+      all ≡ before ++ slot ∷ slots → same ≡ before ++ others → RunsToo slot others
+  pub speeds : (before slots others : List WholeSlot) (slot other : WholeSlot) (end : ℕ) → IsRest jobs scale before end (slot ∷ slots) →
+      IsRest jobs scale before end (other ∷ others) → all ≡ before ++ slot ∷ slots → same ≡ before ++ other ∷ others → slot.from ≡ other.from → slot.job ≡ other.job →
+      HasSpeedOf slot other
 
 -- a slot by its parts
 abbrev slot_of : ℕ → ℕ → ℕ → ℕ → WholeSlot
@@ -62,8 +80,8 @@ module _ (jobs : List Job) (scale : ℕ) (positive : 1 ≤ scale) where
   module _ (before : List WholeSlot) (end : ℕ) (one other : WholeSlot) (ones others : List WholeSlot) (rest : IsRest jobs scale before end (one ∷ ones))
       (more : IsRest jobs scale before end (other ∷ others)) where
     -- the second list's first slot begins no later
-    begins_no_later : RunsToo end (one ∷ ones) (other ∷ others) → other.from ≤ one.from
-    begins_no_later too = runs_from end one.from other others more.run (too one.from rest.run.0 (0, one, omega arith, refl, (omega arith, rest.run.1)))
+    begins_no_later : RunsToo one (other ∷ others) → other.from ≤ one.from
+    begins_no_later too = runs_from end one.from other others more.run (too one.from (omega arith) rest.run.1)
 
     -- where both begin together they are of one job
     same_job : one.from ≡ other.from → one.job ≡ other.job
@@ -93,7 +111,7 @@ module _ (jobs : List Job) (scale : ℕ) (positive : 1 ≤ scale) where
     )
 
   -- a slot whose start lies inside a stretch lies in it
-  stretch_same : (k : ℕ) (slot : WholeSlot) → k < length (stretches jobs) → IsUncut jobs scale slot → slot.from < slot.to → (stretch_at jobs k).from * scale ≤ slot.from →
+  pub stretch_same : (k : ℕ) (slot : WholeSlot) → k < length (stretches jobs) → IsUncut jobs scale slot → slot.from < slot.to → (stretch_at jobs k).from * scale ≤ slot.from →
       slot.from < (stretch_at jobs k).to * scale → LiesIn scale slot (stretch_at jobs k)
   stretch_same k slot within uncut takes from to =
       let found = stretch_of jobs scale slot uncut in
@@ -105,15 +123,15 @@ module _ (jobs : List Job) (scale : ℕ) (positive : 1 ≤ scale) where
 
   -- the second slot doesn't end first: its job would be done, and the first does more of it
   ends_no_sooner : (before : List WholeSlot) (end : ℕ) (one other : WholeSlot) (ones others : List WholeSlot) → IsRest jobs scale before end (one ∷ ones) →
-      IsRest jobs scale before end (other ∷ others) → RunsToo end (one ∷ ones) (other ∷ others) → one.from ≡ other.from → one.job ≡ other.job →
+      IsRest jobs scale before end (other ∷ others) → RunsToo one (other ∷ others) → one.from ≡ other.from → one.job ≡ other.job →
       one.work * (other.to - other.from) ≡ other.work * (one.to - one.from) → other.to < one.to → ⊥
   ends_no_sooner before end one other ones [] rest more too begin same speed sooner =
       let none = runs_on other.to other [] (omega arith)
-      (too other.to (omega (arith, more.run.0, more.run.1)) (0, one, omega arith, refl, (omega (arith, begin, more.run.1), sooner))) in
+      (too other.to (omega (arith, begin, more.run.1)) sooner) in
       absurd (omega (arith, none.2))
   ends_no_sooner before end one other ones (next ∷ others) rest more too begin same speed sooner =
       let there = runs_on other.to other (next ∷ others) (omega arith)
-      (too other.to (omega (arith, more.run.0, more.run.1)) (0, one, omega arith, refl, (omega (arith, begin, more.run.1), sooner))) in
+      (too other.to (omega (arith, begin, more.run.1)) sooner) in
       let starts : next.from ≡ other.to = omega (arith, more.run.2.0, runs_from other.to other.to next others more.run.2 there) in
       let place = stretch_of jobs scale one (rest.uncut 0 one (omega arith)) in
       let lies : LiesIn scale other (stretch_at jobs place.0) = record { from = omega (arith, place.2.from, begin); to = omega (arith, place.2.to, sooner) } in
@@ -135,38 +153,27 @@ module _ (jobs : List Job) (scale : ℕ) (positive : 1 ≤ scale) where
             (omega (arith, begin, sooner, more.run.1)) speed,
       ))
 
-  -- without the first slots, what runs in the one runs in the other
-  runs_rest : (end : ℕ) (one other : WholeSlot) (ones others : List WholeSlot) → RunFrom end (one ∷ ones) → one.to ≡ other.to → RunsToo end (one ∷ ones) (other ∷ others) →
-      RunsToo one.to ones others
-  runs_rest end one other ones others run same too time later (k, slot, within, is, runs) =
-      runs_on time other others (omega (arith, same, later)) (too time (omega (arith, run.0, run.1, later)) (suc k, slot, omega (arith, within), is, runs))
-
-  -- what each slot's speed is to those of the rest
-  speeds_rest : (one other : WholeSlot) (ones others : List WholeSlot) → HaveOneSpeed (one ∷ ones) (other ∷ others) → HaveOneSpeed ones others
-  speeds_rest one other ones others speeds k d within =
-      All-tail (λ next. (get_or ones k d).job ≡ next.job → (get_or ones k d).work * (next.to - next.from) ≡ next.work * ((get_or ones k d).to - (get_or ones k d).from)) other others
-      (speeds (suc k) d (omega (arith, within)))
-
   -- so both are one list
-  pub rests_are_one : (before : List WholeSlot) (end : ℕ) (ones others : List WholeSlot) → IsRest jobs scale before end ones → IsRest jobs scale before end others →
-      RunsToo end ones others → RunsToo end others ones → HaveOneSpeed ones others → HaveOneSpeed others ones → ones ≡ others
-  rests_are_one before end [] [] rest more too back speeds again = refl
-  rests_are_one before end [] (other ∷ others) rest more too back speeds again =
-      absurd (let none = back other.from more.run.0 (0, other, omega arith, refl, (omega arith, more.run.1)) in omega (arith, none.2))
-  rests_are_one before end (one ∷ ones) [] rest more too back speeds again =
-      absurd (let none = too one.from rest.run.0 (0, one, omega arith, refl, (omega arith, rest.run.1)) in omega (arith, none.2))
-  rests_are_one before end (one ∷ ones) (other ∷ others) rest more too back speeds again =
+  pub rests_are_one : (all same before : List WholeSlot) (end : ℕ) (ones others : List WholeSlot) → GoesAlong jobs scale all same → GoesAlong jobs scale same all →
+      all ≡ before ++ ones → same ≡ before ++ others → IsRest jobs scale before end ones → IsRest jobs scale before end others → ones ≡ others
+  rests_are_one all same before end [] [] along back is also rest more = refl
+  rests_are_one all same before end [] (other ∷ others) along back is also rest more =
+      absurd (let none = back.runs before others [] other end more rest also is other.from (omega arith) more.run.1 in omega (arith, none.2))
+  rests_are_one all same before end (one ∷ ones) [] along back is also rest more =
+      absurd (let none = along.runs before ones [] one end rest more is also one.from (omega arith) rest.run.1 in omega (arith, none.2))
+  rests_are_one all same before end (one ∷ ones) (other ∷ others) along back is also rest more =
+      let too = along.runs before ones (other ∷ others) one end rest more is also in
+      let again = back.runs before others (one ∷ ones) other end more rest also is in
       let begin : one.from ≡ other.from = omega (
         arith,
         begins_no_later before end one other ones others rest more too,
-        begins_no_later before end other one others ones more rest back,
+        begins_no_later before end other one others ones more rest again,
       ) in
       let job : one.job ≡ other.job = same_job before end one other ones others rest more begin in
-      let speed : one.work * (other.to - other.from) ≡ other.work * (one.to - one.from) = speeds 0 one (omega arith) 0 other (omega arith) job in
+      let speed : one.work * (other.to - other.from) ≡ other.work * (one.to - one.from) = along.speeds before ones others one other end rest more is also begin job in
       let ends : one.to ≡ other.to = elim (cases_order one.to other.to) [
-        | inl same ↦ same
-        | inr (inl sooner) ↦ absurd (ends_no_sooner before end other one others ones more rest back (sym begin) (sym job)
-            (again 0 other (omega arith) 0 one (omega arith) (sym job)) sooner)
+        | inl equal ↦ equal
+        | inr (inl sooner) ↦ absurd (ends_no_sooner before end other one others ones more rest again (sym begin) (sym job) (sym speed) sooner)
         | inr (inr later) ↦ absurd (ends_no_sooner before end one other ones others rest more too begin job speed later)
       ] in
       let time : one.to - one.from ≡ other.to - other.from = omega (arith, begin, ends) in
@@ -176,7 +183,7 @@ module _ (jobs : List Job) (scale : ℕ) (positive : 1 ≤ scale) where
       ap (λ (n : ℕ). slot_of n one.from one.to one.work) job ∙ ap (λ (n : ℕ). slot_of other.job n one.to one.work) begin
       ∙ ap (λ (n : ℕ). slot_of other.job other.from n one.work) ends ∙ ap (λ (n : ℕ). slot_of other.job other.from other.to n) work in
       let mine = subst (λ (slot : WholeSlot). IsRest jobs scale (before ++ slot ∷ []) slot.to ones) first (rest_next jobs scale before end one ones rest) in
-      let others_same = rests_are_one (before ++ other ∷ []) other.to ones others mine (rest_next jobs scale before end other others more)
-      (subst (λ (n : ℕ). RunsToo n ones others) ends (runs_rest end one other ones others rest.run ends too))
-      (runs_rest end other one others ones more.run (sym ends) back) (speeds_rest one other ones others speeds) (speeds_rest other one others ones again) in
+      let others_same = rests_are_one all same (before ++ other ∷ []) other.to ones others along back
+      (is ∙ ap (λ (slot : WholeSlot). before ++ slot ∷ ones) first ∙ sym (append_assoc before (other ∷ []) ones)) (also ∙ sym (append_assoc before (other ∷ []) others))
+      mine (rest_next jobs scale before end other others more) in
       cc (first, others_same)

@@ -120,6 +120,7 @@ runs_in slots pieces time run lie long covers =
 abbrev pub in_parts_of : ℕ → Piece → Piece
 in_parts_of scale piece = record { from = piece.from * scale; to = piece.to * scale }
 
+-- and all of them
 abbrev pub at_parts : ℕ → List Piece → List Piece
 at_parts scale pieces = map (in_parts_of scale) pieces
 

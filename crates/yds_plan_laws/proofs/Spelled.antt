@@ -1,7 +1,8 @@
 -- Fractions that are kept in the program's one spelling, with denominators that are equal or 1, are one fraction where they are the same.
-use Rattle.yds_model.proofs.Common.{◌≡◌, ℕ, ◌+◌, ◌*◌, ◌<◌, ◌≤◌, sym, ap, ◌∙◌, arith, inl, inr, cases_order, mul-le-mul_right, eq_of_mul-eq-mul_right, Fraction, numerator, IsSame, AreAlike}
+use Rattle.yds_model.proofs.Common.{◌≡◌, ℕ, ◌+◌, ◌*◌, ◌<◌, ◌≤◌, sym, ap, ◌∙◌, arith, inl, inr, cases_order, mul-le-mul_right, eq_of_mul-eq-mul_right, Fraction, numerator, IsSame, AreAlike, WrittenSlot, WholeSlot, IsDivided, slot_at_scale}
 use Rattle.yds_model.specs.Plan.{IsOver}
-use Rattle.yds_model.specs.Within.{IsFraction}
+use Rattle.yds_model.specs.Within.{IsFraction, IsSlot}
+use Rattle.fraction_lemmas.proofs.Fractions.{equality_of_values}
 
 -- a fraction by its parts
 abbrev by_parts : ℕ → ℕ → ℕ → Fraction
@@ -45,7 +46,7 @@ whole_too x y below small plain one same =
     plain (sym (parts_same x.whole 0 y.whole y.num y.den (omega (arith, small)) small whole).1)
 
 -- and all of them
-pub spelled_once : (most more : ℕ) (x y : Fraction) → IsFraction most x → IsFraction more y → AreAlike x y → IsSame x y → x ≡ y
+spelled_once : (most more : ℕ) (x y : Fraction) → IsFraction most x → IsFraction more y → AreAlike x y → IsSame x y → x ≡ y
 spelled_once most more x y is also (inl dens) same = over_one x y is.below_one also.below_one dens same
 spelled_once most more x y is also (inr (inl one)) same =
     over_one x y is.below_one also.below_one (one ∙ sym (whole_too x y is.below_one also.below_one also.whole_is_plain one same)) same
@@ -53,7 +54,26 @@ spelled_once most more x y is also (inr (inr one)) same =
     over_one x y is.below_one also.below_one (whole_too y x also.below_one is.below_one is.whole_is_plain one (sym same) ∙ sym one) same
 
 -- fractions that are whole or over one number are alike
-pub over_alike : (den : ℕ) (x y : Fraction) → IsOver den x → IsOver den y → AreAlike x y
+over_alike : (den : ℕ) (x y : Fraction) → IsOver den x → IsOver den y → AreAlike x y
 over_alike den x y (inl whole) other = inr (inl (ap (λ (z : Fraction). z.den) whole))
 over_alike den x y (inr over) (inl whole) = inr (inr (ap (λ (z : Fraction). z.den) whole))
 over_alike den x y (inr over) (inr same) = inl (over ∙ sym same)
+
+-- a slot by its parts
+abbrev written_of : ℕ → Fraction → Fraction → Fraction → WrittenSlot
+written_of job from to work = record { job = job; from = from; to = to; work = work }
+
+-- slots that are the same at a scale, with ends and works over the same numbers, are one
+pub slot_spelled_once : (scale ends works : ℕ) (x y : WrittenSlot) → 1 ≤ scale → IsDivided scale x → IsDivided scale y → IsSlot x → IsSlot y →
+    IsOver ends x.from → IsOver ends y.from → IsOver ends x.to → IsOver ends y.to → IsOver works x.work → IsOver works y.work →
+    slot_at_scale scale x ≡ slot_at_scale scale y → x ≡ y
+slot_spelled_once scale ends works x y positive is also fits fit from begin to end work done same =
+    let job : x.job ≡ y.job = ap (λ (slot : WholeSlot). slot.job) same in
+    let starts : x.from ≡ y.from = spelled_once _ _ x.from y.from fits.from fit.from (over_alike ends x.from y.from from begin)
+    ((equality_of_values x.from y.from scale positive is.from also.from).1 (ap (λ (slot : WholeSlot). slot.from) same)) in
+    let stops : x.to ≡ y.to = spelled_once _ _ x.to y.to fits.to fit.to (over_alike ends x.to y.to to end)
+    ((equality_of_values x.to y.to scale positive is.to also.to).1 (ap (λ (slot : WholeSlot). slot.to) same)) in
+    let works_same : x.work ≡ y.work = spelled_once _ _ x.work y.work fits.work fit.work (over_alike works x.work y.work work done)
+    ((equality_of_values x.work y.work scale positive is.work also.work).1 (ap (λ (slot : WholeSlot). slot.work) same)) in
+    ap (λ (n : ℕ). written_of n x.from x.to x.work) job ∙ ap (λ (f : Fraction). written_of y.job f x.to x.work) starts
+    ∙ ap (λ (f : Fraction). written_of y.job y.from f x.work) stops ∙ ap (λ (f : Fraction). written_of y.job y.from y.to f) works_same

@@ -3,3 +3,4 @@ pub mod SpeedLaws
 pub mod CountLaws
 pub mod OneLaws
 pub mod AnswersOnce
+pub mod RunsOnce
