@@ -16,18 +16,18 @@ abbrev level : ℕ → ℕ → ℕ → ℕ → List ℕ → Level
 level work length from to members = record { work = work; length = length; pieces = record { from = from; to = to } ∷ []; members = members }
 
 -- two jobs from 0 to 4, of work 2
-abbrev jobs : List Job
+abbrev pub jobs : List Job
 jobs = job 0 4 2 ∷ job 0 4 2 ∷ []
 
 -- The plan has the first one first, at the speed 1,
-abbrev planned : List WrittenSlot
+abbrev pub planned : List WrittenSlot
 planned = slot 0 0 2 2 ∷ slot 1 2 4 2 ∷ []
 
 -- and one level.
-abbrev levels : List Level
+abbrev pub levels : List Level
 levels = level 4 4 0 4 (0 ∷ 1 ∷ []) ∷ []
 
-plan : IsPlan jobs planned levels
+pub plan : IsPlan jobs planned levels
 plan = plan_by_test jobs planned levels (proper_by_test jobs planned levels refl refl refl) (served_by_test jobs planned 1 refl refl) refl
 
 -- # Another schedule that is least
@@ -72,7 +72,7 @@ hasty_not_least least = hasty_improper ((levels_certify_the_least jobs planned h
 -- # Another certificate
 
 -- A level for each job, in the time in which the plan runs it: they are no certificate of the plan's slots, nor of any other,
-abbrev halves : List Level
+abbrev pub halves : List Level
 halves = level 2 2 0 2 (0 ∷ []) ∷ level 2 2 2 4 (1 ∷ []) ∷ []
 
 -- since the first job's window isn't covered by the first piece. So a no beside other levels than a plan's says nothing of the slots, which are least.

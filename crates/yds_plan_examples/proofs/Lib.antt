@@ -1,2 +1,3 @@
-mod LeastExamples
+pub mod LeastExamples
 mod SizesExamples
+mod OneExamples

@@ -12,22 +12,22 @@ use Rattle.yds_plan_laws.proofs.Certified.{levels_fill}
 -- # Pieces without a unit of time
 
 -- the piece has the unit of time that begins at `time`
-abbrev has : ℕ → Piece → Bool
+abbrev pub has : ℕ → Piece → Bool
 has time piece = nat_le piece.from time && nat_lt time piece.to
 
 -- the first piece that has it is parted there
-abbrev without : ℕ → List Piece → List Piece
+abbrev pub without : ℕ → List Piece → List Piece
 without time [] = []
 without time (piece ∷ pieces) =
     cond (has time piece) (record { from = piece.from; to = time } ∷ record { from = time + 1; to = piece.to } ∷ pieces) (piece ∷ without time pieces)
 
 -- as two comparisons
-has_time : (time : ℕ) (piece : Piece) → has time piece ≡ true → (piece.from ≤ time) × (time < piece.to)
+pub has_time : (time : ℕ) (piece : Piece) → has time piece ≡ true → (piece.from ≤ time) × (time < piece.to)
 has_time time piece passes =
     let both = and_parts (nat_le piece.from time) (nat_lt time piece.to) passes in (leb-true piece.from time both.0, ltb-true time piece.to both.1)
 
 -- what pieces cover they cover with one more before them
-covers_later : (time : ℕ) (piece : Piece) (pieces : List Piece) → Covers pieces time → Covers (piece ∷ pieces) time
+pub covers_later : (time : ℕ) (piece : Piece) (pieces : List Piece) → Covers pieces time → Covers (piece ∷ pieces) time
 covers_later time piece pieces (k, one, within, is, holds) = (suc k, one, omega (arith, within), is, holds)
 
 -- a time that the first piece hasn't is in the others
@@ -37,7 +37,7 @@ covers_rest time piece pieces not (zero, one, within, is, holds) =
 covers_rest time piece pieces not (suc k, one, within, is, holds) = (k, one, omega (arith, within), is, holds)
 
 -- it is one unit less
-less_by_one : (time : ℕ) (pieces : List Piece) → Covers pieces time → total_length (without time pieces) + 1 ≡ total_length pieces
+pub less_by_one : (time : ℕ) (pieces : List Piece) → Covers pieces time → total_length (without time pieces) + 1 ≡ total_length pieces
 less_by_one time [] (k, one, within, is, holds) = absurd (omega (arith, within))
 less_by_one time (piece ∷ pieces) covers = elim (cases_Bool (has time piece)) [
   | inl there ↦
@@ -67,7 +67,7 @@ later time other after apart = elim (cases_order time other) [
 ]
 
 -- and has all other times as before
-others_stay : (time other : ℕ) (pieces : List Piece) → (other ≡ time → ⊥) → Covers pieces other → Covers (without time pieces) other
+pub others_stay : (time other : ℕ) (pieces : List Piece) → (other ≡ time → ⊥) → Covers pieces other → Covers (without time pieces) other
 others_stay time other [] apart (k, one, within, is, holds) = absurd (omega (arith, within))
 others_stay time other (piece ∷ pieces) apart covers = elim (cases_Bool (has time piece)) [
   | inl there ↦ rw there (elim (cases_Bool (has other piece)) [
@@ -87,7 +87,7 @@ others_stay time other (piece ∷ pieces) apart covers = elim (cases_Bool (has t
 -- # Pieces of one level, and of others
 
 -- what two lists of pieces cover one of them does
-covers_either : (time : ℕ) (pieces others : List Piece) → Covers (pieces ++ others) time → Covers pieces time ⊎ Covers others time
+pub covers_either : (time : ℕ) (pieces others : List Piece) → Covers (pieces ++ others) time → Covers pieces time ⊎ Covers others time
 covers_either time [] others covers = inr covers
 covers_either time (piece ∷ pieces) others covers = elim (cases_Bool (has time piece)) [
   | inl here ↦ inl (0, piece, omega arith, refl, has_time time piece here)
@@ -98,7 +98,7 @@ covers_either time (piece ∷ pieces) others covers = elim (cases_Bool (has time
 ]
 
 -- where pieces don't touch, one of them begins after the end of each before it
-ends_before : (start i k : ℕ) (pieces : List Piece) (d : Piece) → PiecesFrom start pieces → DontTouch pieces → i < k → k < length pieces →
+pub ends_before : (start i k : ℕ) (pieces : List Piece) (d : Piece) → PiecesFrom start pieces → DontTouch pieces → i < k → k < length pieces →
     (get_or pieces i d).to < (get_or pieces k d).from
 ends_before start i k [] d run apart order within = absurd (omega (arith, within))
 ends_before start i k (piece ∷ []) d run apart order within = absurd (omega (arith, order, within))
@@ -175,7 +175,7 @@ module _ (jobs : List Job) (planned : List WrittenSlot) (levels : List Level) (p
       opens_then time unit number same released due = grind (arith, le-leb, lt-ltb)
 
   -- so each unit of their pieces is one of a member's window: they fill the pieces
-  window_with : (i time : ℕ) → i < length levels → Covers (all_pieces (take (suc i) levels)) time →
+  pub window_with : (i time : ℕ) → i < length levels → Covers (all_pieces (take (suc i) levels)) time →
       (number : ℕ) × Contains (all_members (take (suc i) levels)) number × ((job_at jobs number).release ≤ time) × (time < (job_at jobs number).deadline)
   window_with i time within covers =
       let members = all_members (take (suc i) levels) in

@@ -92,11 +92,11 @@ left_fewer jobs scale before slot number known pending done =
 -- # One slot after another
 
 -- jobs that come before one another are one
-comes_both : (jobs : List Job) (one other : ℕ) → ComesFirst jobs one other → ComesFirst jobs other one → one ≡ other
+pub comes_both : (jobs : List Job) (one other : ℕ) → ComesFirst jobs one other → ComesFirst jobs other one → one ≡ other
 comes_both jobs one other first second = grind arith
 
 -- the slots of one job lie in different stretches
-abbrev AreOnce : List Job → ℕ → List WholeSlot → Type 0
+abbrev pub AreOnce : List Job → ℕ → List WholeSlot → Type 0
 AreOnce jobs scale slots = (i j : ℕ) → i < j → j < length slots → (slot_at slots i).job ≡ (slot_at slots j).job →
     All (λ stretch. LiesIn scale (slot_at slots i) stretch → LiesIn scale (slot_at slots j) stretch → ⊥) (stretches jobs)
 
@@ -114,7 +114,7 @@ module _ (jobs : List Job) (scale : ℕ) (before : List WholeSlot) (slot next : 
   ]
 
   -- so the first one's job came before it, and is done
-  first_done : (job_at jobs slot.job).work * scale ≤ work_given (before ++ slot ∷ []) slot.job
+  pub first_done : (job_at jobs slot.job).work * scale ≤ work_given (before ++ slot ∷ []) slot.job
   first_done = elim (cases_lt (work_given (before ++ slot ∷ []) slot.job) ((job_at jobs slot.job).work * scale)) [
     | inr done ↦ done
     | inl pending ↦ absurd (other (comes_both jobs slot.job next.job
@@ -129,7 +129,7 @@ module _ (jobs : List Job) (scale : ℕ) (before : List WholeSlot) (slot next : 
   ]
 
 -- the stretch of an uncut slot
-stretch_of : (jobs : List Job) (scale : ℕ) (slot : WholeSlot) → IsUncut jobs scale slot → (k : ℕ) × (k < length (stretches jobs)) × LiesIn scale slot (stretch_at jobs k)
+pub stretch_of : (jobs : List Job) (scale : ℕ) (slot : WholeSlot) → IsUncut jobs scale slot → (k : ℕ) × (k < length (stretches jobs)) × LiesIn scale slot (stretch_at jobs k)
 stretch_of jobs scale slot (k, piece, within, is, lies) =
     (k, within, subst (LiesIn scale slot) (sym is ∙ get_or_default (stretches jobs) k piece no_stretch within) lies)
 

@@ -4,3 +4,14 @@ pub mod FewLevels
 pub mod FewRounded
 mod Ends
 pub mod FewPieces
+pub mod OneCertificate
+mod Running
+mod OneSchedule
+pub mod OnePlan
+mod Spelled
+pub mod Once
+mod RunsAlong
+pub mod OneRun
+pub mod OnceRun
+mod OnceCompared
+pub mod OnceAdmitted

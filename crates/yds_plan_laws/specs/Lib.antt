@@ -1,3 +1,6 @@
 pub mod LeastLaws
 pub mod SpeedLaws
 pub mod CountLaws
+pub mod OneLaws
+pub mod AnswersOnce
+pub mod RunsOnce

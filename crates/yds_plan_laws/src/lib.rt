@@ -2,12 +2,16 @@
 //!
 //! It stands on `yds_model`, whose definitions the laws speak of; on `yds_events` for event points and stretches; and on `yds_laws` and
 //! `yds_energy` for what is known of plans and of their levels.
-//! It carries the promises that a plan's levels are a proper certificate of just the least schedules, and of how many levels, pieces and
-//! slots there are at most. No limit of a document stands in it.
+//! It carries the promises that a plan's levels are a proper certificate of just the least schedules; that jobs have at most one plan, and a
+//! policy at most one run for them, so that what goes by these has one answer; and of how many levels, pieces and slots there are at most.
+//! No limit of a document stands in it.
 #![tactic(auto)]
 
 ghost use Rattle.yds_plan_laws.specs.LeastLaws.{LevelsCertifyTheLeast};
 ghost use Rattle.yds_plan_laws.specs.SpeedLaws.{LeastSpeedsAreOne};
+ghost use Rattle.yds_plan_laws.specs.OneLaws.{LevelsAreOne, SlotsAreOne};
+ghost use Rattle.yds_plan_laws.specs.AnswersOnce.{PlansAnswerOnce};
+ghost use Rattle.yds_plan_laws.specs.RunsOnce.{RunsAreOne, RunsAnswerOnce};
 ghost use Rattle.yds_plan_laws.specs.CountLaws.{LevelsAreFew, PiecesAreFew, PlanSlotsAreFew, RunSlotsAreFew, RoundedSlotsAreFew};
 
 /// A plan's levels are a proper certificate of a schedule exactly where that schedule is least.
@@ -15,9 +19,34 @@ pub fn levels_certify_the_least()
     ensures { LevelsCertifyTheLeast }
 {}
 
-/// So all least schedules run a job at one speed, that of its level.
+/// So all least schedules run a job at one speed.
 pub fn least_speeds_are_one()
     ensures { LeastSpeedsAreOne }
+{}
+
+/// Two plans of the same jobs have the same levels, with their works, lengths, pieces and members.
+pub fn levels_are_one()
+    ensures { LevelsAreOne }
+{}
+
+/// And the same slots, but for how their fractions are spelled.
+pub fn slots_are_one()
+    ensures { SlotsAreOne }
+{}
+
+/// `plan`, `report`, `report --json`, `curve`, `expand` and trials have one answer to each input.
+pub fn plans_answer_once()
+    ensures { PlansAnswerOnce }
+{}
+
+/// Two runs of a policy for the same jobs on the same grid rounded as often, and have the same slots.
+pub fn runs_are_one()
+    ensures { RunsAreOne }
+{}
+
+/// So `avr`, `oa`, `compare` and `admit` have one answer to each input.
+pub fn runs_answer_once()
+    ensures { RunsAnswerOnce }
 {}
 
 /// A plan has no more levels than jobs with work.

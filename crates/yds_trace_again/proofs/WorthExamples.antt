@@ -1,5 +1,5 @@
 -- What a text is worth, tried on a trace of two jobs: texts that dropped something are refused. A unit of time is 10 nanoseconds.
-use Rattle.yds_model.proofs.Common.{◌≡◌, ◌≢◌, ℕ, zero, suc, ◌*◌, ◌<◌, List, [], ◌∷◌, codes, length, map, reverse, false, Some, None, Result, Ok, Err, refl, ap, subst, arith, of_whole, digits, Document, no_document, reading, All, All-nil, All-cons, recursion_from_All, get_or, one-dvd, job_at, IsDivided, IsInWindow, IsFeasible, slots_at, work_given}
+use Rattle.yds_model.proofs.Common.{◌≡◌, ◌≢◌, ℕ, zero, suc, ◌*◌, ◌<◌, List, [], ◌∷◌, codes, length, map, reverse, true, false, Some, None, Result, Ok, Err, refl, ap, subst, arith, of_whole, digits, Document, no_document, reading, All, All-nil, All-cons, recursion_from_All, get_or, one-dvd, job_at, IsDivided, IsInWindow, IsFeasible, slots_at, work_given}
 use Rattle.base.specs.Fields.{Fault}
 use Rattle.yds_model.specs.declared.reason.Reason.{Reason}
 use Rattle.model_lemmas.proofs.Scale.{one_scale_decides}
@@ -52,7 +52,7 @@ asked = record {
 -- The job of `t` runs from 1020 to 1040 and is in time, that of `u` from 1210 to 1260 and is due at 1241.
 abbrev lines : List Said
 lines = reverse
-    (line_of 0 1000 (WakeUp t) ∷ line_of 0 1020 (Switch idle states.GoesOn t) ∷ line_of 0 1040 (Switch t states.Sleeps idle) ∷ line_of 0 1200 (WakeUp u)
+    (line_of 0 1000 (WakeUp t true) ∷ line_of 0 1020 (Switch idle states.GoesOn t) ∷ line_of 0 1040 (Switch t states.Sleeps idle) ∷ line_of 0 1200 (WakeUp u true)
     ∷ line_of 0 1210 (Switch idle states.GoesOn u) ∷ line_of 0 1260 (Switch u states.Sleeps idle) ∷ [])
 
 one_is_late : map (λ one. one.late) (all_judged asked lines) ≡ None ∷ Some 19 ∷ []

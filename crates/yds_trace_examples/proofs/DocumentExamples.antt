@@ -100,9 +100,13 @@ begun_before_from : document (from 1050) (woken 1000 ∷ comes 0 1020 ∷ sleeps
 unfolding digits
 begun_before_from = refl
 
--- Near miss: due before `from`. It isn't asked for.
-due_before_from : judgements (from 1100) (woken 1000 ∷ comes 0 1020 ∷ sleeps 0 1150 ∷ []) ≡ (None, Some reasons.BeforeFrom) ∷ []
+-- Due before `from` too, and open behind it: it's late.
+due_before_from : judgements (from 1120) (woken 1000 ∷ comes 0 1020 ∷ sleeps 0 1150 ∷ []) ≡ (Some 50, None) ∷ []
 due_before_from = refl
+
+-- Near miss: it ended at `from`, so it's of the time before it.
+ended_at_from : judgements (from 1150) (woken 1000 ∷ comes 0 1020 ∷ sleeps 0 1150 ∷ []) ≡ (None, Some reasons.BeforeFrom) ∷ []
+ended_at_from = refl
 
 -- Events were lost over its end, after its deadline: it is known to be late, and has no run.
 lost_and_late : document asked (woken 1000 ∷ comes 0 1020 ∷ marker 1 1110 ∷ sleeps 0 1120 ∷ lost 1 ∷ marker 0 1200 ∷ []) ≡

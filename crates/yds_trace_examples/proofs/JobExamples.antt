@@ -1,5 +1,5 @@
 -- The jobs of a task, by lines of a trace.
-use Rattle.base.proofs.Common.{◌≡◌, List, [], ◌∷◌, reverse, true, Some, None, refl}
+use Rattle.base.proofs.Common.{◌≡◌, List, [], ◌∷◌, reverse, true, false, Some, None, refl}
 use Rattle.yds_kernel.specs.declared.state.State.TheVariants as states
 use Rattle.yds_kernel.specs.declared.loss.Since.TheVariants as since
 use Rattle.yds_kernel.specs.Event.{Switch, WakeUp, Said, Lost}

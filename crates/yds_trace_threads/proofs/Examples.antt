@@ -1,5 +1,5 @@
 -- Small traces, and near misses: what they tell of the thread 7. The last line stands first.
-use Rattle.base.proofs.Common.{◌≡◌, ℕ, List, [], ◌∷◌, Some, None, codes, refl}
+use Rattle.base.proofs.Common.{◌≡◌, ℕ, List, [], ◌∷◌, Some, None, true, codes, refl}
 use Rattle.yds_kernel.specs.declared.state.State.TheVariants as states
 use Rattle.yds_kernel.specs.declared.loss.Since.TheVariants as since
 use Rattle.yds_kernel.specs.Event.{Thread, Switch, WakeUp, Happening, Said, Stamped, Lost}
