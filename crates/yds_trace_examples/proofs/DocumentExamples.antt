@@ -101,7 +101,7 @@ unfolding digits
 begun_before_from = refl
 
 -- Due before `from` too, and open behind it: it's late.
-due_before_from : judgements (from 1120) (woken 1000 ∷ comes 0 1020 ∷ sleeps 0 1150 ∷ []) ≡ (Some 50, None) ∷ []
+due_before_from : judgements (from 1120) (woken 1000 ∷ comes 0 1020 ∷ sleeps 0 1150 ∷ []) ≡ (Some 50, Some reasons.BeforeFrom) ∷ []
 due_before_from = refl
 
 -- Near miss: it ended at `from`, so it's of the time before it.

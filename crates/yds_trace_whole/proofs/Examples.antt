@@ -79,10 +79,10 @@ cut_across same = let runs : 0 ≡ 1 = ap second_run same in cc runs
 
 -- # A begin that isn't known
 
--- The second job's wake-up is missing, so it began by 2000; and it was late. It can't stand as it is.
+-- The wake-up of `u` is missing, so its job began by 2000; and it was late. It can't stand as it is.
 abbrev unseen : List Said
 unseen = reverse
-    (woken 1000 t ∷ preempted 1020 idle t ∷ sleeps 1040 t idle ∷ preempted 2000 idle t ∷ sleeps 2150 t idle ∷ line 2300 Marker ∷ [])
+    (woken 1000 t ∷ preempted 1020 idle t ∷ sleeps 1040 t idle ∷ preempted 2000 idle u ∷ sleeps 2150 u idle ∷ line 2300 Marker ∷ [])
 
 -- Its part releases it at 0, and so does the whole.
 released_at_zero : map (λ job. job.release) (put_together (in_two unseen 2000)).jobs ≡ 0 ∷ 0 ∷ []

@@ -1,5 +1,5 @@
 -- What holds of a task's jobs behind some lines whose parts end at a cut, and that one line more leaves it so, and changes nothing that is told.
-use Rattle.yds_model.proofs.Common.{◌≡◌, ◌∙◌, ℕ, ◌+◌, ◌<◌, ◌≤◌, ◌⊎◌, inl, inr, ◌&&◌, List, [], ◌∷◌, Bool, true, false, not, nat_lt, nat_le, if◌then◌else◌, Option, Some, None, is_some, refl, sym, ap, subst, arith, ltb-false, le-leb, cases_lt, and_parts, and_from, eqb-true, or_parts, true≢false, false≢true, min, cond_both, not-true}
+use Rattle.yds_model.proofs.Common.{◌≡◌, ◌∙◌, ℕ, ◌+◌, ◌<◌, ◌≤◌, ◌⊎◌, inl, inr, ◌&&◌, ◌||◌, List, [], ◌∷◌, Bool, true, false, not, nat_lt, nat_le, if◌then◌else◌, Option, Some, None, is_some, refl, sym, ap, subst, arith, ltb-false, le-leb, cases_lt, and_parts, and_from, eqb-true, or_parts, true≢false, false≢true, min, cond_both, not-true}
 use Rattle.std.specs.List.{AllByRecursion}
 use Rattle.yds_kernel.specs.declared.state.State.{State}
 use Rattle.yds_kernel.specs.declared.state.State.TheVariants as states

@@ -1,5 +1,5 @@
 -- A late job of a part: by less than a unit of time it is in time as it is written, and a comment names it. By a unit it isn't.
-use Rattle.yds_model.proofs.Common.{◌≡◌, ℕ, zero, suc, ◌*◌, ◌<◌, List, [], ◌∷◌, codes, reverse, flat_map, map, Some, None, refl, sym, subst, arith, All-nil, All-cons, one-dvd, job_at, IsDivided, IsInWindow, IsFeasible, slots_at, work_given}
+use Rattle.yds_model.proofs.Common.{◌≡◌, ℕ, zero, suc, ◌*◌, ◌<◌, List, [], ◌∷◌, true, codes, reverse, flat_map, map, Some, None, refl, sym, subst, arith, All-nil, All-cons, one-dvd, job_at, IsDivided, IsInWindow, IsFeasible, slots_at, work_given}
 use Rattle.model_lemmas.proofs.Scale.{one_scale_decides}
 use Rattle.std.specs.Fmt.{digits}
 use Rattle.yds_kernel.specs.declared.state.State.TheVariants as states

@@ -434,6 +434,7 @@ module _ (asked : Asked) (past : List Said) (cut : Cut) (time number : ℕ) wher
           sound = holds.keeps.sound;
           last = subst (λ (t : ℕ). IsLeft t known.on known.jobs) (sym at) last;
           stands = holds.keeps.stands;
+          started = holds.keeps.started;
         };
         firm = subst (λ (t : ℕ). Each (IsFirm asked past now.decided number) t known.jobs) (sym at)
             (subst (λ (d : ℕ). Each (IsFirm asked past d number) time known.jobs) (sym decided) firm);

@@ -1,5 +1,5 @@
 -- Who else had the processor, in two parts of a small trace. Each job is due 100 nanoseconds after its begin.
-use Rattle.yds_model.proofs.Common.{◌≡◌, ℕ, List, [], ◌∷◌, map, codes, reverse, Some, None, refl, ap, arith}
+use Rattle.yds_model.proofs.Common.{◌≡◌, ℕ, List, [], ◌∷◌, map, codes, reverse, true, Some, None, refl, ap, arith}
 use Rattle.yds_kernel.specs.declared.state.State.TheVariants as states
 use Rattle.yds_kernel.specs.Event.{Thread, Switch, WakeUp, Marker, Said}
 use Rattle.yds_trace.specs.declared.cut.Cut.{Cut}
