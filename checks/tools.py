@@ -20,7 +20,7 @@ from typing import List, NamedTuple, Sequence
 ROOT = Path(__file__).resolve().parent.parent
 TESTS = ROOT / "python" / "tests"
 
-LEAST = 309
+LEAST = 310
 """There are at least so many tests. Who adds some writes the new number here."""
 
 LEAST_BUILT = 321

@@ -59,6 +59,17 @@ class OthersTest(unittest.TestCase):
         out = asked("jobs", given=document([EXITED, WENT_ON])).out.splitlines()
         self.assertIn("# 1 job was ended as its thread was over, a.1: perhaps before its work was done", out)
 
+    def test_whole(self) -> None:
+        """The answers to parts are put together with the same status."""
+        for comments, status in ([[], 0], [[EXITED], 8]):
+            text = "# part 1: jobs 1 to 2, from 0 to 18, shift 0, the last\n" + document(comments)
+            with tempfile.TemporaryDirectory() as folder, self.subTest(comments):
+                Path(folder, "part-00001.txt").write_text(text)
+                answer = Path(folder, "part-00001.misses")
+                answer.write_text(asked("misses", given=text).out)
+                found = call("whole", answer)
+                self.assertEqual((found.status, found.out), (status, answer.read_text()))
+
     def test_page(self) -> None:
         self.assertEqual(page_of(document([WENT_ON])).ids["verdict"].attributes["class"], "yes")
         self.assertEqual(page_of(document([EXITED])).ids["verdict"].attributes["class"], "open")

@@ -1,6 +1,6 @@
-"""What comments of yds_trace tell of jobs of which it isn't known whether they were in time, and of sleeps that were none.
+"""What comments of yds_trace tell of jobs of which it isn't known whether they were in time, and of what threads did.
 
-A job was left out since its begin or its end isn't known, or its thread was over with it, and perhaps before its work was.
+A job was left out since its begin or its end isn't known, or its thread was over with it, perhaps before its work was.
 """
 
 from __future__ import annotations
@@ -91,7 +91,8 @@ class Unknown:
         if not many:
             return []
         ended = counted(many, "job was ended as its thread was over", "jobs were ended as their threads were over")
-        return [f"# {ended}, {'' if many == 1 else 'the first '}{self.exited[0]}: perhaps before {_work(many)} was done"]
+        which = f"{'' if many == 1 else 'the first '}{self.exited[0]}"
+        return [f"# {ended}, {which}: perhaps before {_work(many)} was done"]
 
 
 def _whether(number: int) -> str:

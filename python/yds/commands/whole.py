@@ -49,7 +49,8 @@ jobs, else the library.
     ],
     Files("FILE", 1),
     "0 done; 1 a verdict of no, too slow, deadlines missed, or a part without an answer; 2 a fault of the words; 8 of "
-    "yds-misses, every deadline is met as far as the trace shows. Where a part has no answer, the last line is `failed`.",
+    "yds-misses, every deadline is met as far as the trace shows. Where a part has no answer, the last line is "
+    "`failed`.",
     writes_document=True,
     streams=True,
 )
