@@ -2,7 +2,8 @@
 
 A machine runs threads by chance and writes its trace in one of five formats. What each trace is to show goes round by
 its number (SHOWN): so each thing comes as often as its places in that list say. Most of a trace is left to chance all
-the same. The trace of a number and a seed is always the same one.
+the same. The trace of a number and a seed is always the same one. So is a second trace of each number (`dozing`): of
+threads that are woken as they go to sleep, come back without a wake-up, are stopped, are over, or get other names.
 """
 
 import random
@@ -969,6 +970,18 @@ def unwoken_often(it: Drawing) -> None:
         it.options["--begin"] = "run"
 
 
+def torn_asleep(it: Drawing) -> None:
+    """Events were lost behind a sleep without a wake-up, most of them while its job goes on, which is late then."""
+    it.odds = {"signal": it.draw.choice([0.3, 0.5])}
+    it.sleepy, it.rewoken = 0.7, False
+    usual(it, 0.9)
+    it.unbound()
+    it.options.pop("--begin", None)
+    it.options["--lost"] = "cut"
+    backs = [place for place in it.listed_switches() if place > len(it.lines) // 3]
+    it.lose(it.draw.choice(backs) + 1 if backs else None)
+
+
 def stopping(it: Drawing) -> None:
     """Threads are stopped and traced within their jobs."""
     it.odds = {"stop": 0.6}
@@ -1031,7 +1044,7 @@ def mixed(it: Drawing) -> None:
     it.draw.choice([anything, fronted, missing, torn, moving, sharing])(it)
 
 
-DOZES: List[Callable[[Drawing], None]] = [racing, signalled, unwoken_often, stopping, exiting, hanging, marked, renamed, mixed]
+DOZES: List[Callable[[Drawing], None]] = [racing, signalled, unwoken_often, torn_asleep, stopping, exiting, hanging, marked, renamed, mixed]
 
 
 def dozing(seed: int, number: int) -> Drawn:
