@@ -1002,6 +1002,9 @@ def exiting(it: Drawing) -> None:
         it.wait([0, 40_000, 900_000])
         it.switch(it.draw.randrange(it.processors))
     it.ask(it.draw.choice([0.0, 0.0, 0.6]))
+    if it.draw.random() < 0.2:
+        it.unbound()
+        it.options["--strict"] = None
 
 
 def hanging(it: Drawing) -> None:
