@@ -1041,13 +1041,27 @@ def renamed(it: Drawing) -> None:
     usual(it, 0.3)
 
 
+def first_elsewhere(it: Drawing) -> None:
+    """The first switch of a processor that the trace has is a thread's leaving: it was elsewhere since the trace's begin, or it wasn't."""
+    it.processors, it.home, it.sleepy = it.draw.choice([2, 2, 3]), {}, 0.7
+    usual(it, it.draw.choice([0.0, 0.9]))
+    it.unbound()
+    it.options.pop("--begin", None)
+    processor = it.draw.randrange(it.processors)
+    own = [place for place in it.places(b"sched_switch:") if b"[%03d]" % processor in it.lines[place]]
+    leaves = [place for place in own if any(re.search(rb"(prev_comm=|sched_switch: )" + re.escape(name) + rb"( prev_pid=|:1)", it.lines[place])
+                                            for name in it.listed)]
+    first = it.draw.choice(leaves[1:] or leaves or [0])
+    it.lines = [line for place, line in enumerate(it.lines) if place >= first or place not in own]
+
+
 def mixed(it: Drawing) -> None:
     """All of these, with lines that are missing, a front that is cut off, or lost events."""
     it.odds = {"race": 0.2, "second half": 0.5, "signal": 0.05, "stop": 0.3, "exit": 0.02, "again": 0.3}
     it.draw.choice([anything, fronted, missing, torn, moving, sharing])(it)
 
 
-DOZES: List[Callable[[Drawing], None]] = [racing, signalled, unwoken_often, torn_asleep, stopping, exiting, hanging, marked, renamed, mixed]
+DOZES: List[Callable[[Drawing], None]] = [racing, signalled, unwoken_often, torn_asleep, stopping, exiting, hanging, marked, renamed, first_elsewhere, mixed]
 
 
 def dozing(seed: int, number: int) -> Drawn:
