@@ -2,7 +2,8 @@
 
 A machine runs threads by chance and writes its trace in one of five formats. What each trace is to show goes round by
 its number (SHOWN): so each thing comes as often as its places in that list say. Most of a trace is left to chance all
-the same. The trace of a number and a seed is always the same one.
+the same. The trace of a number and a seed is always the same one. So is a second trace of each number (`dozing`): of
+threads that are woken as they go to sleep, come back without a wake-up, are stopped, are over, or get other names.
 """
 
 import random
@@ -969,6 +970,18 @@ def unwoken_often(it: Drawing) -> None:
         it.options["--begin"] = "run"
 
 
+def torn_asleep(it: Drawing) -> None:
+    """Events were lost behind a sleep without a wake-up, most of them while its job goes on, which is late then."""
+    it.odds = {"signal": it.draw.choice([0.3, 0.5])}
+    it.sleepy, it.rewoken = 0.7, False
+    usual(it, 0.9)
+    it.unbound()
+    it.options.pop("--begin", None)
+    it.options["--lost"] = "cut"
+    backs = [place for place in it.listed_switches() if place > len(it.lines) // 3]
+    it.lose(it.draw.choice(backs) + 1 if backs else None)
+
+
 def stopping(it: Drawing) -> None:
     """Threads are stopped and traced within their jobs."""
     it.odds = {"stop": 0.6}
@@ -989,6 +1002,9 @@ def exiting(it: Drawing) -> None:
         it.wait([0, 40_000, 900_000])
         it.switch(it.draw.randrange(it.processors))
     it.ask(it.draw.choice([0.0, 0.0, 0.6]))
+    if it.draw.random() < 0.2:
+        it.unbound()
+        it.options["--strict"] = None
 
 
 def hanging(it: Drawing) -> None:
@@ -1025,13 +1041,27 @@ def renamed(it: Drawing) -> None:
     usual(it, 0.3)
 
 
+def first_elsewhere(it: Drawing) -> None:
+    """The first switch of a processor that the trace has is a thread's leaving: it was elsewhere since the trace's begin, or it wasn't."""
+    it.processors, it.home, it.sleepy = it.draw.choice([2, 2, 3]), {}, 0.7
+    usual(it, it.draw.choice([0.0, 0.9]))
+    it.unbound()
+    it.options.pop("--begin", None)
+    processor = it.draw.randrange(it.processors)
+    own = [place for place in it.places(b"sched_switch:") if b"[%03d]" % processor in it.lines[place]]
+    leaves = [place for place in own if any(re.search(rb"(prev_comm=|sched_switch: )" + re.escape(name) + rb"( prev_pid=|:1)", it.lines[place])
+                                            for name in it.listed)]
+    first = it.draw.choice(leaves[1:] or leaves or [0])
+    it.lines = [line for place, line in enumerate(it.lines) if place >= first or place not in own]
+
+
 def mixed(it: Drawing) -> None:
     """All of these, with lines that are missing, a front that is cut off, or lost events."""
     it.odds = {"race": 0.2, "second half": 0.5, "signal": 0.05, "stop": 0.3, "exit": 0.02, "again": 0.3}
     it.draw.choice([anything, fronted, missing, torn, moving, sharing])(it)
 
 
-DOZES: List[Callable[[Drawing], None]] = [racing, signalled, unwoken_often, stopping, exiting, hanging, marked, renamed, mixed]
+DOZES: List[Callable[[Drawing], None]] = [racing, signalled, unwoken_often, torn_asleep, stopping, exiting, hanging, marked, renamed, first_elsewhere, mixed]
 
 
 def dozing(seed: int, number: int) -> Drawn:
