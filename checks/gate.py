@@ -104,7 +104,7 @@ class Proofs:
         """Writes the last line, if it has no end; and keeps how long each crate took that was proved."""
         write_through(self.rest)
         if passed:
-            took = {crate: each for crate, each in self.progress.took().items() if crate not in self.kept}
+            took = {crate: each for crate, each in self.progress.spent().items() if crate not in self.kept}
             prove.BUILD.mkdir(exist_ok=True)
             prove.write_seconds(prove.KEPT, {**self.last, **took})
 

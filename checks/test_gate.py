@@ -152,6 +152,15 @@ class Seconds(InFolder):
             proofs.end(True)
         self.assertEqual(prove.read_seconds(seconds), {"base": 30, "yds_port": 7, "yds_kernel": 60})
 
+    def test_a_crate_that_took_far_less_than_was_expected(self) -> None:
+        seconds = self.write("crate-seconds", "base 700.0\n")
+        with mock.patch.multiple(prove, KEPT=seconds, BUILD=self.folder), mock.patch.object(gate, "write_through"), \
+                mock.patch.object(gate.time, "monotonic", iter((0, 30)).__next__):
+            proofs = gate.Proofs()
+            proofs.sink(b"rt: base proved\n0 passed, 0 failed\n")
+            proofs.end(True)
+        self.assertEqual(prove.read_seconds(seconds), {"base": 30})
+
 
 class SideBySide(WithGate):
     """What the gate tells of checks that run side by side, before the proofs."""

@@ -118,10 +118,13 @@ class Progress:
         """When a crate could begin, all below it being done."""
         return max((self.ended[other] for other in self.below[crate]), default=0.0)
 
+    def spent(self) -> Seconds:
+        """What each crate took, from when it could begin, whether or not it was proved in this run."""
+        return {crate: ended - self.begun(crate) for crate, ended in self.ended.items() if self.could_begin(crate)}
+
     def took(self) -> Seconds:
-        """What each crate took that was proved in this run, from when it could begin."""
-        spent = {crate: ended - self.begun(crate) for crate, ended in self.ended.items() if self.could_begin(crate)}
-        return {crate: took for crate, took in spent.items() if took >= WAS_KEPT * self.expected[crate]}
+        """What each crate took that seems to have been proved in this run."""
+        return {crate: took for crate, took in self.spent().items() if took >= WAS_KEPT * self.expected[crate]}
 
     def could_begin(self, crate: str) -> bool:
         """Whether all below a crate are done."""
