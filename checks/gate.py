@@ -44,6 +44,7 @@ CHECKS: list[Command] = [
     (sys.executable, "checks/edits/test_rounds.py"),
     (sys.executable, "docs/edits.py", "--check"),
     (sys.executable, "checks/test_uncalled.py"),
+    (sys.executable, "checks/test_believed.py"),
     (sys.executable, "checks/test_everywhere.py"),
     (sys.executable, "robustness/planted.py", "--check"),
     (sys.executable, "robustness/executions.py", "--count", "400"),
