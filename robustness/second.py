@@ -133,7 +133,7 @@ HELPS = {
     "many": "more than 1000 tasks; ask for fewer at a time",
     "form": "no colon behind the name; write NAME:DEADLINE, with the deadline in milliseconds",
     "label": "no name for jobs; it has 1 to 53 visible ASCII characters: for a thread of another name write PID=NAME:DEADLINE",
-    "pid": "no number of a thread before the equals sign; write a whole number to 4294967295, or a backslash before the sign",
+    "pid": "no number of a thread before the equals sign; write a whole number from 1 to 4294967295, or a backslash before the sign",
     "deadline": "no deadline; write milliseconds to 9223372036854.775807, with at most six digits behind the point",
     "short": "its deadline is less than a unit of time; write a later one, or a smaller unit by --us",
     "apart": "no time behind the second colon; write milliseconds, with at most six digits behind the point",
@@ -202,7 +202,7 @@ def task_in(text: str, unit: int, place: int) -> Task:
     pid: Optional[int] = None
     if label is not None:
         spelled = plain(number)
-        if not re.fullmatch("0|[1-9][0-9]*", spelled) or int(spelled) > MOST_NUMBER:
+        if not re.fullmatch("[1-9][0-9]*", spelled) or int(spelled) > MOST_NUMBER:
             raise word_fault("--tasks", "pid", place)
         pid = int(spelled)
     label = plain(name if label is None else label)

@@ -43,8 +43,9 @@ pub record Called : Type 0 where
   pub thread : Which
   pub label : List ℕ
 
+-- Number 0 is that of each processor's idle thread, which is no task.
 abbrev pub pid_at : ℕ → List Letter → Result ℕ WordFault
-pid_at place letters = number_known place reasons.Pid (number_at 0 MAX_NUMBER (text_of letters))
+pid_at place letters = number_known place reasons.Pid (number_at 1 MAX_NUMBER (text_of letters))
 
 -- `PID=NAME`
 abbrev pub numbered_at : ℕ → List Letter → List Letter → Result Called WordFault

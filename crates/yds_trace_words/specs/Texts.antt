@@ -40,7 +40,7 @@ reason_text reasons.NoTasks = codes "missing; write --tasks NAME:DEADLINE, with 
 reason_text reasons.TooManyTasks = codes "more than 1000 tasks; ask for fewer at a time"
 reason_text reasons.TaskForm = codes "no colon behind the name; write NAME:DEADLINE, with the deadline in milliseconds"
 reason_text reasons.Label = codes "no name for jobs; it has 1 to 53 visible ASCII characters: for a thread of another name write PID=NAME:DEADLINE"
-reason_text reasons.Pid = codes "no number of a thread before the equals sign; write a whole number to 4294967295, or a backslash before the sign"
+reason_text reasons.Pid = codes "no number of a thread before the equals sign; write a whole number from 1 to 4294967295, or a backslash before the sign"
 reason_text reasons.Deadline = codes "no deadline; write milliseconds to 9223372036854.775807, with at most six digits behind the point"
 reason_text reasons.ShortDeadline = codes "its deadline is less than a unit of time; write a later one, or a smaller unit by --us"
 reason_text reasons.Apart = codes "no time behind the second colon; write milliseconds, with at most six digits behind the point"

@@ -111,11 +111,11 @@ fn read_called<'a>(alloc: Global, place: usize, letters: &[Letter]) -> Result<Ca
     }
 }
 
-/// The number of a thread.
+/// The number of a thread. That of the idle threads, 0, is none of a task.
 fn pid_of<'a>(alloc: Global, place: usize, letters: &[Letter]) -> Result<u64, NoRequest<'a>>
     ensures { Reads (λ pid. pid) result (spec.pid_at place letters.now) }
 {
-    match number_of(&text(alloc, letters)?, 0, MAX_NUMBER) {
+    match number_of(&text(alloc, letters)?, 1, MAX_NUMBER) {
         Ok(pid) => Ok(pid),
         Err(_) => Err(NoRequest::Fault(WordFault::of_task(place, Reason::Pid))),
     }

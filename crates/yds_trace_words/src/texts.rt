@@ -164,7 +164,7 @@ fn reason_text(reason: Reason) -> &'static str
             "no name for jobs; it has 1 to 53 visible ASCII characters: for a thread of another name write PID=NAME:DEADLINE"
         }
         Reason::Pid => {
-            "no number of a thread before the equals sign; write a whole number to 4294967295, or a backslash before the sign"
+            "no number of a thread before the equals sign; write a whole number from 1 to 4294967295, or a backslash before the sign"
         }
         Reason::Deadline => {
             "no deadline; write milliseconds to 9223372036854.775807, with at most six digits behind the point"
