@@ -1136,7 +1136,7 @@ MISTAKES: List[object] = [
     [["--cpu=all", "--others=spans"], ["--others", "spans", "--cpu", "all"]],
     [["NONE"]],
     [["--tasks", ",".join(f"t{number}:9" for number in range(1_001))]],
-    "decoder", "de coder:9", ":9", "x=y:9", "4294967296=y:9", "01=y:9", "y:", "y:9.1234567", "y:1,5", "y:0.000999", "y:0",
+    "decoder", "de coder:9", ":9", "x=y:9", "4294967296=y:9", "01=y:9", "0=y:9", "y:", "y:9.1234567", "y:1,5", "y:0.000999", "y:0",
     "y:9:", "y:9:x", "y:9:1:2", "y:9,y:10", "5=y:9,5=z:9", "=y:9", "y\\:9", "q" * 54 + ":9",
     [["--help"]],
     [["--version"]],
