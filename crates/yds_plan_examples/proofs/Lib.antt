@@ -1,3 +1,4 @@
 pub mod LeastExamples
 mod SizesExamples
 mod OneExamples
+mod RoundedExamples

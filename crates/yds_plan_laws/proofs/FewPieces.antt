@@ -31,7 +31,7 @@ uncounted number xs none =
     sum_by_zero (λ other. cond (number == other) 1 0) xs (λ k d within. ap {B = ℕ} (λ b. cond b 1 0) (ne_eqb number (get_or xs k d) (none k d within)))
 
 -- one that none of different ones is makes them no less different
-different_more : (x : ℕ) (xs : List ℕ) → All (λ y. x ≡ y → ⊥) xs → AreDifferent xs → AreDifferent (x ∷ xs)
+pub different_more : (x : ℕ) (xs : List ℕ) → All (λ y. x ≡ y → ⊥) xs → AreDifferent xs → AreDifferent (x ∷ xs)
 different_more x xs none different number = elim (cases_eq number x) [
   | inl same ↦ omega (
     arith,

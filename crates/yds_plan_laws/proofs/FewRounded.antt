@@ -10,7 +10,7 @@ use Rattle.yds_plan_laws.specs.CountLaws.{RoundedSlotsAreFew}
 -- # Jobs in turn
 
 -- a slot's job
-abbrev job_of : WholeSlot → ℕ
+abbrev pub job_of : WholeSlot → ℕ
 job_of slot = slot.job
 
 -- each slot adds a job or none
@@ -25,11 +25,11 @@ turns_few (slot ∷ []) = omega arith
 turns_few (slot ∷ next ∷ slots) = omega (arith, (turn_adds (slot.job == next.job) slot.job (jobs_in_turn (next ∷ slots))).1, turns_few (next ∷ slots))
 
 -- different jobs stay different without the first
-rest_different : (job : ℕ) (jobs : List ℕ) → AreDifferent (job ∷ jobs) → AreDifferent jobs
+pub rest_different : (job : ℕ) (jobs : List ℕ) → AreDifferent (job ∷ jobs) → AreDifferent jobs
 rest_different job jobs different number = omega (arith, different number, count-cons number job jobs)
 
 -- and the first two of them are not the same
-first_two : (one other : ℕ) (jobs : List ℕ) → AreDifferent (one ∷ other ∷ jobs) → one ≡ other → ⊥
+pub first_two : (one other : ℕ) (jobs : List ℕ) → AreDifferent (one ∷ other ∷ jobs) → one ≡ other → ⊥
 first_two one other jobs different same =
     absurd (omega (
       arith,
@@ -62,7 +62,7 @@ turns_joined (slot ∷ next ∷ fast) slow first second =
 -- # One stretch
 
 -- the jobs of slots at a scale are those that are written
-jobs_written : (scale : ℕ) (slots : List WrittenSlot) → map job_of (slots_at scale slots) ≡ map (λ slot. slot.job) slots
+pub jobs_written : (scale : ℕ) (slots : List WrittenSlot) → map job_of (slots_at scale slots) ≡ map (λ slot. slot.job) slots
 jobs_written scale [] = refl
 jobs_written scale (slot ∷ slots) = ap (λ (jobs : List ℕ). slot.job ∷ jobs) (jobs_written scale slots)
 

@@ -15,3 +15,7 @@ pub mod OneRun
 pub mod OnceRun
 mod OnceCompared
 pub mod OnceAdmitted
+mod OneSplit
+mod OneStretch
+mod OneRounding
+pub mod OnceRounded

@@ -75,7 +75,7 @@ side_once jobs points grid slots others scale (TooSlowFor units from to) (TooSlo
 -- # The answer
 
 -- a first level that is too fast isn't among levels of which none is
-fast_or_not : (jobs : List Job) (points : List Point) (slots others : List WrittenSlot) (level : Level) (levels more : List Level) → IsPlan jobs slots (level ∷ levels) →
+pub fast_or_not : (jobs : List Job) (points : List Point) (slots others : List WrittenSlot) (level : Level) (levels more : List Level) → IsPlan jobs slots (level ∷ levels) →
     IsPlan jobs others more → IsTooFast points level → All (λ one. IsTooFast points one → ⊥) more → ⊥
 fast_or_not jobs points slots others level levels more plan other fast enough =
     subst (All (λ one. IsTooFast points one → ⊥)) (sym (levels_are_one jobs slots others (level ∷ levels) more plan other)) enough 0 level (omega arith) fast
@@ -86,7 +86,7 @@ too_slow_text points level =
     line (codes "too-slow" ∷ codes "work" ∷ decimal level.work ∷ codes "length" ∷ decimal level.length ∷ codes "top" ∷ decimal (top_of points) ∷ [])
 
 -- a no, with the first level of a plan
-no_once : (document : Document) → IsOnce (TooSlowAnswer document)
+pub no_once : (document : Document) → IsOnce (TooSlowAnswer document)
 no_once document text other status end first second =
     let levels = levels_are_one document.jobs first.slots second.slots (first.level ∷ first.others) (second.level ∷ second.others) first.plan second.plan in
     let level : first.level ≡ second.level = ap (λ (some : List Level). level_at some 0) levels in (

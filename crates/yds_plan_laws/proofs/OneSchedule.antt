@@ -68,7 +68,7 @@ pub record GoesAlong (jobs : List Job) (scale : ℕ) (all same : List WholeSlot)
       HasSpeedOf slot other
 
 -- a slot by its parts
-abbrev slot_of : ℕ → ℕ → ℕ → ℕ → WholeSlot
+abbrev pub slot_of : ℕ → ℕ → ℕ → ℕ → WholeSlot
 slot_of job from to work = record { job = job; from = from; to = to; work = work }
 
 -- at one speed more time does more work

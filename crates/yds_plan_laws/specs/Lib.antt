@@ -4,3 +4,4 @@ pub mod CountLaws
 pub mod OneLaws
 pub mod AnswersOnce
 pub mod RunsOnce
+pub mod RoundOnce

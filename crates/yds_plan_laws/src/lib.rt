@@ -2,8 +2,9 @@
 //!
 //! It stands on `yds_model`, whose definitions the laws speak of; on `yds_events` for event points and stretches; and on `yds_laws` and
 //! `yds_energy` for what is known of plans and of their levels.
-//! It carries the promises that a plan's levels are a proper certificate of just the least schedules; that jobs have at most one plan, and a
-//! policy at most one run for them, so that what goes by these has one answer; and of how many levels, pieces and slots there are at most.
+//! It carries the promises that a plan's levels are a proper certificate of just the least schedules; that jobs have at most one plan, which is
+//! rounded in one way, and a policy at most one run for them, so that what goes by these has one answer; and of how many levels, pieces and slots
+//! there are at most.
 //! No limit of a document stands in it.
 #![tactic(auto)]
 
@@ -12,6 +13,7 @@ ghost use Rattle.yds_plan_laws.specs.SpeedLaws.{LeastSpeedsAreOne};
 ghost use Rattle.yds_plan_laws.specs.OneLaws.{LevelsAreOne, SlotsAreOne};
 ghost use Rattle.yds_plan_laws.specs.AnswersOnce.{PlansAnswerOnce};
 ghost use Rattle.yds_plan_laws.specs.RunsOnce.{RunsAreOne, RunsAnswerOnce};
+ghost use Rattle.yds_plan_laws.specs.RoundOnce.{RoundingsAreOne, RoundAnswersOnce};
 ghost use Rattle.yds_plan_laws.specs.CountLaws.{LevelsAreFew, PiecesAreFew, PlanSlotsAreFew, RunSlotsAreFew, RoundedSlotsAreFew};
 
 /// A plan's levels are a proper certificate of a schedule exactly where that schedule is least.
@@ -47,6 +49,16 @@ pub fn runs_are_one()
 /// So `avr`, `oa`, `compare` and `admit` have one answer to each input.
 pub fn runs_answer_once()
     ensures { RunsAnswerOnce }
+{}
+
+/// Plans of the same jobs, rounded to the same points, have the same slots and the same energy.
+pub fn roundings_are_one()
+    ensures { RoundingsAreOne }
+{}
+
+/// So `round` has one answer to each input.
+pub fn round_answers_once()
+    ensures { RoundAnswersOnce }
 {}
 
 /// A plan has no more levels than jobs with work.
