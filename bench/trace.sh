@@ -47,7 +47,7 @@ trace() {
 			if (busy && n % 20 == 3) { turn(sprintf("%16s-%-7d [000] d..2. %.6f: ", "who", 5, 100 + time), 0, name); continue }
 			if (busy && n % 20 == 9) { turn(sprintf("%16s-%-7d [000] d..2. %.6f: ", "who", 5, 100 + time), 0, "swapper/0"); continue }
 			if (busy && cpu == 0) cpu = 1
-			if (drawn < 60) turn(stamp, cpu, drawn < 20 ? "swapper/" cpu : thread())
+			if (drawn < 60) turn_to(drawn < 20 ? "swapper/" cpu : thread())
 			else if (drawn < 90) wake(stamp, thread())
 			else if (drawn < 97) printf "%scpu_frequency: state=%d cpu_id=%d                                             \n", stamp, 600000 + 100000 * int(10 * rand()), cpu
 			else printf "%stracing_mark_write: B|1201|a frame of the application that has some name of its own\n", stamp
@@ -55,6 +55,13 @@ trace() {
 	}
 	function pid(name) { return name == "decode" ? 10 : name == "audio" ? 11 : name ~ /swapper/ ? 0 : 1000 + substr(name, 7) }
 	function thread() { return !busy && rand() < 0.001 ? "decode" : "thread" int(threads * rand()) }
+	# The thread of the task is on one processor at a time, and is woken before it comes.
+	function turn_to(name) {
+		if (name == "decode" && runs) name = "thread0"
+		if (name == "decode") { wake(stamp, name); n++; runs = 1 }
+		if (on[cpu] == "decode") runs = 0
+		turn(stamp, cpu, name)
+	}
 	function wake(stamp, name) { printf "%ssched_waking: comm=%s pid=%d prio=120 target_cpu=%03d                          \n", stamp, name, pid(name), cpu }
 	function turn(stamp, cpu, name, before) {
 		before = on[cpu] == "" || on[cpu] == 0 ? "swapper/" cpu : on[cpu]; on[cpu] = name
