@@ -6,13 +6,13 @@ use Rattle.yds_examples.proofs.Tests.{proved, refuted}
 use Rattle.yds_examples.proofs.TestedSchedules.{is_scale, feasible_by_test, served_in_stretches}
 use Rattle.yds_examples.proofs.TestedPlans.{window_covered, proper_by_test, served_by_test, plan_by_test, is_judgement}
 
-abbrev job : ℕ → ℕ → ℕ → Job
+abbrev pub job : ℕ → ℕ → ℕ → Job
 job release deadline work = record { release = release; deadline = deadline; work = work }
 
-abbrev slot : ℕ → ℕ → ℕ → ℕ → WrittenSlot
+abbrev pub slot : ℕ → ℕ → ℕ → ℕ → WrittenSlot
 slot job from to work = record { job = job; from = of_whole from; to = of_whole to; work = of_whole work }
 
-abbrev level : ℕ → ℕ → ℕ → ℕ → List ℕ → Level
+abbrev pub level : ℕ → ℕ → ℕ → ℕ → List ℕ → Level
 level work length from to members = record { work = work; length = length; pieces = record { from = from; to = to } ∷ []; members = members }
 
 -- two jobs from 0 to 4, of work 2
@@ -33,7 +33,7 @@ plan = plan_by_test jobs planned levels (proper_by_test jobs planned levels refl
 -- # Another schedule that is least
 
 -- The second job first, the first one in two slots, the second of them with a cut at no event point:
-abbrev exchanged : List WrittenSlot
+abbrev pub exchanged : List WrittenSlot
 exchanged = slot 1 0 2 2 ∷ slot 0 2 3 1 ∷ slot 0 3 4 1 ∷ []
 
 -- the plan's levels are a proper certificate of it,
@@ -41,7 +41,7 @@ exchanged_proper : IsProper jobs exchanged levels
 exchanged_proper = proper_by_test jobs exchanged levels refl refl refl
 
 -- so it is least,
-exchanged_least : IsLeast jobs exchanged
+pub exchanged_least : IsLeast jobs exchanged
 exchanged_least = (levels_certify_the_least jobs planned exchanged levels plan).0 exchanged_proper
 
 -- but no plan: the first job goes first in a plan.
@@ -51,10 +51,10 @@ no_plan is = refuted (served_in_stretches jobs 1 (slots_at 1 exchanged)) refl (i
 -- # One that is feasible and not least
 
 -- The first job at twice the speed, for half the time:
-abbrev hasty : List WrittenSlot
+abbrev pub hasty : List WrittenSlot
 hasty = slot 0 0 1 2 ∷ slot 1 2 4 2 ∷ []
 
-hasty_feasible : IsFeasible jobs hasty
+pub hasty_feasible : IsFeasible jobs hasty
 hasty_feasible = feasible_by_test jobs hasty 1 refl refl
 
 -- beside the plan's levels its first slot is the fault,
@@ -66,7 +66,7 @@ hasty_improper : IsProper jobs hasty levels → ⊥
 hasty_improper is = absurd (omega (arith, is.speeds 1 (proved (is_scale 1 hasty) refl) 0 (omega arith) 0 (omega arith) (0, omega arith, refl)))
 
 -- and it isn't least.
-hasty_not_least : IsLeast jobs hasty → ⊥
+pub hasty_not_least : IsLeast jobs hasty → ⊥
 hasty_not_least least = hasty_improper ((levels_certify_the_least jobs planned hasty levels plan).1 least)
 
 -- # Another certificate
@@ -82,7 +82,7 @@ halves_judged = proved (is_judgement jobs planned halves (Window 0)) refl
 halves_improper : (slots : List WrittenSlot) → IsProper jobs slots halves → ⊥
 halves_improper slots is = refuted (window_covered jobs halves 0) refl (is.windows 0 (omega arith))
 
-planned_least : IsLeast jobs planned
+pub planned_least : IsLeast jobs planned
 planned_least = (levels_certify_the_least jobs planned planned levels plan).0 plan.proper
 
 -- # One speed

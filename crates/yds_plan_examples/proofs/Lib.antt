@@ -1,4 +1,5 @@
 pub mod LeastExamples
 mod SizesExamples
+mod InstantExamples
 mod OneExamples
 mod RoundedExamples

@@ -165,7 +165,7 @@ module _ (jobs : List Job) (planned : List WrittenSlot) (levels : List Level) (p
         front_fills (level_at levels i).work (level_at levels i).length (suc i) some.1 within (with_it_forces i within) some.0
 
     -- a slot of a level's member has the level's speed
-    member_speed : (s : ℕ) → s < length (slots_at scale others) → HasLevelSpeed levels (slots_at scale others) s
+    pub member_speed : (s : ℕ) → s < length (slots_at scale others) → HasLevelSpeed levels (slots_at scale others) s
     member_speed s inside i within stands =
         let level = level_at levels i in
         let slot = slot_at (slots_at scale others) s in
@@ -207,7 +207,7 @@ one_speed work time other other_time all long some some_length first second =
     (omega (arith, ap (λ n. n * (all * other_time)) first, ap (λ n. n * (all * time)) second))
 
 -- a slot of a job without work has none
-no_work : (jobs : List Job) (scale : ℕ) (slots : List WholeSlot) → IsFeasibleAt jobs scale slots → (s : ℕ) → s < length slots →
+pub no_work : (jobs : List Job) (scale : ℕ) (slots : List WholeSlot) → IsFeasibleAt jobs scale slots → (s : ℕ) → s < length slots →
     (job_at jobs (slot_at slots s).job).work < 1 → (slot_at slots s).work ≡ 0
 no_work jobs scale slots feasible s within none =
     omega (

@@ -31,7 +31,7 @@ pub covers_later : (time : ℕ) (piece : Piece) (pieces : List Piece) → Covers
 covers_later time piece pieces (k, one, within, is, holds) = (suc k, one, omega (arith, within), is, holds)
 
 -- a time that the first piece hasn't is in the others
-covers_rest : (time : ℕ) (piece : Piece) (pieces : List Piece) → has time piece ≡ false → Covers (piece ∷ pieces) time → Covers pieces time
+pub covers_rest : (time : ℕ) (piece : Piece) (pieces : List Piece) → has time piece ≡ false → Covers (piece ∷ pieces) time → Covers pieces time
 covers_rest time piece pieces not (zero, one, within, is, holds) =
     absurd (true≢false (sym (grind (arith, le-leb, lt-ltb)) ∙ not))
 covers_rest time piece pieces not (suc k, one, within, is, holds) = (k, one, omega (arith, within), is, holds)

@@ -1,4 +1,5 @@
 pub mod Certified
+pub mod Instants
 pub mod FewSlots
 pub mod FewLevels
 pub mod FewRounded

@@ -16,7 +16,7 @@ use Rattle.yds_plan_laws.proofs.Ends.{covers_later, covers_either, ends_before, 
 -- # Speeds
 
 -- a later level is slower
-speeds_fall : (levels : List Level) (i k : ℕ) → AreFalling levels → i < k → k < length levels →
+pub speeds_fall : (levels : List Level) (i k : ℕ) → AreFalling levels → i < k → k < length levels →
     (level_at levels k).work * (level_at levels i).length < (level_at levels i).work * (level_at levels k).length
 speeds_fall levels i k falling before within =
     let level = level_at levels k in
@@ -264,7 +264,7 @@ module _ (jobs : List Job) (slots others : List WrittenSlot) (levels more : List
       (subst (λ (numbers : List ℕ). Contains numbers found.0) (front_members (suc n) within) found.1) time found.2 found.3
 
 -- a time of a level's pieces is none of an earlier level's
-none_earlier : (jobs : List Job) (slots : List WrittenSlot) (levels : List Level) → IsPlan jobs slots levels → (i time : ℕ) → i < length levels →
+pub none_earlier : (jobs : List Job) (slots : List WrittenSlot) (levels : List Level) → IsPlan jobs slots levels → (i time : ℕ) → i < length levels →
     Covers (level_at levels i).pieces time → Covers (all_pieces (take i levels)) time → ⊥
 none_earlier jobs slots levels plan i time within (k, piece, inside, is, holds) (j, one, there, same, has) =
     let apart = (plan.proper.pieces i within).apart k piece inside j one there in

@@ -68,7 +68,7 @@ abbrev pub RunsAt : ℕ → WholeSlot → Type 0
 RunsAt time slot = (slot.from ≤ time) × (time < slot.to)
 
 -- each part of time of slots is one of the pieces
-abbrev LieIn : List Piece → List WholeSlot → Type 0
+abbrev pub LieIn : List Piece → List WholeSlot → Type 0
 LieIn pieces slots = All (λ slot. (time : ℕ) → slot.from ≤ time → time < slot.to → Covers pieces time) slots
 
 -- whether the slot at a place has it
@@ -92,7 +92,7 @@ confined_without slots pieces time lie none k d within unit released due =
     has_it time unit slot same from to = grind (arith, le-leb, lt-ltb)
 
 -- where slots lie in pieces and are together as long, one of them has each part of time
-runs_in : (slots : List WholeSlot) (pieces : List Piece) (time : ℕ) → RunFrom 0 slots → LieIn pieces slots → total_length pieces ≤ busy slots →
+pub runs_in : (slots : List WholeSlot) (pieces : List Piece) (time : ℕ) → RunFrom 0 slots → LieIn pieces slots → total_length pieces ≤ busy slots →
     Covers pieces time → Any (RunsAt time) slots
 runs_in slots pieces time run lie long covers =
     elim (found_or_none (length slots) (has_at slots time)) [
@@ -125,7 +125,7 @@ abbrev pub at_parts : ℕ → List Piece → List Piece
 at_parts scale pieces = map (in_parts_of scale) pieces
 
 -- are so many times as long
-parts_long : (scale : ℕ) (pieces : List Piece) → total_length (at_parts scale pieces) ≡ scale * total_length pieces
+pub parts_long : (scale : ℕ) (pieces : List Piece) → total_length (at_parts scale pieces) ≡ scale * total_length pieces
 parts_long scale pieces =
     sum_by-map (in_parts_of scale) (λ (piece : Piece). piece.to - piece.from) pieces
     ∙ sum_by_same (λ (piece : Piece). piece.to * scale - piece.from * scale) (λ piece. scale * (piece.to - piece.from)) pieces
@@ -133,7 +133,7 @@ parts_long scale pieces =
     ∙ sum_by-mul scale (λ (piece : Piece). piece.to - piece.from) pieces
 
 -- and have the parts of the units that these have
-parts_cover : (scale time : ℕ) (pieces : List Piece) → 1 ≤ scale → Covers pieces (time / scale) → Covers (at_parts scale pieces) time
+pub parts_cover : (scale time : ℕ) (pieces : List Piece) → 1 ≤ scale → Covers pieces (time / scale) → Covers (at_parts scale pieces) time
 parts_cover scale time pieces positive (k, piece, within, is, holds) = (
   k,
   in_parts_of scale piece,

@@ -1,5 +1,6 @@
 pub mod LeastLaws
 pub mod SpeedLaws
+pub mod InstantLaws
 pub mod CountLaws
 pub mod OneLaws
 pub mod AnswersOnce

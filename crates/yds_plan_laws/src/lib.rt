@@ -10,6 +10,7 @@
 
 ghost use Rattle.yds_plan_laws.specs.LeastLaws.{LevelsCertifyTheLeast};
 ghost use Rattle.yds_plan_laws.specs.SpeedLaws.{LeastSpeedsAreOne};
+ghost use Rattle.yds_plan_laws.specs.InstantLaws.{OneSpeedAtEachInstant};
 ghost use Rattle.yds_plan_laws.specs.OneLaws.{LevelsAreOne, SlotsAreOne};
 ghost use Rattle.yds_plan_laws.specs.AnswersOnce.{PlansAnswerOnce};
 ghost use Rattle.yds_plan_laws.specs.RunsOnce.{RunsAreOne, RunsAnswerOnce};
@@ -24,6 +25,11 @@ pub fn levels_certify_the_least()
 /// So all least schedules run a job at one speed.
 pub fn least_speeds_are_one()
     ensures { LeastSpeedsAreOne }
+{}
+
+/// And all of them run at one speed at each instant.
+pub fn one_speed_at_each_instant()
+    ensures { OneSpeedAtEachInstant }
 {}
 
 /// Two plans of the same jobs have the same levels, with their works, lengths, pieces and members.
