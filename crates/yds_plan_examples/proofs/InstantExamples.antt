@@ -1,9 +1,10 @@
--- How fast schedules run at each instant, tried on one and two jobs of one window: least schedules of the same jobs,
+-- How fast schedules run at each instant, tried on one and two jobs of one window: least schedules of the same jobs, plans of a job and of one more,
 -- and what is asked of these.
 use Rattle.yds_model.proofs.Common.{◌*◌, ◌-◌, ℕ, suc, List, [], ◌∷◌, ◌++◌, refl, arith, Job, of_whole, IsScale, WrittenSlot, WholeSlot, slots_at, IsLeast, Level, IsPlan}
 use Rattle.yds_plan_laws.specs.InstantLaws.{IsAsFastAt}
 use Rattle.yds_plan_laws.proofs.Certified.{levels_certify_the_least}
 use Rattle.yds_plan_laws.proofs.Instants.{one_speed_at_each_instant}
+use Rattle.yds_plan_laws.proofs.MoreJobs.{more_jobs_never_slow}
 use Rattle.yds_examples.proofs.Tests.{Test, test_le, test_like, test_both, test_any, proved, refuted}
 use Rattle.yds_examples.proofs.TestedSchedules.{is_scale}
 use Rattle.yds_examples.proofs.TestedPlans.{proper_by_test, served_by_test, plan_by_test}
@@ -79,3 +80,53 @@ cut_misread = refuted (as_fast 1 1 0 (slots_at 1 cut)) refl
 
 no_scale : IsScale 1 (planned ++ cut) → ⊥
 no_scale = refuted (is_scale 1 (planned ++ cut)) refl
+
+-- # More jobs never slow any instant
+
+-- The plan of the first job alone runs it at half the speed,
+abbrev one_job : List Job
+one_job = job 0 4 2 ∷ []
+
+abbrev one_slot : List WrittenSlot
+one_slot = slot 0 0 4 2 ∷ []
+
+abbrev one_level : List Level
+one_level = level 2 4 0 4 (0 ∷ []) ∷ []
+
+one_plan : IsPlan one_job one_slot one_level
+one_plan = plan_by_test one_job one_slot one_level (proper_by_test one_job one_slot one_level refl refl refl) (served_by_test one_job one_slot 1 refl refl) refl
+
+one_runs : IsAsFastAt 1 2 3 (slots_at 1 one_slot)
+one_runs = proved (as_fast 1 2 3 (slots_at 1 one_slot)) refl
+
+-- so that of both is as fast, and is faster.
+both_run : IsAsFastAt 1 2 3 (slots_at 1 planned)
+both_run = more_jobs_never_slow one_job one_job one_slot planned one_level levels 1 3 1 2 one_plan plan (proved (is_scale 1 (one_slot ++ planned)) refl) one_runs
+
+faster : IsAsFastAt 1 1 3 (slots_at 1 planned)
+faster = proved (as_fast 1 1 3 (slots_at 1 planned)) refl
+
+one_is_slower : IsAsFastAt 1 1 3 (slots_at 1 one_slot) → ⊥
+one_is_slower = refuted (as_fast 1 1 3 (slots_at 1 one_slot)) refl
+
+-- Beside no more jobs than its own `hasty`, which is no plan, is faster at one time than the plan, and at another slower: `hasty_runs` and
+-- `plan_is_slower`, `plan_runs_on` and `hasty_rests`. So both have to be plans.
+
+-- A shorter window is no such law: the job's plan in half the time is faster up to there, and then runs nothing.
+abbrev short_job : List Job
+short_job = job 0 2 2 ∷ []
+
+abbrev short_slot : List WrittenSlot
+short_slot = slot 0 0 2 2 ∷ []
+
+abbrev short_level : List Level
+short_level = level 2 2 0 2 (0 ∷ []) ∷ []
+
+short_plan : IsPlan short_job short_slot short_level
+short_plan = plan_by_test short_job short_slot short_level (proper_by_test short_job short_slot short_level refl refl refl) (served_by_test short_job short_slot 1 refl refl) refl
+
+short_runs : IsAsFastAt 1 1 1 (slots_at 1 short_slot)
+short_runs = proved (as_fast 1 1 1 (slots_at 1 short_slot)) refl
+
+short_rests : IsAsFastAt 1 2 3 (slots_at 1 short_slot) → ⊥
+short_rests = refuted (as_fast 1 2 3 (slots_at 1 short_slot)) refl

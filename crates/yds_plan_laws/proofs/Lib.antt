@@ -1,5 +1,7 @@
 pub mod Certified
 pub mod Instants
+mod Units
+pub mod MoreJobs
 pub mod FewSlots
 pub mod FewLevels
 pub mod FewRounded

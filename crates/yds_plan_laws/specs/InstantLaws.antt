@@ -16,3 +16,8 @@ abbrev pub OneSpeedAtEachInstant : Type 0
 OneSpeedAtEachInstant = (jobs : List Job) (slots first second : List WrittenSlot) (levels : List Level) (scale time p q : ℕ) → IsPlan jobs slots levels →
     IsLeast jobs first → IsLeast jobs second → IsScale scale (first ++ second) → 1 ≤ p → IsAsFastAt p q time (slots_at scale first) →
     IsAsFastAt p q time (slots_at scale second)
+
+-- More jobs never slow any instant: where the plan of some jobs is as fast as p/q, that of these jobs and more is.
+abbrev pub MoreJobsNeverSlow : Type 0
+MoreJobsNeverSlow = (jobs more : List Job) (slots others : List WrittenSlot) (levels faster : List Level) (scale time p q : ℕ) → IsPlan jobs slots levels →
+    IsPlan (jobs ++ more) others faster → IsScale scale (slots ++ others) → IsAsFastAt p q time (slots_at scale slots) → IsAsFastAt p q time (slots_at scale others)

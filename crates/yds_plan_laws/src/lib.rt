@@ -10,7 +10,7 @@
 
 ghost use Rattle.yds_plan_laws.specs.LeastLaws.{LevelsCertifyTheLeast};
 ghost use Rattle.yds_plan_laws.specs.SpeedLaws.{LeastSpeedsAreOne};
-ghost use Rattle.yds_plan_laws.specs.InstantLaws.{OneSpeedAtEachInstant};
+ghost use Rattle.yds_plan_laws.specs.InstantLaws.{OneSpeedAtEachInstant, MoreJobsNeverSlow};
 ghost use Rattle.yds_plan_laws.specs.OneLaws.{LevelsAreOne, SlotsAreOne};
 ghost use Rattle.yds_plan_laws.specs.AnswersOnce.{PlansAnswerOnce};
 ghost use Rattle.yds_plan_laws.specs.RunsOnce.{RunsAreOne, RunsAnswerOnce};
@@ -30,6 +30,11 @@ pub fn least_speeds_are_one()
 /// And all of them run at one speed at each instant.
 pub fn one_speed_at_each_instant()
     ensures { OneSpeedAtEachInstant }
+{}
+
+/// More jobs never slow any instant: the plan of some jobs is at each instant at most as fast as that of these jobs and more.
+pub fn more_jobs_never_slow()
+    ensures { MoreJobsNeverSlow }
 {}
 
 /// Two plans of the same jobs have the same levels, with their works, lengths, pieces and members.
