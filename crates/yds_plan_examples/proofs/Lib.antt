@@ -1,5 +1,6 @@
 pub mod LeastExamples
 mod SizesExamples
 mod InstantExamples
+mod PendingExamples
 mod OneExamples
 mod RoundedExamples

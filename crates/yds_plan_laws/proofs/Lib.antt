@@ -2,6 +2,8 @@ pub mod Certified
 pub mod Instants
 mod Units
 pub mod MoreJobs
+mod FirstLevel
+pub mod Pending
 pub mod FewSlots
 pub mod FewLevels
 pub mod FewRounded

@@ -138,7 +138,7 @@ parted levels work size falling some =
 
 module _ (jobs : List Job) (planned : List WrittenSlot) (levels : List Level) (plan : IsPlan jobs planned levels) where
   -- the members of the first levels are different
-  members_once : (n : ℕ) → n ≤ length levels → AreDifferent (all_members (take n levels))
+  pub members_once : (n : ℕ) → n ≤ length levels → AreDifferent (all_members (take n levels))
   members_once n within =
       let scale = scale_exists planned plan.proper.feasible.solid in
       front_different jobs levels scale.0 (slots_at scale.0 planned) plan.proper.well_formed (plan.proper.feasible.holds scale.0 scale.1) plan.proper.members n

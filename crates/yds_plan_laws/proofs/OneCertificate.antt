@@ -106,9 +106,9 @@ abbrev CoveredBy : List Piece → List Piece → Type 0
 CoveredBy pieces others = (time : ℕ) → Covers pieces time → Covers others time
 
 -- in order, from a time on, and without touching
-record AreInOrder (start : ℕ) (pieces : List Piece) : Type 0 where
-  run : PiecesFrom start pieces
-  apart : DontTouch pieces
+pub record AreInOrder (start : ℕ) (pieces : List Piece) : Type 0 where
+  pub run : PiecesFrom start pieces
+  pub apart : DontTouch pieces
 
 -- the first one begins before each of their times
 first_begins : (start time : ℕ) (piece : Piece) (pieces : List Piece) → PiecesFrom start (piece ∷ pieces) → Covers (piece ∷ pieces) time → piece.from ≤ time
@@ -161,7 +161,7 @@ abbrev from_to : ℕ → ℕ → Piece
 from_to from to = record { from = from; to = to }
 
 -- pieces in order that have the same times are one list
-pieces_same : (start low : ℕ) (pieces others : List Piece) → AreInOrder start pieces → AreInOrder low others → CoveredBy pieces others → CoveredBy others pieces →
+pub pieces_same : (start low : ℕ) (pieces others : List Piece) → AreInOrder start pieces → AreInOrder low others → CoveredBy pieces others → CoveredBy others pieces →
     pieces ≡ others
 pieces_same start low [] [] order orders there back = refl
 pieces_same start low [] (other ∷ others) order orders there back =

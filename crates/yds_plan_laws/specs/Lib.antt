@@ -1,6 +1,7 @@
 pub mod LeastLaws
 pub mod SpeedLaws
 pub mod InstantLaws
+pub mod PendingLaws
 pub mod CountLaws
 pub mod OneLaws
 pub mod AnswersOnce

@@ -11,6 +11,7 @@
 ghost use Rattle.yds_plan_laws.specs.LeastLaws.{LevelsCertifyTheLeast};
 ghost use Rattle.yds_plan_laws.specs.SpeedLaws.{LeastSpeedsAreOne};
 ghost use Rattle.yds_plan_laws.specs.InstantLaws.{OneSpeedAtEachInstant, MoreJobsNeverSlow};
+ghost use Rattle.yds_plan_laws.specs.PendingLaws.{OptimalAvailableGoesByThePlan};
 ghost use Rattle.yds_plan_laws.specs.OneLaws.{LevelsAreOne, SlotsAreOne};
 ghost use Rattle.yds_plan_laws.specs.AnswersOnce.{PlansAnswerOnce};
 ghost use Rattle.yds_plan_laws.specs.RunsOnce.{RunsAreOne, RunsAnswerOnce};
@@ -35,6 +36,12 @@ pub fn one_speed_at_each_instant()
 /// More jobs never slow any instant: the plan of some jobs is at each instant at most as fast as that of these jobs and more.
 pub fn more_jobs_never_slow()
     ensures { MoreJobsNeverSlow }
+{}
+
+/// Optimal Available serves what the first level of the plan of the pending jobs does, rounded up to the grid: Yao, Demers and Shenker
+/// (FOCS 1995), and Bansal, Kimbrel and Pruhs (J. ACM 2007), define it so.
+pub fn optimal_available_goes_by_the_plan()
+    ensures { OptimalAvailableGoesByThePlan }
 {}
 
 /// Two plans of the same jobs have the same levels, with their works, lengths, pieces and members.
