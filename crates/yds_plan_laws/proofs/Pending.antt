@@ -1,9 +1,15 @@
 -- Optimal Available goes by the plan of what is pending: the work that a pending deadline asks for is what is due by it of the pending jobs, and the
 -- greatest quotient is the first level's speed.
-use Rattle.yds_model.proofs.Common.{◌≡◌, ℕ, zero, suc, ◌+◌, ◌-◌, ◌*◌, ◌<◌, ◌≤◌, List, [], ◌∷◌, length, get_or, map, filter, fold, max, refl, sym, ap, ◌∙◌, arith, inl, inr, cond, nat_le, nat_lt, ◌&&◌, All, All-cons, All-nil, All-map, cases_lt, and_parts, ltb-true, filter_passes, get_or-map, length-map, sum_by-filter, sum_by-map, div-lt_iff_lt-mul, mul-le-mul_right, mul-le-mul_left, mul-pos, le_of_mul-le-mul_right, Job, no_job, job_at, WrittenSlot, WholeSlot, Piece, Level, no_level, level_at, IsPlan, div_up, work_given, pending_at, numbers_of, pending_jobs, due_units, pending_deadlines, asked, units_asked}
+use Rattle.yds_model.proofs.Common.{◌≡◌, ℕ, zero, suc, ◌+◌, ◌-◌, ◌*◌, ◌<◌, ◌≤◌, List, [], ◌∷◌, length, get_or, map, filter, fold, max, refl, sym, ap, ◌∙◌, arith, inl, inr, cond, nat_le, nat_lt, ◌&&◌, All, All-cons, All-nil, All-map, All-filter, All-weaker, cases_lt, and_parts, ltb-true, filter_passes, get_or-map, length-map, get_or_default, get_or-le-sum_by, le-leb, subst, slots_at, slots_in, ServesCapacity, optimal_available, sum_by-filter, sum_by-map, div-lt_iff_lt-mul, mul-le-mul_right, mul-le-mul_left, mul-pos, le_of_mul-le-mul_right, eq_of_mul-eq-mul_right, Job, no_job, job_at, WrittenSlot, WholeSlot, Piece, stretches, stretch_at, Level, no_level, level_at, IsPlan, div_up, work_given, pending_at, numbers_of, pending_jobs, due_units, pending_deadlines, asked, units_asked}
 use Rattle.std.proofs.Math.Nat.{mul-zero, div-zero}
-use Rattle.yds_plan_laws.specs.PendingLaws.{what_is_pending, OptimalAvailableGoesByThePlan}
-use Rattle.yds_plan_laws.proofs.FirstLevel.{due_by, none_denser, IsLatest, latest_member, attained, later}
+use Rattle.yds_events.specs.Stretch.{no_stretch, IsOutside}
+use Rattle.yds_events.proofs.Neighbours.{deadline_outside, stretch_forward}
+use Rattle.yds_laws.specs.RunLaws.{HasGreatestSpeed}
+use Rattle.yds_laws.proofs.ExactRuns.{optimal_available_is_exact}
+use Rattle.yds_laws.proofs.Served.{all_numbers}
+use Rattle.yds_plan_laws.specs.PendingLaws.{what_is_pending, OptimalAvailableGoesByThePlan, TheFirstLevelLasts, OptimalAvailableRunsAsPlanned}
+use Rattle.yds_plan_laws.proofs.RunsAlong.{fills_speed}
+use Rattle.yds_plan_laws.proofs.FirstLevel.{due_by, none_denser, IsLatest, latest_member, attained, later, one_piece}
 
 -- # Quotients rounded up
 
@@ -165,7 +171,31 @@ module _ (jobs : List Job) (scale : ℕ) (slots : List WholeSlot) (stretch : Pie
               (omega (arith, there, length-map deadlines (asked jobs grid scale slots stretch))),
         )
 
--- # The law
+    -- each deadline of a pending job is later than the start: the plan serves its work
+    deadline_later : (k deadline : ℕ) → k < length (pending_deadlines jobs scale slots stretch) → get_or (pending_deadlines jobs scale slots stretch) k deadline ≡ deadline →
+        1 ≤ deadline - stretch.from
+    deadline_later k deadline within is =
+        let pending = what_is_pending jobs scale slots stretch in
+        let numbers = pending_jobs jobs scale slots stretch in
+        let inside : k < length numbers = omega (arith, within, length-map numbers (λ job. (job_at jobs job).deadline)) in
+        let known : k < length pending = omega (arith, inside, length-map numbers pending_job) in
+        let own : (job_at pending k).deadline ≡ deadline =
+        ap (λ (job : Job). job.deadline) (pending_there k known) ∙ sym (get_or-map (λ job. (job_at jobs job).deadline) numbers k 0 deadline inside) ∙ is in
+        let asks : 1 ≤ due_by pending deadline = omega (
+          arith,
+          pending_works k known,
+          get_or-le-sum_by (λ (job : Job). cond (nat_le job.deadline deadline) job.work 0) pending k no_job known,
+          ap {B = ℕ} (λ b. cond b (job_at pending k).work 0) (le-leb (job_at pending k).deadline deadline (omega (arith, own))),
+        ) in
+        time_left (due_by pending deadline) (level_at levels 0).length (level_at levels 0).work (deadline - stretch.from) asks
+        (plan.proper.well_formed.positive 0 no_level some).1 (none_denser pending planned levels plan some stretch.from pending_released deadline)
+      where
+        -- what has work has time
+        time_left : (due size work long : ℕ) → 1 ≤ due → 1 ≤ size → due * size ≤ work * long → 1 ≤ long
+        time_left due size work zero some takes does = absurd (omega (arith, does, mul-pos {m = due} {n = size} some takes))
+        time_left due size work (suc long) some takes does = omega arith
+
+-- # The laws
 
 -- with no level nothing is pending, and with one the greatest quotient is its speed
 pub optimal_available_goes_by_the_plan : OptimalAvailableGoesByThePlan
@@ -183,3 +213,91 @@ optimal_available_goes_by_the_plan jobs grid scale slots stretch planned (level 
           (map (asked jobs grid scale slots stretch) (pending_deadlines jobs scale slots stretch)) (omega arith)
           (each_less jobs scale slots stretch grid planned (level ∷ levels) plan some),
     )
+
+-- the latest of the level's members is due at an event point, so not before the stretch's end
+pub the_first_level_lasts : TheFirstLevelLasts
+the_first_level_lasts jobs scale slots stretch planned levels time (k, within, is) plan some from to =
+    let pending = what_is_pending jobs scale slots stretch in
+    let numbers = pending_jobs jobs scale slots stretch in
+    let (number, latest) = latest_member pending planned levels plan some stretch.from (pending_released jobs scale slots stretch) in
+    let inside : number < length numbers = omega (arith, latest.known, length-map numbers (pending_job jobs scale slots stretch)) in
+    let known : get_or numbers number 0 < length jobs =
+    All-filter (λ one. nat_le (job_at jobs one).release stretch.from && nat_lt 0 (pending_at jobs scale slots stretch.from one)) (λ one. one < length jobs) (numbers_of jobs)
+    (all_numbers (λ one. one < length jobs) jobs (λ i below. below)) number 0 inside in
+    let there : stretch_at jobs k ≡ stretch = get_or_default (stretches jobs) k no_stretch stretch within ∙ is in
+    let due = ap (λ (job : Job). job.deadline) (pending_there jobs scale slots stretch number latest.known) in
+    let after = later pending planned levels plan some stretch.from (pending_released jobs scale slots stretch) number latest in
+    let ends : stretch.to ≤ (job_at pending number).deadline =
+    elim (subst (λ (one : Piece). IsOutside one (job_at jobs (get_or numbers number 0)).deadline) there (deadline_outside jobs (get_or numbers number 0) k known within)) [
+      | inl before ↦ absurd (omega (arith, before, due, after))
+      | inr enough ↦ omega (arith, enough, due)
+    ] in
+    rw (one_piece pending planned levels plan some stretch.from (pending_released jobs scale slots stretch) number latest)
+    (0, record { from = stretch.from; to = (job_at pending number).deadline }, omega arith, refl, (from, omega (arith, to, ends)))
+
+-- where a deadline asks for just so many units, the level does just that
+level_exact : (jobs : List Job) (grid scale : ℕ) (slots : List WholeSlot) (stretch : Piece) (planned : List WrittenSlot) (levels : List Level) → 1 ≤ scale →
+    HasGreatestSpeed jobs grid scale slots stretch → IsPlan (what_is_pending jobs scale slots stretch) planned levels →
+    units_asked jobs grid scale slots stretch * (scale * (level_at levels 0).length) ≡ grid * (level_at levels 0).work * (stretch.to - stretch.from)
+level_exact jobs grid scale slots stretch planned [] positive exact plan = omega arith
+level_exact jobs grid scale slots stretch planned (level ∷ levels) positive exact plan =
+    let some : 0 < length (level ∷ levels) = omega arith in
+    let units = units_asked jobs grid scale slots stretch in
+    let long = stretch.to - stretch.from in
+    let enough : grid * level.work * long ≤ units * (scale * level.length) = omega (
+      arith,
+      up_bound (grid * level.work * long) (scale * level.length) (mul-pos positive (plan.proper.well_formed.positive 0 no_level some).1),
+      ap (λ n. n * (scale * level.length)) (optimal_available_goes_by_the_plan jobs grid scale slots stretch planned (level ∷ levels) plan),
+    ) in
+    elim exact.attained [
+      | inl none ↦ omega (arith, enough, ap (λ n. n * (scale * level.length)) none)
+      | inr (k, deadline, within, is, just) ↦
+          let later : 1 ≤ deadline - stretch.from = deadline_later jobs scale slots stretch grid planned (level ∷ levels) plan some k deadline within is in
+          let most : units * (scale * level.length) ≤ grid * level.work * long = le_of_mul-le-mul_right {k = deadline - stretch.from} (omega (
+            arith,
+            ap (λ n. n * level.length) just,
+            ap (λ n. n * long * level.length) (due_pending jobs scale slots stretch grid deadline),
+            mul-le-mul_left (grid * long) (none_denser (what_is_pending jobs scale slots stretch) planned (level ∷ levels) plan some stretch.from
+                (pending_released jobs scale slots stretch) deadline),
+          )) later in
+          omega (arith, enough, most)
+    ]
+
+-- a slot of a stretch that does just so much has the level's speed
+slot_exact : (grid scale long units work size given time : ℕ) → 1 ≤ grid → 1 ≤ long → units * (scale * size) ≡ grid * work * long →
+    given * (grid * long * scale) ≡ scale * units * time → given * (scale * size) ≡ work * time
+slot_exact grid scale long units work size given time some lasts does speed =
+    eq_of_mul-eq-mul_right (grid * long) (mul-pos some lasts) (given * (scale * size)) (work * time)
+    (omega (arith, ap (λ n. n * size) speed, ap (λ n. n * time) does))
+
+-- each slot of a stretch has the speed of what the stretch serves
+served_speed : (grid scale capacity : ℕ) (stretch : Piece) (slots : List WholeSlot) → ServesCapacity grid scale capacity stretch slots →
+    All (λ slot. slot.work * (grid * (stretch.to - stretch.from) * scale) ≡ capacity * (slot.to - slot.from)) (slots_in scale stretch slots)
+served_speed grid scale zero stretch slots nothing =
+    rw nothing (All-nil (λ (slot : WholeSlot). slot.work * (grid * (stretch.to - stretch.from) * scale) ≡ 0 * (slot.to - slot.from)))
+served_speed grid scale (suc capacity) stretch slots fills =
+    fills_speed (suc capacity) (grid * (stretch.to - stretch.from) * scale) (stretch.from * scale) (stretch.to * scale) (slots_in scale stretch slots) fills
+
+-- so each slot of a run that never rounded does
+pub optimal_available_runs_as_planned : OptimalAvailableRunsAsPlanned
+optimal_available_runs_as_planned jobs grid scale slots planned stretch levels some run is (k, within, same) plan =
+    let whole = slots_at scale slots in
+    let stands = (run.run.holds scale is).each k stretch within in
+    let there : stretch_at jobs k ≡ stretch = get_or_default (stretches jobs) k no_stretch stretch within ∙ same in
+    let lasts : 1 ≤ stretch.to - stretch.from = omega (
+      arith,
+      stretch_forward jobs k within,
+      ap (λ (one : Piece). one.from) there,
+      ap (λ (one : Piece). one.to) there,
+    ) in
+    let exact : HasGreatestSpeed jobs grid scale whole stretch =
+    subst (HasGreatestSpeed jobs grid scale whole) same ((optimal_available_is_exact jobs grid slots some run).holds scale is k stretch within) in
+    let does = level_exact jobs grid scale whole stretch planned levels is.positive exact plan in
+    let units = units_asked jobs grid scale whole stretch in
+    let size = (level_at levels 0).length in
+    let work = (level_at levels 0).work in
+    let long = stretch.to - stretch.from in
+    All-weaker (λ slot. slot.work * (grid * long * scale) ≡ scale * units * (slot.to - slot.from)) (λ slot. slot.work * (scale * size) ≡ work * (slot.to - slot.from))
+    (λ slot speed. slot_exact grid scale long units work size slot.work (slot.to - slot.from) some lasts does speed) (slots_in scale stretch whole)
+    (served_speed grid scale (scale * units) stretch whole
+    (subst (λ (one : Piece). ServesCapacity grid scale (optimal_available jobs grid scale whole one) one whole) same stands))

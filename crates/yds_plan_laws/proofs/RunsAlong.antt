@@ -20,7 +20,7 @@ fills_run capacity per from to time (slot ∷ slots) fills begin end = elim (cas
 ]
 
 -- and each slot has the speed
-fills_speed : (capacity per from to : ℕ) (slots : List WholeSlot) → FillsAtSpeed capacity per from to slots → All (λ slot. slot.work * per ≡ capacity * (slot.to - slot.from)) slots
+pub fills_speed : (capacity per from to : ℕ) (slots : List WholeSlot) → FillsAtSpeed capacity per from to slots → All (λ slot. slot.work * per ≡ capacity * (slot.to - slot.from)) slots
 fills_speed capacity per from to [] fills = All-nil (λ slot. slot.work * per ≡ capacity * (slot.to - slot.from))
 fills_speed capacity per from to (slot ∷ slots) fills =
     All-cons (λ one. one.work * per ≡ capacity * (one.to - one.from)) slot slots fills.1 (fills_speed capacity per slot.to to slots fills.2)

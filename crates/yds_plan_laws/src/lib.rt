@@ -11,7 +11,7 @@
 ghost use Rattle.yds_plan_laws.specs.LeastLaws.{LevelsCertifyTheLeast};
 ghost use Rattle.yds_plan_laws.specs.SpeedLaws.{LeastSpeedsAreOne};
 ghost use Rattle.yds_plan_laws.specs.InstantLaws.{OneSpeedAtEachInstant, MoreJobsNeverSlow};
-ghost use Rattle.yds_plan_laws.specs.PendingLaws.{OptimalAvailableGoesByThePlan};
+ghost use Rattle.yds_plan_laws.specs.PendingLaws.{OptimalAvailableGoesByThePlan, TheFirstLevelLasts, OptimalAvailableRunsAsPlanned};
 ghost use Rattle.yds_plan_laws.specs.OneLaws.{LevelsAreOne, SlotsAreOne};
 ghost use Rattle.yds_plan_laws.specs.AnswersOnce.{PlansAnswerOnce};
 ghost use Rattle.yds_plan_laws.specs.RunsOnce.{RunsAreOne, RunsAnswerOnce};
@@ -42,6 +42,16 @@ pub fn more_jobs_never_slow()
 /// (FOCS 1995), and Bansal, Kimbrel and Pruhs (J. ACM 2007), define it so.
 pub fn optimal_available_goes_by_the_plan()
     ensures { OptimalAvailableGoesByThePlan }
+{}
+
+/// That level has all of the stretch.
+pub fn the_first_level_lasts()
+    ensures { TheFirstLevelLasts }
+{}
+
+/// So a run of it that never rounded has in each stretch the speed that the plan of the pending jobs has there.
+pub fn optimal_available_runs_as_planned()
+    ensures { OptimalAvailableRunsAsPlanned }
 {}
 
 /// Two plans of the same jobs have the same levels, with their works, lengths, pieces and members.
