@@ -2,9 +2,10 @@
 //!
 //! It stands on `yds_model`, whose definitions the laws speak of; on `yds_events` for event points and stretches; and on `yds_laws` and
 //! `yds_energy` for what is known of plans and of their levels.
-//! It carries the promises that a plan's levels are a proper certificate of just the least schedules; that jobs have at most one plan, which is
-//! rounded in one way, and a policy at most one run for them, so that what goes by these has one answer; and of how many levels, pieces and slots
-//! there are at most.
+//! It carries the promises that a plan's levels are a proper certificate of just the least schedules, which have one speed at each instant; that
+//! more jobs never slow any; that Optimal Available goes by the plan of what is pending; that jobs have at most one plan, which is rounded in one
+//! way, and a policy at most one run for them, so that what goes by these has one answer; and of how many levels, pieces and slots there are at
+//! most.
 //! No limit of a document stands in it.
 #![tactic(auto)]
 
