@@ -1,0 +1,5 @@
+mod Orders
+mod Criticals
+mod Fills
+pub mod Exists
+mod ExistsExamples
