@@ -19,7 +19,8 @@
 #   .. everywhere   the same with --cpu all
 #
 # A trace may end with status 3 for its size, as `periods` does with more than 4,000 jobs, and `hangs` in parts: it is read to its end
-# all the same. The last line is 'N passed, M failed': a run fails that ends with another status than 0 and 3, or takes more than 64 MB.
+# all the same. The last line is 'N passed, M failed': a run fails that ends with another status than 0 and 3, doesn't read the trace to its
+# end, or takes more than 64 MB.
 # The line before it tells the machine's load: how many processes ran, or would have, in the last minute at the begin and at the end.
 
 here=$(cd "$(dirname "$0")" && pwd)
@@ -69,16 +70,19 @@ trace() {
 	}'
 }
 
-# least NAME FILE COMMAND ..: the least time and the greatest memory of the runs over the file.
+# least NAME FILE COMMAND ..: the least time and the greatest memory of the runs over the file, and the most bytes that one left unread.
 least() {
 	name=$1 file=$2
 	shift 2
 	for round in $(seq "$times"); do
-		/usr/bin/time -f '%U %M' -o "$work/time" "$@" <"$file" >"$work/out" 2>/dev/null
-		echo "$? $(tail -n 1 "$work/time")"
+		{
+			/usr/bin/time -f '%U %M' -o "$work/time" "$@" >"$work/out" 2>/dev/null
+			echo "$? $(tail -n 1 "$work/time") $(wc -c)"
+		} <"$file"
 	done | sort -n -k 2 >"$work/times"
-	read -r status seconds memory <"$work/times"
+	read -r status seconds memory unread <"$work/times"
 	memory=$(sort -n -k 3 "$work/times" | tail -n 1 | cut -d ' ' -f 3)
+	unread=$(sort -n -k 4 "$work/times" | tail -n 1 | cut -d ' ' -f 4)
 }
 # row NAME LINES FILE WORD ..: a line of the table.
 row() {
@@ -93,7 +97,7 @@ row() {
 	parts=$(grep -c "^# part " "$work/out")
 	awk -v name="$name" -v lines="$lines" -v s="$seconds" -v g="$grepped" -v m="$memory" -v status="$status" -v parts="$parts" 'BEGIN {
 		printf "%-18s %9d %8.2f %9.3f %7.2f %6s %6.1f %7d %6d\n", name, lines, s, 1e6 * s / lines, g, (g > 0.02 ? sprintf("%.1f", s / g) : "-"), m / 1024, status, parts }'
-	if { [ "$status" = 0 ] || [ "$status" = 3 ]; } && [ "$memory" -lt 65536 ]; then passed=$((passed + 1)); else failed=$((failed + 1)); fi
+	if { [ "$status" = 0 ] || [ "$status" = 3 ]; } && [ "$unread" = 0 ] && [ "$memory" -lt 65536 ]; then passed=$((passed + 1)); else failed=$((failed + 1)); fi
 }
 
 load() { cut -d ' ' -f 1 /proc/loadavg 2>/dev/null || echo unknown; }
