@@ -1,0 +1,6 @@
+mod Chord
+mod PowerTable
+mod StretchCosts
+mod AllCosts
+pub mod PointCosts
+pub mod Squares

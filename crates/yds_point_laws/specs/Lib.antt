@@ -1,0 +1,2 @@
+pub mod PowerPoints
+pub mod PointLaws
