@@ -1,0 +1,4 @@
+mod Costs
+mod TwoJobs
+mod NearMisses
+mod SquareExamples
