@@ -2,3 +2,4 @@ mod Costs
 mod TwoJobs
 mod NearMisses
 mod SquareExamples
+mod RateExamples

@@ -4,3 +4,4 @@ mod StretchCosts
 mod AllCosts
 pub mod PointCosts
 pub mod Squares
+pub mod NearRate

@@ -1,12 +1,13 @@
-//! The laws of what schedules cost on operating points that lie on a power of speed. Each is the contract of a call of no parameters that does
-//! nothing.
+//! The laws of what schedules cost on operating points that lie on a power of speed, and of runs of Average Rate that round. Each is the contract of a
+//! call of no parameters that does nothing.
 //!
 //! It stands on `yds_model`, whose definitions the laws speak of; on `yds_events` and `yds_laws` for stretches and for what slots give jobs; on
 //! `yds_energy` for what a stretch costs on the points of a table; and on `yds_ratios` for what policies spend by a power. It carries the promises of
-//! how far a cost on such points is from the power's, and of how many times what a plan costs there a policy can cost. No limit of a document stands
+//! how far a cost on such points is from the power's, and of how many times what a plan costs there a policy can cost; and of how far a run that rounds is from its policy. No limit of a document stands
 //! in it.
 #![tactic(auto)]
 
+ghost use Rattle.yds_point_laws.specs.RateLaws.{RunsAreNearThePolicy, RunsSpendNearThePolicy};
 ghost use Rattle.yds_point_laws.specs.PointLaws.{PointsCostByPower, PoliciesCostAtMost, PoliciesCostTimes, SquaresCostAtMost};
 
 /// On operating points that lie on a power of speed, plans and runs cost at least what they spend by the power.
@@ -35,4 +36,15 @@ pub fn policies_cost_times()
 /// what it spends by the square.
 pub fn squares_cost_at_most()
     ensures { SquaresCostAtMost }
+{}
+
+/// In each stretch a run of Average Rate is at most one unit of the grid faster than the policy itself for each live job whose part it rounds up, done
+/// in all of the stretch (Yao, Demers, Shenker, FOCS 1995).
+pub fn runs_are_near_the_policy()
+    ensures { RunsAreNearThePolicy }
+{}
+
+/// So it spends at most `2^(exponent-1)` times what the policy itself and those units spend, together.
+pub fn runs_spend_near_the_policy()
+    ensures { RunsSpendNearThePolicy }
 {}

@@ -1,0 +1,23 @@
+-- The laws of a run of Average Rate that rounds. Each is the contract of a public function of this crate.
+-- Average Rate: Yao, Demers and Shenker (FOCS 1995).
+use Rattle.std.specs.Prelude.{ℕ, ◌-◌, ◌^◌, ◌≤◌, List}
+use Rattle.std.specs.List.{All}
+use Rattle.yds_model.specs.Job.{Job}
+use Rattle.yds_model.specs.Slot.{WrittenSlot, AtEachScale}
+use Rattle.yds_model.specs.Event.{stretches}
+use Rattle.yds_model.specs.AverageRate.{IsAverageRateRun}
+use Rattle.yds_ratios.specs.SpendingByPower.{sum_of_quotients, IsAtMostTimes}
+use Rattle.yds_point_laws.specs.PowerPoints.{power_spent}
+use Rattle.yds_point_laws.specs.PolicyRate.{policy_speed, rounded_speed, speed_in, policy_spends, rounded_spends}
+
+-- In each stretch a run is at most one unit of the grid faster than the policy for each live job whose part it rounds up, done in all of the stretch.
+abbrev pub RunsAreNearThePolicy : Type 0
+RunsAreNearThePolicy = (jobs : List Job) (grid rounded : ℕ) (slots : List WrittenSlot) → 1 ≤ grid → IsAverageRateRun jobs grid rounded slots →
+    AtEachScale slots (λ scale whole. All (λ stretch.
+    IsAtMostTimes 1 (speed_in scale whole stretch) (sum_of_quotients (policy_speed jobs stretch) (rounded_speed jobs grid stretch))) (stretches jobs))
+
+-- So it spends at most 2 ^ (exponent - 1) times what the policy itself and those units spend, together.
+abbrev pub RunsSpendNearThePolicy : Type 0
+RunsSpendNearThePolicy = (exponent : ℕ) (jobs : List Job) (grid rounded : ℕ) (slots : List WrittenSlot) → 1 ≤ exponent → 1 ≤ grid → IsAverageRateRun jobs grid rounded slots →
+    AtEachScale slots (λ scale whole.
+    IsAtMostTimes (2 ^ (exponent - 1)) (power_spent exponent scale whole) (sum_of_quotients (policy_spends exponent jobs) (rounded_spends exponent jobs grid)))
