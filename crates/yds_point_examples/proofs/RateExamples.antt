@@ -1,12 +1,14 @@
 -- Runs of Average Rate that round, beside the policy itself; what has no such bound; and a run of Optimal Available that is two units above its policy.
-use Rattle.yds_model.proofs.Common.{◌≡◌, ℕ, ◌*◌, List, [], ◌∷◌, refl, arith, Job, Piece, Quotient, of_whole, of_parts, IsSameQuotient, WrittenSlot, IsScale, AtEachScale, slots_at, stretches, IsFeasible, average_rate, IsAverageRateRun, optimal_available, IsOptimalAvailableRun, work_in, All}
+use Rattle.yds_model.proofs.Common.{◌≡◌, ℕ, ◌*◌, List, [], ◌∷◌, ◌++◌, refl, arith, Job, Piece, Quotient, of_whole, of_parts, IsSameQuotient, WrittenSlot, IsScale, AtEachScale, slots_at, stretches, IsFeasible, average_rate, IsAverageRateRun, optimal_available, IsOptimalAvailableRun, work_in, All}
 use Rattle.yds_energy.proofs.Finer.{each_scale_of}
 use Rattle.yds_energy.proofs.RunScale.{average_rate_run_free, optimal_available_run_free, optimal_available_rounds_free}
 use Rattle.yds_ratios.specs.SpendingByPower.{sum_of_quotients, IsAtMostTimes}
 use Rattle.yds_examples.proofs.Tests.{Test, tests, proved, refuted}
-use Rattle.yds_examples.proofs.TestedSchedules.{is_scale, run_at, feasible_by_test}
+use Rattle.yds_examples.proofs.TestedSchedules.{is_scale, run_at, feasible_by_test, not_feasible_by_test}
 use Rattle.yds_point_laws.specs.PowerPoints.{power_spent}
-use Rattle.yds_point_laws.specs.PolicyRate.{policy_speed, rounded_speed, speed_in, policy_spends, rounded_spends}
+use Rattle.yds_point_laws.specs.PointLaws.{rate_factor}
+use Rattle.yds_point_laws.proofs.PolicySpends.{policy_spends_at_most, runs_spend_at_most}
+use Rattle.yds_point_laws.specs.PolicyRate.{multiple_of_quotient, policy_speed, rounded_speed, speed_in, policy_spends, rounded_spends}
 use Rattle.yds_point_laws.proofs.NearRate.{runs_are_near_the_policy, runs_spend_near_the_policy}
 use Rattle.yds_point_examples.proofs.Costs.{job, slot, over}
 
@@ -60,6 +62,50 @@ spends_by_law = runs_spend_near_the_policy 2 jobs 1 2 early (omega arith) (omega
 units_count : IsAtMostTimes 2 (power_spent 2 1 (slots_at 1 early)) (policy_spends 2 jobs) → ⊥
 units_count = refuted (times 2 (power_spent 2 1 (slots_at 1 early)) (policy_spends 2 jobs)) refl
 
+-- # Beside a feasible schedule
+
+-- All of the window is enough, and spends 1/9, as the policy itself does: at most 8 times that.
+abbrev late : List WrittenSlot
+late = slot 0 (of_whole 0) (of_whole 9) (of_whole 1) ∷ []
+
+late_feasible : IsFeasible jobs late
+late_feasible = feasible_by_test jobs late 1 refl refl
+
+late_spends : IsSameQuotient (power_spent 2 1 (slots_at 1 late)) (over 1 9)
+late_spends = refl
+
+policy_by_law : AtEachScale late (λ scale whole. IsAtMostTimes 8 (policy_spends 2 jobs) (power_spent 2 scale whole))
+policy_by_law = policy_spends_at_most 2 jobs late (omega arith) late_feasible
+
+-- And the run, which spends 1, at most 2 times 8 times that and 9/8;
+run_by_law : IsAtMostTimes 2 (power_spent 2 1 (slots_at 1 early)) (sum_of_quotients (multiple_of_quotient 8 (power_spent 2 1 (slots_at 1 late))) (rounded_spends 2 jobs 1))
+run_by_law = runs_spend_at_most 2 jobs 1 2 early late 1 (omega arith) (omega arith) early_run late_feasible (proved (is_scale 1 (early ++ late)) refl)
+
+-- no slots aren't feasible, and spend nothing.
+nothing_feasible : IsFeasible jobs [] → ⊥
+nothing_feasible = not_feasible_by_test jobs [] 1 refl refl
+
+policy_of_nothing : IsAtMostTimes 8 (policy_spends 2 jobs) (power_spent 2 1 []) → ⊥
+policy_of_nothing = refuted (times 8 (policy_spends 2 jobs) (power_spent 2 1 [])) refl
+
+-- By an exponent of 0 the policy would spend the time of all stretches, and the one slot 1.
+no_exponent : IsAtMostTimes (rate_factor 0) (policy_spends 0 jobs) (power_spent 0 1 (slots_at 1 late)) → ⊥
+no_exponent = refuted (times (rate_factor 0) (policy_spends 0 jobs) (power_spent 0 1 (slots_at 1 late))) refl
+
+-- A job from 0 to 1 of work 3: a run of it spends 9, and nothing is rounded. So it is more than what no slots spend.
+abbrev alone : List WrittenSlot
+alone = slot 0 (of_whole 0) (of_whole 1) (of_whole 3) ∷ []
+
+alone_run : IsAverageRateRun (job 0 1 3 ∷ []) 1 0 alone
+alone_run = record {
+  run = each_scale_of _ (average_rate_run_free (job 0 1 3 ∷ []) 1) alone 1 (proved (is_scale 1 alone) refl)
+      (proved (run_at (job 0 1 3 ∷ []) 1 1 (average_rate (job 0 1 3 ∷ []) 1 1 (slots_at 1 alone)) (slots_at 1 alone)) refl);
+  rounds = refl;
+}
+
+run_of_nothing : IsAtMostTimes 2 (power_spent 2 1 (slots_at 1 alone)) (sum_of_quotients (multiple_of_quotient 8 (power_spent 2 1 [])) (rounded_spends 2 (job 0 1 3 ∷ []) 1)) → ⊥
+run_of_nothing = refuted (times 2 (power_spent 2 1 (slots_at 1 alone)) (sum_of_quotients (multiple_of_quotient 8 (power_spent 2 1 [])) (rounded_spends 2 (job 0 1 3 ∷ []) 1))) refl
+
 -- # The sum of both isn't enough
 
 -- Two jobs of work 1, from 0 to 2 and from 0 to 1, and on the grid 1 one part of the first is rounded up: the run does 2 until 1.
@@ -76,7 +122,18 @@ pair_run = record {
   rounds = refl;
 }
 
--- By the cube it spends 8, the policy 7/2, and the units 2: their sum is less.
+-- The second job until 1 and the first from then on, both at 1: it is feasible.
+abbrev pair_calm : List WrittenSlot
+pair_calm = slot 1 (of_whole 0) (of_whole 1) (of_whole 1) ∷ slot 0 (of_whole 1) (of_whole 2) (of_whole 1) ∷ []
+
+pair_feasible : IsFeasible pair pair_calm
+pair_feasible = feasible_by_test pair pair_calm 1 refl refl
+
+-- By the square the policy spends 5/2, and another schedule 2.
+pair_other : IsSameQuotient (policy_spends 2 pair) (over 5 2) × (IsAtMostTimes 1 (policy_spends 2 pair) (power_spent 2 1 (slots_at 1 pair_calm)) → ⊥)
+pair_other = (refl, refuted (times 1 (policy_spends 2 pair) (power_spent 2 1 (slots_at 1 pair_calm))) refl)
+
+-- By the cube the run spends 8, the policy 7/2, and the units 2: their sum is less.
 pair_spendings : IsSameQuotient (power_spent 3 2 (slots_at 2 pair_slots)) (over 8 1) × IsSameQuotient (policy_spends 3 pair) (over 7 2) × IsSameQuotient (rounded_spends 3 pair 1) (over 2 1)
 pair_spendings = (refl, refl, refl)
 
@@ -102,6 +159,24 @@ not_near = refuted (times 1 (speed_in 1 (slots_at 1 hasty) first) (sum_of_quotie
 -- and spends 16 by the square, where the policy spends 4.
 hasty_spends : IsAtMostTimes 2 (power_spent 2 1 (slots_at 1 hasty)) (sum_of_quotients (policy_spends 2 hurried) (rounded_spends 2 hurried 1)) → ⊥
 hasty_spends = refuted (times 2 (power_spent 2 1 (slots_at 1 hasty)) (sum_of_quotients (policy_spends 2 hurried) (rounded_spends 2 hurried 1))) refl
+
+-- With work 40 until 40 it spends 1600, which is more than 2 times 8 times the 40 of the policy, too.
+abbrev longer : List Job
+longer = job 0 40 40 ∷ job 0 1 0 ∷ []
+
+abbrev longer_hasty : List WrittenSlot
+longer_hasty = slot 0 (of_whole 0) (of_whole 1) (of_whole 40) ∷ []
+
+abbrev longer_even : List WrittenSlot
+longer_even = slot 0 (of_whole 0) (of_whole 40) (of_whole 40) ∷ []
+
+longer_spends : IsFeasible longer longer_hasty × IsFeasible longer longer_even × (IsAtMostTimes 2 (power_spent 2 1 (slots_at 1 longer_hasty))
+    (sum_of_quotients (multiple_of_quotient 8 (power_spent 2 1 (slots_at 1 longer_even))) (rounded_spends 2 longer 1)) → ⊥)
+longer_spends = (
+  feasible_by_test longer longer_hasty 1 refl refl,
+  feasible_by_test longer longer_even 1 refl refl,
+  refuted (times 2 (power_spent 2 1 (slots_at 1 longer_hasty)) (sum_of_quotients (multiple_of_quotient 8 (power_spent 2 1 (slots_at 1 longer_even))) (rounded_spends 2 longer 1))) refl,
+)
 
 -- On the grid 0 a unit would be over nothing.
 no_grid : IsAtMostTimes 1 (speed_in 1 (slots_at 1 early) first) (sum_of_quotients (policy_speed jobs first) (rounded_speed jobs 0 first)) → ⊥

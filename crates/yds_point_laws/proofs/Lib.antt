@@ -5,3 +5,5 @@ mod AllCosts
 pub mod PointCosts
 pub mod Squares
 pub mod NearRate
+mod PolicyUnits
+pub mod PolicySpends

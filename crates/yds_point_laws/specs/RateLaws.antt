@@ -1,14 +1,16 @@
 -- The laws of a run of Average Rate that rounds. Each is the contract of a public function of this crate.
 -- Average Rate: Yao, Demers and Shenker (FOCS 1995).
-use Rattle.std.specs.Prelude.{ℕ, ◌-◌, ◌^◌, ◌≤◌, List}
+use Rattle.std.specs.Prelude.{ℕ, ◌-◌, ◌^◌, ◌≤◌, List, ◌++◌}
 use Rattle.std.specs.List.{All}
 use Rattle.yds_model.specs.Job.{Job}
-use Rattle.yds_model.specs.Slot.{WrittenSlot, AtEachScale}
+use Rattle.yds_model.specs.Slot.{WrittenSlot, IsScale, AtEachScale, slots_at}
+use Rattle.yds_model.specs.Feasible.{IsFeasible}
 use Rattle.yds_model.specs.Event.{stretches}
 use Rattle.yds_model.specs.AverageRate.{IsAverageRateRun}
 use Rattle.yds_ratios.specs.SpendingByPower.{sum_of_quotients, IsAtMostTimes}
 use Rattle.yds_point_laws.specs.PowerPoints.{power_spent}
-use Rattle.yds_point_laws.specs.PolicyRate.{policy_speed, rounded_speed, speed_in, policy_spends, rounded_spends}
+use Rattle.yds_point_laws.specs.PointLaws.{rate_factor}
+use Rattle.yds_point_laws.specs.PolicyRate.{multiple_of_quotient, policy_speed, rounded_speed, speed_in, policy_spends, rounded_spends}
 
 -- In each stretch a run is at most one unit of the grid faster than the policy for each live job whose part it rounds up, done in all of the stretch.
 abbrev pub RunsAreNearThePolicy : Type 0
@@ -21,3 +23,15 @@ abbrev pub RunsSpendNearThePolicy : Type 0
 RunsSpendNearThePolicy = (exponent : ℕ) (jobs : List Job) (grid rounded : ℕ) (slots : List WrittenSlot) → 1 ≤ exponent → 1 ≤ grid → IsAverageRateRun jobs grid rounded slots →
     AtEachScale slots (λ scale whole.
     IsAtMostTimes (2 ^ (exponent - 1)) (power_spent exponent scale whole) (sum_of_quotients (policy_spends exponent jobs) (rounded_spends exponent jobs grid)))
+
+-- The policy itself spends at most its factor times what any feasible schedule does.
+abbrev pub PolicySpendsAtMost : Type 0
+PolicySpendsAtMost = (exponent : ℕ) (jobs : List Job) (others : List WrittenSlot) → 1 ≤ exponent → IsFeasible jobs others →
+    AtEachScale others (λ scale whole. IsAtMostTimes (rate_factor exponent) (policy_spends exponent jobs) (power_spent exponent scale whole))
+
+-- So a run spends at most 2 ^ (exponent - 1) times that and what its rounded units spend, together.
+abbrev pub RunsSpendAtMost : Type 0
+RunsSpendAtMost = (exponent : ℕ) (jobs : List Job) (grid rounded : ℕ) (slots others : List WrittenSlot) (scale : ℕ) → 1 ≤ exponent → 1 ≤ grid →
+    IsAverageRateRun jobs grid rounded slots → IsFeasible jobs others → IsScale scale (slots ++ others) →
+    IsAtMostTimes (2 ^ (exponent - 1)) (power_spent exponent scale (slots_at scale slots))
+    (sum_of_quotients (multiple_of_quotient (rate_factor exponent) (power_spent exponent scale (slots_at scale others))) (rounded_spends exponent jobs grid))

@@ -7,7 +7,7 @@
 //! in it.
 #![tactic(auto)]
 
-ghost use Rattle.yds_point_laws.specs.RateLaws.{RunsAreNearThePolicy, RunsSpendNearThePolicy};
+ghost use Rattle.yds_point_laws.specs.RateLaws.{RunsAreNearThePolicy, RunsSpendNearThePolicy, PolicySpendsAtMost, RunsSpendAtMost};
 ghost use Rattle.yds_point_laws.specs.PointLaws.{PointsCostByPower, PoliciesCostAtMost, PoliciesCostTimes, SquaresCostAtMost};
 
 /// On operating points that lie on a power of speed, plans and runs cost at least what they spend by the power.
@@ -47,4 +47,15 @@ pub fn runs_are_near_the_policy()
 /// So it spends at most `2^(exponent-1)` times what the policy itself and those units spend, together.
 pub fn runs_spend_near_the_policy()
     ensures { RunsSpendNearThePolicy }
+{}
+
+/// The policy itself, on no grid, spends at most `2^(exponent-1)` times `exponent^exponent` times what any feasible schedule does (Yao, Demers,
+/// Shenker, FOCS 1995).
+pub fn policy_spends_at_most()
+    ensures { PolicySpendsAtMost }
+{}
+
+/// So a run of Average Rate, whether it rounds or not, spends at most `2^(exponent-1)` times that and what the units that it rounds up would spend alone.
+pub fn runs_spend_at_most()
+    ensures { RunsSpendAtMost }
 {}
