@@ -152,17 +152,17 @@ pair_off = (
 -- # A run that rounded
 
 -- eighteen jobs from 0 to 18 of work 1, and one from 0 to 1 without work
-abbrev many : List Job
+abbrev pub many : List Job
 many = map (λ k. job 0 18 1) (range_with_len 0 18) ++ (job 0 1 0 ∷ [])
 
 -- On the grid 1 Average Rate rounds each eighteenth of a unit up, and all is done by 1, at the speed 18.
-abbrev rushed : List WrittenSlot
+abbrev pub rushed : List WrittenSlot
 rushed = map (λ k. slot k (of_parts k 18) (of_parts (suc k) 18) (of_whole 1)) (range_with_len 0 18)
 
 rushed_scale : IsScale 18 rushed
 rushed_scale = proved (is_scale 18 rushed) refl
 
-rushed_run : IsAverageRateRun many 1 2 rushed
+pub rushed_run : IsAverageRateRun many 1 2 rushed
 rushed_run = record {
   run = each_scale_of _ (average_rate_run_free many 1) rushed 18 rushed_scale
       (proved (run_at many 1 18 (average_rate many 1 18 (slots_at 18 rushed)) (slots_at 18 rushed)) refl);
@@ -170,20 +170,20 @@ rushed_run = record {
 }
 
 -- The plan runs at 1.
-abbrev calm : List WrittenSlot
+abbrev pub calm : List WrittenSlot
 calm = map (λ k. slot k (of_whole k) (of_whole (suc k)) (of_whole 1)) (range_with_len 0 18)
 
-abbrev calm_levels : List Level
+abbrev pub calm_levels : List Level
 calm_levels = level 18 18 0 18 (range_with_len 0 18) ∷ []
 
-calm_plan : IsPlan many calm calm_levels
+pub calm_plan : IsPlan many calm calm_levels
 calm_plan = plan_by_test many calm calm_levels (proper_by_test many calm calm_levels refl refl refl) (served_by_test many calm 1 refl refl) refl
 
 -- Points of the square within the ratio 2, the last of the speed 32
-abbrev doubled : List Point
+abbrev pub doubled : List Point
 doubled = power_points 2 (1 ∷ 2 ∷ 4 ∷ 8 ∷ 16 ∷ 32 ∷ [])
 
-doubled_points : ArePowerPoints 2 2 1 1 doubled
+pub doubled_points : ArePowerPoints 2 2 1 1 doubled
 doubled_points = record {
   faster = 2 ∷ 4 ∷ 8 ∷ 16 ∷ 32 ∷ [];
   points_are = refl;
@@ -194,14 +194,14 @@ doubled_points = record {
 }
 
 -- On them the run costs 352, for 7/8 of a unit of time at 16 and 1/8 at 32,
-rushed_costs : HoldsAll many doubled rushed (record {
+pub rushed_costs : HoldsAll many doubled rushed (record {
   energy = of_whole 352;
   times = of_whole 17 ∷ of_whole 0 ∷ of_whole 0 ∷ of_whole 0 ∷ of_whole 0 ∷ of_parts 7 8 ∷ of_parts 1 8 ∷ [];
 })
 rushed_costs = holds_by_test many doubled rushed _ 18 refl (omega arith) (record { energy = refl; times = refl }) refl
 
 -- and the plan 18:
-calm_costs : HoldsAll many doubled calm (record {
+pub calm_costs : HoldsAll many doubled calm (record {
   energy = of_whole 18;
   times = of_whole 0 ∷ of_whole 18 ∷ of_whole 0 ∷ of_whole 0 ∷ of_whole 0 ∷ of_whole 0 ∷ of_whole 0 ∷ [];
 })

@@ -5,11 +5,13 @@ use Rattle.yds_energy.proofs.RunScale.{average_rate_run_free, optimal_available_
 use Rattle.yds_ratios.specs.SpendingByPower.{sum_of_quotients, IsAtMostTimes}
 use Rattle.yds_examples.proofs.Tests.{Test, tests, proved, refuted}
 use Rattle.yds_examples.proofs.TestedSchedules.{is_scale, run_at, feasible_by_test, not_feasible_by_test}
-use Rattle.yds_point_laws.specs.PowerPoints.{power_spent}
+use Rattle.yds_point_laws.specs.PowerPoints.{IsAtMostTimesAnd, quotient_of, power_spent}
 use Rattle.yds_point_laws.specs.PointLaws.{rate_factor}
 use Rattle.yds_point_laws.proofs.PolicySpends.{policy_spends_at_most, runs_spend_at_most}
 use Rattle.yds_point_laws.specs.PolicyRate.{multiple_of_quotient, policy_speed, rounded_speed, speed_in, policy_spends, rounded_spends}
 use Rattle.yds_point_laws.proofs.NearRate.{runs_are_near_the_policy, runs_spend_near_the_policy}
+use Rattle.yds_point_laws.proofs.RoundedCosts.{rounded_runs_cost_at_most}
+use Rattle.yds_point_examples.proofs.NearMisses.{many as eighteen, rushed, calm, calm_levels, doubled, doubled_points, rushed_run, rushed_costs, calm_plan, calm_costs}
 use Rattle.yds_point_examples.proofs.Costs.{job, slot, over}
 
 -- one quotient at most so many times another
@@ -181,6 +183,17 @@ longer_spends = (
 -- On the grid 0 a unit would be over nothing.
 no_grid : IsAtMostTimes 1 (speed_in 1 (slots_at 1 early) first) (sum_of_quotients (policy_speed jobs first) (rounded_speed jobs 0 first)) → ⊥
 no_grid most = absurd (omega (arith, most.other_some))
+
+-- # On operating points
+
+-- The eighteen jobs of which the run rounds each part up, on the squares of 1, 2, 4, 8, 16 and 32: the units would spend 324 until 1 and 324/17 from then on.
+many_rounded : IsSameQuotient (rounded_spends 2 eighteen 1) (over 5832 17)
+many_rounded = refl
+
+-- The run costs 352, which is at most 2 times 2 times what 8 times 18 and they are together, and 1 for each unit of work.
+many_by_law : IsAtMostTimesAnd (over (2 * 2) 1) 18 (quotient_of (of_whole 352)) (sum_of_quotients (multiple_of_quotient 8 (quotient_of (of_whole 18))) (rounded_spends 2 eighteen 1))
+many_by_law =
+    rounded_runs_cost_at_most 2 2 1 1 eighteen doubled 1 2 rushed calm calm_levels _ _ (omega arith) (omega arith) doubled_points rushed_run rushed_costs calm_plan calm_costs.is_spent
 
 -- # Optimal Available
 

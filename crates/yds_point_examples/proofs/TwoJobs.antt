@@ -7,6 +7,9 @@ use Rattle.yds_examples.proofs.Tests.{proved, refuted}
 use Rattle.yds_examples.proofs.TestedSchedules.{is_scale, run_at}
 use Rattle.yds_examples.proofs.TestedPlans.{proper_by_test, served_by_test, plan_by_test}
 use Rattle.yds_point_laws.specs.PowerPoints.{power_points, RiseWithin, ArePowerPoints, IsAtMostTimesAnd, quotient_of, power_spent, CostsByPower}
+use Rattle.yds_point_laws.specs.PolicyRate.{multiple_of_quotient, rounded_spends}
+use Rattle.yds_ratios.specs.SpendingByPower.{sum_of_quotients}
+use Rattle.yds_point_laws.proofs.RoundedCosts.{rounded_runs_cost_at_most}
 use Rattle.yds_point_laws.proofs.PointCosts.{points_cost_by_power, policies_cost_at_most, policies_cost_times}
 use Rattle.yds_point_examples.proofs.Costs.{job, slot, level, over, rise_within, at_most, costs, spends_by_test, holds_by_test}
 
@@ -179,3 +182,25 @@ nothing_spent = spends_by_test jobs near [] _ 1 refl (omega arith) (record { ene
 more_than_nothing : (IsAtMostTimesAnd (over (4 * 2) 1) 4 (quotient_of (of_whole 6)) (quotient_of (of_whole 0)) → ⊥)
     × (IsAtMostTimesAnd (over 17 1) 0 (quotient_of (of_whole 6)) (quotient_of (of_whole 0)) → ⊥)
 more_than_nothing = (refuted (at_most (over (4 * 2) 1) 4 (over 6 1) (over 0 1)) refl, refuted (at_most (over 17 1) 0 (over 6 1) (over 0 1)) refl)
+
+-- # A run that may round
+
+-- What a run costs that may round: 6 is at most 2 times 2 times 8 times 4, and 1 for each unit of work; nothing is rounded here.
+rounded_by_law : IsAtMostTimesAnd (over (2 * 2) 1) 4 (quotient_of (of_whole 6)) (sum_of_quotients (multiple_of_quotient 8 (quotient_of (of_whole 4))) (rounded_spends 2 jobs 4))
+rounded_by_law =
+    rounded_runs_cost_at_most 2 2 1 1 jobs near 4 0 run planned levels run_spent plan_spent (omega arith) (omega arith) near_points rate_run run_holds plan plan_holds.is_spent
+
+-- On the squares of 1 and 1000 the run costs 1004, which is more.
+abbrev thousand_spent : Spent
+thousand_spent = record { energy = of_whole 1004; times = of_whole 1 ∷ of_parts 2996 999 ∷ of_parts 1 999 ∷ [] }
+
+thousand_holds : HoldsAll jobs (power_points 2 (1 ∷ 1000 ∷ [])) run thousand_spent
+thousand_holds = holds_by_test jobs (power_points 2 (1 ∷ 1000 ∷ [])) run thousand_spent 3 refl (omega arith) (record { energy = refl; times = refl }) refl
+
+-- So it is for the ratio 2, and 6 is more than where no slots stand for the plan.
+rounded_too_much : (IsAtMostTimesAnd (over (2 * 2) 1) 4 (quotient_of (of_whole 1004)) (sum_of_quotients (multiple_of_quotient 8 (quotient_of (of_whole 4))) (rounded_spends 2 jobs 4)) → ⊥)
+    × (IsAtMostTimesAnd (over (2 * 2) 1) 4 (quotient_of (of_whole 6)) (sum_of_quotients (multiple_of_quotient 8 (quotient_of (of_whole 0))) (rounded_spends 2 jobs 4)) → ⊥)
+rounded_too_much = (
+  refuted (at_most (over (2 * 2) 1) 4 (over 1004 1) (sum_of_quotients (multiple_of_quotient 8 (over 4 1)) (rounded_spends 2 jobs 4))) refl,
+  refuted (at_most (over (2 * 2) 1) 4 (over 6 1) (sum_of_quotients (multiple_of_quotient 8 (over 0 1)) (rounded_spends 2 jobs 4))) refl,
+)

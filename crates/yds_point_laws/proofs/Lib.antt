@@ -7,3 +7,4 @@ pub mod Squares
 pub mod NearRate
 mod PolicyUnits
 pub mod PolicySpends
+pub mod RoundedCosts

@@ -122,20 +122,27 @@ absorbed : (factor ratio_den more cost_num cost_den least_num least_den : ℕ) �
     more * least_den ≤ least_num → cost_num * (ratio_den * least_den) ≤ ((factor + ratio_den) * least_num + 0 * (ratio_den * least_den)) * cost_den
 absorbed factor ratio_den more cost_num cost_den least_num least_den most least = omega (arith, most, mul-le-mul_left (ratio_den * cost_den) least)
 
+-- so a plan's cost, where the top point is fast enough for a run
+pub planned_costs : (n p q slowest : ℕ) (jobs : List Job) (points : List Point) (grid : ℕ) (capacity : ℕ → List WholeSlot → Piece → ℕ) (slots planned : List WrittenSlot)
+    (levels : List Level) (spent planned_spent : Spent) → ArePowerPoints (suc n) p q slowest points →
+    AtEachScale slots (λ scale whole. IsRunAt jobs grid scale (capacity scale whole) whole) → HoldsAll jobs points slots spent → IsPlan jobs planned levels →
+    IsSpent jobs points planned planned_spent → AtEachScale planned (CostsByPower (suc n) p q slowest (whole_work jobs) planned_spent.energy)
+planned_costs n p q slowest jobs points grid capacity slots planned levels spent planned_spent on_power run holds plan plan_spent =
+    let slow = plan_within jobs points planned levels grid capacity slots spent plan run holds in
+    plan_costs n p q slowest jobs points on_power planned planned_spent
+    (record {
+      holds = record { solid = plan.proper.feasible.solid; holds = λ scale is. plan_holds jobs planned levels points scale plan is slow };
+      is_spent = plan_spent;
+    }) levels plan
+
 -- So it is with a run that spends at most so many times what a plan does.
 module _ (n factor p q slowest : ℕ) (jobs : List Job) (points : List Point) (grid : ℕ) (capacity : ℕ → List WholeSlot → Piece → ℕ) (slots planned : List WrittenSlot)
     (levels : List Level) (spent planned_spent : Spent) (on_power : ArePowerPoints (suc n) p q slowest points)
     (run : AtEachScale slots (λ scale whole. IsRunAt jobs grid scale (capacity scale whole) whole)) (holds : HoldsAll jobs points slots spent)
     (plan : IsPlan jobs planned levels) (plan_spent : IsSpent jobs points planned planned_spent) (spends : SpendsAtMost (suc n) factor slots planned) where
   -- the plan's cost
-  planned_costs : AtEachScale planned (CostsByPower (suc n) p q slowest (whole_work jobs) planned_spent.energy)
-  planned_costs =
-      let slow = plan_within jobs points planned levels grid capacity slots spent plan run holds in
-      plan_costs n p q slowest jobs points on_power planned planned_spent
-      (record {
-        holds = record { solid = plan.proper.feasible.solid; holds = λ scale is. plan_holds jobs planned levels points scale plan is slow };
-        is_spent = plan_spent;
-      }) levels plan
+  the_plan_costs : AtEachScale planned (CostsByPower (suc n) p q slowest (whole_work jobs) planned_spent.energy)
+  the_plan_costs = planned_costs n p q slowest jobs points grid capacity slots planned levels spent planned_spent on_power run holds plan plan_spent
 
   -- the run's is at most so many times that, and so much more
   run_costs_at_most : IsAtMostTimesAnd (record { num = factor * p ^ (suc n - 1); den = q ^ (suc n - 1) }) (slowest ^ (suc n - 1) * whole_work jobs)
@@ -144,7 +151,7 @@ module _ (n factor p q slowest : ℕ) (jobs : List Job) (points : List Point) (g
       let some = scale_exists (slots ++ planned) spends.solid in
       let scale = some.0 in
       let mine = (run_costs n p q slowest jobs points on_power slots spent holds grid capacity run).holds scale (scale_left scale slots planned some.1) in
-      let theirs = planned_costs.holds scale (scale_right scale slots planned some.1) in
+      let theirs = the_plan_costs.holds scale (scale_right scale slots planned some.1) in
       let most = spends.at_most scale some.1 in
       record {
         some = mine.at_most.some;
@@ -165,7 +172,7 @@ module _ (n factor p q slowest : ℕ) (jobs : List Job) (points : List Point) (g
         other_some = most.other_some;
         factor_some = most.factor_some;
         at_most = absorbed (factor * p ^ (suc n - 1)) (q ^ (suc n - 1)) (slowest ^ (suc n - 1) * whole_work jobs) (numerator spent.energy) spent.energy.den
-            (numerator planned_spent.energy) planned_spent.energy.den most.at_most (planned_costs.holds some.0 some.1).each_unit;
+            (numerator planned_spent.energy) planned_spent.energy.den most.at_most (the_plan_costs.holds some.0 some.1).each_unit;
       }
 
 -- the law of both policies

@@ -7,7 +7,7 @@
 //! in it.
 #![tactic(auto)]
 
-ghost use Rattle.yds_point_laws.specs.RateLaws.{RunsAreNearThePolicy, RunsSpendNearThePolicy, PolicySpendsAtMost, RunsSpendAtMost};
+ghost use Rattle.yds_point_laws.specs.RateLaws.{RunsAreNearThePolicy, RunsSpendNearThePolicy, PolicySpendsAtMost, RunsSpendAtMost, RoundedRunsCostAtMost};
 ghost use Rattle.yds_point_laws.specs.PointLaws.{PointsCostByPower, PoliciesCostAtMost, PoliciesCostTimes, SquaresCostAtMost};
 
 /// On operating points that lie on a power of speed, plans and runs cost at least what they spend by the power.
@@ -58,4 +58,9 @@ pub fn policy_spends_at_most()
 /// So a run of Average Rate, whether it rounds or not, spends at most `2^(exponent-1)` times that and what the units that it rounds up would spend alone.
 pub fn runs_spend_at_most()
     ensures { RunsSpendAtMost }
+{}
+
+/// And on operating points of a power it costs at most so many times, and so much for each unit of work, whether it rounds or not.
+pub fn rounded_runs_cost_at_most()
+    ensures { RoundedRunsCostAtMost }
 {}
