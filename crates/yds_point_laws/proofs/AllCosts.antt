@@ -70,18 +70,23 @@ all_done jobs scale slots feasible =
 -- # All stretches
 
 module _ (n p q slowest : ℕ) (faster : List ℕ) (not_idle : 1 ≤ slowest) (within : RiseWithin p q (slowest ∷ faster)) (jobs : List Job) (scale K : ℕ) (slots : List WholeSlot) where
+  -- the points
   abbrev pub table : List Point
   table = points n p q slowest faster not_idle within
 
+  -- the common multiple of their gaps
   abbrev pub all_multiple : ℕ
   all_multiple = multiple n p q slowest faster not_idle within
 
+  -- a stretch's time
   abbrev pub stretch_time : Piece → ℕ
   stretch_time stretch = (stretch.to - stretch.from) * scale
 
+  -- its work
   abbrev pub stretch_work : Piece → ℕ
   stretch_work stretch = all_work (slots_in scale stretch slots)
 
+  -- and what it costs
   abbrev pub stretch_cost : Piece → ℕ
   stretch_cost stretch = cost n p q slowest faster not_idle within (stretch_time stretch) (stretch_work stretch)
 

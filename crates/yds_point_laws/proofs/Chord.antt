@@ -38,6 +38,7 @@ pub record IsAround (low gap high whole speed : ℕ) : Type 0 where
   pub from : low * whole + x ≡ speed
   pub to : speed + y ≡ high * whole
 
+-- so it is of a stretch between the two
 pub around : (low gap high time work under over whole speed : ℕ) → 1 ≤ time → under + low * time ≡ work → over + work ≡ high * time → speed * time ≡ whole * work →
     IsAround low gap high whole speed
 around low gap high time work under over whole speed some is_under is_over is =
@@ -61,6 +62,7 @@ least_step gap whole scaled low_power high_power x y time under over multiple co
       ap (λ m. whole * scaled * m) costs,
     )) (mul-pos some wide)
 
+-- so a stretch costs at least its time times the power of its speed
 pub cost_at_least : (n low gap high time work under over multiple cost whole speed : ℕ) → 1 ≤ whole → 1 ≤ time → IsBetween low gap high time work under over multiple cost (low ^ n) (high ^ n) →
     speed * time ≡ whole * work → multiple * (time * speed ^ n) ≤ whole ^ n * cost
 cost_at_least n low gap high time work under over multiple cost whole speed wide some is at =
@@ -97,6 +99,7 @@ unit_power : (n slowest speed : ℕ) → (speed ≡ 0) ⊎ (slowest ≤ speed) �
 unit_power n slowest speed (inl idle) = omega (arith, ap (λ m. m * slowest ^ n) idle)
 unit_power n slowest speed (inr more) = omega (arith, pow-suc speed n, mul-le-mul_left speed (pow-le-pow_left more n))
 
+-- so a stretch costs at least that for each unit of work
 pub work_at_least : (n slowest low gap high time work under over multiple cost : ℕ) → IsBetween low gap high time work under over multiple cost (low ^ suc n) (high ^ suc n) →
     (low ≡ 0) ⊎ (slowest ≤ low) → slowest ≤ high → multiple * slowest ^ n * work ≤ cost
 work_at_least n slowest low gap high time work under over multiple cost is first second =
@@ -118,6 +121,7 @@ most_step low gap high time work under over multiple cost low_rate high_rate som
       ap (λ m. multiple * high_rate * work * m) is_high,
     )) some
 
+-- so a stretch costs at most that for each unit of work
 pub cost_at_most : (n low gap high time work under over multiple cost : ℕ) → IsBetween low gap high time work under over multiple cost (low ^ suc n) (high ^ suc n) →
     cost ≤ multiple * high ^ n * work
 cost_at_most n low gap high time work under over multiple cost is =
@@ -155,6 +159,7 @@ square x = omega (arith, pow-suc x 1, ap (λ m. x * m) (pow-suc x 0), ap (λ m. 
 means_by : (a d : ℕ) → 2 * (a * (a + d)) ≤ a * a + (a + d) * (a + d)
 means_by a d = omega arith
 
+-- in any order
 means : (a b : ℕ) → 2 * (a * b) ≤ a * a + b * b
 means a b = elim (cases_lt a b) [
   | inl less ↦ let is : a + (b - a) ≡ b = omega (arith, less) in rw is at (means_by a (b - a))
@@ -173,6 +178,7 @@ pair_by p q low high u v first second =
       ap (λ m. u * m) second,
     )
 
+-- so it is where the lesser is at least 1
 pair : (p q low high : ℕ) → 1 ≤ low → low ≤ high → q * high ≤ p * low → p * q * ((low + high) * (low + high)) ≤ (p + q) * (p + q) * (low * high)
 pair p q low high some rises near =
     let ratio : q ≤ p = le_of_mul-le-mul_left {k = low} (omega (arith, near, mul-le-mul_left q rises)) some in

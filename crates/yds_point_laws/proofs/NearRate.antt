@@ -151,6 +151,7 @@ module _ (n grid scale K : ℕ) (jobs : List Job) (slots : List WholeSlot) (some
   abbrev policy_part : Piece → Quotient
   policy_part stretch = spent_at (suc n) (stretch.to - stretch.from) (policy_speed jobs stretch)
 
+  -- and that of the units
   abbrev rounded_part : Piece → Quotient
   rounded_part stretch = spent_at (suc n) (stretch.to - stretch.from) (rounded_speed jobs grid stretch)
 

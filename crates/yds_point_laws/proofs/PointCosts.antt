@@ -53,12 +53,14 @@ points_cost_by_power = record {
   run = λ exponent. of_run exponent;
 }
   where
+    -- of a plan
     of_plan : (exponent p q slowest : ℕ) (jobs : List Job) (points : List Point) (slots : List WrittenSlot) (levels : List Level) (spent : Spent) →
         1 ≤ exponent → ArePowerPoints exponent p q slowest points → IsPlan jobs slots levels → HoldsAll jobs points slots spent →
         AtEachScale slots (CostsByPower exponent p q slowest (whole_work jobs) spent.energy)
     of_plan zero p q slowest jobs points slots levels spent some on_power plan holds = absurd (omega (arith, some))
     of_plan (suc n) p q slowest jobs points slots levels spent some on_power plan holds = plan_costs n p q slowest jobs points on_power slots spent holds levels plan
 
+    -- of a run
     of_run : (exponent p q slowest : ℕ) (jobs : List Job) (points : List Point) (grid : ℕ) (capacity : ℕ → List WholeSlot → Piece → ℕ) (slots : List WrittenSlot)
         (spent : Spent) → 1 ≤ exponent → ArePowerPoints exponent p q slowest points → AtEachScale slots (λ scale whole. IsRunAt jobs grid scale (capacity scale whole) whole) →
         HoldsAll jobs points slots spent → AtEachScale slots (CostsByPower exponent p q slowest (whole_work jobs) spent.energy)
@@ -175,34 +177,38 @@ module _ (n factor p q slowest : ℕ) (jobs : List Job) (points : List Point) (g
             (numerator planned_spent.energy) planned_spent.energy.den most.at_most (the_plan_costs.holds some.0 some.1).each_unit;
       }
 
--- the law of both policies
+-- the law of so many times and so much more: of Optimal Available
 available_costs : RunsCostAtMost IsOptimalAvailableRun available_factor
 available_costs zero p q slowest jobs points grid slots planned levels spent planned_spent some some_grid on_power run holds plan plan_spent = absurd (omega (arith, some))
 available_costs (suc n) p q slowest jobs points grid slots planned levels spent planned_spent some some_grid on_power run holds plan plan_spent =
     run_costs_at_most n (suc n ^ suc n) p q slowest jobs points grid (optimal_available jobs grid) slots planned levels spent planned_spent on_power run.run holds plan plan_spent
     (optimal_available_spends (suc n) jobs grid slots planned some some_grid run plan.proper.feasible)
 
+-- of Average Rate
 rate_costs : RunsCostAtMost IsAverageRateRun rate_factor
 rate_costs zero p q slowest jobs points grid slots planned levels spent planned_spent some some_grid on_power run holds plan plan_spent = absurd (omega (arith, some))
 rate_costs (suc n) p q slowest jobs points grid slots planned levels spent planned_spent some some_grid on_power run holds plan plan_spent =
     run_costs_at_most n (2 ^ (suc n - 1) * suc n ^ suc n) p q slowest jobs points grid (average_rate jobs grid) slots planned levels spent planned_spent on_power run.run holds plan plan_spent
     (average_rate_spends (suc n) jobs grid slots planned some some_grid run plan.proper.feasible)
 
+-- of both
 pub policies_cost_at_most : PoliciesCostAtMost
 policies_cost_at_most = record { optimal_available = available_costs; average_rate = rate_costs }
 
--- and the law of times alone
+-- the law of times alone: of Optimal Available
 available_times : RunsCostTimes IsOptimalAvailableRun available_factor
 available_times zero p q slowest jobs points grid slots planned levels spent planned_spent some some_grid on_power run holds plan plan_spent = absurd (omega (arith, some))
 available_times (suc n) p q slowest jobs points grid slots planned levels spent planned_spent some some_grid on_power run holds plan plan_spent =
     run_costs_times n (suc n ^ suc n) p q slowest jobs points grid (optimal_available jobs grid) slots planned levels spent planned_spent on_power run.run holds plan plan_spent
     (optimal_available_spends (suc n) jobs grid slots planned some some_grid run plan.proper.feasible)
 
+-- of Average Rate
 rate_times : RunsCostTimes IsAverageRateRun rate_factor
 rate_times zero p q slowest jobs points grid slots planned levels spent planned_spent some some_grid on_power run holds plan plan_spent = absurd (omega (arith, some))
 rate_times (suc n) p q slowest jobs points grid slots planned levels spent planned_spent some some_grid on_power run holds plan plan_spent =
     run_costs_times n (2 ^ (suc n - 1) * suc n ^ suc n) p q slowest jobs points grid (average_rate jobs grid) slots planned levels spent planned_spent on_power run.run holds plan plan_spent
     (average_rate_spends (suc n) jobs grid slots planned some some_grid run plan.proper.feasible)
 
+-- of both
 pub policies_cost_times : PoliciesCostTimes
 policies_cost_times = record { optimal_available = available_times; average_rate = rate_times }

@@ -170,6 +170,7 @@ module _ (n scale base windows end : ℕ) (jobs : List Job) (others : List Whole
         mul-le-mul_left (2 ^ n) powers_spent,
       )
     where
+      -- in each unit of a stretch
       stretch_power : (k unit : ℕ) (d : Piece) → k < length (stretches jobs) → (get_or (stretches jobs) k d).from * scale ≤ unit → unit < (get_or (stretches jobs) k d).to * scale →
           policy_power (get_or (stretches jobs) k d) ≤ (come unit + gone unit) ^ suc n
       stretch_power k unit d inside from below =
@@ -241,10 +242,12 @@ policy_at_scale n scale jobs others positive feasible =
           theirs.is;
     }
   where
+    -- all windows have ended by then
     windows_end : (jobs : List Job) (scale number : ℕ) → number < length jobs →
         (job_at jobs number).deadline * scale ≤ (sum_by (λ (job : Job). job.deadline) jobs + sum_by (λ (stretch : Piece). stretch.to) (stretches jobs)) * scale
     windows_end jobs scale number known = mul-le-mul_right scale (omega (arith, get_or-le-sum_by (λ (job : Job). job.deadline) jobs number no_job known))
 
+    -- and all stretches
     stretches_end : (jobs : List Job) (scale : ℕ) →
         All (λ stretch. stretch.to * scale ≤ (sum_by (λ (job : Job). job.deadline) jobs + sum_by (λ (stretch : Piece). stretch.to) (stretches jobs)) * scale) (stretches jobs)
     stretches_end jobs scale k d inside = mul-le-mul_right scale (omega (arith, get_or-le-sum_by (λ (stretch : Piece). stretch.to) (stretches jobs) k d inside))

@@ -127,6 +127,7 @@ shares_are windows stretch (job ∷ jobs) live divided =
     (ap (λ n. windows / window job * n) (sym long) ∙ div-mul_cancel (window job) (divided 0 job (omega arith)))
     (shares_are windows stretch jobs (All-tail (λ one. is_live stretch one ≡ true) job jobs live) (All-tail (λ one. window one ∣ windows) job jobs divided)))
 
+-- so it is of the live jobs of all
 pub policy_shares : (jobs : List Job) (windows : ℕ) (stretch : Piece) → All (λ job. window job ∣ windows) jobs →
     live_work jobs windows stretch * (policy_speed jobs stretch).den ≡ windows * (policy_speed jobs stretch).num
 policy_shares jobs windows stretch divided =

@@ -50,6 +50,7 @@ goes_on low [] = tt
 goes_on low (point ∷ points) = inl (refl, goes_on point points)
 
 module _ (n p q slowest : ℕ) (faster : List ℕ) (not_idle : 1 ≤ slowest) (within : RiseWithin p q (slowest ∷ faster)) where
+  -- the points
   abbrev all : List Point
   all = power_points (suc n) (slowest ∷ faster)
 

@@ -170,6 +170,7 @@ rounded_value jobs points planned levels written energy scale table free plan ro
           spends.0.energy.den (numerator energy) energy.den wide some.1.positive first.has_parts first.same costs at.2 second.same;
     }
 
+-- the law
 pub squares_cost_at_most : SquaresCostAtMost
 squares_cost_at_most p q slowest jobs points planned levels written energy on_power plan fast rounding = record {
   solid = plan.proper.feasible.solid;

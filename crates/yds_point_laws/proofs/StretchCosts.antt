@@ -22,6 +22,7 @@ pub record HasOneSpeed (n K time work : ℕ) (slots : List WholeSlot) : Type 0 w
   pub is : one * time ≡ K * work
   pub spends : spent n K slots ≡ time * one ^ suc n
 
+-- slots of a full stretch do so
 pub one_speed : (n K time work : ℕ) (slots : List WholeSlot) → 1 ≤ time → busy slots ≡ time → All (λ slot. slot.work * time ≡ work * takes slot) slots → All (HasSpeed K) slots →
     HasOneSpeed n K time work slots
 one_speed n K time work [] some full speeds have = absurd (omega (arith, some, full))
@@ -57,9 +58,11 @@ between_costs low high time work multiple cost low_power high_power above below 
     }
 
 module _ (n p q slowest : ℕ) (faster : List ℕ) (not_idle : 1 ≤ slowest) (within : RiseWithin p q (slowest ∷ faster)) where
+  -- the points
   abbrev pub points : List Point
   points = power_points (suc n) (slowest ∷ faster)
 
+  -- the common multiple of their gaps
   abbrev pub multiple : ℕ
   multiple = multiple_of_all (gaps_of points)
 
@@ -105,6 +108,7 @@ module _ (n p q slowest : ℕ) (faster : List ℕ) (not_idle : 1 ≤ slowest) (w
     pub most : q ^ n * K ^ suc n * cost time work ≤ multiple * p ^ n * spends + multiple * q ^ n * K ^ suc n * slowest ^ n * work
     pub works : multiple * slowest ^ n * work ≤ cost time work
 
+  -- so it is with a full stretch
   full_bounded : (K time work : ℕ) (slots : List WholeSlot) → 1 ≤ K → 1 ≤ time → HasOneSpeed n K time work slots → IsCostAt time work → IsBounded K time work (spent n K slots)
   full_bounded K time work slots wide some has at = record {
     least = omega (arith, ap (λ m. multiple * m) has.spends, cost_at_least (suc n) at.low.speed (at.high.speed - at.low.speed) at.high.speed time work _ _ multiple (cost time work) K has.one wide some at.between has.is);

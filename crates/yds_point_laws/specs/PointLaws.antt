@@ -47,18 +47,20 @@ RunsCostTimes IsRun factor = (exponent p q slowest : ℕ) (jobs : List Job) (poi
     IsAtMostTimesAnd (record { num = factor exponent * p ^ (exponent - 1) + q ^ (exponent - 1); den = q ^ (exponent - 1) }) 0
     (quotient_of spent.energy) (quotient_of planned_spent.energy)
 
--- the factors of the policies, where power is speed to the exponent
+-- the factor of Optimal Available, where power is speed to the exponent
 abbrev pub available_factor : ℕ → ℕ
 available_factor exponent = exponent ^ exponent
 
+-- and that of Average Rate
 abbrev pub rate_factor : ℕ → ℕ
 rate_factor exponent = 2 ^ (exponent - 1) * exponent ^ exponent
 
--- Both are so with both policies.
+-- So it is with both policies,
 pub record PoliciesCostAtMost : Type 0 where
   pub optimal_available : RunsCostAtMost IsOptimalAvailableRun available_factor
   pub average_rate : RunsCostAtMost IsAverageRateRun rate_factor
 
+-- and with times alone
 pub record PoliciesCostTimes : Type 0 where
   pub optimal_available : RunsCostTimes IsOptimalAvailableRun available_factor
   pub average_rate : RunsCostTimes IsAverageRateRun rate_factor

@@ -11,10 +11,12 @@ use Rattle.yds_model.specs.AverageRate.{is_live, rounds_term}
 use Rattle.yds_model.specs.Comparison.{work_in}
 use Rattle.yds_ratios.specs.SpendingByPower.{sum_of_quotients}
 
+-- quotients together
 abbrev pub sum_of : List Quotient → Quotient
 sum_of [] = record { num = 0; den = 1 }
 sum_of (x ∷ xs) = sum_of_quotients x (sum_of xs)
 
+-- a quotient some times
 abbrev pub multiple_of_quotient : ℕ → Quotient → Quotient
 multiple_of_quotient factor x = record { num = factor * x.num; den = x.den }
 
@@ -42,9 +44,10 @@ spent_at exponent time speed = record { num = time * speed.num ^ exponent; den =
 abbrev pub spent_in_stretches : ℕ → (Piece → Quotient) → List Piece → Quotient
 spent_in_stretches exponent speed all = sum_of (map (λ stretch. spent_at exponent (stretch.to - stretch.from) (speed stretch)) all)
 
--- what the policy itself spends, and what the units that a run rounds up would spend alone
+-- what the policy itself spends
 abbrev pub policy_spends : ℕ → List Job → Quotient
 policy_spends exponent jobs = spent_in_stretches exponent (policy_speed jobs) (stretches jobs)
 
+-- what the units that a run rounds up would spend alone
 abbrev pub rounded_spends : ℕ → List Job → ℕ → Quotient
 rounded_spends exponent jobs grid = spent_in_stretches exponent (rounded_speed jobs grid) (stretches jobs)

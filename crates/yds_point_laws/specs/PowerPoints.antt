@@ -36,6 +36,7 @@ pub record IsAtMostTimesAnd (factor : Quotient) (more : ℕ) (x y : Quotient) : 
   pub factor_some : 1 ≤ factor.den
   pub at_most : x.num * (factor.den * y.den) ≤ (factor.num * y.num + more * (factor.den * y.den)) * x.den
 
+-- a fraction as one quotient
 abbrev pub quotient_of : Fraction → Quotient
 quotient_of x = record { num = numerator x; den = x.den }
 
