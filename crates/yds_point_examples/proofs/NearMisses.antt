@@ -83,6 +83,18 @@ slowest_counts = (proved (costs 2 1 1 100 2 (of_whole 200) 1 (slots_at 1 slow_sl
 not_slowest : ArePowerPoints 2 1 1 1 hundred → ⊥
 not_slowest is = absurd (omega (arith, ap (λ (points : List Point). (point_at points 1).speed) is.points_are))
 
+-- Nor is there a ratio below 1, or over 0, or a slowest point of the speed 0.
+no_ratio : (ArePowerPoints 2 0 1 100 hundred → ⊥) × (ArePowerPoints 2 1 0 100 hundred → ⊥) × (ArePowerPoints 2 1 1 0 (power_points 2 (0 ∷ [])) → ⊥)
+no_ratio = (λ is. absurd (omega (arith, is.ratio)), λ is. absurd (omega (arith, is.some)), λ is. absurd (omega (arith, is.not_idle)))
+
+-- And what is over 0 is at most no number of times another, also where it is 0, nor another such a number of times it, nor 0 over 0 times as much.
+over_nothing : (IsAtMostTimesAnd (over 1 1) 1 (over 0 0) (over 1 1) → ⊥) × (IsAtMostTimesAnd (over 1 1) 1 (over 0 1) (over 1 0) → ⊥) × (IsAtMostTimesAnd (over 0 0) 1 (over 0 1) (over 1 1) → ⊥)
+over_nothing = (
+  refuted (at_most (over 1 1) 1 (over 0 0) (over 1 1)) refl,
+  refuted (at_most (over 1 1) 1 (over 0 1) (over 1 0)) refl,
+  refuted (at_most (over 0 0) 1 (over 0 1) (over 1 1)) refl,
+)
+
 -- # A top point that is too slow
 
 -- a job from 0 to 1 of work 3 on the point 1 1
