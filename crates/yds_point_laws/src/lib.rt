@@ -3,8 +3,8 @@
 //!
 //! It stands on `yds_model`, whose definitions the laws speak of; on `yds_events` and `yds_laws` for stretches and for what slots give jobs; on
 //! `yds_energy` for what a stretch costs on the points of a table; and on `yds_ratios` for what policies spend by a power. It carries the promises of
-//! how far a cost on such points is from the power's, and of how many times what a plan costs there a policy can cost; and of how far a run that rounds is from its policy. No limit of a document stands
-//! in it.
+//! how far a cost on such points is from the power's, of how many times what a plan costs there a policy can cost, and of how far a run that rounds is
+//! from its policy. No limit of a document stands in it.
 #![tactic(auto)]
 
 ghost use Rattle.yds_point_laws.specs.RateLaws.{RunsAreNearThePolicy, RunsSpendNearThePolicy, PolicySpendsAtMost, RunsSpendAtMost, RoundedRunsCostAtMost};
