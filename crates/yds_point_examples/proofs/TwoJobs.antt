@@ -10,7 +10,8 @@ use Rattle.yds_point_laws.specs.PowerPoints.{power_points, RiseWithin, ArePowerP
 use Rattle.yds_point_laws.specs.PolicyRate.{multiple_of_quotient, rounded_spends}
 use Rattle.yds_ratios.specs.SpendingByPower.{sum_of_quotients}
 use Rattle.yds_point_laws.proofs.RoundedCosts.{rounded_runs_cost_at_most}
-use Rattle.yds_point_laws.proofs.PointCosts.{points_cost_by_power, policies_cost_at_most, policies_cost_times}
+use Rattle.yds_point_laws.proofs.PointCosts.{points_cost_by_power, policies_cost_at_most}
+use Rattle.yds_point_laws.proofs.PricedCosts.{policies_cost_times}
 use Rattle.yds_point_examples.proofs.Costs.{job, slot, level, over, rise_within, at_most, costs, spends_by_test, holds_by_test}
 
 -- the jobs
@@ -108,8 +109,8 @@ rate_costs =
     policies_cost_at_most.average_rate 2 2 1 1 jobs near 4 run planned levels run_spent plan_spent (omega arith) (omega arith) near_points rate_run run_holds plan
     plan_holds.is_spent
 
--- and it is at most 9 and 17 times 4.
-times : IsAtMostTimesAnd (over 9 1) 0 (quotient_of (of_whole 6)) (quotient_of (of_whole 4)) × IsAtMostTimesAnd (over 17 1) 0 (quotient_of (of_whole 6)) (quotient_of (of_whole 4))
+-- and it is at most 8 and 17 times 4.
+times : IsAtMostTimesAnd (over 8 1) 0 (quotient_of (of_whole 6)) (quotient_of (of_whole 4)) × IsAtMostTimesAnd (over 17 1) 0 (quotient_of (of_whole 6)) (quotient_of (of_whole 4))
 times = (
   policies_cost_times.optimal_available 2 2 1 1 jobs near 4 run planned levels run_spent plan_spent (omega arith) (omega arith) near_points available_run run_holds plan
       plan_holds.is_spent,
@@ -161,15 +162,15 @@ not_near is = second_within is.faster is.points_are is.within
 not_by_law : CostsByPower 2 2 1 1 4 (of_whole 104) 3 (slots_at 3 run) → ⊥
 not_by_law = refuted (costs 2 2 1 1 4 (of_whole 104) 3 (slots_at 3 run)) refl
 
--- and more than 4 or 8 times 2 times 4 and 1 for each unit of work, and than 9 or 17 times 4.
+-- and more than 4 or 8 times 2 times 4 and 1 for each unit of work, and than 8 or 17 times 4.
 too_much : (IsAtMostTimesAnd (over (4 * 2) 1) 4 (quotient_of (of_whole 104)) (quotient_of (of_whole 4)) → ⊥)
     × (IsAtMostTimesAnd (over (8 * 2) 1) 4 (quotient_of (of_whole 104)) (quotient_of (of_whole 4)) → ⊥)
-    × (IsAtMostTimesAnd (over 9 1) 0 (quotient_of (of_whole 104)) (quotient_of (of_whole 4)) → ⊥)
+    × (IsAtMostTimesAnd (over 8 1) 0 (quotient_of (of_whole 104)) (quotient_of (of_whole 4)) → ⊥)
     × (IsAtMostTimesAnd (over 17 1) 0 (quotient_of (of_whole 104)) (quotient_of (of_whole 4)) → ⊥)
 too_much = (
   refuted (at_most (over (4 * 2) 1) 4 (over 104 1) (over 4 1)) refl,
   refuted (at_most (over (8 * 2) 1) 4 (over 104 1) (over 4 1)) refl,
-  refuted (at_most (over 9 1) 0 (over 104 1) (over 4 1)) refl,
+  refuted (at_most (over 8 1) 0 (over 104 1) (over 4 1)) refl,
   refuted (at_most (over 17 1) 0 (over 104 1) (over 4 1)) refl,
 )
 

@@ -46,7 +46,7 @@ once_more : (often work : ℕ) → 1 ≤ often → work ≤ often * work
 once_more often work some = omega (arith, mul-le-mul_right work some)
 
 -- the slots of a feasible schedule do no more than the jobs' work
-work_done : (jobs : List Job) (scale : ℕ) (slots : List WholeSlot) → IsFeasibleAt jobs scale slots → all_work slots ≤ scale * whole_work jobs
+pub work_done : (jobs : List Job) (scale : ℕ) (slots : List WholeSlot) → IsFeasibleAt jobs scale slots → all_work slots ≤ scale * whole_work jobs
 work_done jobs scale slots feasible =
     omega (
       arith,
@@ -58,7 +58,7 @@ work_done jobs scale slots feasible =
     )
 
 -- and no less
-all_done : (jobs : List Job) (scale : ℕ) (slots : List WholeSlot) → IsFeasibleAt jobs scale slots → scale * whole_work jobs ≤ all_work slots
+pub all_done : (jobs : List Job) (scale : ℕ) (slots : List WholeSlot) → IsFeasibleAt jobs scale slots → scale * whole_work jobs ≤ all_work slots
 all_done jobs scale slots feasible =
     omega (
       arith,

@@ -8,3 +8,6 @@ pub mod NearRate
 mod PolicyUnits
 pub mod PolicySpends
 pub mod RoundedCosts
+mod Hinges
+mod PricedRuns
+pub mod PricedCosts

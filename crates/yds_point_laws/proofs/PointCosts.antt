@@ -13,7 +13,7 @@ use Rattle.yds_ratios.specs.SpendingByPower.{spending, SpendsAtMost}
 use Rattle.yds_ratios.proofs.OptimalAvailableSpends.{optimal_available_spends}
 use Rattle.yds_ratios.proofs.AverageRateSpends.{average_rate_spends}
 use Rattle.yds_point_laws.specs.PowerPoints.{power_points, ArePowerPoints, IsAtMostTimesAnd, quotient_of, CostsByPower}
-use Rattle.yds_point_laws.specs.PointLaws.{whole_work, PointsCostByPower, RunsCostAtMost, RunsCostTimes, available_factor, rate_factor, PoliciesCostAtMost, PoliciesCostTimes}
+use Rattle.yds_point_laws.specs.PointLaws.{whole_work, PointsCostByPower, RunsCostAtMost, RunsCostTimes, available_factor, rate_factor, PoliciesCostAtMost}
 use Rattle.yds_point_laws.proofs.AllCosts.{costs}
 
 -- # Plans and runs
@@ -85,7 +85,7 @@ slot_within top scale stretch slots slot some even has lie holds =
     ]
 
 -- so where the top point is fast enough for a run, it is so for a plan
-plan_within : (jobs : List Job) (points : List Point) (planned : List WrittenSlot) (levels : List Level) (grid : ℕ) (capacity : ℕ → List WholeSlot → Piece → ℕ)
+pub plan_within : (jobs : List Job) (points : List Point) (planned : List WrittenSlot) (levels : List Level) (grid : ℕ) (capacity : ℕ → List WholeSlot → Piece → ℕ)
     (slots : List WrittenSlot) (spent : Spent) → IsPlan jobs planned levels → AtEachScale slots (λ scale whole. IsRunAt jobs grid scale (capacity scale whole) whole) →
     HoldsAll jobs points slots spent → All (λ level. IsTooFast points level → ⊥) levels
 plan_within jobs points planned levels grid capacity slots spent plan run holds =
@@ -195,20 +195,9 @@ rate_costs (suc n) p q slowest jobs points grid slots planned levels spent plann
 pub policies_cost_at_most : PoliciesCostAtMost
 policies_cost_at_most = record { optimal_available = available_costs; average_rate = rate_costs }
 
--- the law of times alone: of Optimal Available
-available_times : RunsCostTimes IsOptimalAvailableRun available_factor
-available_times zero p q slowest jobs points grid slots planned levels spent planned_spent some some_grid on_power run holds plan plan_spent = absurd (omega (arith, some))
-available_times (suc n) p q slowest jobs points grid slots planned levels spent planned_spent some some_grid on_power run holds plan plan_spent =
-    run_costs_times n (suc n ^ suc n) p q slowest jobs points grid (optimal_available jobs grid) slots planned levels spent planned_spent on_power run.run holds plan plan_spent
-    (optimal_available_spends (suc n) jobs grid slots planned some some_grid run plan.proper.feasible)
-
--- of Average Rate
-rate_times : RunsCostTimes IsAverageRateRun rate_factor
+-- Average Rate costs at most so many times what a plan does, and once more
+pub rate_times : RunsCostTimes IsAverageRateRun (λ exponent p q. rate_factor exponent * p ^ (exponent - 1) + q ^ (exponent - 1))
 rate_times zero p q slowest jobs points grid slots planned levels spent planned_spent some some_grid on_power run holds plan plan_spent = absurd (omega (arith, some))
 rate_times (suc n) p q slowest jobs points grid slots planned levels spent planned_spent some some_grid on_power run holds plan plan_spent =
     run_costs_times n (2 ^ (suc n - 1) * suc n ^ suc n) p q slowest jobs points grid (average_rate jobs grid) slots planned levels spent planned_spent on_power run.run holds plan plan_spent
     (average_rate_spends (suc n) jobs grid slots planned some some_grid run plan.proper.feasible)
-
--- of both
-pub policies_cost_times : PoliciesCostTimes
-policies_cost_times = record { optimal_available = available_times; average_rate = rate_times }

@@ -12,7 +12,7 @@ use Rattle.yds_point_laws.proofs.PowerTable.{is_table, IsPair, pair_at}
 -- # What slots of one speed spend
 
 -- a slot of a full stretch has its speed
-slot_speed : (K time work : ℕ) (slot : WholeSlot) → HasSpeed K slot → slot.work * time ≡ work * takes slot → speed K slot * time ≡ K * work
+pub slot_speed : (K time work : ℕ) (slot : WholeSlot) → HasSpeed K slot → slot.work * time ≡ work * takes slot → speed K slot * time ≡ K * work
 slot_speed K time work slot has is =
     eq_of_mul-eq-mul_right (takes slot) has.some (speed K slot * time) (K * work) (omega (arith, ap (λ m. m * time) has.is, ap (λ m. K * m) is))
 

@@ -39,13 +39,12 @@ RunsCostAtMost IsRun factor = (exponent p q slowest : ℕ) (jobs : List Job) (po
     IsAtMostTimesAnd (record { num = factor exponent * p ^ (exponent - 1); den = q ^ (exponent - 1) }) (slowest ^ (exponent - 1) * whole_work jobs)
     (quotient_of spent.energy) (quotient_of planned_spent.energy)
 
--- It costs at most so many times what a plan does, and once more: a plan, too, costs slowest ^ (exponent - 1) for each unit of work.
-abbrev pub RunsCostTimes : (List Job → ℕ → ℕ → List WrittenSlot → Type 0) → (ℕ → ℕ) → Type 0
-RunsCostTimes IsRun factor = (exponent p q slowest : ℕ) (jobs : List Job) (points : List Point) (grid : ℕ) (slots planned : List WrittenSlot) (levels : List Level)
+-- It costs at most num / q ^ (exponent - 1) times what a plan does.
+abbrev pub RunsCostTimes : (List Job → ℕ → ℕ → List WrittenSlot → Type 0) → (ℕ → ℕ → ℕ → ℕ) → Type 0
+RunsCostTimes IsRun num = (exponent p q slowest : ℕ) (jobs : List Job) (points : List Point) (grid : ℕ) (slots planned : List WrittenSlot) (levels : List Level)
     (spent planned_spent : Spent) → 1 ≤ exponent → 1 ≤ grid → ArePowerPoints exponent p q slowest points → IsRun jobs grid 0 slots →
     HoldsAll jobs points slots spent → IsPlan jobs planned levels → IsSpent jobs points planned planned_spent →
-    IsAtMostTimesAnd (record { num = factor exponent * p ^ (exponent - 1) + q ^ (exponent - 1); den = q ^ (exponent - 1) }) 0
-    (quotient_of spent.energy) (quotient_of planned_spent.energy)
+    IsAtMostTimesAnd (record { num = num exponent p q; den = q ^ (exponent - 1) }) 0 (quotient_of spent.energy) (quotient_of planned_spent.energy)
 
 -- the factor of Optimal Available, where power is speed to the exponent
 abbrev pub available_factor : ℕ → ℕ
@@ -55,15 +54,16 @@ available_factor exponent = exponent ^ exponent
 abbrev pub rate_factor : ℕ → ℕ
 rate_factor exponent = 2 ^ (exponent - 1) * exponent ^ exponent
 
--- So it is with both policies,
+-- So it is with both policies.
 pub record PoliciesCostAtMost : Type 0 where
   pub optimal_available : RunsCostAtMost IsOptimalAvailableRun available_factor
   pub average_rate : RunsCostAtMost IsAverageRateRun rate_factor
 
--- and with times alone
+-- Optimal Available costs at most (p/q) ^ (exponent - 1) times its factor times what a plan does, with nothing more. Average Rate costs at most that
+-- with its factor, and what the plan does once more: a plan, too, costs slowest ^ (exponent - 1) for each unit of work.
 pub record PoliciesCostTimes : Type 0 where
-  pub optimal_available : RunsCostTimes IsOptimalAvailableRun available_factor
-  pub average_rate : RunsCostTimes IsAverageRateRun rate_factor
+  pub optimal_available : RunsCostTimes IsOptimalAvailableRun (λ exponent p q. available_factor exponent * p ^ (exponent - 1))
+  pub average_rate : RunsCostTimes IsAverageRateRun (λ exponent p q. rate_factor exponent * p ^ (exponent - 1) + q ^ (exponent - 1))
 
 -- On points of the square, of which the slowest is no faster than any level of a plan, the plan rounded to them costs at most (p+q)^2 / (4pq) times
 -- what it spends by the square.

@@ -27,7 +27,8 @@ pub fn policies_cost_at_most()
     ensures { PoliciesCostAtMost }
 {}
 
-/// So it costs at most `(p/q)^(exponent-1)` times that factor, and once, what a plan does on them.
+/// On such points Optimal Available costs at most `(p/q)^(exponent-1)` times its factor times what a plan does, with nothing more; and Average Rate at
+/// most that with its own factor, and what the plan does once more.
 pub fn policies_cost_times()
     ensures { PoliciesCostTimes }
 {}

@@ -1,4 +1,4 @@
-use Rattle.yds_point_laws.proofs.PointCosts.{policies_cost_times}
+use Rattle.yds_point_laws.proofs.PricedCosts.{policies_cost_times}
 use Rattle.yds_point_laws.proofs.policies_cost_times.Goals as goal
 
 pub returns : goal.returns
