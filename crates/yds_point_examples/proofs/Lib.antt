@@ -1,0 +1,5 @@
+mod Costs
+mod TwoJobs
+mod NearMisses
+mod SquareExamples
+mod RateExamples

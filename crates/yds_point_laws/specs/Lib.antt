@@ -1,0 +1,4 @@
+pub mod PowerPoints
+pub mod PointLaws
+pub mod PolicyRate
+pub mod RateLaws
