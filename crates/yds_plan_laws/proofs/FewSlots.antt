@@ -1,11 +1,12 @@
 -- Slots that are served in stretches, earliest deadline first, are few: after each of them its job is done, or the next one lies in a later
 -- stretch. Jobs are at most so many, and each is done once. Stretches are fewer than twice as many.
-use Rattle.yds_model.proofs.Common.{◌≡◌, ℕ, suc, ◌+◌, ◌-◌, ◌*◌, ◌<◌, ◌≤◌, ◌==◌, List, [], ◌∷◌, ◌++◌, length, get_or, refl, sym, ap, subst, ◌∙◌, arith, inl, inr, cond, if◌then◌else◌, Bool, true, false, nat_le, All, All-tail, cases_lt, cases_order, lt-leb, le-leb, length-map, length-range_with_len, get_or_default, get_or-le-sum_by, sum_by, sum_by-le, sum_by-add, sum_by-append, sum_by_same, sum_by_at_most, mul-le-mul_right, Job, job_at, WholeSlot, slot_at, slots_at, slot_at_scale, work_given, RunFrom, IsInWindow, IsFeasibleAt, LiesIn, IsUncut, stretches, stretch_at, numbers_of, ComesFirst, IsFirstDue, EarliestAfter, IsServedInStretches}
+use Rattle.yds_model.proofs.Common.{◌≡◌, ℕ, suc, ◌+◌, ◌-◌, ◌*◌, ◌<◌, ◌≤◌, ◌==◌, List, [], ◌∷◌, ◌++◌, length, get_or, refl, sym, ap, subst, arith, inl, inr, cond, if◌then◌else◌, Bool, true, false, nat_le, All, All-tail, cases_lt, cases_order, lt-leb, le-leb, length-map, length-range_with_len, get_or-le-sum_by, sum_by, sum_by-le, sum_by-add, sum_by-append, sum_by_same, sum_by_at_most, mul-le-mul_right, Job, job_at, WholeSlot, slot_at, slots_at, slot_at_scale, work_given, RunFrom, IsInWindow, IsFeasibleAt, LiesIn, IsUncut, stretches, stretch_at, numbers_of, ComesFirst, IsFirstDue, EarliestAfter, IsServedInStretches}
 use Rattle.model_lemmas.proofs.Scale.{scale_exists}
 use Rattle.yds_events.specs.Stretch.{no_stretch}
 use Rattle.yds_events.proofs.Times.{few_times}
 use Rattle.yds_events.proofs.Neighbours.{count_stretches, stretch_order, release_outside}
 use Rattle.yds_laws.proofs.Served.{is_number}
+use Rattle.yds_laws.proofs.ExactRates.{stretch_of_slot}
 use Rattle.yds_plan_laws.specs.CountLaws.{PlanSlotsAreFew, RunSlotsAreFew}
 
 -- # Jobs that aren't done
@@ -128,11 +129,6 @@ module _ (jobs : List Job) (scale : ℕ) (before : List WholeSlot) (slot next : 
         }))))
   ]
 
--- the stretch of an uncut slot
-pub stretch_of : (jobs : List Job) (scale : ℕ) (slot : WholeSlot) → IsUncut jobs scale slot → (k : ℕ) × (k < length (stretches jobs)) × LiesIn scale slot (stretch_at jobs k)
-stretch_of jobs scale slot (k, piece, within, is, lies) =
-    (k, within, subst (LiesIn scale slot) (sym is ∙ get_or_default (stretches jobs) k piece no_stretch within) lies)
-
 module _ (jobs : List Job) (scale : ℕ) (positive : 1 ≤ scale) where
   -- slots from some place on are at most as many as the jobs that are left and the stretches that are
   few_after : (before slots : List WholeSlot) (slot : WholeSlot) (start k : ℕ) → RunFrom start (slot ∷ slots) →
@@ -142,7 +138,7 @@ module _ (jobs : List Job) (scale : ℕ) (positive : 1 ≤ scale) where
   few_after before [] slot start k run windows due uncut once within lies =
       omega (arith, within, left_some jobs scale before slot.job (windows 0 slot (omega arith)).known due.0.may_run.pending)
   few_after before (next ∷ slots) slot start k run windows due uncut once within lies =
-      let later = stretch_of jobs scale next (uncut 1 next (omega arith)) in
+      let later = stretch_of_slot jobs scale next (uncut 1 next (omega arith)) in
       let known = (windows 0 slot (omega arith)).known in
       let rest = few_after (before ++ slot ∷ []) slots next slot.to later.0 run.2 (All-tail (IsInWindow jobs scale) slot (next ∷ slots) windows) due.1
       (All-tail (IsUncut jobs scale) slot (next ∷ slots) uncut) (λ i j order inside. once (suc i) (suc j) (omega arith) (omega arith)) later.1 later.2 in
@@ -173,7 +169,7 @@ module _ (jobs : List Job) (scale : ℕ) (positive : 1 ≤ scale) where
   served_few : (slots : List WholeSlot) → IsFeasibleAt jobs scale slots → IsServedInStretches jobs scale slots → length slots ≤ 3 * length jobs - 2
   served_few [] feasible served = omega arith
   served_few (slot ∷ slots) feasible served =
-      let first = stretch_of jobs scale slot (served.uncut 0 slot (omega arith)) in
+      let first = stretch_of_slot jobs scale slot (served.uncut 0 slot (omega arith)) in
       omega (
         arith,
         few_after [] slots slot 0 first.0 feasible.one_at_a_time feasible.in_windows served.earliest_first served.uncut served.once first.1 first.2,

@@ -4,8 +4,8 @@ use Rattle.fraction_lemmas.proofs.Fractions.{factors}
 use Rattle.yds_events.specs.Stretch.{no_stretch}
 use Rattle.model_lemmas.proofs.Runs.{run_forward}
 use Rattle.yds_laws.proofs.Bound.{scale_left, scale_right}
+use Rattle.yds_laws.proofs.ExactRates.{stretch_of_slot}
 use Rattle.yds_plan_laws.specs.RunsOnce.{RunsAreOne}
-use Rattle.yds_plan_laws.proofs.FewSlots.{stretch_of}
 use Rattle.yds_plan_laws.proofs.OneSchedule.{IsRest, rests_are_one}
 use Rattle.yds_plan_laws.proofs.RunsAlong.{ended_by, serves_speed, serves_some, goes_along}
 
@@ -17,7 +17,7 @@ module _ (jobs : List Job) (grid scale : ℕ) (positive : 1 ≤ scale) (capacity
   slots_work : (all : List WholeSlot) → IsRunAt jobs grid scale (capacity all) all → All (λ slot. 1 ≤ slot.work) all
   slots_work all run k d within =
       let slot = get_or all k d in
-      let place = stretch_of jobs scale slot (run.served.uncut k d within) in
+      let place = stretch_of_slot jobs scale slot (run.served.uncut k d within) in
       let has : Contains all slot = (k, within, get_or_default all k slot d within) in
       let stretch = stretch_at jobs place.0 in
       let serves = run.each place.0 no_stretch place.1 in

@@ -2,8 +2,9 @@
 -- the same time, with the same job, and end together. For if one slot ended first, its job would be done there.
 use Rattle.yds_model.proofs.Common.{◌≡◌, ℕ, zero, suc, ◌+◌, ◌-◌, ◌*◌, ◌<◌, ◌≤◌, ◌==◌, List, [], ◌∷◌, ◌++◌, length, refl, sym, ap, subst, ◌∙◌, arith, inl, inr, if◌then◌else◌, All, Any, All-tail, All-push, cases_order, append_assoc, eq-eqb, sum_by-cons, sum_by-append, mul-le-mul_right, mul-lt-mul_of_pos_left, lt_of_mul-lt-mul_right, eq_of_mul-eq-mul_right, Job, job_at, WholeSlot, work_given, RunFrom, IsInWindow, LiesIn, IsUncut, stretches, stretch_at, EarliestAfter}
 use Rattle.yds_events.proofs.Neighbours.{stretch_order}
+use Rattle.yds_laws.proofs.ExactRates.{stretch_of_slot}
 use Rattle.yds_plan_laws.proofs.Running.{RunsAt}
-use Rattle.yds_plan_laws.proofs.FewSlots.{AreOnce, comes_both, first_done, stretch_of}
+use Rattle.yds_plan_laws.proofs.FewSlots.{AreOnce, comes_both, first_done}
 
 -- What is left of a schedule after some slots that have ended by a time.
 pub record IsRest (jobs : List Job) (scale : ℕ) (before : List WholeSlot) (end : ℕ) (slots : List WholeSlot) : Type 0 where
@@ -114,7 +115,7 @@ module _ (jobs : List Job) (scale : ℕ) (positive : 1 ≤ scale) where
   pub stretch_same : (k : ℕ) (slot : WholeSlot) → k < length (stretches jobs) → IsUncut jobs scale slot → slot.from < slot.to → (stretch_at jobs k).from * scale ≤ slot.from →
       slot.from < (stretch_at jobs k).to * scale → LiesIn scale slot (stretch_at jobs k)
   stretch_same k slot within uncut takes from to =
-      let found = stretch_of jobs scale slot uncut in
+      let found = stretch_of_slot jobs scale slot uncut in
       elim (cases_order found.0 k) [
         | inl same ↦ subst (λ (i : ℕ). LiesIn scale slot (stretch_at jobs i)) same found.2
         | inr (inl before) ↦ absurd (omega (arith, mul-le-mul_right scale (stretch_order jobs found.0 k before within), found.2.to, from, takes))
@@ -133,7 +134,7 @@ module _ (jobs : List Job) (scale : ℕ) (positive : 1 ≤ scale) where
       let there = runs_on other.to other (next ∷ others) (omega arith)
       (too other.to (omega (arith, begin, more.run.1)) sooner) in
       let starts : next.from ≡ other.to = omega (arith, more.run.2.0, runs_from other.to other.to next others more.run.2 there) in
-      let place = stretch_of jobs scale one (rest.uncut 0 one (omega arith)) in
+      let place = stretch_of_slot jobs scale one (rest.uncut 0 one (omega arith)) in
       let lies : LiesIn scale other (stretch_at jobs place.0) = record { from = omega (arith, place.2.from, begin); to = omega (arith, place.2.to, sooner) } in
       let next_lies = stretch_same place.0 next place.1 (more.uncut 1 next (omega arith)) more.run.2.1 (omega (arith, place.2.from, begin, more.run.1, starts))
       (omega (arith, place.2.to, starts, sooner)) in

@@ -1,5 +1,5 @@
 -- What is written for a stretch at a scale is one: the neighbours of a speed among the hull's points are, and so is a split between them.
-use Rattle.yds_model.proofs.Common.{◌≡◌, ℕ, zero, suc, ◌+◌, ◌-◌, ◌*◌, ◌<◌, ◌≤◌, List, [], ◌∷◌, ◌++◌, length, map, drop, get_or, refl, sym, ap, subst, ◌∙◌, arith, inl, inr, cases_order, cases_eq, eq-eqb, ne_eqb, All, Any, All-append, All-map, All-tail, All-front, All-from_get_or, get_or_default, mul-le-mul_right, mul-pos, eq_of_mul-eq-mul_right, count, count-cons, AreDifferent, Job, WholeSlot, no_slot, slot_at, Piece, Level, LiesIn, stretches, Point, point_at, no_point, AreRising, HasPointSpeed, AreNeighbours, IsSplitAt, RunsAtPoint, RunsOn, jobs_in_turn}
+use Rattle.yds_model.proofs.Common.{◌≡◌, ℕ, zero, suc, ◌+◌, ◌-◌, ◌*◌, ◌<◌, ◌≤◌, List, [], ◌∷◌, ◌++◌, length, map, drop, get_or, refl, sym, ap, subst, ◌∙◌, arith, inl, inr, cases_order, cases_lt, cases_eq, eq-eqb, ne_eqb, All, Any, All-append, All-map, All-tail, All-front, All-from_get_or, get_or_default, mul-le-mul_right, mul-pos, eq_of_mul-eq-mul_right, count, count-cons, AreDifferent, Job, WholeSlot, no_slot, slot_at, Piece, Level, LiesIn, stretches, Point, point_at, no_point, AreRising, HasPointSpeed, AreNeighbours, IsSplitAt, RunsAtPoint, RunsOn, jobs_in_turn}
 use Rattle.model_lemmas.proofs.Runs.{run_forward}
 use Rattle.yds_energy.proofs.OneEnergy.{places_rise}
 use Rattle.yds_energy.proofs.RoundedRuns.{runs_busy, runs_order, runs_within, runs_on_order}
@@ -48,30 +48,22 @@ module _ (hull : List Point) (level : Level) (rising : AreRising hull) where
   pub point_or_neighbours : (low high : Point) → Any (HasPointSpeed level) hull → AreNeighbours hull level low high → ⊥
   point_or_neighbours low high (k, point, within, is, has) around =
       let at : point_at hull k ≡ point = get_or_default hull k no_point point within ∙ is in
-      elim (cases_order k around.place) [
-        | inl same ↦ absurd (omega (
-          arith,
-          has,
-          around.above_low,
-          work_rises k around.place (omega (arith, same)) (omega (arith, around.within)),
-          ap (λ (p : Point). p.speed * level.length) at,
-          ap (λ (p : Point). p.speed * level.length) around.is_low,
-        ))
-        | inr (inl before) ↦ absurd (omega (
-          arith,
-          has,
-          around.above_low,
-          work_rises k around.place (omega (arith, before)) (omega (arith, around.within)),
-          ap (λ (p : Point). p.speed * level.length) at,
-          ap (λ (p : Point). p.speed * level.length) around.is_low,
-        ))
-        | inr (inr after) ↦ absurd (omega (
+      elim (cases_lt around.place k) [
+        | inl after ↦ absurd (omega (
           arith,
           has,
           around.below_high,
           work_rises (around.place + 1) k (omega (arith, after)) within,
           ap (λ (p : Point). p.speed * level.length) at,
           ap (λ (p : Point). p.speed * level.length) around.is_high,
+        ))
+        | inr by ↦ absurd (omega (
+          arith,
+          has,
+          around.above_low,
+          work_rises k around.place (omega (arith, by)) (omega (arith, around.within)),
+          ap (λ (p : Point). p.speed * level.length) at,
+          ap (λ (p : Point). p.speed * level.length) around.is_low,
         ))
       ]
 

@@ -4,8 +4,8 @@ use Rattle.yds_model.proofs.Common.{◌≡◌, ℕ, zero, suc, ◌-◌, ◌*◌,
 use Rattle.fraction_lemmas.proofs.Fractions.{factors}
 use Rattle.yds_events.specs.Stretch.{no_stretch}
 use Rattle.yds_events.proofs.Neighbours.{stretch_order, stretch_starts_rise}
+use Rattle.yds_laws.proofs.ExactRates.{stretch_of_slot}
 use Rattle.yds_plan_laws.proofs.Running.{RunsAt}
-use Rattle.yds_plan_laws.proofs.FewSlots.{stretch_of}
 use Rattle.yds_plan_laws.proofs.OneSchedule.{GoesAlong, HasSpeedOf, IsRest, runs_behind, runs_from, stretch_same}
 
 -- # A stretch that is filled
@@ -134,13 +134,13 @@ module _ (jobs : List Job) (grid scale : ℕ) (capacity : List WholeSlot → Pie
   runs_along : (all same before slots others : List WholeSlot) (slot : WholeSlot) (end time : ℕ) → Serves all → Serves same → IsRest jobs scale before end (slot ∷ slots) →
       IsRest jobs scale before end others → all ≡ before ++ slot ∷ slots → same ≡ before ++ others → slot.from ≤ time → time < slot.to → Any (RunsAt time) others
   runs_along all same before slots [] slot end time serves also left next is is_other from to =
-      let place = stretch_of jobs scale slot (left.uncut 0 slot (omega arith)) in
+      let place = stretch_of_slot jobs scale slot (left.uncut 0 slot (omega arith)) in
       runs_there all same before slots [] slot end place.0 time serves also left next is is_other place.1 place.2
       (serve_same all same before (slot ∷ slots) [] place.0 is is_other (later_ends end ((stretch_at jobs place.0).from * scale) slot slots left.run (omega (arith, place.2.from, left.run.1)))
       (All-nil (λ one. (stretch_at jobs place.0).from * scale < one.to))) from to
   runs_along all same before slots (other ∷ others) slot end time serves also left next is is_other from to =
-      let place = stretch_of jobs scale slot (left.uncut 0 slot (omega arith)) in
-      let there = stretch_of jobs scale other (next.uncut 0 other (omega arith)) in
+      let place = stretch_of_slot jobs scale slot (left.uncut 0 slot (omega arith)) in
+      let there = stretch_of_slot jobs scale other (next.uncut 0 other (omega arith)) in
       elim (cases_lt there.0 place.0) [
         | inr after ↦ runs_there all same before slots (other ∷ others) slot end place.0 time serves also left next is is_other place.1 place.2
             (serve_same all same before (slot ∷ slots) (other ∷ others) place.0 is is_other
@@ -167,7 +167,7 @@ module _ (jobs : List Job) (grid scale : ℕ) (capacity : List WholeSlot → Pie
   speeds_along : (all same before slots others : List WholeSlot) (slot other : WholeSlot) (end : ℕ) → Serves all → Serves same → IsRest jobs scale before end (slot ∷ slots) →
       IsRest jobs scale before end (other ∷ others) → all ≡ before ++ slot ∷ slots → same ≡ before ++ other ∷ others → slot.from ≡ other.from → HasSpeedOf slot other
   speeds_along all same before slots others slot other end serves also left next is is_other begin =
-      let place = stretch_of jobs scale slot (left.uncut 0 slot (omega arith)) in
+      let place = stretch_of_slot jobs scale slot (left.uncut 0 slot (omega arith)) in
       let positive : 1 ≤ scale = (factors (stretch_at jobs place.0).to scale ((stretch_at jobs place.0).to * scale) refl (omega (arith, place.2.to, left.run.1))).1 in
       let lies = stretch_same jobs scale positive place.0 other place.1 (next.uncut 0 other (omega arith)) next.run.1 (omega (arith, place.2.from, begin)) (omega (arith, place.2.to, left.run.1, begin)) in
       let equal = serve_same all same before (slot ∷ slots) (other ∷ others) place.0 is is_other
