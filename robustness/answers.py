@@ -1,0 +1,163 @@
+"""answers.py: draws documents, and holds the answers of yds_cli against those of a second program, for each form of command.
+
+    python3 robustness/answers.py [SEED] [DOCUMENTS] [PROGRAM]
+    python3 robustness/answers.py one FORM SEED NUMBER [PROGRAM]     one input alone, with both answers
+
+Laws say that each form of command has one answer to each input, a text and a status. So two programs that keep to the
+definitions write the same bytes. The second program is second_answers.py, which is made from the definitions alone.
+It draws DOCUMENTS inputs (200) for each of the fourteen forms by drawn_documents.py, and runs PROGRAM on each, which is
+build/yds_cli where none is named. Where there are 1,000 or more, it also tries documents of the greatest size. Before the
+last line it tells how many answers there were of each kind, by form. The last line is 'N passed, M failed'. The status is
+1 where an answer differs, and also where of 2,000 documents or more fewer than 20 had an answer of WANTED.
+"""
+
+import os
+import re
+import subprocess
+import sys
+from collections import Counter
+from pathlib import Path
+from typing import Iterator
+
+from drawn_documents import FORMS, Drawn, drawn, great
+from second_answers import ASKED_WRONG, REFUSED, Answer, answer
+
+REASONS = [
+    "UnknownKind", "Misplaced", "FieldCount", "BadName", "DuplicateName", "UnknownName", "BadNumber", "OutOfRange", "EmptyWindow", "MixedEnds",
+    "MixedGrain", "NoIdle", "NotRising", "GapsTooFine",
+]
+WANTED = [
+    *(f"refused {reason}" for reason in REASONS), "refused no-table", "refused TooManyJobs", "usage",
+    *(f"{form}: {word}" for form in ("audit", "audit --points") for word in ("feasible", "backward", "overlap", "early", "late", "work")),
+    "audit --points: off-point", "check: accepted", *(f"check: K{number}" for number in range(1, 8)),
+    "round: done", "round: too-slow", "compare: too-slow", "compare: done", "compare: avr too-slow", "compare: oa too-slow",
+    "admit: nothing refused", "admit: refused", "avr: never rounded", "avr: rounded", "oa: never rounded", "oa: rounded",
+    "expand: one level", "expand: no level", "plan: no level", "plan: one level", "plan: several levels", "plan: a level in several pieces",
+    "plan: a fraction", "round: a fraction", "trial: no level", "trial: levels",
+]
+LEAST, OF = 20, 2_000
+FORM_WORDS = {word.encode() for form in FORMS for word in form.split()}
+
+# # What kind an answer is of
+
+
+def in_slots(text: str) -> Iterator[str]:
+    """What a plan shows, or its rounding."""
+    levels = re.findall(r"^level .*\n((?:piece .*\n)*)", text, re.M)
+    yield "no level" if not levels else "one level" if len(levels) == 1 else "several levels"
+    if any(pieces.count("\n") > 1 for pieces in levels):
+        yield "a level in several pieces"
+    if re.search(r"^slot .*/", text, re.M):
+        yield "a fraction"
+
+
+def kinds_of(words: "list[bytes]", said: Answer) -> Iterator[str]:
+    """Of which kinds an answer to words is."""
+    text, form = said.text, b" ".join(word for word in words if word in FORM_WORDS).decode()
+    if said.status == ASKED_WRONG:
+        yield "usage"
+    elif said.status == REFUSED:
+        yield f"refused {text.split()[-1]}"
+    else:
+        yield from (f"{form}: {kind}" for kind in in_answer(form, text))
+
+
+def in_answer(form: str, text: str) -> Iterator[str]:
+    """What the answer of a form shows that isn't refused."""
+    first = text.partition(" ")[0].strip()
+    if form.startswith(("audit", "check")):
+        yield first
+    elif form == "plan":
+        yield from in_slots(text)
+    elif form == "round":
+        yield from ["too-slow"] if first == "too-slow" else ["done", *(["a fraction"] if re.search(r"^slot .*/", text, re.M) else [])]
+    elif form == "compare":
+        yield "too-slow" if first == "too-slow" else "done"
+        yield from (f"{side} too-slow" for side in ("avr", "oa") if f"\n{side} too-slow" in text)
+    elif form in ("avr", "oa"):
+        yield "never rounded" if text.endswith(" 0\n") else "rounded"
+    elif form == "admit":
+        yield "refused" if "\n# refuse" in "\n" + text else "nothing refused"
+    elif form == "expand":
+        yield "one level" if "# one level" in text else "no level"
+    elif form == "trial":
+        yield "no level" if "peak none" in text else "levels"
+    else:
+        yield "done"
+
+
+# # Comparing
+
+
+def run(program: str, case: Drawn) -> "tuple[bytes, int]":
+    """What the program writes, and its status."""
+    done = subprocess.run([program.encode(), *case.words], input=case.data, capture_output=True, check=False)
+    return done.stdout + done.stderr, done.returncode
+
+
+def is_same(program: str, case: Drawn, said: Answer) -> bool:
+    """Whether the program gives this answer. Where it doesn't, both are shown."""
+    written, status = run(program, case)
+    same = (written, status) == (said.text.encode("ascii"), said.status)
+    if not same:
+        show(case, written, status, said)
+    return same
+
+
+def show(case: Drawn, written: bytes, status: int, said: Answer) -> None:
+    """Both answers."""
+    sys.stdout.flush()
+    parts = [repr(case.words).encode(), case.data[:3_000], b"-- the program, status %d" % status, written[:3_000],
+             b"-- the second program, status %d" % said.status, said.text[:3_000].encode(), b"--\n"]
+    sys.stdout.buffer.write(b"\n".join(parts))
+    sys.stdout.flush()
+
+
+def asked(program: str, form: str, seed: int, many: int, counts: "Counter[str]") -> int:
+    """Compares so many answers of a form. Gives how many differ."""
+    failed = 0
+    for number in range(many):
+        case = drawn(form, seed, number)
+        said = answer(*case)
+        counts.update(set(kinds_of(case.words, said)))
+        if not is_same(program, case, said):
+            print(f"the answers to number {number} of seed {seed} differ, of the form {form}", flush=True)
+            failed += 1
+    return failed
+
+
+def show_one(words: "list[str]") -> int:
+    """One input alone, with both answers."""
+    case = drawn(words[0], int(words[1]), int(words[2]))
+    written, status = run(words[3], case) if len(words) > 3 else (b"", -1)
+    show(case, written, status, answer(*case))
+    return 0
+
+
+def main(words: "list[str]") -> int:
+    """Draws the documents, compares, and tells the counts. Gives the status."""
+    if words[:1] == ["one"]:
+        return show_one(words[1:])
+    seed, many = (int(words[place]) if len(words) > place else default for place, default in ((0, 1), (1, 200)))
+    program = words[2] if len(words) > 2 else "build/yds_cli"
+    counts: "Counter[str]" = Counter()
+    passed = failed = 0
+    for form in FORMS:
+        wrong = asked(program, form, seed, many, counts)
+        print(f"{form}: {many - wrong} the same, {wrong} different", flush=True)
+        passed, failed = passed + many - wrong, failed + wrong
+    for case in great() if many >= 1_000 else []:
+        same = is_same(program, case, answer(*case))
+        passed, failed = passed + same, failed + (not same)
+    print(", ".join(f"{count} {kind}" for kind, count in sorted(counts.items())))
+    few = [kind for kind in WANTED if counts[kind] < LEAST] if many >= OF else []
+    if few:
+        print(f"too few: {', '.join(f'{counts[kind]} {kind}' for kind in few)}")
+    print(f"{passed} passed, {failed + len(few)} failed", flush=True)
+    return int(failed + len(few) > 0)
+
+
+if __name__ == "__main__":
+    here = [os.path.abspath(word) if word.endswith("yds_cli") else word for word in sys.argv[1:]]
+    os.chdir(Path(__file__).resolve().parent.parent)
+    sys.exit(main(here))
