@@ -16,8 +16,10 @@ import re
 import subprocess
 import sys
 from collections import Counter
+from concurrent.futures import ThreadPoolExecutor
+from functools import partial
 from pathlib import Path
-from typing import Iterator
+from typing import Iterator, NamedTuple
 
 from drawn_documents import FORMS, Drawn, drawn, great
 from second_answers import ASKED_WRONG, REFUSED, Answer, answer
@@ -89,25 +91,31 @@ def in_answer(form: str, text: str) -> Iterator[str]:
 # # Comparing
 
 
-def run(program: str, case: Drawn) -> "tuple[bytes, int]":
+class Told(NamedTuple):
     """What the program writes, and its status."""
+
+    text: bytes
+    status: int
+
+
+def run(program: str, case: Drawn) -> Told:
+    """Runs the program."""
     done = subprocess.run([program.encode(), *case.words], input=case.data, capture_output=True, check=False)
-    return done.stdout + done.stderr, done.returncode
+    return Told(done.stdout + done.stderr, done.returncode)
 
 
-def is_same(program: str, case: Drawn, said: Answer) -> bool:
+def is_same(case: Drawn, told: Told, said: Answer) -> bool:
     """Whether the program gives this answer. Where it doesn't, both are shown."""
-    written, status = run(program, case)
-    same = (written, status) == (said.text.encode("ascii"), said.status)
+    same = told == (said.text.encode("ascii"), said.status)
     if not same:
-        show(case, written, status, said)
+        show(case, told, said)
     return same
 
 
-def show(case: Drawn, written: bytes, status: int, said: Answer) -> None:
+def show(case: Drawn, told: Told, said: Answer) -> None:
     """Both answers."""
     sys.stdout.flush()
-    parts = [repr(case.words).encode(), case.data[:3_000], b"-- the program, status %d" % status, written[:3_000],
+    parts = [repr(case.words).encode(), case.data[:3_000], b"-- the program, status %d" % told.status, told.text[:3_000],
              b"-- the second program, status %d" % said.status, said.text[:3_000].encode(), b"--\n"]
     sys.stdout.buffer.write(b"\n".join(parts))
     sys.stdout.flush()
@@ -116,21 +124,21 @@ def show(case: Drawn, written: bytes, status: int, said: Answer) -> None:
 def asked(program: str, form: str, seed: int, many: int, counts: "Counter[str]") -> int:
     """Compares so many answers of a form. Gives how many differ."""
     failed = 0
-    for number in range(many):
-        case = drawn(form, seed, number)
-        said = answer(*case)
-        counts.update(set(kinds_of(case.words, said)))
-        if not is_same(program, case, said):
-            print(f"the answers to number {number} of seed {seed} differ, of the form {form}", flush=True)
-            failed += 1
+    cases = [drawn(form, seed, number) for number in range(many)]
+    with ThreadPoolExecutor(2) as pool:
+        for number, (case, told) in enumerate(zip(cases, pool.map(partial(run, program), cases))):
+            said = answer(*case)
+            counts.update(set(kinds_of(case.words, said)))
+            if not is_same(case, told, said):
+                print(f"the answers to number {number} of seed {seed} differ, of the form {form}", flush=True)
+                failed += 1
     return failed
 
 
 def show_one(words: "list[str]") -> int:
     """One input alone, with both answers."""
     case = drawn(words[0], int(words[1]), int(words[2]))
-    written, status = run(words[3], case) if len(words) > 3 else (b"", -1)
-    show(case, written, status, answer(*case))
+    show(case, run(words[3], case) if len(words) > 3 else Told(b"", -1), answer(*case))
     return 0
 
 
@@ -147,7 +155,7 @@ def main(words: "list[str]") -> int:
         print(f"{form}: {many - wrong} the same, {wrong} different", flush=True)
         passed, failed = passed + many - wrong, failed + wrong
     for case in great() if many >= 1_000 else []:
-        same = is_same(program, case, answer(*case))
+        same = is_same(case, run(program, case), answer(*case))
         passed, failed = passed + same, failed + (not same)
     print(", ".join(f"{count} {kind}" for kind, count in sorted(counts.items())))
     few = [kind for kind in WANTED if counts[kind] < LEAST] if many >= OF else []

@@ -3,8 +3,8 @@
 Each document is drawn for one form of command. Its jobs are of a shape: nested, in a chain, of one window, as steps, with
 gaps, in units up to the limits; some have no work, and works are chosen so that several intervals have one intensity.
 Points may be any rising table: convex, with points above the hull, falling, of one point, `0 0`. For the verdicts there
-are slots and levels of the second program's own plan, which are true, or have a mistake. In one of eight documents bytes
-or fields are changed, so that a line may be refused.
+are slots and levels of the second program's own plan, which are true, or have a mistake. In one of five documents bytes,
+fields or lines are changed, so that a line may be refused.
 """
 
 import random
@@ -12,8 +12,8 @@ from fractions import Fraction
 from math import ceil, lcm
 from typing import Callable, Iterator, NamedTuple
 
-from second_documents import Document, Job, Level, Piece, Point, Slot, Written, gaps_multiple, lowest, over
-from second_schedules import Plan, average_rate, optimal_available, plan_of, rounded
+from second_documents import Document, Job, Level, Piece, Point, Slot, Written, gaps_multiple, over
+from second_schedules import Plan, average_rate, joined, optimal_available, plan_of, rounded, stretches_of
 
 FORMS = (
     "plan", "avr", "oa", "admit", "round", "audit", "audit --points", "check", "report", "report --json", "curve", "compare",
@@ -145,7 +145,7 @@ def changed_slots(draw: random.Random, slots: list[Slot]) -> list[Slot]:
     place = draw.randrange(len(slots))
     slot = slots[place]
     other = draw.choice(slots)
-    kind = draw.randrange(9)
+    kind = draw.randrange(11)
     if kind == 0:
         return slots[:place] + slots[place + 1 :]
     if kind == 1:
@@ -160,6 +160,9 @@ def changed_slots(draw: random.Random, slots: list[Slot]) -> list[Slot]:
         6: slot._replace(end=Written(slot.end.whole + draw.choice([1, 3]), slot.end.num, slot.end.den)),
         7: slot._replace(work=Written(max(0, slot.work.whole + draw.choice([-1, 1])), slot.work.num, slot.work.den)),
         8: slot._replace(job=other.job),
+        9: slot._replace(begin=Written(max(0, slot.begin.whole - 2), slot.begin.num, slot.begin.den),
+                         end=Written(slot.end.whole + 2, slot.end.num, slot.end.den)),
+        10: slot._replace(work=Written(slot.work.whole, 0 if slot.work.num else 1, 1 if slot.work.num else 3)),
     }[kind]
     return [*slots[:place], changed, *slots[place + 1 :]]
 
@@ -170,12 +173,14 @@ def changed_levels(draw: random.Random, document: Document, levels: list[Level])
         return levels
     place = draw.randrange(len(levels))
     level = levels[place]
-    kind = draw.randrange(12)
+    kind = draw.randrange(15)
     if kind == 0:
         return levels[:place] + levels[place + 1 :]
     if kind == 1:
         return draw.sample(levels, len(levels))
     piece = draw.randrange(len(level.pieces)) if level.pieces else 0
+    idle = [number for number, job in enumerate(document.jobs) if not job.work]
+    others = draw.choice(levels[: place + 1]).pieces
     changed = {
         2: lambda: level._replace(work=level.work + draw.choice([1, -1 if level.work > 1 else 1])),
         3: lambda: level._replace(length=level.length + 1),
@@ -185,11 +190,30 @@ def changed_levels(draw: random.Random, document: Document, levels: list[Level])
         7: lambda: level._replace(members=level.members + [draw.randrange(len(document.jobs))]),
         8: lambda: level._replace(members=level.members[1:]),
         9: lambda: level._replace(pieces=[Piece(max(0, one.begin - 1), one.end) for one in level.pieces], length=level.length + len(level.pieces)),
-        10: lambda: level._replace(members=level.members + [n for n, job in enumerate(document.jobs) if not job.work]),
+        10: lambda: level._replace(members=level.members + idle),
+        12: lambda: level._replace(members=level.members + idle + idle[:1]),
+        13: lambda: level._replace(pieces=joined(sorted({*level.pieces, *others[:1]}))),
+        14: lambda: level._replace(pieces=sorted([*level.pieces[:piece], *others[:1], *level.pieces[piece + 1 :]])),
         11: lambda: level._replace(pieces=[Piece(one.begin, max(one.begin + 1, one.end - 1)) for one in level.pieces],
                                    length=max(1, level.length - len(level.pieces))),
     }[kind]()
     return [*levels[:place], changed, *levels[place + 1 :]]
+
+
+def any_levels(draw: random.Random, document: Document) -> list[Level]:
+    """Levels with true sums and falling speeds, whose members and pieces nobody planned."""
+    many = draw.randint(1, 3)
+    members: list[list[int]] = [[] for _ in range(many)]
+    pieces: list[list[Piece]] = [[] for _ in range(many)]
+    for number, job in enumerate(document.jobs):
+        if job.work or draw.random() < 0.3:
+            members[draw.randrange(many)].append(number)
+    for stretch in stretches_of(document.jobs):
+        pieces[draw.randrange(many)].append(stretch)
+    works = [sum(document.jobs[number].work for number in each) for each in members]
+    lengths = [sum(piece.end - piece.begin for piece in each) for each in pieces]
+    levels = [Level(*each) for each in zip(works, lengths, pieces, members) if each[0] and each[1]]
+    return sorted(levels, key=lambda level: -level.speed)
 
 
 def halves(piece: Piece) -> list[Piece]:
@@ -217,9 +241,9 @@ def foreign_slots(draw: random.Random, document: Document) -> list[Slot]:
     for _ in range(draw.randint(0, 5)):
         if document.jobs:
             job = draw.randrange(len(document.jobs))
-            begin = document.jobs[job].release + draw.choice([0, 0, 0, 1])
+            begin = max(0, document.jobs[job].release + draw.choice([0, 0, 0, 1, -1]))
             den = draw.choice([1, 1, 3])
-            end = over(Fraction(begin * den + draw.randint(0, 6), den), den)
+            end = over(Fraction(max(0, begin * den + draw.randint(-1, 8)), den), den)
             found.append(Slot(job, Written(begin), end, over(Fraction(draw.randint(0, 12)), 1)))
     return sorted(found, key=lambda slot: slot.begin.value) if draw.random() < 0.7 else found
 
@@ -237,13 +261,25 @@ def judged(draw: random.Random, document: Document, form: str) -> Document:
     elif draw.random() < 0.1:
         slots = foreign_slots(draw, document)
     if draw.random() < 0.2:
+        levels = any_levels(draw, document)
+    elif draw.random() < 0.3:
         levels = cut_levels(levels, document)
-    if draw.random() < (0.25 if form == "check" else 0.7):
-        slots = changed_slots(draw, slots)
+    if draw.random() < 0.15:
+        slots = [*slots, *idling(draw, document, slots)]
+    if draw.random() < (0.2 if form == "check" else 0.7):
+        for _ in range(draw.choice([1, 1, 2, 3])):
+            slots = changed_slots(draw, slots)
     if draw.random() < 0.6:
         levels = changed_levels(draw, document, levels)
     document.slots, document.levels = fitting(slots), levels
     return document
+
+
+def idling(draw: random.Random, document: Document, slots: list[Slot]) -> list[Slot]:
+    """A slot without work behind the others, where a window is still open."""
+    last = ceil(max((slot.end.value for slot in slots), default=Fraction(0)))
+    found = [Slot(number, Written(max(last, job.release)), Written(job.deadline), Written(0)) for number, job in enumerate(document.jobs) if last < job.deadline]
+    return draw.sample(found, min(1, len(found)))
 
 
 def fitting(slots: list[Slot]) -> list[Slot]:
@@ -308,8 +344,39 @@ LINES = [
 ]
 
 
+BEHIND = [
+    "job {0} 0 4 8", "job zz 5 5 1", "job zz 6 5 1000001", "job zz 5 6 1000001", "slot {0} 0+1/3 1+1/7 1", "slot {0} 0+1/3 2 1", "slot {0} 0 1 0+1/2",
+    "slot {0} 0 1 0+2/4", "slot {0} 0 1 3", "slot {0} 0 1 0+1/5", "run {0} 0 7 5", "run {0} 5 9 7", "run {0} 9 5 7", "run {1} 0 12 1", "run {0} 0 2000000 1000000",
+    "ticks 6", "ticks 6", "ticks 4", "ticks 1", "member {0}", "member zz", "piece 3 4", "level 3 4", "point 0 0", "point 1 1", "point 4000 1", "slot zz 1 2 3",
+    "slot {1} 0 1 0+1/2", "slot {1} 0 1 5", "grid 3 4", "energy 0+1/7", "energy 1", "slot {0} 0+0/9 1+0/7 1+0/5",
+]
+"""Lines that may stand behind a document, or may not; {0} and {1} are names of its jobs."""
+
+
+def behind(draw: random.Random, data: bytes) -> bytes:
+    """The text with some lines behind it."""
+    names = [line.split()[1] for line in data.split(b"\n") if line.startswith(b"job ") and len(line.split()) > 1] or [b"zz"]
+    lines = draw.sample(BEHIND, draw.randint(1, 5))
+    one, other = draw.choice(names), draw.choice(names)
+    texts = [line.encode().replace(b"{0}", one).replace(b"{1}", other) for line in lines]
+    return data.rstrip(b"\n") + b"\n" + b"\n".join(texts) + b"\n"
+
+
+def fine(draw: random.Random, data: bytes) -> bytes:
+    """The text behind points whose gaps have a great common multiple, if all are of the hull."""
+    speeds = sorted(draw.sample([803, 1604, 2404, 3203, 4000, 3989, 397, 2801], draw.randint(4, 8)))
+    bend = draw.choice([0, 0, 1])
+    points = [b"point 0 0\n", *(b"point %d %d\n" % (speed, bend * draw.randrange(900) + speed * speed // 20) for speed in speeds)]
+    return b"".join(points) + data
+
+
 def broken(draw: random.Random, data: bytes) -> bytes:
     """The text with one change or two."""
+    chance = draw.random()
+    if chance < 0.5:
+        return behind(draw, data)
+    if chance < 0.55:
+        return fine(draw, data)
     for _ in range(draw.choice([1, 1, 1, 2])):
         lines = data.split(b"\n")
         place = draw.randrange(len(lines))
@@ -373,7 +440,7 @@ def document_drawn(draw: random.Random, form: str) -> Drawn:
         document = judged(draw, document, form)
     words = words_of(draw, form, jobs)
     data = text_of(draw, document)
-    return Drawn(words, broken(draw, data) if draw.random() < 0.125 else data)
+    return Drawn(words, broken(draw, data) if draw.random() < 0.2 else data)
 
 
 def tasks_drawn(draw: random.Random) -> Drawn:
@@ -391,7 +458,7 @@ def tasks_drawn(draw: random.Random) -> Drawn:
     if draw.random() < 0.1:
         lines[0], lines[-1] = lines[-1], lines[0]
     data = ("\n".join(lines) + "\n").encode()
-    return Drawn([b"expand"], broken(draw, data) if draw.random() < 0.125 else data)
+    return Drawn([b"expand"], broken(draw, data) if draw.random() < 0.2 else data)
 
 
 def trial_drawn(draw: random.Random) -> Drawn:
@@ -449,6 +516,3 @@ def great() -> Iterator[Drawn]:
     yield Drawn([b"expand"], b"horizon 4000\ntask a 0 1 1 1\n")
     yield Drawn([b"expand"], b"horizon 4001\ntask a 0 1 1 1\n")
     yield Drawn([b"expand"], b"#" * 8_388_609)
-
-
-__all__ = ["Drawn", "FORMS", "drawn", "great", "lowest"]
