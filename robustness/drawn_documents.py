@@ -172,28 +172,28 @@ def changed_levels(draw: random.Random, document: Document, levels: list[Level])
     if not levels:
         return levels
     place = draw.randrange(len(levels))
-    level = levels[place]
-    kind = draw.randrange(15)
+    level, apart = levels[place], levels[:place] + levels[place + 1 :]
+    idle = [number for number, job in enumerate(document.jobs) if not job.work]
+    kind = draw.choice([10, 12]) if idle and draw.random() < 0.25 else draw.choice([13, 14]) if apart and draw.random() < 0.2 else draw.randrange(15)
     if kind == 0:
-        return levels[:place] + levels[place + 1 :]
+        return apart
     if kind == 1:
         return draw.sample(levels, len(levels))
     piece = draw.randrange(len(level.pieces)) if level.pieces else 0
-    idle = [number for number, job in enumerate(document.jobs) if not job.work]
-    others = draw.choice(levels[: place + 1]).pieces
+    others = draw.sample(draw.choice(apart or levels).pieces, 1) if all(each.pieces for each in levels) else []
     changed = {
         2: lambda: level._replace(work=level.work + draw.choice([1, -1 if level.work > 1 else 1])),
         3: lambda: level._replace(length=level.length + 1),
         4: lambda: level._replace(pieces=level.pieces[:piece] + level.pieces[piece + 1 :]),
-        5: lambda: level._replace(pieces=draw.sample(level.pieces, len(level.pieces))),
+        5: lambda: level._replace(pieces=[part for one in reversed(level.pieces) for part in reversed(halves(one))]),
         6: lambda: level._replace(pieces=[part for one in level.pieces for part in halves(one)]),
         7: lambda: level._replace(members=level.members + [draw.randrange(len(document.jobs))]),
         8: lambda: level._replace(members=level.members[1:]),
         9: lambda: level._replace(pieces=[Piece(max(0, one.begin - 1), one.end) for one in level.pieces], length=level.length + len(level.pieces)),
         10: lambda: level._replace(members=level.members + idle),
         12: lambda: level._replace(members=level.members + idle + idle[:1]),
-        13: lambda: level._replace(pieces=joined(sorted({*level.pieces, *others[:1]}))),
-        14: lambda: level._replace(pieces=sorted([*level.pieces[:piece], *others[:1], *level.pieces[piece + 1 :]])),
+        13: lambda: level._replace(pieces=joined(sorted({*level.pieces, *others}))),
+        14: lambda: level._replace(pieces=sorted([*level.pieces[:piece], *others, *level.pieces[piece + 1 :]])),
         11: lambda: level._replace(pieces=[Piece(one.begin, max(one.begin + 1, one.end - 1)) for one in level.pieces],
                                    length=max(1, level.length - len(level.pieces))),
     }[kind]()
@@ -223,11 +223,12 @@ def halves(piece: Piece) -> list[Piece]:
 
 
 def cut_levels(levels: list[Level], document: Document) -> list[Level]:
-    """Levels of which one is two of the same speed, where its pieces are apart enough for that."""
+    """Levels of which each is several of the same speed, where its pieces or the windows of its members are apart enough for that."""
     found: list[Level] = []
     for level in levels:
         parts: list[Level] = []
-        for piece in level.pieces:
+        alone = sorted(Piece(*document.jobs[number][:2]) for number in level.members)
+        for piece in alone if joined(alone) == level.pieces else level.pieces:
             members = [number for number in level.members if piece.begin <= document.jobs[number].release and document.jobs[number].deadline <= piece.end]
             parts.append(Level(sum(document.jobs[number].work for number in members), piece.end - piece.begin, [piece], members))
         whole = sum(len(part.members) for part in parts) == len(level.members) and all(part.work for part in parts)
@@ -260,16 +261,17 @@ def judged(draw: random.Random, document: Document, form: str) -> Document:
         slots = policy(document.jobs, draw.choice([1, 6, 720_720])).slots()
     elif draw.random() < 0.1:
         slots = foreign_slots(draw, document)
-    if draw.random() < 0.2:
+    foreign = draw.random() < 0.3
+    if foreign:
         levels = any_levels(draw, document)
-    elif draw.random() < 0.3:
+    elif draw.random() < 0.4:
         levels = cut_levels(levels, document)
     if draw.random() < 0.15:
         slots = [*slots, *idling(draw, document, slots)]
     if draw.random() < (0.2 if form == "check" else 0.7):
         for _ in range(draw.choice([1, 1, 2, 3])):
             slots = changed_slots(draw, slots)
-    if draw.random() < 0.6:
+    if draw.random() < (0.2 if foreign else 0.6):
         levels = changed_levels(draw, document, levels)
     document.slots, document.levels = fitting(slots), levels
     return document
@@ -310,10 +312,24 @@ def run_lines(draw: random.Random, document: Document) -> Iterator[str]:
             yield f"slot {document.name(slot.job)} {slot.begin.text()} {slot.end.text()} {slot.work.text()}"
 
 
-def text_of(draw: random.Random, document: Document) -> bytes:
+def any_runs(draw: random.Random, document: Document) -> Iterator[str]:
+    """Runs between any ticks, one behind the other, each in its job's window; and a little more for the last job, or not."""
+    ticks = draw.choice([1, 3, 6, 6, 12, 10_000, 1_000_000_000])
+    yield f"ticks {ticks}"
+    last, later = 0, sorted(enumerate(document.jobs), key=lambda each: each[1].release)
+    for number, job in later:
+        begin = max(last, job.release * ticks + draw.choice([0, 0, 1]))
+        last = begin + draw.randint(1, max(1, job.deadline * ticks - begin)) if draw.random() < 0.5 else max(begin, job.deadline * ticks)
+        length = Fraction(last - begin, ticks)
+        yield f"run {document.name(number)} {begin} {last} {int(job.work / length) if length else 1}"
+
+
+def text_of(draw: random.Random, document: Document, judged_by: bool) -> bytes:
     """A text of the document, not always the canonical one."""
     lines = list(document.lines())
-    if draw.random() < 0.25:
+    if judged_by and draw.random() < 0.12:
+        lines = [line for line in lines if not line.startswith("slot ")] + list(any_runs(draw, document))
+    elif draw.random() < 0.25:
         lines = [line for line in lines if not line.startswith("slot ")] + list(run_lines(draw, document))
     if draw.random() < 0.3:
         first = [line for line in lines if line.startswith("point ")]
@@ -348,7 +364,8 @@ BEHIND = [
     "job {0} 0 4 8", "job zz 5 5 1", "job zz 6 5 1000001", "job zz 5 6 1000001", "slot {0} 0+1/3 1+1/7 1", "slot {0} 0+1/3 2 1", "slot {0} 0 1 0+1/2",
     "slot {0} 0 1 0+2/4", "slot {0} 0 1 3", "slot {0} 0 1 0+1/5", "run {0} 0 7 5", "run {0} 5 9 7", "run {0} 9 5 7", "run {1} 0 12 1", "run {0} 0 2000000 1000000",
     "ticks 6", "ticks 6", "ticks 4", "ticks 1", "member {0}", "member zz", "piece 3 4", "level 3 4", "point 0 0", "point 1 1", "point 4000 1", "slot zz 1 2 3",
-    "slot {1} 0 1 0+1/2", "slot {1} 0 1 5", "grid 3 4", "energy 0+1/7", "energy 1", "slot {0} 0+0/9 1+0/7 1+0/5",
+    "slot {1} 0 1 0+1/2", "slot {1} 0 1 5", "slot {0} 0 1 0+1/2\nslot {0} 0 1 3\nslot {0} 0 1 0+1/3", "ticks 6\nrun {0} 0 7 5\nrun {0} 7 8 4",
+ "grid 3 4", "energy 0+1/7", "energy 1", "slot {0} 0+0/9 1+0/7 1+0/5",
 ]
 """Lines that may stand behind a document, or may not; {0} and {1} are names of its jobs."""
 
@@ -439,7 +456,7 @@ def document_drawn(draw: random.Random, form: str) -> Drawn:
     if form.startswith(("audit", "check")) or draw.random() < 0.15:
         document = judged(draw, document, form)
     words = words_of(draw, form, jobs)
-    data = text_of(draw, document)
+    data = text_of(draw, document, form.startswith(("audit", "check")))
     return Drawn(words, broken(draw, data) if draw.random() < 0.2 else data)
 
 
@@ -472,25 +489,30 @@ def trial_drawn(draw: random.Random) -> Drawn:
 
 WRONG = [b"0", b"00", b"01", b"-1", b"1.5", b"1000001", b"4294967296", b"1001", b"", b"plan", b"--grid", b"--points", b"--json", b"--help", b"PLAN", b"9" * 50]
 """Words that are out of place at most places."""
+EDGES = [b"0", b"0", b"00", b"07", b"1000000", b"1000001", b"1000", b"1001", b"7", b"9" * 50, b"+1", b"1 "]
+"""Words in the place of a number."""
 
 
 def mistaken(draw: random.Random, words: list[bytes]) -> list[bytes]:
     """Words of which most ask for nothing."""
+    if len(words) > 1 and draw.random() < 0.4:
+        return [*words[:-1], draw.choice(EDGES)]
     place = draw.randrange(len(words))
     changes: list[Callable[[], list[bytes]]] = [
         lambda: words[:place] + [draw.choice(WRONG)] + words[place + 1 :],
         lambda: words[:place] + words[place + 1 :],
         lambda: words[:place] + [draw.choice(WRONG)] + words[place:],
         lambda: words + [draw.choice(WRONG)],
+        lambda: [*words[:-2], draw.choice([b"0", b"4294967295", b"4294967296", b"-grid", b"--grid="]), words[-1]],
     ]
     return draw.choice(changes)()
 
 
 def drawn(form: str, seed: int, number: int) -> Drawn:
-    """The input of this number for a form. One in twenty has words with a mistake."""
+    """The input of this number for a form. One in sixteen has words with a mistake."""
     draw = random.Random(f"{form} {seed} {number}")
     made = tasks_drawn(draw) if form == "expand" else trial_drawn(draw) if form == "trial" else document_drawn(draw, form)
-    return made._replace(words=mistaken(draw, made.words)) if draw.random() < 0.05 else made
+    return made._replace(words=mistaken(draw, made.words)) if draw.random() < 0.0625 else made
 
 
 # # Documents beyond the limits
