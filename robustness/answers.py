@@ -5,16 +5,18 @@
 
 Laws say that each form of command has one answer to each input, a text and a status. So two programs that keep to the
 definitions write the same bytes. The second program is second_answers.py, which is made from the definitions alone.
-It draws DOCUMENTS inputs (200) for each of the fourteen forms by drawn_documents.py, and runs PROGRAM on each, which is
-build/yds_cli where none is named. Where there are 1,000 or more, it also tries documents of the greatest size. Before the
-last line it tells how many answers there were of each kind, by form. The last line is 'N passed, M failed'. The status is
-1 where an answer differs, and also where of 2,000 documents or more fewer than 20 had an answer of WANTED.
+It draws DOCUMENTS inputs (200) for each of the fourteen forms by drawn_documents.py, and runs PROGRAM on each, which was
+built, as build/yds_cli. With 1,000 or more it also tries documents of the greatest size. Without PROGRAM a small program
+over the crate `yds_run` does the same on each drawn input, and `rt try` builds it, unproved. Before the last line it
+tells how many answers there were of each kind, by form. The last line is 'N passed, M failed'. The status is 1 where an
+answer differs, and also where of 2,000 documents or more fewer than 20 had an answer of WANTED.
 """
 
 import os
 import re
 import subprocess
 import sys
+import tempfile
 from collections import Counter
 from concurrent.futures import ThreadPoolExecutor
 from functools import partial
@@ -23,6 +25,7 @@ from typing import Iterator, NamedTuple
 
 from drawn_documents import FORMS, Drawn, drawn, great
 from second_answers import ASKED_WRONG, REFUSED, Answer, answer
+from trace import Case, lay_out, try_laid_out
 
 REASONS = [
     "UnknownKind", "Misplaced", "FieldCount", "BadName", "DuplicateName", "UnknownName", "BadNumber", "OutOfRange", "EmptyWindow", "MixedEnds",
@@ -121,18 +124,48 @@ def show(case: Drawn, told: Told, said: Answer) -> None:
     sys.stdout.flush()
 
 
-def asked(program: str, form: str, seed: int, many: int, counts: "Counter[str]") -> int:
-    """Compares so many answers of a form. Gives how many differ."""
-    failed = 0
-    cases = [drawn(form, seed, number) for number in range(many)]
-    with ThreadPoolExecutor(2) as pool:
-        for number, (case, told) in enumerate(zip(cases, pool.map(partial(run, program), cases))):
-            said = answer(*case)
-            counts.update(set(kinds_of(case.words, said)))
-            if not is_same(case, told, said):
-                print(f"the answers to number {number} of seed {seed} differ, of the form {form}", flush=True)
-                failed += 1
-    return failed
+def tell(form: str, seed: int, numbers: "list[int]", many: int) -> int:
+    """Tells of which inputs of a form the answers differ. Gives how many these are."""
+    for number in numbers:
+        print(f"the answers to number {number} of seed {seed} differ, of the form {form}")
+    print(f"{form}: {many - len(numbers)} the same, {len(numbers)} different", flush=True)
+    return len(numbers)
+
+
+def try_built(program: str, seed: int, many: int, counts: "Counter[str]") -> "tuple[int, int]":
+    """Compares the built program's answers. Gives how many are tried, and how many differ."""
+    tried = failed = 0
+    for form in FORMS:
+        cases = [drawn(form, seed, number) for number in range(many)]
+        wrong: "list[int]" = []
+        with ThreadPoolExecutor(2) as pool:
+            for number, (case, told) in enumerate(zip(cases, pool.map(partial(run, program), cases))):
+                said = answer(*case)
+                counts.update(set(kinds_of(case.words, said)))
+                wrong += [] if is_same(case, told, said) else [number]
+        tried, failed = tried + many, failed + tell(form, seed, wrong, many)
+    for case in great() if many >= 1_000 else []:
+        tried, failed = tried + 1, failed + (not is_same(case, run(program, case), answer(*case)))
+    return tried, failed
+
+
+def try_unproved(seed: int, many: int, counts: "Counter[str]") -> "tuple[int, int]":
+    """Builds the small program, unproved, and compares its answers. Gives how many are tried, and how many differ."""
+    drawn_all = [drawn(form, seed, number) for form in FORMS for number in range(many)]
+    cases: "list[Case]" = []
+    for case in drawn_all:
+        said = answer(*case)
+        counts.update(set(kinds_of(case.words, said)))
+        cases.append(Case([word.decode("ascii") for word in case.words], case.data, said.text, said.status))
+    with tempfile.TemporaryDirectory() as folder:
+        wrong, told = try_laid_out(lay_out(Path(folder), "yds_run"), cases)
+    for at in wrong[:5]:
+        show(drawn_all[at], Told(b"another text or status", -1), Answer(cases[at].text, cases[at].status))
+    if len(wrong) == len(cases):
+        print(told[-3_000:])
+    for place, form in enumerate(FORMS):
+        tell(form, seed, [at - place * many for at in wrong if at // many == place], many)
+    return len(cases), len(wrong)
 
 
 def show_one(words: "list[str]") -> int:
@@ -147,21 +180,13 @@ def main(words: "list[str]") -> int:
     if words[:1] == ["one"]:
         return show_one(words[1:])
     seed, many = (int(words[place]) if len(words) > place else default for place, default in ((0, 1), (1, 200)))
-    program = words[2] if len(words) > 2 else "build/yds_cli"
     counts: "Counter[str]" = Counter()
-    passed = failed = 0
-    for form in FORMS:
-        wrong = asked(program, form, seed, many, counts)
-        print(f"{form}: {many - wrong} the same, {wrong} different", flush=True)
-        passed, failed = passed + many - wrong, failed + wrong
-    for case in great() if many >= 1_000 else []:
-        same = is_same(case, run(program, case), answer(*case))
-        passed, failed = passed + same, failed + (not same)
+    tried, failed = try_built(words[2], seed, many, counts) if len(words) > 2 else try_unproved(seed, many, counts)
     print(", ".join(f"{count} {kind}" for kind, count in sorted(counts.items())))
     few = [kind for kind in WANTED if counts[kind] < LEAST] if many >= OF else []
     if few:
         print(f"too few: {', '.join(f'{counts[kind]} {kind}' for kind in few)}")
-    print(f"{passed} passed, {failed + len(few)} failed", flush=True)
+    print(f"{tried - failed} passed, {failed + len(few)} failed", flush=True)
     return int(failed + len(few) > 0)
 
 

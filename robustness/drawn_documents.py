@@ -66,7 +66,7 @@ def windows(draw: random.Random, many: int, length: int) -> list[Piece]:
 
 def jobs_of(draw: random.Random) -> list[Job]:
     """Jobs. One in some has no work, or the greatest."""
-    many = draw.choice([0, 1, 1, 2, 2, 3, 3, 4, 4, 5, 5, 6, 7, 8, draw.randint(9, 16)])
+    many = draw.choice([0, 1, 1, 2, 2, 3, 3, 4, 4, 5, 5, 6, 7, 8, draw.randint(9, 16)]) if draw.random() < 0.99 else draw.randint(17, 60)
     length, rate = times_of(draw)
     tight = draw.random() < 0.3
     jobs: list[Job] = []
@@ -114,6 +114,8 @@ def points_of(draw: random.Random, plan: Plan) -> list[Point]:
     if draw.random() < 0.8:
         speeds.add(peak + draw.choice([0, 0, 1, 3, peak]))
     speeds |= {draw.randint(0, 2 * peak + 2) for _ in range(draw.choice([0, 0, 1, 2, 3, 5]))}
+    if draw.random() < 0.004:
+        speeds = set(range(draw.choice([40, 64]))) | {min(peak, 4_000)}
     points: list[Point] = []
     shape = draw.choice(["any", "square", "cube", "line", "falls", "low"])
     for speed in sorted(speed for speed in speeds if speed <= 4_000):
@@ -174,7 +176,7 @@ def changed_levels(draw: random.Random, document: Document, levels: list[Level])
     place = draw.randrange(len(levels))
     level, apart = levels[place], levels[:place] + levels[place + 1 :]
     idle = [number for number, job in enumerate(document.jobs) if not job.work]
-    kind = draw.choice([10, 12]) if idle and draw.random() < 0.25 else draw.choice([13, 14]) if apart and draw.random() < 0.2 else draw.randrange(15)
+    kind = draw.choice([10, 12]) if idle and draw.random() < 0.25 else draw.choice([1, 1, 13, 14]) if apart and draw.random() < 0.4 else draw.randrange(15)
     if kind == 0:
         return apart
     if kind == 1:
@@ -450,6 +452,8 @@ def words_of(draw: random.Random, form: str, jobs: list[Job]) -> list[bytes]:
 def document_drawn(draw: random.Random, form: str) -> Drawn:
     """A document for a form."""
     jobs = jobs_of(draw)
+    if form == "check" and len({job[:2] for job in jobs}) < 3 and draw.random() < 0.8:
+        jobs = jobs_of(draw)
     document = Document(names_of(draw, len(jobs)), jobs)
     if form in ("round", "compare", "audit --points") or draw.random() < 0.2:
         document.points = points_of(draw, plan_of(jobs))

@@ -310,9 +310,8 @@ class Rounded(NamedTuple):
     energy: Fraction
 
 
-def neighbours(points: list[Point], speed: Fraction) -> Optional[tuple[Point, Point]]:
-    """The two points of the hull around a speed; None where it is a point's."""
-    hull = hull_of(points)
+def neighbours(hull: list[Point], speed: Fraction) -> Optional[tuple[Point, Point]]:
+    """The two points of a hull around a speed; None where it is a point's."""
     if any(point.speed == speed for point in hull):
         return None
     return next((low, high) for low, high in zip(hull, hull[1:]) if low.speed < speed < high.speed)
@@ -352,10 +351,11 @@ class Split(NamedTuple):
 def rounded(plan: Plan, points: list[Point]) -> Rounded:
     """The plan on the points."""
     slots: list[Slot] = []
+    hull = hull_of(points)
     for stretch in stretches_of(plan.jobs):
         planned = [one for one in plan.served if one.stretch == stretch]
         speed = plan.level_of(planned[0].job).speed if planned else Fraction(0)
-        around = neighbours(points, speed)
+        around = neighbours(hull, speed)
         if around is None:
             slots += [slot_of(one, speed.numerator, speed.denominator) for one in planned]
         else:
@@ -408,9 +408,9 @@ def times_in(hull: list[Point], stretch: Piece, work: Fraction) -> Iterator[tupl
 
 def spent_on(jobs: list[Job], points: list[Point], served: list[Served]) -> Spent:
     """What a schedule spends where each stretch runs at one speed."""
-    times = {point: Fraction(0) for point in points}
+    hull, times = hull_of(points), {point: Fraction(0) for point in points}
     for stretch in stretches_of(jobs):
-        for point, time in times_in(hull_of(points), stretch, work_in(served, stretch)):
+        for point, time in times_in(hull, stretch, work_in(served, stretch)):
             times[point] += time
     return Spent(sum((point.power * time for point, time in times.items()), Fraction(0)), [times[point] for point in points])
 
