@@ -176,7 +176,11 @@ def changed_levels(draw: random.Random, document: Document, levels: list[Level])
     place = draw.randrange(len(levels))
     level, apart = levels[place], levels[:place] + levels[place + 1 :]
     idle = [number for number, job in enumerate(document.jobs) if not job.work]
-    kind = draw.choice([10, 12]) if idle and draw.random() < 0.25 else draw.choice([1, 1, 13, 14]) if apart and draw.random() < 0.4 else draw.randrange(15)
+    kind = draw.randrange(15)
+    if idle and draw.random() < 0.3:
+        kind = draw.choice([10, 12, 12])
+    elif apart and draw.random() < 0.5:
+        kind = draw.choice([1, 13, 14] if len(apart) > 1 else [1, 1, 13])
     if kind == 0:
         return apart
     if kind == 1:
@@ -225,7 +229,7 @@ def halves(piece: Piece) -> list[Piece]:
 
 
 def cut_levels(levels: list[Level], document: Document) -> list[Level]:
-    """Levels of which each is several of the same speed, where its pieces or the windows of its members are apart enough for that."""
+    """Levels of which each is several of the same speed, where its pieces or its members' windows are apart enough for that."""
     found: list[Level] = []
     for level in levels:
         parts: list[Level] = []
@@ -270,7 +274,7 @@ def judged(draw: random.Random, document: Document, form: str) -> Document:
         levels = cut_levels(levels, document)
     if draw.random() < 0.15:
         slots = [*slots, *idling(draw, document, slots)]
-    if draw.random() < (0.2 if form == "check" else 0.7):
+    if draw.random() < (0.1 if form == "check" else 0.7):
         for _ in range(draw.choice([1, 1, 2, 3])):
             slots = changed_slots(draw, slots)
     if draw.random() < (0.2 if foreign else 0.6):
@@ -282,7 +286,8 @@ def judged(draw: random.Random, document: Document, form: str) -> Document:
 def idling(draw: random.Random, document: Document, slots: list[Slot]) -> list[Slot]:
     """A slot without work behind the others, where a window is still open."""
     last = ceil(max((slot.end.value for slot in slots), default=Fraction(0)))
-    found = [Slot(number, Written(max(last, job.release)), Written(job.deadline), Written(0)) for number, job in enumerate(document.jobs) if last < job.deadline]
+    late = [(number, job) for number, job in enumerate(document.jobs) if last < job.deadline]
+    found = [Slot(number, Written(max(last, job.release)), Written(job.deadline), Written(0)) for number, job in late]
     return draw.sample(found, min(1, len(found)))
 
 
@@ -326,10 +331,10 @@ def any_runs(draw: random.Random, document: Document) -> Iterator[str]:
         yield f"run {document.name(number)} {begin} {last} {int(job.work / length) if length else 1}"
 
 
-def text_of(draw: random.Random, document: Document, judged_by: bool) -> bytes:
-    """A text of the document, not always the canonical one."""
+def text_of(draw: random.Random, document: Document, ticked: float) -> bytes:
+    """A text of the document, not always the canonical one. So many of all have runs that nobody planned."""
     lines = list(document.lines())
-    if judged_by and draw.random() < 0.12:
+    if draw.random() < ticked:
         lines = [line for line in lines if not line.startswith("slot ")] + list(any_runs(draw, document))
     elif draw.random() < 0.25:
         lines = [line for line in lines if not line.startswith("slot ")] + list(run_lines(draw, document))
@@ -364,7 +369,8 @@ LINES = [
 
 BEHIND = [
     "job {0} 0 4 8", "job zz 5 5 1", "job zz 6 5 1000001", "job zz 5 6 1000001", "slot {0} 0+1/3 1+1/7 1", "slot {0} 0+1/3 2 1", "slot {0} 0 1 0+1/2",
-    "slot {0} 0 1 0+2/4", "slot {0} 0 1 3", "slot {0} 0 1 0+1/5", "run {0} 0 7 5", "run {0} 5 9 7", "run {0} 9 5 7", "run {1} 0 12 1", "run {0} 0 2000000 1000000",
+    "slot {0} 0 1 0+2/4", "slot {0} 0 1 3", "slot {0} 0 1 0+1/5", "run {0} 0 7 5", "run {0} 5 9 7", "run {0} 9 5 7", "run {1} 0 12 1",
+    "run {0} 0 2000000 1000000",
     "ticks 6", "ticks 6", "ticks 4", "ticks 1", "member {0}", "member zz", "piece 3 4", "level 3 4", "point 0 0", "point 1 1", "point 4000 1", "slot zz 1 2 3",
     "slot {1} 0 1 0+1/2", "slot {1} 0 1 5", "slot {0} 0 1 0+1/2\nslot {0} 0 1 3\nslot {0} 0 1 0+1/3", "ticks 6\nrun {0} 0 7 5\nrun {0} 7 8 4",
  "grid 3 4", "energy 0+1/7", "energy 1", "slot {0} 0+0/9 1+0/7 1+0/5",
@@ -452,7 +458,7 @@ def words_of(draw: random.Random, form: str, jobs: list[Job]) -> list[bytes]:
 def document_drawn(draw: random.Random, form: str) -> Drawn:
     """A document for a form."""
     jobs = jobs_of(draw)
-    if form == "check" and len({job[:2] for job in jobs}) < 3 and draw.random() < 0.8:
+    if form == "check" and len(plan_of(jobs).levels) < 3 and draw.random() < 0.7:
         jobs = jobs_of(draw)
     document = Document(names_of(draw, len(jobs)), jobs)
     if form in ("round", "compare", "audit --points") or draw.random() < 0.2:
@@ -460,7 +466,7 @@ def document_drawn(draw: random.Random, form: str) -> Drawn:
     if form.startswith(("audit", "check")) or draw.random() < 0.15:
         document = judged(draw, document, form)
     words = words_of(draw, form, jobs)
-    data = text_of(draw, document, form.startswith(("audit", "check")))
+    data = text_of(draw, document, {"audit": 0.15, "audit --points": 0.1, "check": 0.04}.get(form, 0.01))
     return Drawn(words, broken(draw, data) if draw.random() < 0.2 else data)
 
 
