@@ -130,7 +130,7 @@ def points_of(draw: random.Random, plan: Plan) -> list[Point]:
 # # Slots and levels
 
 
-def split(draw: random.Random, slot: Slot) -> list[Slot]:
+def split(slot: Slot) -> list[Slot]:
     """A slot in two, at half of its time and work."""
     middle = (slot.begin.value + slot.end.value) / 2
     ends = lcm(slot.begin.den, slot.end.den, middle.denominator)
@@ -153,7 +153,7 @@ def changed_slots(draw: random.Random, slots: list[Slot]) -> list[Slot]:
     if kind == 1:
         return slots[:place] + [slot, slot] + slots[place + 1 :]
     if kind == 2:
-        return [*slots[:place], *split(draw, slot), *slots[place + 1 :]]
+        return [*slots[:place], *split(slot), *slots[place + 1 :]]
     if kind == 3:
         return draw.sample(slots, len(slots))
     changed = {

@@ -10,7 +10,7 @@ from fractions import Fraction
 from math import ceil, gcd, lcm
 from typing import Callable, Iterator, NamedTuple, Optional
 
-from second_documents import Job, Level, Piece, Point, Slot, Written, hull_of, over
+from second_documents import Job, Level, Piece, Point, Slot, hull_of, over
 
 # # Event points, and earliest deadline first
 
@@ -54,10 +54,6 @@ class Run:
                 time, work = time + part / speed, work - part
                 self.left[number] -= part
 
-    def misses(self, time: int) -> bool:
-        """Whether a job that is due by this time isn't done."""
-        return any(job.deadline <= time and left for job, left in zip(self.jobs, self.left))
-
 
 # # The plan
 
@@ -94,11 +90,6 @@ class Critical(NamedTuple):
     begin: int
     end: int
     work: int
-
-    @property
-    def intensity(self) -> Fraction:
-        """Its work by its length."""
-        return Fraction(self.work, self.end - self.begin)
 
 
 def critical_of(windows: list[Piece], works: list[int]) -> Critical:
@@ -419,9 +410,3 @@ def too_fast(jobs: list[Job], points: list[Point], served: list[Served]) -> Opti
     """The first stretch for which the top point is too slow."""
     top = points[-1].speed
     return next((stretch for stretch in stretches_of(jobs) if work_in(served, stretch) > top * (stretch.end - stretch.begin)), None)
-
-
-__all__ = [
-    "GridRun", "Level", "Plan", "Point", "Refusal", "Rounded", "Spent", "Written", "admission", "at_top", "average_rate", "horizon",
-    "optimal_available", "plan_of", "rounded", "spent_on", "too_fast",
-]
