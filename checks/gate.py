@@ -48,6 +48,7 @@ CHECKS: list[Command] = [
     (sys.executable, "checks/test_everywhere.py"),
     (sys.executable, "robustness/planted.py", "--check"),
     (sys.executable, "robustness/planted_answers.py", "--check"),
+    (sys.executable, "robustness/answers.py", "rows"),
     (sys.executable, "robustness/executions.py", "--count", "400"),
     (sys.executable, "docs/uncalled.py", "--check"),
 ]

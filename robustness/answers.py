@@ -2,6 +2,7 @@
 
     python3 robustness/answers.py [SEED] [DOCUMENTS] [PROGRAM]
     python3 robustness/answers.py one FORM SEED NUMBER [PROGRAM]     one input alone, with both answers
+    python3 robustness/answers.py rows                               the second program alone, on each row of examples/rows
 
 Laws say that each form of command has one answer to each input, a text and a status. So two programs that keep to the
 definitions write the same bytes. The second program is second_answers.py, which is made from the definitions alone.
@@ -168,6 +169,20 @@ def try_unproved(seed: int, many: int, counts: "Counter[str]") -> "tuple[int, in
     return len(cases), len(wrong)
 
 
+def try_rows() -> int:
+    """Whether the second program gives each stored answer. Gives the status."""
+    failed = 0
+    rows = sorted(Path("examples/rows").iterdir())
+    for row in rows:
+        named = row / "document"
+        data = (Path("examples") / named.read_text(encoding="utf-8").strip() if named.is_file() else row / "stdin").read_bytes()
+        case = Drawn((row / "args").read_bytes().splitlines(), data)
+        stored = Told((row / "stdout").read_bytes(), int((row / "status").read_text(encoding="utf-8")))
+        failed += not is_same(case, stored, answer(*case))
+    print(f"{len(rows) - failed} passed, {failed} failed", flush=True)
+    return int(failed > 0)
+
+
 def show_one(words: "list[str]") -> int:
     """One input alone, with both answers."""
     case = drawn(words[0], int(words[1]), int(words[2]))
@@ -179,6 +194,8 @@ def main(words: "list[str]") -> int:
     """Draws the documents, compares, and tells the counts. Gives the status."""
     if words[:1] == ["one"]:
         return show_one(words[1:])
+    if words == ["rows"]:
+        return try_rows()
     seed, many = (int(words[place]) if len(words) > place else default for place, default in ((0, 1), (1, 200)))
     counts: "Counter[str]" = Counter()
     tried, failed = try_built(words[2], seed, many, counts) if len(words) > 2 else try_unproved(seed, many, counts)

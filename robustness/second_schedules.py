@@ -84,29 +84,18 @@ class Stage(NamedTuple):
     pieces: list[Piece]
 
 
-class Critical(NamedTuple):
-    """An interval of contracted time with the work of the windows in it."""
-
-    begin: int
-    end: int
-    work: int
-
-
-def critical_of(windows: list[Piece], works: list[int]) -> Critical:
-    """Of windows in contracted time, an interval of the greatest intensity from a begin to an end."""
-    best: Optional[Critical] = None
+def critical_of(windows: list[Piece], works: list[int]) -> Piece:
+    """Of windows in contracted time, an interval of the greatest intensity from a begin to an end: work by length."""
+    by_end = sorted((window.end, window.begin, work) for window, work in zip(windows, works))
+    found, most, length = windows[0], 0, 1
     for begin in {window.begin for window in windows}:
-        work = 0
-        inside = sorted((window.end, each) for window, each in zip(windows, works) if window.begin >= begin)
-        for place, (end, each) in enumerate(inside):
-            work += each
-            if place + 1 < len(inside) and inside[place + 1][0] == end:
-                continue
-            found = Critical(begin, end, work)
-            if best is None or found.work * (best.end - best.begin) > best.work * (found.end - found.begin):
-                best = found
-    assert best is not None
-    return best
+        inside = 0
+        for end, released, work in by_end:
+            if released >= begin:
+                inside += work
+                if inside * length > most * (end - begin):
+                    found, most, length = Piece(begin, end), inside, end - begin
+    return found
 
 
 def stages_of(jobs: list[Job]) -> Iterator[Stage]:
