@@ -65,7 +65,7 @@ def windows(draw: random.Random, many: int, length: int) -> list[Piece]:
 
 
 def jobs_of(draw: random.Random) -> list[Job]:
-    """Jobs. One in some has no work, or the greatest."""
+    """Jobs. A few have no work, or the greatest."""
     many = draw.choice([0, 1, 1, 2, 2, 3, 3, 4, 4, 5, 5, 6, 7, 8, draw.randint(9, 16)]) if draw.random() < 0.99 else draw.randint(17, 60)
     length, rate = times_of(draw)
     tight = draw.random() < 0.3
@@ -86,7 +86,7 @@ def moved(draw: random.Random, jobs: list[Job]) -> list[Job]:
 
 
 ODD = [b"#", b"#a", b"job", b"slot", b"0", b"+", b"1+1/2", b"~" * 64, b"x" * 64, b"%s", b"a.1", b"\\", b'"', b"no", b"A", b"a"]
-"""Names that are none that one would choose."""
+"""Names that nobody would choose."""
 
 
 def names_of(draw: random.Random, many: int) -> list[bytes]:
@@ -320,7 +320,7 @@ def run_lines(draw: random.Random, document: Document) -> Iterator[str]:
 
 
 def any_runs(draw: random.Random, document: Document) -> Iterator[str]:
-    """Runs between any ticks, one behind the other, each in its job's window; and a little more for the last job, or not."""
+    """Runs between any ticks, one behind the other: about one for each job, of about its work."""
     ticks = draw.choice([1, 3, 6, 6, 12, 10_000, 1_000_000_000])
     yield f"ticks {ticks}"
     last, later = 0, sorted(enumerate(document.jobs), key=lambda each: each[1].release)
@@ -332,7 +332,7 @@ def any_runs(draw: random.Random, document: Document) -> Iterator[str]:
 
 
 def text_of(draw: random.Random, document: Document, ticked: float) -> bytes:
-    """A text of the document, not always the canonical one. So many of all have runs that nobody planned."""
+    """A text of the document, not always the canonical one. `ticked` is the part of texts with runs that nobody planned."""
     lines = list(document.lines())
     if draw.random() < ticked:
         lines = [line for line in lines if not line.startswith("slot ")] + list(any_runs(draw, document))
