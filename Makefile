@@ -37,8 +37,12 @@
 #                       of none yds_trace may say a yes that it doesn't say of the unbroken one
 #   make traces         draws TRACES traces from SEED, and LONG long ones in parts, and holds the
 #                       whole text of the built yds_trace against a second reading of each
+#   make answers        draws ANSWERS documents (2,000) for each form of command from SEED, and holds
+#                       the built program's answers against those of a second program, in Python,
+#                       which is made from the definitions alone; two minutes for each 2,000
 #   make planted        plants mistakes in yds_trace, one at a time, unproved, and says which the
-#                       drawn traces find; some twenty minutes of a processor
+#                       drawn traces find; some twenty minutes of a processor. Then it plants
+#                       mistakes in the second program of make answers, within a minute
 #   make record         records some seconds of this machine's kernel, and holds yds_trace against
 #                       the second reading; needs root and a tracefs, and ends with status 77 where
 #                       the machine doesn't allow it
@@ -98,13 +102,14 @@ SEED ?= 1
 DOCUMENTS ?= 100000
 TRACES ?= 1000
 LONG ?= 50
+ANSWERS ?= 2000
 # A variable that is exported before it is given a value is empty.
 export PREFIX DESTDIR LIBDIR INSTALLED DOCUMENT EXAMPLE KEPT
 
 LIBRARY := build/libyds.so
 LINKER_CACHE = test -n "$$DESTDIR" || ldconfig 2>/dev/null || echo "ldconfig, run by root, lets programs find libyds.so.1 there"
 
-.PHONY: all help run try trace test gate edits kept crate-seconds built tools-check tools-test check recipes faults fuzz traces planted record costly bench bench-trace bench-library library library-test wheel sdist install install-program install-tools install-pages install-library uninstall uninstall-program uninstall-tools uninstall-pages uninstall-library map deb dist check-build record-build packages-test clean tool
+.PHONY: all help run try trace test gate edits kept crate-seconds built tools-check tools-test check recipes faults fuzz traces answers planted record costly bench bench-trace bench-library library library-test wheel sdist install install-program install-tools install-pages install-library uninstall uninstall-program uninstall-tools uninstall-pages uninstall-library map deb dist check-build record-build packages-test clean tool
 
 all: $(BINARY) $(TRACER) build/proved
 
@@ -200,8 +205,12 @@ traces: $(TRACER) $(BINARY)
 	@python3 robustness/everywhere.py $(SEED) $(LONG) $(TRACER) $(BINARY)
 	@python3 robustness/table.py $(SEED) $(TRACES) $(TRACER)
 
+answers: $(BINARY)
+	@python3 robustness/answers.py $(SEED) $(ANSWERS) $(BINARY)
+
 planted: tool
 	@python3 robustness/planted.py
+	@python3 robustness/planted_answers.py
 
 record: $(TRACER)
 	@python3 robustness/record.py $(TRACER)

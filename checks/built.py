@@ -1,4 +1,4 @@
-"""built.py: holds what `rt ci` has proved and built here, and the commands around it, against what is stored.
+"""built.py: holds what `rt ci` has proved and built here, and the commands around it, against what is stored or drawn.
 
     python3 checks/built.py [--only PART ..] [FOLDER]
 
@@ -7,7 +7,8 @@ that has yds_cli, yds_trace and, for the last two parts, libyds.a and libyds.so.
 
     programs     the programs answer each stored row and trace, byte for byte (examples/check.sh,
                  examples/check-traces.sh), and the commands of README.md are typed with them, as a reader types them
-                 (packaging/typed.py)
+                 (packaging/typed.py); and yds_cli answers drawn documents as a second program does, 200 by each form of
+                 command (robustness/answers.py)
     library      the C library answers the rows and the examples (library/test/test.sh): it needs gcc and g++
     calls        so do the calls of the Python package (tools.py)
 
@@ -59,6 +60,7 @@ def of_programs(folder: Path) -> list[Command]:
         (sys.executable, "packaging/typed.py", "--shared", str(folder / "share"), str(ROOT / "README.md")),
         ("sh", "examples/check-traces.sh", str(folder / "bin" / "yds_trace")),
         ("sh", "examples/check.sh", str(folder / "bin" / "yds_cli")),
+        (sys.executable, "robustness/answers.py", "1", "200", str(folder / "bin" / "yds_cli")),
     ]
 
 

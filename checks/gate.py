@@ -5,8 +5,8 @@
 It has stages, each of which is begun only if the one before it passed. What needs no proof comes first, since it fails
 within a minute or two and the proofs take most of an hour: the checks of the pages, of the tools and of their tests.
 Then `rt ci` proves all crates. Over what it has proved, the edits that a proof must refuse are tried, and what it has
-built is held against what is stored. The commands of the first stage run side by side. The others take all processors
-themselves, and what they write is passed through as it comes.
+built is held against what is stored or drawn. The commands of the first stage run side by side. The others take all
+processors themselves, and what they write is passed through as it comes.
 
 What the gate needs and isn't there is named before anything is run. FILE has what `rt ci` kept elsewhere
 (packaging/kept.py).
@@ -47,6 +47,8 @@ CHECKS: list[Command] = [
     (sys.executable, "checks/test_believed.py"),
     (sys.executable, "checks/test_everywhere.py"),
     (sys.executable, "robustness/planted.py", "--check"),
+    (sys.executable, "robustness/planted_answers.py", "--check"),
+    (sys.executable, "robustness/answers.py", "rows"),
     (sys.executable, "robustness/executions.py", "--count", "400"),
     (sys.executable, "docs/uncalled.py", "--check"),
 ]

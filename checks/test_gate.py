@@ -250,7 +250,7 @@ class Unproved(WithCommands):
     def test_nothing_is_built(self) -> None:
         run, left = self.build()
         self.assertEqual((run, len(left)), ([], 2))
-        self.assertRegex(left[0], r"^\d+ rows and traces, and \d+ commands of README.md, of the built programs: make ")
+        self.assertRegex(left[0], r"^\d+ rows and traces, \d+ commands of README.md, and drawn documents, of the built programs: make ")
         self.assertRegex(left[1], r"^\d+ tests that ask the library, and those of library/test: make library ")
 
     def test_the_programs_are_built(self) -> None:

@@ -57,7 +57,7 @@ def of_built() -> tuple[list[Command], list[str]]:
     if is_new("yds_cli", "yds_trace"):
         run.append((sys.executable, "checks/built.py", "--only", "programs", "build"))
     else:
-        left.append(f"{rows} rows and traces, and {typed} commands of README.md, of the built programs: make builds them")
+        left.append(f"{rows} rows and traces, {typed} commands of README.md, and drawn documents, of the built programs: make builds them")
     if is_new("yds_cli", "yds_trace", "libyds.a", "libyds.so"):
         run.append((sys.executable, "checks/built.py", "--only", "calls", "build"))
         if which("gcc") and which("g++"):

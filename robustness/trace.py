@@ -391,14 +391,17 @@ def drawn_cases(seed: int, number: int, counts: "Counter[str]") -> List[Case]:
             Case(other.words, other.trace, other_said.text, other_said.status), Case(doze.words, doze.trace, doze_said.text, doze_said.status)]
 
 
-def lay_out(top: Path) -> Path:
-    """Puts the crates that the small program stands on, and itself, into a folder of their own. Gives its crate's folder."""
+def lay_out(top: Path, runs: str = "yds_trace_run") -> Path:
+    """Puts the crates that the small program stands on, and itself, into a folder of their own. Gives its crate's folder.
+
+    The crate `runs` has the call `run`: answers.py names that of the other program.
+    """
     graph: Dict[str, List[str]] = {}
     for line in Path("crates.txt").read_text(encoding="utf-8").splitlines():
         head, colon, rest = line.partition("#")[0].partition(":")
         if colon:
             graph[head.split()[0]] = rest.split()
-    needed, left = set(), ["yds_trace_run"]
+    needed, left = set(), [runs]
     while left:
         crate = left.pop()
         if crate in graph and crate not in needed:
@@ -406,11 +409,11 @@ def lay_out(top: Path) -> Path:
             left += graph[crate]
             shutil.copytree(Path("crates") / crate, top / "crates" / crate, ignore=shutil.ignore_patterns("out", "edits"))
     listed = [f"{crate}: {' '.join(graph[crate])}" for crate in needed]
-    listed.append("trace_said: yds_port yds_trace_run anyhow")
+    listed.append(f"trace_said: yds_port {runs} anyhow")
     (top / "crates.txt").write_text("\n".join(listed) + "\n", encoding="utf-8")
     source = top / "crates" / "trace_said" / "src"
     source.mkdir(parents=True)
-    (source / "main.rt").write_text(DRIVER, encoding="utf-8")
+    (source / "main.rt").write_text(DRIVER.replace("yds_trace_run", runs), encoding="utf-8")
     return source.parent
 
 
