@@ -7,10 +7,10 @@
 Laws say that each form of command has one answer to each input, a text and a status. So two programs that keep to the
 definitions write the same bytes. The second program is second_answers.py, which is made from the definitions alone.
 It draws DOCUMENTS inputs (200) for each of the fourteen forms by drawn_documents.py, and runs PROGRAM on each, which was
-built, as build/yds_cli. With 1,000 or more it also tries documents of the greatest size. Without PROGRAM a small program
-over the crate `yds_run` does the same on each drawn input, and `rt try` builds it, unproved. Before the last line it
-tells how many answers there were of each kind, by form. The last line is 'N passed, M failed'. The status is 1 where an
-answer differs, and also where of 2,000 documents or more fewer than 20 had an answer of WANTED.
+built, as build/yds_cli. With 1,000 or more it also tries inputs at the limits of counts and bytes. Without PROGRAM a
+small program over the crate `yds_run` does the same on each drawn input, and `rt try` builds it, unproved. Before the
+last line it tells how many answers there were of each kind, by form. The last line is 'N passed, M failed'. The status is
+1 where an answer differs, and also where of 2,000 documents or more fewer than 20 had an answer of WANTED.
 """
 
 import os
